@@ -34,7 +34,7 @@ use Rattle.sctp_delivery.proofs.QueueChunks.{peeked, EachIs, each-fragment}
 use Rattle.sctp_delivery.proofs.QueueChunks as queues
 use Rattle.sctp_delivery.proofs.Changes.{Keeps, each-call}
 use Rattle.sctp_delivery.proofs.Calls.{length-forgotten, numbered_after, sent_by}
-use Rattle.sctp_delivery.proofs.Delivered.{Holds, Sends, at-first, receiver-step, sender-step}
+use Rattle.sctp_delivery.proofs.Delivered.{Holds, at-first, receiver-step, sender-step}
 use Rattle.sctp_delivery.proofs.Queues.{started as stands-started, IsEnded}
 use Rattle.sctp_delivery.proofs.Sent.{Entry, Numbered, IsPart, contains-more, fragment, terminal}
 use Rattle.sctp_delivery.proofs.InFlight.{AreKnown}
@@ -432,32 +432,31 @@ after-call c cs old mid new here g = record {
       omega (arith, h, r, a, b);
 }
 
+module _ (first : ℕ) (call : SenderCall) (s t : Session) (ns : List Numbered) (sent : List Entry) (f : SenderFollows call s t) (h : Holds first s ns sent)
+    (k : AreCounted s) where
+  pub moved : (stream : ℕ) → Moves stream (told_by stream (of_sender call)) (written_by stream (of_sender call)) s.sending.sender t.sending.sender
+  moved stream =
+      let u = s.sending.sender in
+      moves-call s.written u k.all
+      (λ now. (stands-started ns first (λ s. number_of s u.streams) now u.flight.queue u.flight.next_tsn sent h.held.stands).sendable) stream
+      (k.amounts stream) call t.sending.sender f.step.sender f.exact f.accepted f.answered
+
+  pub counted-then : AreCounted t
+  counted-then = record {
+    all = subst (λ ws. AllOf ws t.sending.sender.flight.queue) (sym (ap (λ (x : Session). x.written) f.after))
+        (all-call s.written s.sending.sender (h.held.stands.ids ∙ sym (length-forgotten ns) ∙ ap length h.writes) k.all call t.sending.sender
+        f.step.sender f.exact f.accepted);
+    amounts = λ stream. (moved stream).amounts;
+  }
+
 pub goes : (first : ℕ) (cs : List Call) (old new : Session) (ns : List Numbered) (sent : List Entry) → RunsTo old cs new → Holds first old ns sent
     → AreCounted old → Goes cs old new
 goes first [] old new ns sent r h k =
     subst (Goes [] old) (sym r) (record { counted = k; balance = λ stream. omega arith })
 goes first (of_sender call ∷ cs) old new ns sent r h k =
-    after-call (of_sender call) cs old r.0 new (λ stream. (moved stream).balance)
-    (goes first cs r.0 new (numbered_after call ns) x.more r.1.1 x.holds (record {
-      all = subst (λ ws. AllOf ws r.0.sending.sender.flight.queue) (sym (ap (λ (s : Session). s.written) f.after))
-          (all-call old.written t (h.held.stands.ids ∙ sym (length-forgotten ns) ∙ ap length h.writes) k.all call r.0.sending.sender
-          f.step.sender f.exact f.accepted);
-      amounts = λ stream. (moved stream).amounts;
-    }))
-  where
-    f : SenderFollows call old r.0
-    f = r.1.0
-
-    t : Transmission
-    t = old.sending.sender
-
-    x : Sends first call old r.0 ns sent
-    x = sender-step first call old r.0 ns sent f h
-
-    moved : (stream : ℕ) → Moves stream (told_by stream (of_sender call)) (written_by stream (of_sender call)) t r.0.sending.sender
-    moved stream = moves-call old.written t k.all
-        (λ now. (stands-started ns first (λ s. number_of s t.streams) now t.flight.queue t.flight.next_tsn sent h.held.stands).sendable) stream
-        (k.amounts stream) call r.0.sending.sender f.step.sender f.exact f.accepted f.answered
+    let x = sender-step first call old r.0 ns sent r.1.0 h in
+    after-call (of_sender call) cs old r.0 new (λ stream. (moved first call old r.0 ns sent r.1.0 h k stream).balance)
+    (goes first cs r.0 new (numbered_after call ns) x.more r.1.1 x.holds (counted-then first call old r.0 ns sent r.1.0 h k))
 goes first (of_receiver call ∷ cs) old new ns sent r h k =
     after-call (of_receiver call) cs old r.0 new (λ stream. ap (λ (s : Session). held (only stream) s.sending.sender.flight.queue + 0) r.1.0.after)
     (goes first cs r.0 new ns sent r.1.1 (receiver-step first call old r.0 ns sent r.1.0 h)
@@ -504,8 +503,11 @@ absent-none : (stream : ℕ) (cs : List ChunkPayloadData) → list_any (is_on st
 absent-none stream [] n = refl
 absent-none stream (c ∷ cs) n = grind (arith, nat_tests, not_both, sum_by-cons, absent-none stream cs)
 
+pub ends-of : (s : Session) → AreCounted s → AmountsEnd s
+ends-of s k stream done = grind (arith, nat_tests, absent-none, amount-found, bare-none, not_both)
+
 pub end : AfterEachFitSession AmountsEnd
-end tsn size max most limits cs s small some r stream done = grind (arith, nat_tests, absent-none, amount-found, bare-none, counted-in, not_both)
+end tsn size max most limits cs s small some r = ends-of s (counted-in tsn size max most limits cs s small some r).counted
 
 -- what an amount that is read says
 pub amount-says : (t : Transmission) (stream : ℕ) (o : Option ℕ) → o ≡ option_map (λ (l : OutboundStream). l.buffered_amount) (stream_of stream t)
@@ -578,10 +580,16 @@ made-run first (of_receiver call ∷ cs) old new r h = made-run first cs r.0 new
   made = subst (λ (s : Session). AllMade h.sent s.made) (sym r.1.0.after) h.made;
 })
 
-abbrev WasMade : List Made → ChunkPayloadData → Type 0
+pub made-in : (tsn size max most : ℕ) (limits : Option Limits) (cs : List Call) (s : Session) → tsn < 2 ^ 32 → 0 < size
+    → RunsTo (at_start tsn size max most limits) cs s → HasMade tsn s
+made-in tsn size max most limits cs s small some r =
+    made-run tsn cs (at_start tsn size max most limits) s r
+    (record { numbered = []; sent = []; holds = at-first tsn size max most limits small some; made = tt })
+
+abbrev pub WasMade : List Made → ChunkPayloadData → Type 0
 WasMade ms c = is_outstanding c ≡ true → Contains ms (data_chunk (data_of c))
 
-each-made : (first : ℕ) (sent : List Entry) (ms : List Made) (cs : List ChunkPayloadData) → AllMade sent ms → AreKnown first sent cs → Every (WasMade ms) cs
+pub each-made : (first : ℕ) (sent : List Entry) (ms : List Made) (cs : List ChunkPayloadData) → AllMade sent ms → AreKnown first sent cs → Every (WasMade ms) cs
 each-made first sent ms [] a k = tt
 each-made first sent ms (c ∷ cs) a k =
     (λ o. let w = k.0.0 o in made-part sent w.2 ms (data_of c) w.0 w.1 w.3 a, each-made first sent ms cs a k.1)
@@ -653,8 +661,10 @@ each-there : (cs : List ChunkPayloadData) → Every (λ (c : ChunkPayloadData). 
 each-there [] = tt
 each-there (c ∷ cs) = grind (arith, nat_tests, every-of, or-left, or-right, same-yes, each-there cs)
 
-module _ (s t : Session) (k : Sack) (gone : List Released) (f : SenderFollows (takes_sack k gone) s t) (first : ℕ) (h : HasMade first s)
-    (counted : AreCounted s) where
+module _ (s t : Session) (k : Sack) (gone : List Released) (f : SenderFollows (takes_sack k gone) s t)
+    (made : Every (WasMade s.made) s.sending.sender.flight.queue.inflight.chunks)
+    (sendable : IsSendable s.sending.sender.flight.queue.pending s.sending.sender.flight.queue.inflight.chunks
+    s.sending.sender.flight.queue.next_message_id) (counted : AreCounted s) where
   told-of : is_outdated k s.sending.sender.flight ≡ false → (c : ChunkPayloadData) → IsOf s.written c → WasMade s.made c
       → list_any (is_of c.message_id) s.sending.sender.flight.queue.inflight.chunks ≡ true
       → reports_anew k c ≡ true → IsToldOf s t (released_of (is_whole k s.sending.sender.flight) c)
@@ -678,7 +688,7 @@ module _ (s t : Session) (k : Sack) (gone : List Released) (f : SenderFollows (t
           (every-tested Told (reports_anew k) cs
           (every-both (λ c. IsOf s.written c × WasMade s.made c) (λ c. list_any (is_of c.message_id) cs ≡ true) (λ c. reports_anew k c ≡ true → Told c)
           (λ c i there. told-of e c i.0 i.1 there) cs
-          (every-pair (IsOf s.written) (WasMade s.made) cs counted.all.inflight (each-made first h.sent s.made cs h.made h.holds.held.stands.known))
+          (every-pair (IsOf s.written) (WasMade s.made) cs counted.all.inflight made)
           (each-there cs)))
 
   pub all-told : All (IsToldOf s t) gone
@@ -686,11 +696,6 @@ module _ (s t : Session) (k : Sack) (gone : List Released) (f : SenderFollows (t
 
 pub each-is-told : AfterEachFitSession EachIsTold
 each-is-told tsn size max most limits cs s small some r k gone t f =
-    all-told s t k gone f tsn
-    (made-run tsn cs (at_start tsn size max most limits) s r (record {
-      numbered = [];
-      sent = [];
-      holds = at-first tsn size max most limits small some;
-      made = tt;
-    }))
-    (counted-in tsn size max most limits cs s small some r).counted
+    let h = made-in tsn size max most limits cs s small some r in
+    all-told s t k gone f (each-made tsn h.sent s.made s.sending.sender.flight.queue.inflight.chunks h.made h.holds.held.stands.known)
+    h.holds.held.stands.sendable (counted-in tsn size max most limits cs s small some r).counted

@@ -1,7 +1,7 @@
 -- Sessions that can end: each chunk in flight that was lost is sent again, and taken.
 use Rattle.sctp_delivery.proofs.Names.{◌≡◌, ℕ, zero, suc, ◌^◌, ◌<◌, ◌≤◌, Bool, true, false, not, List, [], ◌∷◌, length, get_or, Option, Some, None, is_some}
 use Rattle.sctp_delivery.proofs.Names.{inl, inr, refl, ap, sym, subst, ◌∙◌, arith, ◌+◌, ◌%◌, ◌==◌, ◌||◌, All, Contains, find, if◌then◌else◌, nat_le, ◌&&◌}
-use Rattle.sctp_delivery.proofs.Names.{list_any, filter, list_all, sum_by, nat_tests, get_or_default, cases_lt, or-left, or-split, same-is, same-yes, some-same}
+use Rattle.sctp_delivery.proofs.Names.{list_any, filter, list_all, sum_by, nat_tests, get_or_default, cases_lt, or-left, or-right, or-split, same-is, same-yes, some-same}
 use Rattle.sctp_delivery.proofs.Names.{length-change_where, fails, not_both, and, both, distance-tsn, tsn, change_where, Seen, advance_over, at_or_before}
 use Rattle.sctp_delivery.proofs.Names.{distance, data_of, ChunkPayloadData, ReassemblyState, after_ordered_push, Pushes, PushesAs, with_queue, Reception}
 use Rattle.sctp_delivery.proofs.Names.{arrival_refusal, filter_of, is_open, stream_of, with_filter, follow_forward_tsn, is_stale, window, has_come, with_tsn}
@@ -12,16 +12,20 @@ use Rattle.sctp_delivery.proofs.Names.{Session, of_receiver, of_sender, none-som
 use Rattle.sctp_delivery.proofs.Names.{after_forward_tsn, without_incomplete, advanced_ack_point, named_up_to, skip_end, chunks_waiting, reads_nothing_on}
 use Rattle.sctp_reassembly.specs.reassembly_queue.ReassemblyQueue.{is_complete_with}
 use Rattle.sctp_receiver.specs.Inbound.{has_number}
-use Rattle.sctp_delivery.proofs.Names.{Call, Limits, RunsTo, ap₂, at_start, common_steps, sum_by-cons}
+use Rattle.sctp_delivery.proofs.Names.{Call, Limits, RunsTo, ap₂, at_start, bytes_written, common_steps, held_by_sender, sum_by-cons}
 use Rattle.sctp_delivery.specs.Ending.{is_to_come, left_on}
-use Rattle.sctp_delivery.specs.ReceiverCalls.{reports}
+use Rattle.sctp_receiver.specs.Receiver.{sack_within}
+use Rattle.sctp_delivery.specs.ReceiverCalls.{makes_sack}
 use Rattle.sctp_delivery.proofs.HeldCosts.{lefts-le}
 use Rattle.sctp_delivery.proofs.RoundsEnd.{ahead-of-sacks, leaves-fewer, all-go-on, found-in, same-next, same-pending, reporting-of}
 use Rattle.sctp_delivery.proofs.ArrivedTsns.{IsArrived, IsKnown}
+use Rattle.sctp_delivery.proofs.Cases.{by-test}
 use Rattle.sctp_delivery.proofs.EndSteps.{Rests, ends-open, ends-read, rests-same, rests-then, due, is_due, less-due, none-refused, price, same-due, spent}
 use Rattle.sctp_delivery.proofs.EndSteps.{taken-cost, due_by, followed-cost, rest_of, sack-due, At, Ends, Setting, apart-at, at-same, kept-at, long-enough}
-use Rattle.sctp_delivery.proofs.EndSteps.{all-left, no-distance, reached, receiver-before, sender-before, start}
-use Rattle.sctp_delivery.proofs.Every.{Every, all-of-every, every-at, every-of-all, one-of, every-passing}
+use Rattle.sctp_delivery.proofs.EndSteps.{all-left, no-distance, reached, receiver-alone, receiver-before, sender-before, start}
+use Rattle.sctp_delivery.proofs.Besides.{answered-so, forwards-so, resends-so}
+use Rattle.sctp_delivery.proofs.Sessions.{accounted}
+use Rattle.sctp_delivery.proofs.Every.{Every, all-of-every, every-at, every-of, every-of-all, one-of, every-passing}
 use Rattle.sctp_delivery.proofs.GivenTsns.{IsNumbered, flight-given, passable-skip}
 use Rattle.sctp_delivery.proofs.PushesExist.{unordered-pushed, named, names}
 use Rattle.sctp_delivery.proofs.RefusedLaw.{limits-same, none-read-with-room}
@@ -240,11 +244,9 @@ module _ (b : Setting) where
       (omega (arith, price-same)) i in
       let t = after_takes c u l.0 l.1 in
       let taking = takes-one c u l.0 l.1 (0, omega arith, refl) (unrefused n s i c f d none e there) (fresh n s i c f d) in
-      let zero' = no-distance b n s i in
       let ones = same-due (λ x. 1) (λ k m x. refl) (c ∷ s.receiving.accepted) (has_tsn c.tsn) (count_again c) b.now (in_flight s) in
       let lt = less-due (λ x. 1) c s.receiving.accepted (in_flight s) e f.found in
-      sender-before b (resends c.tsn b.now c) s u again (same-yes b.now) (omega (arith, zero'))
-      (receiver-before b n (takes c (New (queued c (l.0).queue).complete)) u t j taking
+      resent (receiver-before b n (takes c (New (queued c (l.0).queue).complete)) u t j taking
       (next t (at-same b n (of_receiver (takes c (New (queued c (l.0).queue).complete))) u t taking refl refl refl (omega arith)
       (let before = same-due price (λ k m x. refl) (c ∷ s.receiving.accepted) (has_tsn c.tsn) (count_again c) b.now (in_flight s) in
       let less = less-due price c s.receiving.accepted (in_flight s) e f.found in
@@ -262,6 +264,17 @@ module _ (b : Setting) where
         few = omega (arith, ones, lt);
         fewer = omega (arith, ones, lt);
       })))
+    where
+      resent : Ends b (after_resends b.now c s) → Ends b s
+      resent x =
+          let d = due-parts s.receiving.accepted c e in
+          let again = resends-one b.now c s (can-again s c f d) f.found in
+          let zero' = no-distance b n s i in
+          record {
+            alone = sender-before b (resends c.tsn b.now c) s (after_resends b.now c s) again (same-yes b.now) (omega (arith, zero')) x.alone;
+            beside = resends-so b.now b.gone b.sacks b.made s (after_resends b.now c s) c f.found d.kept d.untaken again (same-yes b.now)
+                (omega (arith, zero')) x.beside;
+          }
 
   deliver-one : (n : ℕ) (s : Session) → At b n s → reads_nothing s.receiving.receiver ≡ true → (c : ChunkPayloadData) → IsFoundIn s c
       → is_due s.receiving.accepted c ≡ true → ((t : Session) → At b n t → Nearer s t → Ends b t) → Ends b s
@@ -403,14 +416,21 @@ module _ (b : Setting) (n : ℕ) (s : Session) (i : At b n s) (p : ℕ)
       let point = advanced_ack_point (flight_of s) in
       let j = at-same b n (of_sender (forwards point g)) s made-one making refl refl refl (omega arith) (omega arith) (omega arith) i in
       let f = following none all in
-      let zero' = no-distance b n s i in
-      sender-before b (forwards point g) s made-one making refl (omega (arith, zero'))
-      (receiver-before b n (follows g) made-one followed-one j f
+      made-before (receiver-before b n (follows g) made-one followed-one j f
       (next followed-one (at-same b n (of_receiver (follows g)) made-one followed-one f refl refl refl (omega arith) (omega arith)
       (let less = followed-cost g s.receiving.receiver in
       let left-before = all-left b n s i none in
       let left-after = lefts-le (after_forward_tsn g s.receiving.receiver).streams in
       omega (arith, less, left-before, left-after)) j) refl refl refl (omega arith) gets-there))
+    where
+      made-before : Ends b made-one → Ends b s
+      made-before x =
+          let point = advanced_ack_point (flight_of s) in
+          let zero' = no-distance b n s i in
+          record {
+            alone = sender-before b (forwards point g) s made-one making refl (omega (arith, zero')) x.alone;
+            beside = forwards-so b.now b.gone b.sacks b.made s made-one point g making zero' x.beside;
+          }
 
 -- ## Caught up
 
@@ -479,7 +499,12 @@ module _ (b : Setting) where
       at p e false upto = forward p e
 
       by : (o : Option ℕ) → skip_end (advanced_ack_point (flight_of s)) (flight_of s) ≡ o → Ends b s
-      by None e = grind (arith, nat_tests, none-some)
+      by None e = next s i (record {
+        caught = record { taken = taken; followed = λ tsn h. absurd (none-some tsn (sym e ∙ h)) };
+        sending = refl;
+        sacks = refl;
+        few = omega arith;
+      })
       by (Some p) e = at p e (at_or_before p s.receiving.receiver.cumulative_tsn) refl
 
 -- ## A SACK
@@ -496,11 +521,28 @@ after-due : (w : ChunkPayloadData → ℕ) → ((c : ChunkPayloadData) → w (as
     → due_by w accepted (after_sack k f).queue.inflight.chunks ≤ due_by w accepted f.queue.inflight.chunks
 after-due w less k accepted f = grind (arith, nat_tests, sack-due)
 
+first-of : {x y : Sack} {xs ys : List Sack} → x ∷ xs ≡ y ∷ ys → x ≡ y
+first-of e = cc
+
+-- each chunk in flight was taken, or its message is abandoned
+each-came : (s : Session) → AreTaken s → Every (λ c. (list_any (has_tsn c.tsn) s.receiving.accepted || c.abandoned) ≡ true) (in_flight s)
+each-came s h =
+    every-of (λ c. c.abandoned ≡ false → list_any (has_tsn c.tsn) s.receiving.accepted ≡ true)
+    (λ c. (list_any (has_tsn c.tsn) s.receiving.accepted || c.abandoned) ≡ true)
+    (λ c g. by-test c.abandoned (λ e. or-right (list_any (has_tsn c.tsn) s.receiving.accepted) c.abandoned e)
+    (λ e. or-left (list_any (has_tsn c.tsn) s.receiving.accepted) c.abandoned (g e))) (in_flight s)
+    (every-of-all (λ c. c.abandoned ≡ false → list_any (has_tsn c.tsn) s.receiving.accepted ≡ true) (in_flight s) h)
+
 module _ (b : Setting) where
+  -- what is held is no more than what was written
+  held-few : (n : ℕ) (s : Session) → At b n s → bytes_written s < 2 ^ 64 → held_by_sender s.sending.sender < 2 ^ 64
+  held-few n s i few = let all = accounted b.first b.size b.max b.most b.limits i.calls s i.run in omega (arith, all, few)
+
   pub ends-answered : (n : ℕ) (s : Session) → At b n s → IsCaughtUp s → 0 < length (in_flight s)
       → ((t : Session) → At b n t → Answered s t → Ends b t) → Ends b s
   ends-answered n s i caught some next =
-      let c = can (base b.first) n s i.few (kept-at b n s i).kept.step (reports (window s.receiving.receiver)) refl in
+      let w = window s.receiving.receiver in
+      let c = can (base b.first) n s i.few (kept-at b n s i).kept.step (makes_sack w 0) refl in
       let t = c.0 in
       let a = c.1 in
       let u = a.reported in
@@ -536,11 +578,22 @@ module _ (b : Setting) where
       let none : distance (next_tsn u) (next_tsn t) ≡ 0 = ap (distance (next_tsn u)) second ∙ no-distance b n u j in
       let waited = ap (λ (l : Ledger). chunks_waiting l.sender) sender in
       let made = ap length (ap (λ (x : Session). x.sacks) a.taking.after ∙ a.made) in
-      receiver-before b n a.call s u i a.reporting
-      (sender-before b (takes_sack a.sack a.gone) u t a.taking refl (omega (arith, none, waits, waited))
-      (next t k (record {
+      let e = next t k (record {
         waiting = omega (arith, waits);
         fewer = less;
         sacks = omega (arith, made);
         few = omega (arith, due-same, due-first, due-less, sent-same);
-      })))
+      }) in
+      record {
+        alone = receiver-alone b n a.call s u i a.reporting
+            (sender-before b (takes_sack a.sack a.gone) u t a.taking refl (omega (arith, none, waits, waited)) e.alone);
+        beside =
+            let f = subst (λ call. ReceiverFollows call s u) c.2 a.reporting in
+            let is : a.sack ≡ sack_within w 0 s.receiving.receiver = first-of (sym a.made ∙ ap (λ (x : Session). x.sacks) f.after) in
+            let full = held-few n u j in
+            λ m x. answered-so (base b.first) n i.few b.now b.gone b.sacks b.made s u t w f a.gone
+            (subst (λ y. SenderFollows (takes_sack y a.gone) u t) is a.taking) (kept-at b n u j).kept.step
+            (full (let l = ap bytes_written a.reporting.after in let h = x.short in omega (arith, l, h)))
+            (subst (λ (l : Ledger). Every (λ y. (list_any (has_tsn y.tsn) s.receiving.accepted || y.abandoned) ≡ true) l.sender.flight.queue.inflight.chunks)
+            (sym sender) (each-came s caught.taken)) (no-distance b n s i) (omega (arith, waits, waited)) e.beside m x;
+      }

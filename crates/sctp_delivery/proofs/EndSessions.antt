@@ -11,6 +11,7 @@ use Rattle.sctp_delivery.proofs.Names.{RunsTo, SenderFollows, Session, at_start,
 use Rattle.std.specs.Prelude.{◌*◌, slice_get}
 use Rattle.sctp_sender.proofs.Amounts.{sent-bytes}
 use Rattle.sctp_delivery.specs.Ending.{CanEnd}
+use Rattle.sctp_delivery.proofs.Besides.{EachEnds, ends-here, sends-so}
 use Rattle.sctp_delivery.proofs.Delivered.{next_tsn}
 use Rattle.sctp_delivery.proofs.EndDelivers.{ends-delivered, few-given, ends-answered, ends-caught-up}
 use Rattle.sctp_delivery.proofs.EndSteps.{ends-read, RoomIn, few-spent, spent, At, Ends, Setting, at-next}
@@ -157,8 +158,12 @@ module _ (b : Setting) (n : ℕ) (s : Session) (i : At b n s) (none : length (in
       let x = sent in
       let waits = x.waiting in
       let j = at-next b n (of_sender (sends b.now)) s t sending (same-yes b.now) (omega (arith, one, few)) room i in
-      sender-before b (sends b.now) s t sending (same-yes b.now) (omega (arith, one, waits))
-      (next-ends t (subst (λ k. At b k t) {x = n + distance (next_tsn s) (next_tsn t)} {y = n + 1} (omega (arith, one)) j) x)
+      let e = next-ends t (subst (λ k. At b k t) {x = n + distance (next_tsn s) (next_tsn t)} {y = n + 1} (omega (arith, one)) j) x in
+      record {
+        alone = sender-before b (sends b.now) s t sending (same-yes b.now) (omega (arith, one, waits)) e.alone;
+        beside = sends-so (base b.first) n i.few b.now b.gone b.sacks b.made s t (kept-at b n s i).kept.step sending (same-yes b.now)
+            (omega (arith, one, waits)) e.beside;
+      }
 
 -- ## A round
 
@@ -202,18 +207,23 @@ module _ (b : Setting) where
       let flying : length (in_flight t) ≡ 0 = omega (arith, flies, none) in
       let exhausted = and (is_all_acknowledged t.sending.sender) (reads_nothing t.receiving.receiver)
       (and (chunks_waiting t.sending.sender == 0) (length (in_flight t) == 0) (grind (arith, nat_tests, waiting)) (grind (arith, nat_tests, flying))) unread in
+      let once = subst (λ g. EachOtherIsReadOnce g t) j.gone
+      (others-read b.first b.size b.max b.most b.limits j.calls t j.run b.small (few-given b n t j) b.some exhausted) in
+      let same = ap length x.made in
       record {
-        calls = [];
-        ended = t;
-        run = refl;
-        delivery = refl;
-        given = omega (arith, waiting);
-        written = refl;
-        sacks = omega (arith, sacks, made);
-        made = let same = ap length x.made in omega (arith, same, all);
-        exhausted = exhausted;
-        read = subst (λ g. EachOtherIsReadOnce g t) j.gone
-            (others-read b.first b.size b.max b.most b.limits j.calls t j.run b.small (few-given b n t j) b.some exhausted);
+        alone = record {
+          calls = [];
+          ended = t;
+          run = refl;
+          delivery = refl;
+          given = omega (arith, waiting);
+          written = refl;
+          sacks = omega (arith, sacks, made);
+          made = omega (arith, same, all);
+          exhausted = exhausted;
+          read = once;
+        };
+        beside = ends-here b.now b.gone b.sacks b.made t exhausted once waiting (omega (arith, sacks, made)) (omega (arith, same, all));
       })
 
   -- where nothing is in flight and nothing is to be read, there is room when the next chunk is sent
@@ -268,27 +278,35 @@ module _ (tsn size max most : ℕ) (limits : Option Limits) (cs : List Call) (s 
   longer : nat_le s.sending.sender.max_message_size s.receiving.receiver.max_message_size ≡ true → max ≤ most
   longer e = grind (arith, nat_tests, fit-session)
 
+  abbrev setting : nat_le s.sending.sender.max_message_size s.receiving.receiver.max_message_size ≡ true → ℕ → Setting
+  setting enough now = record {
+    first = tsn;
+    size = size;
+    max = max;
+    most = most;
+    limits = limits;
+    small = small;
+    some = some;
+    enough = longer enough;
+    gone = abandoned_in (at_start tsn size max most limits) cs s run;
+    sacks = length s.sacks + chunks_left s.sending.sender;
+    made = length s.made + 3 * chunks_left s.sending.sender;
+    now = now;
+  }
+
   -- so the session ends, where there is room
+  ends : (enough : nat_le s.sending.sender.max_message_size s.receiving.receiver.max_message_size ≡ true) → ((b : Setting) → Grows b) → RoomIn limits s → (now : ℕ)
+      → Ends (setting enough now) s
+  ends enough grows room now =
+      let b = setting enough now in
+      ends-from b (grows b) (chunks_left s.sending.sender) (tsns_given (at_start tsn size max most limits) cs s run) s
+      (record { calls = cs; run = run; given = refl; gone = refl; few = omega (arith, few); room = room }) few (omega arith)
+      (let most' = few-spent s in omega (arith, most')) (omega arith)
+
   pub ends-in : nat_le s.sending.sender.max_message_size s.receiving.receiver.max_message_size ≡ true → ((b : Setting) → Grows b) → RoomIn limits s → (now : ℕ)
       → CanEnd now (abandoned_in (at_start tsn size max most limits) cs s run) s
   ends-in enough grows room now =
-      let b : Setting = record {
-        first = tsn;
-        size = size;
-        max = max;
-        most = most;
-        limits = limits;
-        small = small;
-        some = some;
-        enough = longer enough;
-        gone = abandoned_in (at_start tsn size max most limits) cs s run;
-        sacks = length s.sacks + chunks_left s.sending.sender;
-        made = length s.made + 3 * chunks_left s.sending.sender;
-        now = now;
-      } in
-      let e = ends-from b (grows b) (chunks_left s.sending.sender) (tsns_given (at_start tsn size max most limits) cs s run) s
-      (record { calls = cs; run = run; given = refl; gone = refl; few = omega (arith, few); room = room }) few (omega arith)
-      (let most' = few-spent s in omega (arith, most')) (omega arith) in
+      let e = (ends enough grows room now).alone in
       record {
         calls = e.calls;
         ended = e.ended;
@@ -301,3 +319,9 @@ module _ (tsn size max most : ℕ) (limits : Option Limits) (cs : List Call) (s 
         exhausted = e.exhausted;
         read = e.read;
       }
+
+  -- and so does each beside it
+  pub ends-beside : nat_le s.sending.sender.max_message_size s.receiving.receiver.max_message_size ≡ true → ((b : Setting) → Grows b) → RoomIn limits s → (now : ℕ)
+      → EachEnds now (abandoned_in (at_start tsn size max most limits) cs s run) (length s.sacks + chunks_left s.sending.sender)
+      (length s.made + 3 * chunks_left s.sending.sender) s
+  ends-beside enough grows room now = (ends enough grows room now).beside

@@ -7,8 +7,8 @@ use Rattle.sctp_delivery.proofs.Names.{Reassembly, front_readable, message_read,
 use Rattle.sctp_delivery.proofs.Names.{unassembled_forwarded, with_queue, cost_of, Reception, follow_forward_tsn, is_stale, new_refusal, is_open}
 use Rattle.sctp_delivery.proofs.Names.{after_forward_tsn, incomplete_forwarded, without_incomplete, InboundStream, Limits, chunk_before, has_tsn}
 use Rattle.sctp_delivery.proofs.Names.{sent_again, chunks_waiting, ReceiverCall, reads, in_flight, Call, ReceiverFollows, RunsTo}
-use Rattle.sctp_delivery.proofs.Names.{Session, of_receiver, of_sender, Follows, SenderFollows, at_start, distance-tsn, EachOtherIsReadOnce, abandoned_by}
-use Rattle.sctp_delivery.proofs.Names.{abandoned_in, is_exhausted, reads_nothing, tsns_given, SenderCall, Write, written_after, list_all-append, ChunkSet}
+use Rattle.sctp_delivery.proofs.Names.{Session, of_receiver, of_sender, Follows, SenderFollows, at_start, distance-tsn, EachOtherIsReadOnce}
+use Rattle.sctp_delivery.proofs.Names.{ap₂, append-nil, abandoned_in, is_exhausted, reads_nothing, tsns_given, SenderCall, Write, written_after, list_all-append, ChunkSet}
 use Rattle.sctp_receiver.proofs.DataEach.{takes-keeps}
 use Rattle.sctp_receiver.proofs.Forwarded.{followed-numbers}
 use Rattle.sctp_receiver.proofs.Inbounds.{stays-mapped}
@@ -20,6 +20,7 @@ use Rattle.sctp_receiver.specs.Receiver.{open_stream}
 use Rattle.sctp_delivery.specs.Ending.{is_delivery, left_on, rest_cost, waiting_cost}
 use Rattle.sctp_delivery.specs.ReceiverCalls as incoming
 use Rattle.sctp_delivery.specs.ReceiverCalls.{opens}
+use Rattle.sctp_delivery.proofs.Besides.{EachEnds, receiver-so}
 use Rattle.sctp_delivery.proofs.Delivered.{next_tsn}
 use Rattle.sctp_delivery.proofs.Every.{Every}
 use Rattle.sctp_delivery.proofs.GivenTsns.{IsNumbered}
@@ -27,7 +28,8 @@ use Rattle.sctp_delivery.proofs.HeldCosts.{left-read, lefts-unread, under-in}
 use Rattle.sctp_delivery.proofs.RefusedLaw.{fit-session}
 use Rattle.sctp_delivery.proofs.Reached.{HasKept, IsReached, kept}
 use Rattle.sctp_delivery.proofs.TsnPlaces.{base}
-use Rattle.sctp_delivery.proofs.OneRead.{read_of, reads-on}
+use Rattle.sctp_delivery.proofs.OneRead.{given-then, read_of, reads-on, run-then}
+use Rattle.sctp_delivery.proofs.PlainSessions.{gone-then, gone_by}
 
 -- # Sessions that can end: what is due, and what a receiver with limits has room for
 
@@ -227,36 +229,6 @@ few-spent s =
 
 -- # Sessions that can end: a call in front of others that end one
 
--- ## One more call
-
-module _ (now : ℕ) (call : Call) (s t : Session) (f : Follows call s t) (delivery : is_delivery now call ≡ true) where
-  -- calls that lead to the one session, and this one behind them
-  record Longer (cs : List Call) (r : Session) (run : RunsTo r cs s) : Type 0 where
-    more : RunsTo r (cs ++ call ∷ []) t
-    given : tsns_given r (cs ++ call ∷ []) t more ≡ tsns_given r cs s run + distance (next_tsn s) (next_tsn t)
-    gone : abandoned_in r (cs ++ call ∷ []) t more ≡ abandoned_in r cs s run
-
-  -- it abandons nothing
-  alone : (c : Call) → is_delivery now c ≡ true → (r : Session) (run : RunsTo r (c ∷ []) t) → abandoned_in r (c ∷ []) t run ≡ []
-  alone c h2 r run = grind (arith, nat_tests, not_both)
-
-  longer : (cs : List Call) (r : Session) (run : RunsTo r cs s) → Longer cs r run
-  longer [] r run = record {
-    more = (t, (subst (λ x. Follows call x t) run f, refl));
-    given = let e = ap (λ x. distance (next_tsn x) (next_tsn t)) run in omega (arith, e);
-    gone = alone call delivery r (t, (subst (λ x. Follows call x t) run f, refl));
-  }
-  longer (of_sender c ∷ cs) r run =
-      let ih = longer cs run.0 run.1.1 in
-      record {
-        more = (run.0, (run.1.0, ih.more));
-        given = let e = ih.given in omega (arith, e);
-        gone = ap (λ ms. abandoned_by c r.sending.sender ++ ms) ih.gone;
-      }
-  longer (of_receiver c ∷ cs) r run =
-      let ih = longer cs run.0 run.1.1 in
-      record { more = (run.0, (run.1.0, ih.more)); given = let e = ih.given in omega (arith, e); gone = ih.gone }
-
 -- ## From a start
 
 abbrev pub start : Setting → Session
@@ -272,7 +244,7 @@ pub record At (b : Setting) (n : ℕ) (s : Session) : Type 0 where
   pub room : RoomIn b.limits s
 
 -- calls of delivery lead from the session to the end
-pub record Ends (b : Setting) (s : Session) : Type 0 where
+pub record EndsAlone (b : Setting) (s : Session) : Type 0 where
   pub calls : List Call
   pub ended : Session
   pub run : RunsTo s calls ended
@@ -283,6 +255,14 @@ pub record Ends (b : Setting) (s : Session) : Type 0 where
   pub made : length ended.made ≤ b.made
   pub exhausted : is_exhausted ended.sending.sender ended.receiving.receiver ≡ true
   pub read : EachOtherIsReadOnce b.gone ended
+
+-- and from each session of a sender that keeps what is reported, which is beside it
+abbrev pub EachBeside : Setting → Session → Type 0
+EachBeside b s = EachEnds b.now b.gone b.sacks b.made s
+
+pub record Ends (b : Setting) (s : Session) : Type 0 where
+  pub alone : EndsAlone b s
+  pub beside : EachBeside b s
 
 module _ (b : Setting) where
   pub reached : (n : ℕ) (s : Session) → At b n s → IsReached b.first n s
@@ -315,11 +295,20 @@ module _ (b : Setting) where
 
   -- ## Behind one more call
 
+  -- a call of delivery abandons nothing
+  none-gone : (call : Call) (s : Session) → is_delivery b.now call ≡ true → gone_by call s ≡ []
+  none-gone call s d = grind (arith, nat_tests, not_both)
+
   pub at-next : (n : ℕ) (call : Call) (s t : Session) → Follows call s t → is_delivery b.now call ≡ true
       → n + distance (next_tsn s) (next_tsn t) < 2 ^ 31 → RoomIn b.limits t → At b n s → At b (n + distance (next_tsn s) (next_tsn t)) t
-  at-next n call s t f d few room i =
-      let l = longer b.now call s t f d i.calls (start b) i.run in
-      grind (arith, nat_tests)
+  at-next n call s t f d few room i = record {
+    calls = i.calls ++ call ∷ [];
+    run = run-then i.calls call (start b) s t i.run f;
+    given = given-then i.calls call (start b) s t i.run f ∙ ap (λ k. k + distance (next_tsn s) (next_tsn t)) i.given;
+    gone = gone-then i.calls call (start b) s t i.run f ∙ ap₂ (λ xs ys. xs ++ ys) i.gone (none-gone call s d) ∙ append-nil b.gone;
+    few = few;
+    room = room;
+  }
 
   -- where no TSN is given out, and the same chunks wait
   pub at-same : (n : ℕ) (call : Call) (s t : Session) → Follows call s t → is_delivery b.now call ≡ true → next_tsn t ≡ next_tsn s
@@ -337,7 +326,7 @@ module _ (b : Setting) where
   unwritten call ws h3 = grind (arith, nat_tests, not_both)
 
   pub sender-before : (call : SenderCall) (s t : Session) → SenderFollows call s t → is_delivery b.now (of_sender call) ≡ true
-      → distance (next_tsn s) (next_tsn t) + chunks_waiting t.sending.sender ≡ chunks_waiting s.sending.sender → Ends b t → Ends b s
+      → distance (next_tsn s) (next_tsn t) + chunks_waiting t.sending.sender ≡ chunks_waiting s.sending.sender → EndsAlone b t → EndsAlone b s
   sender-before call s t f d waiting e = record {
     calls = of_sender call ∷ e.calls;
     ended = e.ended;
@@ -351,8 +340,8 @@ module _ (b : Setting) where
     read = e.read;
   }
 
-  pub receiver-before : (n : ℕ) (call : ReceiverCall) (s t : Session) → At b n s → ReceiverFollows call s t → Ends b t → Ends b s
-  receiver-before n call s t i f e =
+  pub receiver-alone : (n : ℕ) (call : ReceiverCall) (s t : Session) → At b n s → ReceiverFollows call s t → EndsAlone b t → EndsAlone b s
+  receiver-alone n call s t i f e =
       let sender = ap (λ (x : Session). x.sending) f.after in
       let none : distance (next_tsn s) (next_tsn t) ≡ 0 = ap (λ l. distance (next_tsn s) l.sender.flight.next_tsn) sender ∙ no-distance n s i in
       let waiting = ap (λ l. chunks_waiting l.sender) sender in
@@ -368,6 +357,12 @@ module _ (b : Setting) where
         exhausted = e.exhausted;
         read = e.read;
       }
+
+  pub receiver-before : (n : ℕ) (call : ReceiverCall) (s t : Session) → At b n s → ReceiverFollows call s t → Ends b t → Ends b s
+  receiver-before n call s t i f e = record {
+    alone = receiver-alone n call s t i f e.alone;
+    beside = receiver-so b.now b.gone b.sacks b.made call s t f (no-distance n s i) e.beside;
+  }
 
 -- # Sessions that can end: all that is to be read is read, and streams are opened
 

@@ -15,7 +15,6 @@ use Rattle.sctp_reassembly.specs.reassembly_queue.Counts.{set_chunks}
 use Rattle.sctp_reassembly.specs.reassembly_queue.ReassemblyQueue.{set_bytes}
 use Rattle.sctp_receiver.proofs.StreamCosts.{are_apart}
 use Rattle.sctp_receiver.proofs.Weights as weights
-use Rattle.sctp_receiver.proofs.Weights.{message_weight}
 use Rattle.sctp_receiver.specs.Credit.{cost_of_chunks}
 use Rattle.sctp_receiver.specs.Inbound.{has_number, numbers_of}
 use Rattle.sctp_delivery.specs.Ending.{AfterEachSessionWithTsnsLeft, EndsWhereTaken, EndsWithAllRead, begun_cost, cost_left, each_within, has_window}
@@ -266,7 +265,7 @@ module _ (b : Setting) (n : ℕ) (s : Session) (i : At b n s) (none : length (in
 
 -- ## The law
 
-room-each : (o : Option Limits) (s : Session)
+pub room-each : (o : Option Limits) (s : Session)
     → due_by price s.receiving.accepted (in_flight s) ≤ sum_by price (filter (is_to_come s.receiving.receiver) (in_flight s)) → has_window o s.sending.sender s.receiving.receiver ≡ true → RoomIn o s
 room-each None s due-all h = tt
 room-each (Some l) s due-all h =

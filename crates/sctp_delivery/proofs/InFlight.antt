@@ -29,7 +29,7 @@ pub record IsAlike (c d : ChunkPayloadData) : Type 0 where
   pub ends : d.ending_fragment ≡ c.ending_fragment
 
 -- so it stands where the other did
-placed-alike : (first : ℕ) (sent : List Entry) (c d : ChunkPayloadData) → IsAlike c d → IsPlaced first sent c → IsPlaced first sent d
+pub placed-alike : (first : ℕ) (sent : List Entry) (c d : ChunkPayloadData) → IsAlike c d → IsPlaced first sent c → IsPlaced first sent d
 placed-alike first sent c d a i = grind (arith, nat_tests, for-alike, ordered-alike, step-alike)
 
 -- a change after which a chunk is outstanding only where it was, with the same wire fields, and is always alike

@@ -104,5 +104,12 @@ pub mod PlainStreams
 pub mod PlainFlights
 pub mod PlainSessions
 pub mod PlainCalls
+pub mod Besides
+pub mod PlainReturns
 pub mod PlainRuns
 pub mod PlainLaws
+pub mod PlainHolds
+pub mod PlainAmounts
+pub mod PlainEnds
+pub mod PlainRefused
+pub mod StandsSo

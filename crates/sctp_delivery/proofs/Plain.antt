@@ -1,7 +1,7 @@
 -- Chunks in flight of a sender that keeps what is reported, beside those that it would have if no gap ack block were taken.
 use Rattle.sctp_delivery.proofs.Names.{◌≡◌, ℕ, zero, suc, ◌<◌, ◌+◌, ◌%◌, ◌^◌, Bool, true, false, not, List, [], ◌∷◌, ◌++◌, length, map, take, drop, refl, ap}
 use Rattle.sctp_delivery.proofs.Names.{ap₂, sym, subst, ◌∙◌, arith, Option, Some, None, option_map, if◌then◌else◌, ◌&&◌, ◌||◌, filter, find, change_where}
-use Rattle.sctp_delivery.proofs.Names.{insert_before, negated, both, not_both, some-same, length-map, ChunkPayloadData, Sack, as_abandoned}
+use Rattle.sctp_delivery.proofs.Names.{insert_before, list_any, negated, both, not_both, some-same, length-map, ChunkPayloadData, Sack, as_abandoned}
 use Rattle.sctp_delivery.proofs.Names.{as_acknowledged, reports, reports_anew, chunk_before, tsns, following_tsn, comes_before}
 use Rattle.sctp_delivery.proofs.Names.{at_or_before, distance, last_of, is_in_blocks, IsRunFrom}
 use Rattle.sctp_sender.specs.Keeping.{back_each, back_of, keep, keep_each, kept_from, restored, restored_with, takes_back, tells_of, trimmed}
@@ -151,6 +151,14 @@ are-tsns ks cs ds a = are-mapped IsLike (λ c. c.tsn) (λ c. c.tsn) (λ k c d i.
 pub are-long : (ks : List (Option (List ℕ))) (cs ds : List ChunkPayloadData) → AreLike ks cs ds → length cs ≡ length ds
 are-long ks cs ds a = sym (length-map cs plain) ∙ ap length (are-plain ks cs ds a) ∙ length-map ds plain
 
+-- what is so of each of the others is so of each of these
+pub paired : (A B C : ChunkPayloadData → Type 0) → ((k : Option (List ℕ)) (c d : ChunkPayloadData) → IsLike k c d → A c → B d → C c)
+    → (ks : List (Option (List ℕ))) (cs ds : List ChunkPayloadData) → AreLike ks cs ds → Every A cs → Every B ds → Every C cs
+paired A B C h ks [] [] a e f = tt
+paired A B C h ks [] (d ∷ ds) a e f = tt
+paired A B C h ks (c ∷ cs) [] a e f = absurd a
+paired A B C h ks (c ∷ cs) (d ∷ ds) a e f = (h (first_of ks) c d a.0 e.0 f.0, paired A B C h (rest_of ks) cs ds a.1 e.1 f.1)
+
 -- ## What is found among chunks that are alike but for what SACKs change
 
 module _ (p : ChunkPayloadData → Bool) (blind : (c : ChunkPayloadData) → p (plain c) ≡ p c) where
@@ -168,6 +176,13 @@ module _ (p : ChunkPayloadData → Bool) (blind : (c : ChunkPayloadData) → p (
 
   pub found-plain : (cs ds : List ChunkPayloadData) → map plain cs ≡ map plain ds → option_map plain (find p cs) ≡ option_map plain (find p ds)
   found-plain cs ds e = sym (find-plain cs) ∙ ap (find p) e ∙ find-plain ds
+
+  pub any-plain : (cs ds : List ChunkPayloadData) → map plain cs ≡ map plain ds → list_any p cs ≡ list_any p ds
+  any-plain cs ds e = sym (one cs) ∙ ap (list_any p) e ∙ one ds
+    where
+      one : (xs : List ChunkPayloadData) → list_any p (map plain xs) ≡ list_any p xs
+      one [] = refl
+      one (x ∷ xs) = ap₂ (λ a b. a || b) (blind x) (one xs)
 
   pub passing-plain : (cs ds : List ChunkPayloadData) → map plain cs ≡ map plain ds → map plain (filter p cs) ≡ map plain (filter p ds)
   passing-plain cs ds e = sym (filter-plain cs) ∙ ap (filter p) e ∙ filter-plain ds
@@ -223,7 +238,7 @@ module _ (s k : Sack) (bare : IsBareSack s k) where
   abbrev pub IsLikeBehind : Relation
   IsLikeBehind j c d = at_or_before d.tsn s.cumulative_tsn_ack ≡ false → IsLike j c d
 
-  silent : (d : ChunkPayloadData) → at_or_before d.tsn s.cumulative_tsn_ack ≡ false → reports_anew k d ≡ false
+  pub silent : (d : ChunkPayloadData) → at_or_before d.tsn s.cumulative_tsn_ack ≡ false → reports_anew k d ≡ false
   silent d e = ap (λ b. not d.acked && b)
       (ap (λ t. at_or_before d.tsn t || is_in_blocks k.gap_ack_blocks (distance k.cumulative_tsn_ack d.tsn)) bare.same
       ∙ ap (λ b. b || is_in_blocks k.gap_ack_blocks (distance k.cumulative_tsn_ack d.tsn)) e

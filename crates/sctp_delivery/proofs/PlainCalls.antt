@@ -60,24 +60,24 @@ use Rattle.sctp_delivery.proofs.Writing.{accepted-stream}
 -- ## What is found
 
 -- the chunk that is found, and the one in its place
-record IsBeside (c : ChunkPayloadData) (t : ℕ) (ds : List ChunkPayloadData) : Type 0 where
-  kept : Option (List ℕ)
-  chunk : ChunkPayloadData
-  found : find (has_tsn t) ds ≡ Some chunk
-  like : IsLike kept c chunk
+pub record IsInPlace (c : ChunkPayloadData) (t : ℕ) (ds : List ChunkPayloadData) : Type 0 where
+  pub kept : Option (List ℕ)
+  pub chunk : ChunkPayloadData
+  pub found : find (has_tsn t) ds ≡ Some chunk
+  pub like : IsLike kept c chunk
 
-beside : (t : ℕ) (c : ChunkPayloadData) (ks : List (Option (List ℕ))) (cs ds : List ChunkPayloadData) → AreLike ks cs ds → find (has_tsn t) cs ≡ Some c
-    → IsBeside c t ds
-beside t c ks [] [] a e = absurd (none-some c e)
-beside t c ks [] (y ∷ ys) a e = absurd a
-beside t c ks (x ∷ xs) [] a e = absurd a
-beside t c ks (x ∷ xs) (y ∷ ys) a e = by (has_tsn t x) refl e (beside t c (rest_of ks) xs ys a.1)
+pub in-place : (t : ℕ) (c : ChunkPayloadData) (ks : List (Option (List ℕ))) (cs ds : List ChunkPayloadData) → AreLike ks cs ds → find (has_tsn t) cs ≡ Some c
+    → IsInPlace c t ds
+in-place t c ks [] [] a e = absurd (none-some c e)
+in-place t c ks [] (y ∷ ys) a e = absurd a
+in-place t c ks (x ∷ xs) [] a e = absurd a
+in-place t c ks (x ∷ xs) (y ∷ ys) a e = by (has_tsn t x) refl e (in-place t c (rest_of ks) xs ys a.1)
   where
     same : has_tsn t y ≡ has_tsn t x
     same = ap (has_tsn t) (sym a.0.same)
 
-    by : (b : Bool) → has_tsn t x ≡ b → (if b then Some x else find (has_tsn t) xs) ≡ Some c → (find (has_tsn t) xs ≡ Some c → IsBeside c t ys)
-        → IsBeside c t (y ∷ ys)
+    by : (b : Bool) → has_tsn t x ≡ b → (if b then Some x else find (has_tsn t) xs) ≡ Some c → (find (has_tsn t) xs ≡ Some c → IsInPlace c t ys)
+        → IsInPlace c t (y ∷ ys)
     by true h i ih = record {
       kept = first_of ks;
       chunk = y;
@@ -94,7 +94,7 @@ message-same [] q ds = refl
 message-same (c ∷ cs) q ds = refl
 
 -- the same bytes leave what waits
-sent-bytes : (o : Option ChunkPayloadData) (q : Outbound) (ds : List ChunkPayloadData) (t now : ℕ)
+pub sent-bytes : (o : Option ChunkPayloadData) (q : Outbound) (ds : List ChunkPayloadData) (t now : ℕ)
     → total_bytes (sent_of o (with_inflight q ds) t now) + bytes_of q.inflight.chunks ≡ total_bytes (sent_of o q t now) + bytes_of ds
 sent-bytes None q ds t now = omega arith
 sent-bytes (Some c) q ds t now =
@@ -109,6 +109,24 @@ refused_by a b c d = if not a then Some StreamUnknown else (if b then Some Messa
 
 fits-too : (a k b c d : Bool) → k ≡ a → refused_by a b c d ≡ None → refused_by k b c true ≡ None
 fits-too a k b c d same none = grind (arith, nat_tests, none-some)
+
+-- ## What is kept after a SACK
+
+-- what is alike is so, too, if nothing is kept
+forgotten : (ks : List (Option (List ℕ))) (cs es : List ChunkPayloadData) → AreLike ks cs es → AreLike [] cs es
+forgotten ks [] [] a = tt
+forgotten ks [] (e ∷ es) a = absurd a
+forgotten ks (c ∷ cs) [] a = absurd a
+forgotten ks (c ∷ cs) (e ∷ es) a = (
+  record { same = a.0.same; open' = a.0.open'; whole = a.0.whole; kept = λ _ _ bytes is. absurd (none-some bytes is); settled = a.0.settled },
+  forgotten (rest_of ks) cs es a.1,
+)
+
+pub kept-sacked : (sack : Sack) (f : Flight) (es : List ChunkPayloadData) (o : Option (List (Option (List ℕ))))
+    → AreLike (kept_after sack f (kept_of o)) (chunks_of (after_sack sack f)) es
+    → AreLike (kept_of (option_map (kept_after sack f) o)) (chunks_of (after_sack sack f)) es
+kept-sacked sack f es None a = forgotten (kept_after sack f []) (chunks_of (after_sack sack f)) es a
+kept-sacked sack f es (Some ks) a = a
 
 -- ## Messages leave, one after another
 
@@ -557,7 +575,7 @@ module _ (first size max most : ℕ) (limits : Option Limits) (small : first < 2
   resends-goes : (tsn now : ℕ) (c : ChunkPayloadData) → SenderFollows (outgoing.resends tsn now c) s v → Result (outgoing.resends tsn now c)
   resends-goes tsn now c f =
       let cs = t.flight.queue.inflight.chunks in
-      let b = beside tsn c (kept_of t.kept) cs ds g.shadow.like f.accepted.1 in
+      let b = in-place tsn c (kept_of t.kept) cs ds g.shadow.like f.accepted.1 in
       let d = b.chunk in
       let open' : is_outstanding c ≡ true = ap is_outstanding_in (sym f.accepted.1) ∙ f.accepted.0 in
       let k = both (not c.acked) (not c.abandoned) open' in
@@ -603,22 +621,8 @@ module _ (first size max most : ℕ) (limits : Option Limits) (small : first < 2
         ),
       )
       x.other (released-alike (released_by sack t.flight) t.streams ∙ g.shadow.alike ∙ sym (released-alike (released_by k fl) ls))
-      (by (chunks_of (after_sack k fl)) t.kept (are-sacked sack k x.is-bare (base first) n t.flight
+      (kept-sacked sack t.flight (chunks_of (after_sack k fl)) t.kept (are-sacked sack k x.is-bare (base first) n t.flight
       (kept_of t.kept) ds g.shadow.like room numbered fits f.accepted)) (λ ms. refl) (λ ws. refl) refl refl
-    where
-      forgotten : (ks : List (Option (List ℕ))) (cs es : List ChunkPayloadData) → AreLike ks cs es → AreLike [] cs es
-      forgotten ks [] [] a = tt
-      forgotten ks [] (e ∷ es) a = absurd a
-      forgotten ks (c ∷ cs) [] a = absurd a
-      forgotten ks (c ∷ cs) (e ∷ es) a = (
-        record { same = a.0.same; open' = a.0.open'; whole = a.0.whole; kept = λ _ _ bytes is. absurd (none-some bytes is); settled = a.0.settled },
-        forgotten (rest_of ks) cs es a.1,
-      )
-
-      by : (es : List ChunkPayloadData) (o : Option (List (Option (List ℕ)))) → AreLike (kept_after sack t.flight (kept_of o))
-          (chunks_of (after_sack sack t.flight)) es → AreLike (kept_of (option_map (kept_after sack t.flight) o)) (chunks_of (after_sack sack t.flight)) es
-      by es None a = forgotten (kept_after sack t.flight []) (chunks_of (after_sack sack t.flight)) es a
-      by es (Some ks) a = a
 
   -- ## Several messages leave
 

@@ -89,10 +89,14 @@ module _ (f : Flight) (ks : List (Option (List ℕ))) (ds : List ChunkPayloadDat
       (sym (blind-same (option_map (λ (c : ChunkPayloadData). c.tsn)) (λ c. refl) (last_end t f) (last_end t (flight_with f ds))
       (last-plain _ _ (passing-plain ends (λ c. refl) _ _ (take-plain (ahead f t) f.queue.inflight.chunks ds e)))))
 
-  pub named-same : (pairs : List ChunkForwardTsnStream) (t : ℕ) → Name pairs (named_up_to t f) → Name pairs (named_up_to t (flight_with f ds))
-  named-same pairs t h s = h s
-      ∙ blind-same pairs_of (λ c. refl) (last_of (filter (is_on s) (named_up_to t f))) (last_of (filter (is_on s) (named_up_to t (flight_with f ds))))
+  pub named-both : (t s : ℕ) → pairs_of (last_of (filter (is_on s) (named_up_to t f)))
+      ≡ pairs_of (last_of (filter (is_on s) (named_up_to t (flight_with f ds))))
+  named-both t s =
+      blind-same pairs_of (λ c. refl) (last_of (filter (is_on s) (named_up_to t f))) (last_of (filter (is_on s) (named_up_to t (flight_with f ds))))
       (last-plain _ _ (passing-plain (is_on s) (λ c. refl) _ _ (passing-plain is_named (λ c. refl) _ _ (take-plain (ahead f t) f.queue.inflight.chunks ds e))))
+
+  pub named-same : (pairs : List ChunkForwardTsnStream) (t : ℕ) → Name pairs (named_up_to t f) → Name pairs (named_up_to t (flight_with f ds))
+  named-same pairs t h s = h s ∙ named-both t s
 
 -- ## A message leaves
 

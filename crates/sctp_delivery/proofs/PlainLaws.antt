@@ -4,7 +4,7 @@ use Rattle.sctp_delivery.proofs.Names.{arith}
 use Rattle.sctp_delivery.proofs.Names.{inl, inr, Option, Some, None, Contains, list_any, list_any_at, or-right, or-split, both, not_both, ◌||◌}
 use Rattle.sctp_delivery.proofs.Names.{ChunkPayloadData, Sack, Transmission, Session, SenderFollows, of_receiver, of_sender, is_reported}
 use Rattle.sctp_delivery.proofs.Names.{reports}
-use Rattle.sctp_delivery.proofs.Names.{All, OutboundStream, map, min, sum_by, ◌-◌}
+use Rattle.sctp_delivery.proofs.Names.{OutboundStream, map, min, sum_by, ◌-◌}
 use Rattle.sctp_delivery.proofs.Names.{⊤, Limits, Modes, abandoned_by, at_start, bytes_written, tsn, tsns_from, tsns_given}
 use Rattle.sctp_delivery.proofs.Names.{takes_sack, was_taken, AcknowledgedCame, Flight, SenderCall}
 use Rattle.sctp_delivery.proofs.Names.{next_pending, all_started, at_or_before, is_in_blocks, distance, fragments_with_mode, modes_from, at_first}
@@ -22,7 +22,7 @@ use Rattle.sctp_delivery.specs.SenderCalls as outgoing
 use Rattle.sctp_delivery.proofs.Changes.{Change, acknowledges, all_start, changes, each_leaves, flight_after, front_expires, more_room, nothing, one_leaves}
 use Rattle.sctp_delivery.proofs.Changes.{some_marked, some_missed}
 use Rattle.sctp_delivery.proofs.Every.{Every, all-of-every, every-all, every-of, every-of-all}
-use Rattle.sctp_delivery.proofs.Plain.{AreLike, IsLike, are-long, are-tsns, first_of, rest_of}
+use Rattle.sctp_delivery.proofs.Plain.{IsLike, are-long, are-tsns, paired}
 use Rattle.sctp_delivery.proofs.PlainRuns.{goes, shadow, so}
 use Rattle.sctp_delivery.proofs.PlainSessions.{IsThere, kept_of}
 use Rattle.sctp_delivery.proofs.QueueChunks.{AllWait, EachIs, abandoned, each-abandoned, each-fragment, expired, marked, missed-some, pushed, sacked, sent}
@@ -39,16 +39,6 @@ use Rattle.sctp_delivery.proofs.GivenTsns.{IsNumbered}
 use Rattle.sctp_delivery.proofs.ModeQueues.{AreModed, IsFlying, has-mode-kept}
 use Rattle.sctp_delivery.proofs.ModeSessions.{HasSaidOfFew, said-of-few}
 use Rattle.sctp_delivery.proofs.TsnPlaces.{base}
-
--- ## Both lists
-
--- what is so of each of the others is so of each of these
-pub paired : (A B C : ChunkPayloadData → Type 0) → ((k : Option (List ℕ)) (c d : ChunkPayloadData) → IsLike k c d → A c → B d → C c)
-    → (ks : List (Option (List ℕ))) (cs ds : List ChunkPayloadData) → AreLike ks cs ds → Every A cs → Every B ds → Every C cs
-paired A B C h ks [] [] a e f = tt
-paired A B C h ks [] (d ∷ ds) a e f = tt
-paired A B C h ks (c ∷ cs) [] a e f = absurd a
-paired A B C h ks (c ∷ cs) (d ∷ ds) a e f = (h (first_of ks) c d a.0 e.0 f.0, paired A B C h (rest_of ks) cs ds a.1 e.1 f.1)
 
 -- ## What is acknowledged was reported
 

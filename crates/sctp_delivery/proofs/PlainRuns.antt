@@ -1,40 +1,37 @@
 -- Sessions of a sender that keeps what is reported: beside each there is one in which no gap ack block is taken, with the same chunks.
-use Rattle.sctp_delivery.proofs.Names.{◌≡◌, AllPairs, ℕ, ◌<◌, ◌≤◌, ◌+◌, ◌^◌, Bool, true, List, [], ◌∷◌, ◌++◌, length, refl, ap, ap₂, sym, subst}
+use Rattle.sctp_delivery.proofs.Names.{◌≡◌, AllPairs, ℕ, ◌<◌, ◌≤◌, ◌+◌, ◌^◌, true, List, [], ◌∷◌, ◌++◌, length, refl, ap, ap₂, sym, subst}
 use Rattle.sctp_delivery.proofs.Names.{◌∙◌, arith, append-nil, append_assoc, Option, Some, None, if◌then◌else◌, ◌==◌, ◌&&◌, nat_lt, list_all, list_any}
 use Rattle.sctp_delivery.proofs.Names.{list_any_at}
-use Rattle.sctp_delivery.proofs.Names.{All, Contains, sum_by, sum_by-cons, nat_tests, ChunkPayloadData, Sack, Limits, Transmission, Drop, bytes_of}
-use Rattle.sctp_delivery.proofs.Names.{total_bytes, with_inflight, SenderRefusal, is_outdated, sack_refusal, Session, RunsTo}
+use Rattle.sctp_delivery.proofs.Names.{All, Contains, sum_by, Sack, Limits, Transmission, Drop}
+use Rattle.sctp_delivery.proofs.Names.{total_bytes, with_inflight, is_outdated, sack_refusal, Session, RunsTo}
 use Rattle.sctp_delivery.proofs.Names.{at_start, bytes_written}
-use Rattle.sctp_delivery.proofs.Names.{of_receiver, of_sender, abandoned_by, abandoned_in, tsns_given, Modes, at_first, modes_after, modes_from}
+use Rattle.sctp_delivery.proofs.Names.{of_receiver, of_sender, abandoned_in, tsns_given, Modes, at_first, modes_from}
 use Rattle.sctp_delivery.proofs.Names.{Write}
-use Rattle.sctp_delivery.proofs.Names.{Flight, chunk_count, is_exhausted, reads_nothing, reports_tsn, held_by_sender, StandAt, AreMade, AreMessages}
+use Rattle.sctp_delivery.proofs.Names.{chunk_count, is_exhausted, reads_nothing, reports_tsn, held_by_sender, StandAt, AreMade, AreMessages}
 use Rattle.sctp_delivery.proofs.Names.{Stand, Call, Data, data_chunk}
 use Rattle.sctp_delivery.proofs.Names.{EachOtherIsReadOnce, slice_index_or, ◌-◌}
 use Rattle.sctp_delivery.proofs.Names.{AreWrites, AreWritesOfTheirOwn, NoneIsReadTwice, AreReadInOrder, NoneIsRefused, NoneIsTakenTwice, EachSackTells}
 use Rattle.sctp_delivery.proofs.Names.{at_or_before}
-use Rattle.std.specs.Prelude.{◌≢◌, is_some, not}
+use Rattle.std.specs.Prelude.{◌≢◌}
 use Rattle.sctp_util.specs.Serial.{distance}
 use Rattle.sctp_sender.specs.declared.sender.Reported.{Reported}
 use Rattle.sctp_sender.specs.declared.sender.Reported.TheVariants.{Keep}
 use Rattle.sctp_sender.specs.declared.sender.flight.kept.TakenBack.{TakenBack}
 use Rattle.sctp_sender.specs.declared.sender.refusal.SenderRefusal.TheVariants.{InflightQueueTsnPop, TsnRequestNotExist}
 use Rattle.sctp_sender.specs.Flight.{count_acked, is_within}
-use Rattle.sctp_sender.specs.Keeping.{answered_back, back_each, bytes_back, restored, with_restored}
-use Rattle.sctp_sender.specs.Totals.{AreSettled, bytes_in}
-use Rattle.sctp_sender.specs.Sender.{after_take_back, back_by, or_full, take_back_refusal, taken_back_by}
+use Rattle.sctp_sender.specs.Keeping.{bytes_back}
+use Rattle.sctp_sender.specs.Totals.{bytes_in}
+use Rattle.sctp_sender.specs.Sender.{take_back_refusal, taken_back_by}
 use Rattle.sctp_sender.specs.SenderRuns as sender_runs
 use Rattle.sctp_sender.proofs.Accounts as accounts
-use Rattle.sctp_sender.proofs.Keepings.{answered-weight, back-bytes}
-use Rattle.sctp_sender.proofs.Placed.{back-length}
 use Rattle.sctp_delivery.specs.Abandoned.{IsEachOtherReadInTheEnd}
 use Rattle.sctp_delivery.specs.Messages.{AreParts, AreSame, IsPart}
 use Rattle.sctp_delivery.specs.Modes.{AreReadAsWritten, AreSentAsWritten, IsUnorderedAt, was_written_ordered}
 use Rattle.sctp_delivery.specs.Order.{places_where}
 use Rattle.sctp_delivery.specs.Returns.{AfterEachWithReturns, AfterEachWithReturnsOfFewTsns, CallOrReturn, EachAckedIsTwoCalls, IsAccountedSo, NoneIsRefusedSo}
-use Rattle.sctp_delivery.specs.Returns.{RunsWithReturns, TakesBack, abandoned_so, after_return, at_start_with, makes, other_calls, takes_back, tsns_given_so}
+use Rattle.sctp_delivery.specs.Returns.{FollowsOrReturns, RunsWithReturns, TakesBack, abandoned_so, after_return, at_start_with, makes, other_calls, takes_back, tsns_given_so}
 use Rattle.sctp_delivery.specs.Sacks.{LeftCame, ReportWhatCame}
 use Rattle.sctp_delivery.specs.SenderCalls as outgoing
-use Rattle.sctp_delivery.proofs.Cases.{at-if, by-test}
 use Rattle.sctp_delivery.proofs.Delivered as delivered
 use Rattle.sctp_delivery.proofs.Delivered.{next_tsn}
 use Rattle.sctp_delivery.proofs.Every.{Every, all-of-every, every-of, one-of}
@@ -42,10 +39,10 @@ use Rattle.sctp_delivery.proofs.ModeSessions as modes
 use Rattle.sctp_delivery.proofs.OnceWritten as once_written
 use Rattle.sctp_delivery.proofs.OneRead.{no-way}
 use Rattle.sctp_delivery.proofs.OthersOnce as others
-use Rattle.sctp_delivery.proofs.Plain.{AreLike, are-back, are-long, rest_of}
+use Rattle.sctp_delivery.proofs.Plain.{are-long}
 use Rattle.sctp_delivery.proofs.PlainCalls.{sender-goes}
-use Rattle.sctp_delivery.proofs.PlainFlights.{settled-kept}
-use Rattle.sctp_delivery.proofs.PlainSessions.{Goes, IsThere, Shadows, kept_of, receives-too, small-next, step-of}
+use Rattle.sctp_delivery.proofs.PlainReturns.{back-fits, back-like, back-more}
+use Rattle.sctp_delivery.proofs.PlainSessions.{Goes, IsThere, Shadows, gone_by, kept_of, modes_by, receives-too, small-next, step-of}
 use Rattle.sctp_delivery.proofs.PlainStreams.{returned-alike}
 use Rattle.sctp_delivery.proofs.ReadOnce as read_once
 use Rattle.sctp_delivery.proofs.SackLaws as sacks
@@ -96,7 +93,7 @@ accounted reported tsn size max most limits cs s r =
 
 -- ## Every call
 
-grows : (cs : List CallOrReturn) (old new : Session) → RunsWithReturns old cs new → bytes_written old ≤ bytes_written new
+pub grows : (cs : List CallOrReturn) (old new : Session) → RunsWithReturns old cs new → bytes_written old ≤ bytes_written new
 grows [] old new r = let e = ap bytes_written r in omega (arith, e)
 grows (makes (of_sender call) ∷ cs) old new r =
     let e = ap bytes_written r.1.0.after in
@@ -106,12 +103,25 @@ grows (makes (of_sender call) ∷ cs) old new r =
 grows (makes (of_receiver call) ∷ cs) old new r = let e = ap bytes_written r.1.0.after in let rest = grows cs r.0 new r.1.1 in omega (arith, e, rest)
 grows (takes_back sack back ∷ cs) old new r = let e = ap bytes_written r.1.0.after in let rest = grows cs r.0 new r.1.1 in omega (arith, e, rest)
 
--- what comes back is as it would be
-back-like : (sack : Sack) (f : Flight) (o : Option (List (Option (List ℕ)))) (ds : List ChunkPayloadData) → AreLike (kept_of o) f.queue.inflight.chunks ds
-    → AreLike (kept_of o) (restored (back_by sack f o) f.queue.inflight.chunks) ds
-back-like sack f None ds a = a
-back-like sack f (Some ks) ds a =
-    at-if (λ bs. AreLike ks (restored bs f.queue.inflight.chunks) ds) (is_outdated sack f) (λ _. a) (λ _. are-back sack ks f.queue.inflight.chunks ds a)
+-- what a call abandons, and what it makes of the modes
+abbrev gone_so : CallOrReturn → Session → List ℕ
+gone_so (makes call) s = gone_by call s
+gone_so (takes_back sack back) s = []
+
+abbrev modes_so : CallOrReturn → Modes → Modes
+modes_so (makes call) m = modes_by call m
+modes_so (takes_back sack back) m = m
+
+gone-cons : (c : CallOrReturn) (cs : List CallOrReturn) (s new : Session) (r : RunsWithReturns s (c ∷ cs) new)
+    → abandoned_so s (c ∷ cs) new r ≡ gone_so c s ++ abandoned_so r.0 cs new r.1.1
+gone-cons (makes (of_sender call)) cs s new r = refl
+gone-cons (makes (of_receiver call)) cs s new r = refl
+gone-cons (takes_back sack back) cs s new r = refl
+
+modes-cons : (c : CallOrReturn) (cs : List CallOrReturn) (m : Modes) → modes_from m (other_calls (c ∷ cs)) ≡ modes_from (modes_so c m) (other_calls cs)
+modes-cons (makes (of_sender call)) cs m = refl
+modes-cons (makes (of_receiver call)) cs m = refl
+modes-cons (takes_back sack back) cs m = refl
 
 module _ (first size max most : ℕ) (limits : Option Limits) (small : first < 2 ^ 32) where
   returns-goes : (sack : Sack) (back : List TakenBack) (s v : Session) (n : ℕ) (gone : List ℕ) (m : Modes) → TakesBack sack back s v
@@ -135,6 +145,28 @@ module _ (first size max most : ℕ) (limits : Option Limits) (small : first < 2
         plays = g.plays;
       })
 
+  -- no TSN is given out, and no message abandoned
+  unmoved : (s v : Session) (n : ℕ) (gone : List ℕ) (m : Modes) → next_tsn v ≡ next_tsn s → n + distance (next_tsn s) (next_tsn v) < 2 ^ 31
+      → Goes first size max most limits s.sending.sender s n gone m → Goes first size max most limits v.sending.sender v n gone m
+      → Goes first size max most limits v.sending.sender v (n + distance (next_tsn s) (next_tsn v)) (gone ++ []) m
+  unmoved s v n gone m same few g h =
+      let near = small-next first size max most limits s.sending.sender s n gone m small (omega (arith, few)) g in
+      let none : distance (next_tsn s) (next_tsn v) ≡ 0 = ap (distance (next_tsn s)) same ∙ no-way (next_tsn s) near in
+      subst (λ k. Goes first size max most limits v.sending.sender v k (gone ++ []) m) {x = n} {y = n + distance (next_tsn s) (next_tsn v)} (omega (arith, none))
+      (subst (λ xs. Goes first size max most limits v.sending.sender v n xs m) (sym (append-nil gone)) h)
+
+  -- one call
+  pub one-goes : (c : CallOrReturn) (s v : Session) (n : ℕ) (gone : List ℕ) (m : Modes) → FollowsOrReturns c s v
+      → n + distance (next_tsn s) (next_tsn v) < 2 ^ 31 → bytes_written v < 2 ^ 64 → Goes first size max most limits s.sending.sender s n gone m
+      → Goes first size max most limits v.sending.sender v (n + distance (next_tsn s) (next_tsn v)) (gone ++ gone_so c s) (modes_so c m)
+  one-goes (makes (of_sender call)) s v n gone m f few short g =
+      sender-goes first size max most limits small s v n gone m (omega (arith, few)) g call short few f
+  one-goes (makes (of_receiver call)) s v n gone m f few short g =
+      unmoved s v n gone m (ap (λ (y : Session). next_tsn y) f.after) few g
+      (receives-too first size max most limits call s v n gone m small (omega (arith, few)) g f)
+  one-goes (takes_back sack back) s v n gone m f few short g =
+      unmoved s v n gone m (ap (λ (y : Transmission). y.flight.next_tsn) f.exact) few g (returns-goes sack back s v n gone m f g)
+
   all-go : (cs : List CallOrReturn) (s new : Session) (r : RunsWithReturns s cs new) (n : ℕ) (gone : List ℕ) (m : Modes) → n + tsns_given_so s cs new r < 2 ^ 31
       → bytes_written new < 2 ^ 64 → Goes first size max most limits s.sending.sender s n gone m
       → Goes first size max most limits new.sending.sender new (n + tsns_given_so s cs new r) (gone ++ abandoned_so s cs new r) (modes_from m (other_calls cs))
@@ -142,37 +174,21 @@ module _ (first size max most : ℕ) (limits : Option Limits) (small : first < 2
       subst (λ k. Goes first size max most limits new.sending.sender new k (gone ++ []) m) {x = n} {y = n + 0} (omega arith)
       (subst (λ xs. Goes first size max most limits new.sending.sender new n xs m) (sym (append-nil gone))
       (subst (λ (y : Session). Goes first size max most limits y.sending.sender y n gone m) (sym r) g))
-  all-go (makes (of_sender call) ∷ cs) s new r n gone m few short g =
+  all-go (c ∷ cs) s new r n gone m few short g =
       let d = distance (next_tsn s) (next_tsn r.0) in
       let rest = tsns_given_so r.0 cs new r.1.1 in
       let bytes = grows cs r.0 new r.1.1 in
-      let one = sender-goes first size max most limits small s r.0 n gone m (omega (arith, few)) g call (omega (arith, bytes, short))
-      (omega (arith, few)) r.1.0 in
-      let then' = all-go cs r.0 new r.1.1 (n + d) (gone ++ abandoned_by call s.sending.sender) (modes_after call m) (omega (arith, few)) short one in
+      let one = one-goes c s r.0 n gone m r.1.0 (omega (arith, few)) (omega (arith, bytes, short)) g in
+      let then' = all-go cs r.0 new r.1.1 (n + d) (gone ++ gone_so c s) (modes_so c m) (omega (arith, few)) short one in
       let sum : (n + d) + rest ≡ n + (d + rest) = omega arith in
-      subst (λ k. Goes first size max most limits new.sending.sender new k (gone ++ (abandoned_by call s.sending.sender ++ abandoned_so r.0 cs new r.1.1))
-      (modes_from (modes_after call m) (other_calls cs))) sum
-      (subst (λ xs. Goes first size max most limits new.sending.sender new ((n + d) + rest) xs (modes_from (modes_after call m) (other_calls cs)))
-      (append_assoc gone (abandoned_by call s.sending.sender) (abandoned_so r.0 cs new r.1.1)) then')
-  all-go (makes (of_receiver call) ∷ cs) s new r n gone m few short g =
-      let d = distance (next_tsn s) (next_tsn r.0) in
-      let rest = tsns_given_so r.0 cs new r.1.1 in
-      let near = small-next first size max most limits s.sending.sender s n gone m small (omega (arith, few)) g in
-      let none : d ≡ 0 = ap (λ (y : Session). distance (next_tsn s) (next_tsn y)) r.1.0.after ∙ no-way (next_tsn s) near in
-      let sum : n + rest ≡ n + (d + rest) = omega (arith, none) in
-      subst (λ k. Goes first size max most limits new.sending.sender new k (gone ++ abandoned_so r.0 cs new r.1.1) (modes_from m (other_calls cs))) sum
-      (all-go cs r.0 new r.1.1 n gone m (omega (arith, few)) short
-      (receives-too first size max most limits call s r.0 n gone m small (omega (arith, few)) g r.1.0))
-  all-go (takes_back sack back ∷ cs) s new r n gone m few short g =
-      let d = distance (next_tsn s) (next_tsn r.0) in
-      let rest = tsns_given_so r.0 cs new r.1.1 in
-      let near = small-next first size max most limits s.sending.sender s n gone m small (omega (arith, few)) g in
-      let none : d ≡ 0 = ap (λ (y : Transmission). distance (next_tsn s) y.flight.next_tsn) r.1.0.exact ∙ no-way (next_tsn s) near in
-      let sum : n + rest ≡ n + (d + rest) = omega (arith, none) in
-      subst (λ k. Goes first size max most limits new.sending.sender new k (gone ++ abandoned_so r.0 cs new r.1.1) (modes_from m (other_calls cs))) sum
-      (all-go cs r.0 new r.1.1 n gone m (omega (arith, few)) short (returns-goes sack back s r.0 n gone m r.1.0 g))
+      let left : (gone ++ gone_so c s) ++ abandoned_so r.0 cs new r.1.1 ≡ gone ++ abandoned_so s (c ∷ cs) new r =
+      append_assoc gone (gone_so c s) (abandoned_so r.0 cs new r.1.1) ∙ ap (λ xs. gone ++ xs) (sym (gone-cons c cs s new r)) in
+      subst (λ k. Goes first size max most limits new.sending.sender new k (gone ++ abandoned_so s (c ∷ cs) new r) (modes_from m (other_calls (c ∷ cs)))) sum
+      (subst (λ xs. Goes first size max most limits new.sending.sender new ((n + d) + rest) xs (modes_from m (other_calls (c ∷ cs)))) left
+      (subst (Goes first size max most limits new.sending.sender new ((n + d) + rest) ((gone ++ gone_so c s) ++ abandoned_so r.0 cs new r.1.1))
+      (sym (modes-cons c cs m)) then'))
 
-at-start : (reported : Reported) (first size max most : ℕ) (limits : Option Limits)
+pub at-start : (reported : Reported) (first size max most : ℕ) (limits : Option Limits)
     → Goes first size max most limits (at_start_with reported first size max most limits).sending.sender
     (at_start_with reported first size max most limits) 0 [] at_first
 at-start reported first size max most limits = by reported
@@ -388,44 +404,6 @@ none-taken-twice reported first size max most limits cs s run small some few sho
 
 -- ## A SACK that takes back
 
--- what is in flight has no more bytes than it would have
-lighter : (ks : List (Option (List ℕ))) (cs ds : List ChunkPayloadData) → AreLike ks cs ds → bytes_of cs ≤ bytes_of ds
-lighter ks [] [] a = omega arith
-lighter ks [] (d ∷ ds) a = absurd a
-lighter ks (c ∷ cs) [] a = absurd a
-lighter ks (c ∷ cs) (d ∷ ds) a =
-    let size : ChunkPayloadData → ℕ = λ x. length x.user_data in
-    let x = sum_by-cons size c cs in
-    let y = sum_by-cons size d ds in
-    let rest = lighter (rest_of ks) cs ds a.1 in
-    let one : length c.user_data ≤ length d.user_data =
-    by-test c.acked (λ e. let z = a.0.settled e in omega (arith, z)) (λ e. let z = ap (λ (bs : List ℕ). length bs) (a.0.whole e) in omega (arith, z)) in
-    omega (arith, x, y, rest, one)
-
--- what comes back is what is in flight more
-back-more : (sack : Sack) (t : Transmission) (ds : List ChunkPayloadData) → AreLike (kept_of t.kept) t.flight.queue.inflight.chunks ds
-    → total_bytes (after_take_back sack t).flight.queue ≡ total_bytes t.flight.queue + bytes_back (taken_back_by sack t)
-back-more sack t ds a = by t.kept (settled-kept (kept_of t.kept) t.flight.queue.inflight.chunks ds a)
-  where
-    cs : List ChunkPayloadData
-    cs = t.flight.queue.inflight.chunks
-
-    by : (o : Option (List (Option (List ℕ)))) → AreSettled t.flight.queue.inflight.chunks
-        → total_bytes (with_restored (back_by sack t.flight o) t.flight).queue
-        ≡ total_bytes t.flight.queue + bytes_back (answered_back (back_by sack t.flight o) t.flight.queue.inflight.chunks)
-    by None k = omega arith
-    by (Some ks) k =
-        at-if (λ bs. total_bytes (with_restored bs t.flight).queue ≡ total_bytes t.flight.queue + bytes_back (answered_back bs t.flight.queue.inflight.chunks))
-        (is_outdated sack t.flight)
-        (λ _. omega arith)
-        (λ _. let a = back-bytes sack t.flight.queue.inflight.chunks ks k in
-        let b = answered-weight (back_each sack t.flight.queue.inflight.chunks ks) t.flight.queue.inflight.chunks
-        (back-length sack t.flight.queue.inflight.chunks ks) in
-        omega (arith, a, b))
-
-fits-back : (a : Bool) (o : Option SenderRefusal) (b : Bool) → o ≡ None → b ≡ true → (if a then or_full o b else None) ≡ None
-fits-back a o b none fits = grind (arith, nat_tests)
-
 pub none-refused-back : AfterEachWithReturnsOfFewTsns (λ first n gone cs s. NoneIsRefusedSo s)
 none-refused-back reported first size max most limits cs s run small some few short =
     let x = shadow reported first size max most limits cs s run small few short in
@@ -435,14 +413,7 @@ none-refused-back reported first size max most limits cs s run small some few sh
     let held : held_by_sender g.other.sending.sender ≡ total_bytes (with_inflight t.flight.queue x.chunks) = ap held_by_sender x.sender in
     let before : bytes_written g.other ≡ bytes_written s = ap (λ ws. sum_by (λ (y : Write). length y.bytes) ws) x.written in
     let refused = none-refused reported first size max most limits cs s run small some few short in
-    λ i k lt.
-    let sack = slice_index_or s.sacks i k in
-    let more = back-more sack t x.chunks x.like in
-    let less = lighter (kept_of t.kept) (restored (back_by sack t.flight t.kept) t.flight.queue.inflight.chunks) x.chunks
-    (back-like sack t.flight t.kept x.chunks x.like) in
-    let lt' : total_bytes t.flight.queue + bytes_back (taken_back_by sack t) < 2 ^ 64 = omega (arith, all, held, before, more, less, short) in
-    fits-back (is_some t.kept && not (is_outdated sack t.flight)) (sack_refusal sack t.flight)
-    (nat_lt (total_bytes t.flight.queue + bytes_back (taken_back_by sack t)) (2 ^ 64)) (refused i k lt) (grind (arith, nat_tests, lt'))
+    λ i k lt. back-fits (slice_index_or s.sacks i k) t x.chunks x.like (omega (arith, all, held, before, short)) (refused i k lt)
 
 pub two-calls : AfterEachWithReturnsOfFewTsns (λ first n gone cs s. EachAckedIsTwoCalls s)
 two-calls reported first size max most limits cs s run small some few short sack back gone new handed x =

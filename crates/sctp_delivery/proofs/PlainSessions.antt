@@ -39,7 +39,7 @@ abbrev pub modes_by : Call → Modes → Modes
 modes_by (of_sender call) m = modes_after call m
 modes_by (of_receiver call) m = m
 
-gone-then : (cs : List Call) (c : Call) (old mid new : Session) (r : RunsTo old cs mid) (f : Follows c mid new)
+pub gone-then : (cs : List Call) (c : Call) (old mid new : Session) (r : RunsTo old cs mid) (f : Follows c mid new)
     → abandoned_in old (cs ++ c ∷ []) new (run-then cs c old mid new r f) ≡ abandoned_in old cs mid r ++ gone_by c mid
 unfolding run-then
 gone-then [] (of_sender call) old mid new r f = append-nil (abandoned_by call old.sending.sender)
@@ -88,6 +88,17 @@ pub record Shadows (t : Transmission) (s d : Session) : Type 0 where
   pub made : d.made ≡ s.made
   pub written : d.written ≡ s.written
   pub sacks : Every (IsThere d.sacks) s.sacks
+
+-- what is handed to the receiver of the one is handed to that of the other
+pub sent-too : (call : ReceiverCall) (s d : Session) → d.made ≡ s.made → IsSent call s → IsSent call d
+sent-too (incoming.takes c arrival) s d e h = subst (λ ms. Contains ms (outgoing.data_chunk (data_of c))) (sym e) h
+sent-too (incoming.follows f) s d e h = subst (λ ms. Contains ms (outgoing.forward_tsn f)) (sym e) h
+sent-too (incoming.opens stream) s d e h = tt
+sent-too (incoming.reports credit) s d e h = tt
+sent-too (incoming.reports_within credit bytes) s d e h = tt
+sent-too (incoming.makes_sack credit bytes) s d e h = tt
+sent-too incoming.forgets s d e h = tt
+sent-too (incoming.reads stream) s d e h = tt
 
 module _ (first size max most : ℕ) (limits : Option Limits) where
   -- it is one that gives out so many TSNs, abandons these messages and has these modes
@@ -212,16 +223,6 @@ module _ (first size max most : ℕ) (limits : Option Limits) where
         }
 
   -- ## A call of the receiver
-
-  sent-too : (call : ReceiverCall) (s d : Session) → d.made ≡ s.made → IsSent call s → IsSent call d
-  sent-too (incoming.takes c arrival) s d e h = subst (λ ms. Contains ms (outgoing.data_chunk (data_of c))) (sym e) h
-  sent-too (incoming.follows f) s d e h = subst (λ ms. Contains ms (outgoing.forward_tsn f)) (sym e) h
-  sent-too (incoming.opens stream) s d e h = tt
-  sent-too (incoming.reports credit) s d e h = tt
-  sent-too (incoming.reports_within credit bytes) s d e h = tt
-  sent-too (incoming.makes_sack credit bytes) s d e h = tt
-  sent-too incoming.forgets s d e h = tt
-  sent-too (incoming.reads stream) s d e h = tt
 
   -- a SACK more, which is no other one's
   there-more : (k : Sack) (ks ss : List Sack) → Every (IsThere ks) ss → Every (IsThere (k ∷ ks)) ss

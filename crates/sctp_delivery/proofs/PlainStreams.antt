@@ -22,6 +22,9 @@ less-alike p f h (l ∷ ls) = ap₂ (λ x xs. x ∷ xs) (at-if (λ x. bare x ≡
 pub one-less : (s bytes : ℕ) (ls : List OutboundStream) → AreAlike (change_where (has_number s) (less_by bytes) ls) ls
 one-less s bytes ls = less-alike (has_number s) (less_by bytes) (λ l. refl) ls
 
+pub one-more : (s bytes : ℕ) (ls : List OutboundStream) → AreAlike (change_where (has_number s) (more_by bytes) ls) ls
+one-more s bytes ls = less-alike (has_number s) (more_by bytes) (λ l. refl) ls
+
 pub released-alike : (rs : List Released) (ls : List OutboundStream) → AreAlike (after_releases rs ls) ls
 released-alike [] ls = refl
 released-alike (r ∷ rs) ls = released-alike rs (change_where (has_number r.stream) (less_by r.bytes) ls) ∙ one-less r.stream r.bytes ls
@@ -33,7 +36,7 @@ left-alike (g ∷ gs) ls = left-alike gs (change_where (has_number g.stream) (le
 pub returned-alike : (rs : List TakenBack) (ls : List OutboundStream) → AreAlike (after_returns rs ls) ls
 returned-alike [] ls = refl
 returned-alike (r ∷ rs) ls =
-    returned-alike rs (change_where (has_number r.stream) (more_by r.bytes) ls) ∙ less-alike (has_number r.stream) (more_by r.bytes) (λ l. refl) ls
+    returned-alike rs (change_where (has_number r.stream) (more_by r.bytes) ls) ∙ one-more r.stream r.bytes ls
 
 -- ## What changes both alike
 

@@ -57,7 +57,7 @@ receiver_after call s new = record s {
   sacks = reports_after call s.receiving.receiver s.sacks;
 }
 
-receiver-follows : (call : ReceiverCall) (s : Session) (new : Reception) → ReceiverMakes call s.receiving.receiver new → IsSent call s
+pub receiver-follows : (call : ReceiverCall) (s : Session) (new : Reception) → ReceiverMakes call s.receiving.receiver new → IsSent call s
     → ReceiverFollows call s (receiver_after call s new)
 receiver-follows call s new m h =
     record { handed = h; step = record { receiver = m.0; accepted = refl; read = refl }; accepted = m.1; after = refl }
@@ -67,7 +67,7 @@ receiver-follows call s new m h =
 pub contains-more : {A : Type 0} (x y : A) (xs : List A) → Contains xs x → Contains (y ∷ xs) x
 contains-more x y xs c = (suc c.0, (let lt = c.1 in omega (arith, lt)), c.2)
 
-more-made : (call : SenderCall) (t : Transmission) (ms : List Made) (m : Made) → Contains ms m → Contains (made_after call t ms) m
+pub more-made : (call : SenderCall) (t : Transmission) (ms : List Made) (m : Made) → Contains ms m → Contains (made_after call t ms) m
 more-made (outgoing.sends now) t ms m c = by (next_chunk now t)
   where
     by : (o : Option ChunkPayloadData) → Contains (with_chunk o ms) m
@@ -86,7 +86,7 @@ more-reported call r ks k c = c
 
 -- ## How many TSNs a call gives out
 
-one-given : (first : ℕ) (sent more : List Entry) (a b : ℕ) → a ≡ (first + length sent) % 2 ^ 32 → b ≡ (first + length more) % 2 ^ 32 → IsOnceMore sent more
+pub one-given : (first : ℕ) (sent more : List Entry) (a b : ℕ) → a ≡ (first + length sent) % 2 ^ 32 → b ≡ (first + length more) % 2 ^ 32 → IsOnceMore sent more
     → distance a b ≤ 1
 unfolding distance
 one-given first sent more a b e f (inl same) = let n = ap length same in omega (arith, n, e, f)

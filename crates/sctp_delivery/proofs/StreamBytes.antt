@@ -1,7 +1,7 @@
 -- The bytes of some streams that wait and are in flight, and the buffered amount of a stream: what each change of a sender makes of them.
-use Rattle.sctp_delivery.proofs.Names.{◌≡◌, ℕ, ◌+◌, ◌-◌, Bool, true, false, not, List, [], ◌∷◌, ◌++◌, length, map, take, drop, Option, Some, None, refl, ap}
+use Rattle.sctp_delivery.proofs.Names.{◌≡◌, ℕ, ◌+◌, ◌-◌, ◌<◌, Bool, true, false, not, List, [], ◌∷◌, ◌++◌, length, map, take, drop, Option, Some, None, refl, ap}
 use Rattle.sctp_delivery.proofs.Names.{sym, ◌∙◌, arith, if◌then◌else◌, ◌==◌, ◌&&◌, ◌||◌, find, filter, sum_by, take-append-drop, sum_by-append, sum_by-cons}
-use Rattle.sctp_delivery.proofs.Names.{none-some, nat_tests, common_steps, change_where, same-is, some-same, sum_by-inserted, not_both, ChunkPayloadData, Sack}
+use Rattle.sctp_delivery.proofs.Names.{is_some, none-some, nat_tests, common_steps, change_where, same-is, some-same, sum_by-inserted, not_both, ChunkPayloadData, Sack}
 use Rattle.sctp_delivery.proofs.Names.{Selected, as_abandoned, as_acknowledged, is_of, is_outstanding, Outbound, abandon_chunks, all_started, as_sent}
 use Rattle.sctp_delivery.proofs.Names.{expired_of, sent_of, total_bytes, with_message, with_message_id, past, Pending, chunk_to_pop_from, closed_up}
 use Rattle.sctp_delivery.proofs.Names.{is_to_start, list_to_pop, next_pending, one_lower, rest_from, start_pending, with_deadline, without, without_message}
@@ -214,7 +214,7 @@ module _ (s r : ℕ) (f : OutboundStream → OutboundStream) (number : (l : Outb
   after-one ls = change_where (has_number r) f ls
 
   -- its amount becomes g of what it was
-  amount-changed : (g : ℕ → ℕ) → ((l : OutboundStream) → (f l).buffered_amount ≡ g l.buffered_amount) → 0 ≡ g 0 → (r == s) ≡ true → (ls : List OutboundStream)
+  pub amount-changed : (g : ℕ → ℕ) → ((l : OutboundStream) → (f l).buffered_amount ≡ g l.buffered_amount) → 0 ≡ g 0 → (r == s) ≡ true → (ls : List OutboundStream)
       → amount s (after-one ls) ≡ g (amount s ls)
   amount-changed g is z same [] = z
   amount-changed g is z same (l ∷ ls) = grind (arith, nat_tests, same-is, amount-changed g is z same ls)
@@ -222,6 +222,11 @@ module _ (s r : ℕ) (f : OutboundStream → OutboundStream) (number : (l : Outb
   pub amount-elsewhere : (r == s) ≡ false → (ls : List OutboundStream) → amount s (after-one ls) ≡ amount s ls
   amount-elsewhere other [] = refl
   amount-elsewhere other (l ∷ ls) = grind (arith, nat_tests, same-is, amount-elsewhere other ls)
+
+-- where it is something, the stream is open
+pub amount-open : (s : ℕ) (ls : List OutboundStream) → 0 < amount s ls → is_some (find (has_number s) ls) ≡ true
+amount-open s [] lt = absurd (omega (arith, lt))
+amount-open s (l ∷ ls) lt = grind (arith, nat_tests, amount-open s ls)
 
 -- of a stream that is open
 pub amount-at : (s : ℕ) (f : OutboundStream → OutboundStream) → ((l : OutboundStream) → (f l).stream_identifier ≡ l.stream_identifier)

@@ -11,6 +11,7 @@ pub mod Refused
 pub mod Ending
 pub mod Discards
 pub mod Returns
+pub mod ReturnEndings
 pub mod Retransmission
 pub mod Modes
 pub mod Expiries

@@ -78,3 +78,32 @@ abbrev pub NoneMadeIsRefused : Session → Type 0
 NoneMadeIsRefused s =
     (f : ForwardTsn) → MayMake f s.sending.sender → is_due_named f s.receiving.receiver ≡ true
     → skip_refusal f s.receiving.receiver ≡ None
+
+-- ## Where the sender keeps what gap ack blocks report
+
+-- it is so of a chunk in flight whose message is not abandoned: it has the wire fields of one that is not acknowledged, or was made
+-- under the TSN of any. One that is acknowledged has no user data, and no call sends it
+pub record IsInFlightSo (x : ChunkPayloadData) (s : Session) : Type 0 where
+  pub chunk : ChunkPayloadData
+  pub sent : Contains s.sending.sender.flight.queue.inflight.chunks chunk
+  pub kept : chunk.abandoned ≡ false
+  pub same : ((chunk.acked ≡ false) × (data_of x ≡ data_of chunk))
+      ⊎ ((x.tsn ≡ chunk.tsn) × Contains s.made (data_chunk (data_of x)))
+
+-- where the receiver has no limits, and takes messages as long as the sender writes, no such chunk is refused
+abbrev pub NoneInFlightIsRefusedSo : Session → Type 0
+NoneInFlightIsRefusedSo s =
+    s.receiving.receiver.limits ≡ None
+    → s.sending.sender.max_message_size ≤ s.receiving.receiver.max_message_size
+    → (x : ChunkPayloadData) → IsInFlightSo x s → is_takable x s.receiving.receiver ≡ true
+    → arrival_refusal x s.receiving.receiver ≡ None
+
+-- and where nothing is to be read on any stream, none on one that is open
+abbrev pub NoneIsRefusedWhereReadSo : Session → Type 0
+NoneIsRefusedWhereReadSo s =
+    s.receiving.receiver.limits ≡ None
+    → s.sending.sender.max_message_size ≤ s.receiving.receiver.max_message_size
+    → reads_nothing s.receiving.receiver ≡ true
+    → (x : ChunkPayloadData) → IsInFlightSo x s
+    → is_open x.stream_identifier s.receiving.receiver ≡ true
+    → arrival_refusal x s.receiving.receiver ≡ None

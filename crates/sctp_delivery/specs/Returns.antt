@@ -1,5 +1,7 @@
 -- Sessions of a sender that keeps what gap ack blocks report, so that a later SACK can take that back (RFC 9260 6.2.1 D iv).
-use Rattle.std.specs.Prelude.{◌≡◌, ℕ, ◌+◌, ◌^◌, ◌<◌, List, [], ◌∷◌, ◌++◌, All, Contains, Option, None}
+use Rattle.std.specs.Prelude.{◌≡◌, ℕ, ◌+◌, ◌^◌, ◌<◌, List, [], ◌∷◌, ◌++◌, length, All, Contains, Option, None, IfSome}
+use Rattle.std.specs.List.{sum_by}
+use Rattle.sctp_data.specs.PayloadData.{Data}
 use Rattle.sctp_data.specs.SelectiveAck.{Sack}
 use Rattle.sctp_util.specs.Serial.{distance}
 use Rattle.sctp_receiver.specs.declared.receiver.limits.Limits.{Limits}
@@ -7,11 +9,12 @@ use Rattle.sctp_sender.specs.declared.sender.Reported.{Reported}
 use Rattle.sctp_sender.specs.declared.sender.flight.kept.TakenBack.{TakenBack}
 use Rattle.sctp_sender.specs.declared.sender.flight.Released.{Released}
 use Rattle.sctp_sender.specs.Keeping.{bytes_back}
-use Rattle.sctp_sender.specs.Sender.{Transmission, after_take_back, take_back_refusal, taken_back_by, with_nothing, with_reported}
+use Rattle.sctp_sender.specs.Sender.{Transmission, after_take_back, stream_of, take_back_refusal, taken_back_by, with_nothing, with_reported}
 use Rattle.sctp_sender.specs.SenderRuns as sender_runs
 use Rattle.sctp_sender.specs.SenderRuns.{held_by_sender}
 use Rattle.sctp_delivery.specs.Abandoned.{abandoned_by}
-use Rattle.sctp_delivery.specs.SenderCalls.{TakesBackAndSack, takes_sack}
+use Rattle.sctp_delivery.specs.Amounts.{bytes_for, told_on, written_on}
+use Rattle.sctp_delivery.specs.SenderCalls.{TakesBackAndSack, data_chunk, takes_sack}
 use Rattle.sctp_delivery.specs.Session.{Call, Follows, Session, at_start, bytes_written, of_receiver, of_sender}
 
 -- ## One call
@@ -107,6 +110,40 @@ abbrev pub IsAccountedSo : Session → Type 0
 IsAccountedSo s =
     bytes_written s + s.sending.taken_back
     ≡ held_by_sender s.sending.sender + s.sending.released
+
+-- ## Amounts
+
+-- the bytes of a stream that come back
+abbrev pub bytes_back_on : ℕ → List TakenBack → ℕ
+bytes_back_on s back = sum_by (λ r. bytes_for s r.stream r.bytes) back
+
+abbrev pub returned_by : ℕ → CallOrReturn → ℕ
+returned_by s (makes call) = 0
+returned_by s (takes_back sack back) = bytes_back_on s back
+
+-- by all calls
+abbrev pub returned_on : ℕ → List CallOrReturn → ℕ
+returned_on s calls = sum_by (returned_by s) calls
+
+-- the amount of each open stream, with what was told on it, is what was written on it and what came back
+abbrev pub AmountsAreLeftSo : List CallOrReturn → Session → Type 0
+AmountsAreLeftSo calls s =
+    (stream : ℕ)
+    → IfSome (stream_of stream s.sending.sender)
+    (λ l. l.buffered_amount + told_on stream (other_calls calls)
+    ≡ written_on stream (other_calls calls) + returned_on stream calls)
+
+-- a chunk that comes back is one that was made, with this TSN, on this stream and of so many bytes
+abbrev pub IsOfMade : Session → TakenBack → Type 0
+IsOfMade s r =
+    (d : Data) × Contains s.made (data_chunk d)
+    × ((d.tsn ≡ r.tsn) × (d.stream_identifier ≡ r.stream) × (length d.user_data ≡ r.bytes))
+
+-- whatever SACK comes next, each chunk that it takes back is told so
+abbrev pub EachReturnIsTold : Session → Type 0
+EachReturnIsTold s =
+    (sack : Sack) (back : List TakenBack) (t : Session) → TakesBack sack back s t
+    → All (IsOfMade s) back
 
 -- ## A SACK
 

@@ -4,15 +4,18 @@
 //! `acked` of such a sender is two calls of these sessions: `take_back`, and then `acked` alone. In most laws fewer than 2^31 TSNs are
 //! given out, and fewer than 2^64 bytes written.
 //!
-//! Not said here: buffered amounts, what is noted of chunks in flight, that no chunk and no FORWARD-TSN is refused, and rounds.
+//! Not said here: what is noted of chunks in flight, and rounds.
 
 ghost use Rattle.sctp_delivery.specs.Abandoned.{IsEachOtherReadInTheEnd};
+ghost use Rattle.sctp_delivery.specs.Amounts.{AmountsEnd, EachIsTold};
 ghost use Rattle.sctp_delivery.specs.Counters.{AreSums};
 ghost use Rattle.sctp_delivery.specs.Expiries.{EachDueExpires, OnlyTheDueExpire};
 ghost use Rattle.sctp_delivery.specs.Messages.{AreParts, AreSame, AreWrites, AreWritesOfTheirOwn, NoneIsReadTwice};
 ghost use Rattle.sctp_delivery.specs.Modes.{AreReadAsWritten, AreSentAsWritten};
 ghost use Rattle.sctp_delivery.specs.Order.{AreReadInOrder};
-ghost use Rattle.sctp_delivery.specs.Returns.{AfterEachWithReturns, AfterEachWithReturnsOfFewTsns, EachAckedIsTwoCalls, IsAccountedSo, NoneIsRefusedSo, other_calls};
+ghost use Rattle.sctp_delivery.specs.Refused.{NoneInFlightIsRefusedSo, NoneIsRefusedWhereReadSo, NoneMadeIsRefused};
+ghost use Rattle.sctp_delivery.specs.ReturnEndings.{AfterEachWithReturnsAndTsnsLeft, EndsWhereTakenSo, EndsWithAllReadSo};
+ghost use Rattle.sctp_delivery.specs.Returns.{AfterEachWithReturns, AfterEachWithReturnsOfFewTsns, AmountsAreLeftSo, EachAckedIsTwoCalls, EachReturnIsTold, IsAccountedSo, NoneIsRefusedSo, other_calls};
 ghost use Rattle.sctp_delivery.specs.Sacks.{AcknowledgedCame, EachSackTells, LeftCame, NoneIsRefused, NoneIsTakenTwice, ReportWhatCame};
 ghost use Rattle.sctp_delivery.specs.Session.{AreMade, AreMessages};
 
@@ -78,6 +81,40 @@ pub fn whatever_comes_back_only_what_may_expire_expires()
 /// The counters of each open stream of the sender are sums over what was written to it.
 pub fn whatever_comes_back_counters_are_sums_over_writes()
     ensures { AfterEachWithReturnsOfFewTsns (λ first given gone calls s. AreSums s) }
+{}
+
+/// The buffered amount of each open stream is the bytes that calls wrote on it, less those that their answers told on it, and with those
+/// that came back. It is 0 once nothing of the stream waits, and each of its chunks in flight is acknowledged or abandoned.
+pub fn whatever_comes_back_amounts_are_what_is_left()
+    ensures left { AfterEachWithReturnsOfFewTsns
+        (λ first given gone calls s. AmountsAreLeftSo calls s) }
+    ensures end { AfterEachWithReturnsOfFewTsns (λ first given gone calls s. AmountsEnd s) }
+{}
+
+/// What an answer tells of a chunk that a SACK releases is that chunk's, and its message is told to be acknowledged exactly where none of it
+/// is left. What it tells of one that comes back is that of a DATA chunk that was made.
+pub fn whatever_comes_back_what_is_told_is_of_the_chunk()
+    ensures gone { AfterEachWithReturnsOfFewTsns (λ first given gone calls s. EachIsTold s) }
+    ensures back { AfterEachWithReturnsOfFewTsns (λ first given gone calls s. EachReturnIsTold s) }
+{}
+
+/// A receiver without limits that is read refuses no DATA chunk that the sender still needs taken, as `no_chunk_in_flight_is_refused` says of a
+/// sender that keeps nothing; and whatever its limits, no FORWARD-TSN that the sender may make now.
+pub fn whatever_comes_back_what_is_due_is_not_refused()
+    ensures due { AfterEachWithReturnsOfFewTsns
+        (λ first given gone calls s. NoneInFlightIsRefusedSo s) }
+    ensures read { AfterEachWithReturnsOfFewTsns
+        (λ first given gone calls s. NoneIsRefusedWhereReadSo s) }
+    ensures forward { AfterEachWithReturnsOfFewTsns
+        (λ first given gone calls s. NoneMadeIsRefused s) }
+{}
+
+/// Each such session can be ended, as `every_session_can_end` says of a sender that keeps nothing, and under the same premises: calls exist,
+/// at whatever moment, none of which is refused for a reason, behind which nothing waits, nothing is in flight, and nothing is to be read.
+/// None of them writes, abandons a message, or lets one expire; and each SACK is taken as `acked` takes it.
+pub fn whatever_comes_back_every_session_can_end()
+    ensures ends { AfterEachWithReturnsAndTsnsLeft EndsWhereTakenSo }
+    ensures all { AfterEachWithReturnsAndTsnsLeft EndsWithAllReadSo }
 {}
 
 /// What `acked` makes of the sender of such a session is these two calls of it.

@@ -1,6 +1,6 @@
 //! In which session two hosts stand, and to which one each call leads: what a caller composes the other laws with.
 
-ghost use Rattle.sctp_delivery.specs.Stand.{EachKeepsNothing, EachReceiverCallSteps, EachSenderCallSteps, EachTwoBegin};
+ghost use Rattle.sctp_delivery.specs.Stand.{EachAckedStepsSo, EachKeepsNothing, EachReceiverCallSteps, EachReceiverCallStepsSo, EachSenderCallSteps, EachSenderCallStepsSo, EachTwoBegin, EachTwoBeginSo};
 
 /// A new sender and a new receiver that begin with the same TSN stand in a session.
 pub fn two_hosts_begin_a_session()
@@ -18,4 +18,17 @@ pub fn each_call_leads_to_a_session()
 /// The sender of a session keeps nothing of what is reported: so each SACK that it takes is a step.
 pub fn a_sender_keeps_nothing()
     ensures { EachKeepsNothing }
+{}
+
+/// A new sender that keeps what gap ack blocks report and a new receiver that begin with the same TSN stand in a session of such a sender.
+pub fn two_hosts_begin_a_session_whatever_comes_back()
+    ensures { EachTwoBeginSo }
+{}
+
+/// From a session of a sender that keeps what gap ack blocks report, what each call makes leads to one in which the hosts stand then, as
+/// `each_call_leads_to_a_session` says; and what `acked` makes is two steps. There fewer than 2^64 bytes are written.
+pub fn each_call_leads_to_a_session_whatever_comes_back()
+    ensures sender { EachSenderCallStepsSo }
+    ensures receiver { EachReceiverCallStepsSo }
+    ensures acked { EachAckedStepsSo }
 {}

@@ -1,0 +1,117 @@
+-- A session of a sender that keeps what is reported holds what the session beside it does: what got TSNs, and how all that waits follows on.
+use Rattle.sctp_delivery.proofs.Names.{◌≡◌, ℕ, ◌<◌, ◌^◌, true, not, List, [], ◌∷◌, map, refl, ap, ap₂, sym, subst, ◌∙◌, if◌then◌else◌, ◌==◌, ◌&&◌, ◌||◌, Option}
+use Rattle.sctp_delivery.proofs.Names.{list_any, negated, both, ChunkPayloadData, OutboundStream, Limits, Transmission, Session, Modes, is_of, is_outstanding}
+use Rattle.sctp_delivery.proofs.Names.{data_of}
+use Rattle.sctp_delivery.proofs.AmountLaws.{AllMade, HasMade, made-in}
+use Rattle.sctp_delivery.proofs.Every.{every-all}
+use Rattle.sctp_delivery.proofs.InFlight.{IsKnown, placed-alike}
+use Rattle.sctp_delivery.proofs.Numbers.{AreSized, IsSteady, all-open, is_there, number_of}
+use Rattle.sctp_delivery.proofs.Plain.{IsLike, any-plain, are-plain, paired}
+use Rattle.sctp_delivery.proofs.PlainSessions.{Goes, kept_of}
+use Rattle.sctp_delivery.proofs.PlainStreams.{AreAlike, bare}
+use Rattle.sctp_delivery.proofs.Senders.{AreSent, IsHeld, renumbered}
+use Rattle.sctp_delivery.proofs.Sent.{Entry, WasSent}
+
+-- ## Streams that are alike
+
+numbers-bare : (s : ℕ) (ls : List OutboundStream) → number_of s (map bare ls) ≡ number_of s ls
+numbers-bare s [] = refl
+numbers-bare s (l ∷ ls) = ap (λ n. if l.stream_identifier == s then l.sequence_number else n) (numbers-bare s ls)
+
+there-bare : (s : ℕ) (ls : List OutboundStream) → is_there s (map bare ls) ≡ is_there s ls
+there-bare s [] = refl
+there-bare s (l ∷ ls) = ap (λ b. (l.stream_identifier == s) || b) (there-bare s ls)
+
+sized-alike : (ls ms : List OutboundStream) → AreAlike ms ls → AreSized ls → AreSized ms
+sized-alike ls [] e z = tt
+sized-alike [] (m ∷ ms) e z = absurd (cc)
+sized-alike (l ∷ ls) (m ∷ ms) e z =
+    let one : bare m ≡ bare l = cc in
+    let rest : AreAlike ms ls = cc in
+    (subst (λ (x : OutboundStream). 0 < x.max_payload_size) (sym one) z.0, sized-alike ls ms rest z.1)
+
+steady-alike : (ls ms : List OutboundStream) → AreAlike ms ls → IsSteady ls ms
+steady-alike ls ms e = record {
+  numbers = λ s. sym (numbers-bare s ms) ∙ ap (number_of s) e ∙ numbers-bare s ls;
+  there = λ s h. sym (there-bare s ms) ∙ ap (is_there s) e ∙ there-bare s ls ∙ h;
+  sized = sized-alike ls ms e;
+}
+
+-- ## One session
+
+-- a chunk is outstanding only where the other one is, with the same wire fields
+pub outstanding-like : (k : Option (List ℕ)) (c d : ChunkPayloadData) → IsLike k c d → is_outstanding c ≡ true
+    → (is_outstanding d ≡ true) × (data_of c ≡ data_of d)
+outstanding-like k c d i o =
+    let b = both (not c.acked) (not c.abandoned) o in (
+      ap₂ (λ x y. not x && not y) i.open' (ap (λ (x : ChunkPayloadData). x.abandoned) (sym i.same) ∙ negated c.abandoned b.1),
+      ap₂ (λ (x : ChunkPayloadData) bytes. data_of (record x { user_data = bytes })) i.same (i.whole (negated c.acked b.0)),
+    )
+
+known-like : (first : ℕ) (sent : List Entry) (k : Option (List ℕ)) (c d : ChunkPayloadData) → IsLike k c d → Unit {0} → IsKnown first sent d → IsKnown first sent c
+known-like first sent k c d i _ h = (
+  λ o. let x = outstanding-like k c d i o in subst (WasSent sent) (sym x.1) (h.0 x.0),
+  placed-alike first sent d c (record {
+    kind = ap (λ (x : ChunkPayloadData). x.unordered) i.same;
+    stream = ap (λ (x : ChunkPayloadData). x.stream_identifier) i.same;
+    number = ap (λ (x : ChunkPayloadData). x.stream_sequence_number) i.same;
+    tsn = ap (λ (x : ChunkPayloadData). x.tsn) i.same;
+    message = ap (λ (x : ChunkPayloadData). x.message_id) i.same;
+    ends = ap (λ (x : ChunkPayloadData). x.ending_fragment) i.same;
+  }) h.1,
+)
+
+module _ (first size max most : ℕ) (limits : Option Limits) (small : first < 2 ^ 32) (some : 0 < size) (s : Session) (n : ℕ) (gone : List ℕ) (m : Modes)
+    (g : Goes first size max most limits s.sending.sender s n gone m) where
+  there : HasMade first g.other
+  there = made-in first size max most limits g.plays.calls g.other small some g.plays.run
+
+  abbrev t : Transmission
+  t = s.sending.sender
+
+  abbrev cs : List ChunkPayloadData
+  cs = s.sending.sender.flight.queue.inflight.chunks
+
+  held : IsHeld there.numbered first s.sending.sender there.sent
+  held =
+      let ks = kept_of t.kept in
+      let ds = g.shadow.chunks in
+      let h = subst (λ u. IsHeld there.numbered first u there.sent) g.shadow.sender there.holds.held in
+      let steady = steady-alike g.shadow.streams t.streams g.shadow.alike in
+      let st = renumbered there.numbered first (λ r. number_of r g.shadow.streams) (λ r. number_of r t.streams) _ t.flight.next_tsn there.sent steady.numbers
+      h.stands in
+      let any : (k : ℕ) → list_any (is_of k) cs ≡ list_any (is_of k) ds = λ k. any-plain (is_of k) (λ c. refl) cs ds (are-plain ks cs ds g.shadow.like) in
+      record {
+        stands = record {
+          queued = st.queued;
+          sendable = record {
+            ordered = st.sendable.ordered;
+            unordered = st.sendable.unordered;
+            apart = st.sendable.apart;
+            sent = λ k e. st.sendable.sent k (sym (any k) ∙ e);
+            below = λ k le. any k ∙ st.sendable.below k le;
+          };
+          known = paired (λ c. Unit {0}) (IsKnown first there.sent) (IsKnown first there.sent) (known-like first there.sent) ks cs ds g.shadow.like
+              (every-all (λ c. Unit {0}) (λ c. tt) cs) st.known;
+          counted = st.counted;
+          begun' = st.begun';
+          ids = st.ids;
+        };
+        open' = all-open g.shadow.streams t.streams steady.there there.numbered h.open';
+        sized = steady.sized h.sized;
+        size = h.size;
+      }
+
+  -- it has made what got TSNs, too
+  pub has-made : HasMade first s
+  has-made = record {
+    numbered = there.numbered;
+    sent = there.sent;
+    holds = record {
+      held = held;
+      made = subst (AreSent there.sent) g.shadow.made there.holds.made;
+      writes = there.holds.writes ∙ g.shadow.written;
+      placed = there.holds.placed;
+    };
+    made = subst (AllMade there.sent) g.shadow.made there.made;
+  }

@@ -1,0 +1,156 @@
+-- Two hosts of which the sender keeps what is reported stand in a session, and each call leads to the next.
+use Rattle.sctp_delivery.proofs.Names.{◌≡◌, ◌+◌, ◌≤◌, ◌<◌, ◌^◌, List, [], ◌∷◌, ◌++◌, refl, ap, sym, subst, ◌∙◌, arith, Contains}
+use Rattle.sctp_delivery.proofs.Names.{Sack, Session, SenderCall, SenderFollows, SenderMakes, of_sender, of_receiver, takes_sack}
+use Rattle.sctp_delivery.specs.ReceiverCalls.{ReceiverMakes}
+use Rattle.sctp_delivery.specs.SenderCalls.{TakesBackAndSack}
+use Rattle.sctp_delivery.proofs.Names.{bytes_written, distance}
+use Rattle.sctp_delivery.specs.Returns.{CallOrReturn, FollowsOrReturns, RunsWithReturns, after_return, at_start_with, makes, takes_back, tsns_given_so}
+use Rattle.sctp_delivery.specs.Stand.{EachAckedStepsSo, EachReceiverCallStepsSo, EachSenderCallStepsSo, EachTwoBeginSo, StandSo, StepsSo, given_so, most_given_so}
+use Rattle.sctp_delivery.proofs.Delivered.{next_tsn, sender-step}
+use Rattle.sctp_delivery.proofs.OneRead.{no-way}
+use Rattle.sctp_delivery.proofs.PlainHolds.{has-made}
+use Rattle.sctp_delivery.proofs.PlainRuns.{goes, two-calls}
+use Rattle.sctp_delivery.proofs.PlainSessions.{small-next}
+use Rattle.sctp_delivery.proofs.Stands.{more-made, more-reported, one-given, receiver-follows, receiver_after, sender-follows, sender_after}
+
+-- ## One call more
+
+unfoldable run-then : (cs : List CallOrReturn) (c : CallOrReturn) (old mid new : Session) → RunsWithReturns old cs mid → FollowsOrReturns c mid new
+    → RunsWithReturns old (cs ++ c ∷ []) new
+run-then [] c old mid new r f = (new, (subst (λ s. FollowsOrReturns c s new) r f, refl))
+run-then (d ∷ cs) c old mid new r f = (r.0, (r.1.0, run-then cs c r.0 mid new r.1.1 f))
+
+given-then : (cs : List CallOrReturn) (c : CallOrReturn) (old mid new : Session) (r : RunsWithReturns old cs mid) (f : FollowsOrReturns c mid new)
+    → tsns_given_so old (cs ++ c ∷ []) new (run-then cs c old mid new r f) ≡ tsns_given_so old cs mid r + distance (next_tsn mid) (next_tsn new)
+unfolding run-then
+given-then [] c old mid new r f = let e = ap (λ s. distance (next_tsn s) (next_tsn new)) r in omega (arith, e)
+given-then (d ∷ cs) c old mid new r f = let e = given-then cs c r.0 mid new r.1.1 f in omega (arith, e)
+
+module _ (st : StandSo) where
+  -- no way from the TSN that is next to itself
+  same-way : distance (next_tsn st.session) (next_tsn st.session) ≡ 0
+  same-way =
+      no-way (next_tsn st.session)
+      (small-next st.tsn st.size st.max st.most st.limits st.session.sending.sender st.session _ _ _ st.small st.few
+      (goes st.reported st.tsn st.size st.max st.most st.limits st.calls st.session st.run st.small st.few st.short))
+
+  -- a call of the sender gives out one at most
+  given-once : (call : SenderCall) (t : Session) → SenderFollows call st.session t → distance (next_tsn st.session) (next_tsn t) ≤ 1
+  given-once call t f =
+      let h = has-made st.tsn st.size st.max st.most st.limits st.small st.some st.session _ _ _
+      (goes st.reported st.tsn st.size st.max st.most st.limits st.calls st.session st.run st.small st.few st.short) in
+      let x = sender-step st.tsn call st.session t h.numbered h.sent f h.holds in
+      one-given st.tsn h.sent x.more (next_tsn st.session) (next_tsn t) h.holds.held.stands.counted x.holds.held.stands.counted x.once
+
+  -- what one call leads to
+  record Leads (c : CallOrReturn) (t : Session) : Type 0 where
+    next : StandSo
+    there : next.session ≡ t
+    steps : StepsSo c st next
+
+  leads : (c : CallOrReturn) (t : Session) → FollowsOrReturns c st.session t → distance (next_tsn st.session) (next_tsn t) ≤ most_given_so c
+      → given_so st + most_given_so c < 2 ^ 31 → bytes_written t < 2 ^ 64
+      → ((m : _) → Contains st.session.made m → Contains t.made m) → ((k : Sack) → Contains st.session.sacks k → Contains t.sacks k) → Leads c t
+  leads c t f most few short made sacks =
+      let start = at_start_with st.reported st.tsn st.size st.max st.most st.limits in
+      let given = given-then st.calls c start st.session t st.run f in
+      record {
+        next = record {
+          reported = st.reported;
+          tsn = st.tsn;
+          size = st.size;
+          max = st.max;
+          most = st.most;
+          limits = st.limits;
+          calls = st.calls ++ c ∷ [];
+          session = t;
+          run = run-then st.calls c start st.session t st.run f;
+          small = st.small;
+          some = st.some;
+          few = omega (arith, given, most, few);
+          short = short;
+        };
+        there = refl;
+        steps = record { step = f; calls = refl; given = omega (arith, given, most); made = made; sacks = sacks };
+      }
+
+-- ## The laws
+
+pub two-begin-so : EachTwoBeginSo
+two-begin-so reported tsn size max most limits small some = (
+  record {
+    reported = reported;
+    tsn = tsn;
+    size = size;
+    max = max;
+    most = most;
+    limits = limits;
+    calls = [];
+    session = at_start_with reported tsn size max most limits;
+    run = refl;
+    small = small;
+    some = some;
+    few = omega arith;
+    short = omega arith;
+  },
+  record { sends = refl; receives = refl },
+  refl,
+  refl,
+  refl,
+)
+
+pub sender-steps-so : EachSenderCallStepsSo
+sender-steps-so call old new r st is m h room bytes =
+    let t = sender_after call st.session new in
+    let f = sender-follows call st.session new (subst (λ x. SenderMakes call x new) (sym is.sends) m) h in
+    let l = leads st (makes (of_sender call)) t f (given-once st call t f) room bytes
+    (λ x c. more-made call st.session.sending.sender st.session.made x c) (λ k c. c) in (
+      l.next,
+      record {
+        sends = ap (λ (s : Session). s.sending.sender) l.there;
+        receives = ap (λ (s : Session). s.receiving.receiver) l.there ∙ is.receives;
+      },
+      l.steps,
+    )
+
+pub receiver-steps-so : EachReceiverCallStepsSo
+receiver-steps-so call old new u st is m h =
+    let t = receiver_after call st.session new in
+    let f = receiver-follows call st.session new (subst (λ x. ReceiverMakes call x new) (sym is.receives) m) h in
+    let none = same-way st in
+    let few = st.few in
+    let l = leads st (makes (of_receiver call)) t f (omega (arith, none)) (omega (arith, few)) st.short (λ x c. c)
+    (λ k c. more-reported call st.session.receiving.receiver st.session.sacks k c) in (
+      l.next,
+      record {
+        sends = ap (λ (s : Session). s.sending.sender) l.there ∙ is.sends;
+        receives = ap (λ (s : Session). s.receiving.receiver) l.there;
+      },
+      l.steps,
+    )
+
+pub acked-steps-so : EachAckedStepsSo
+acked-steps-so sack back gone old new r st is x handed room =
+    let w = two-calls st.reported st.tsn st.size st.max st.most st.limits st.calls st.session st.run st.small st.some st.few st.short sack back gone new handed
+    (subst (λ y. TakesBackAndSack sack back gone y new) (sym is.sends) x) in
+    let none = same-way st in
+    let few = st.few in
+    let a = leads st (takes_back sack back) (after_return sack back st.session) w.0 (omega (arith, none)) (omega (arith, few)) st.short (λ m c. c) (λ k c. c) in
+    let t = w.1 in
+    let f : SenderFollows (takes_sack sack gone) a.next.session t = subst (λ y. SenderFollows (takes_sack sack gone) y t) (sym a.there) w.2 in
+    let given = a.steps.given in
+    let less = a.next.short in
+    let same = ap bytes_written f.after in
+    let b = leads a.next (makes (of_sender (takes_sack sack gone))) t f (given-once a.next (takes_sack sack gone) t f) (omega (arith, given, room))
+    (omega (arith, same, less)) (λ m c. subst (λ ms. Contains ms m) (sym (ap (λ (s : Session). s.made) f.after)) c)
+    (λ k c. subst (λ ks. Contains ks k) (sym (ap (λ (s : Session). s.sacks) f.after)) c) in (
+      a.next,
+      a.steps,
+      b.next,
+      record {
+        sends = ap (λ (s : Session). s.sending.sender) b.there ∙ w.3;
+        receives = ap (λ (s : Session). s.receiving.receiver) b.there ∙ ap (λ (s : Session). s.receiving.receiver) f.after
+            ∙ ap (λ (s : Session). s.receiving.receiver) a.there ∙ is.receives;
+      },
+      b.steps,
+    )
