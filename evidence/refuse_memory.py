@@ -6,7 +6,7 @@
 run at the top of the repository. It finds the kit's command `rt` on the PATH, and proves nothing. It builds the program `link_tests` once, with the
 same allocation refused in each run: the last of so many. The number in the first line of standard input says how many allocations come between the
 reading of the scripts and their first event; so with one number after another each allocation of the scripts is the refused one once, and with 0 none
-is. Where one still is, the program is built again for twice as many. The scripts are those of crates/link_tests/stdin.
+is. Where one still is, the program is built again for twice as many. The scripts are those of crates/link_tests/stdin, without its cases and tables.
 
 Prints how many allocations the scripts make, in which of their lines the link was refused one, and each run that did not end as without a refusal.
 The exit status is 0 where there is no such run.
@@ -28,11 +28,12 @@ STDIN = "crates/link_tests/stdin"
 def outcomes(most):
     """Builds the program with allocation `most` refused, and returns the line that it prints for each number below, "" where it prints none."""
     with open(STDIN, encoding="ascii") as stdin:
-        scripts = stdin.read().split("\n", 1)[1]
+        blocks = stdin.read().split("\n\n")
+    scripts = "\n\n".join(it for it in blocks if it.startswith("link "))
     with tempfile.TemporaryDirectory() as folder:
         for number in range(most):
             with open(os.path.join(folder, f"{number:06}"), "w", encoding="ascii") as case:
-                case.write(f"{number}\n{scripts}")
+                case.write(f"{number}\n\n{scripts}\n")
         words = ["rt", "try", "--fail-alloc", str(most), "--cases", folder]
         ran = subprocess.run(words, cwd="crates/link_tests", capture_output=True, text=True)
     printed = dict(re.findall(r"^== (\d+)\n(.*)$", ran.stdout, re.M))

@@ -1,5 +1,6 @@
-//! Lines that cannot be read, streams that fail, and the fields of lines.
+//! Lines that cannot be read, streams that fail, the fields of lines, and the longest fragment.
 
+use crate::cases::play_case;
 use linkscript::field::{FieldFault, field_bytes, field_text};
 use linkscript::run::{RunFault, run_under};
 use sctp_packets::checksum::Crc32c;
@@ -35,15 +36,8 @@ const FIRST_LINES: [&str; 18] = [
     "link\t10 3 100\n",
 ];
 
-#[test]
-fn first_lines_that_cannot_be_read(rt: HostRuntime) {
-    let alloc = rt.alloc();
-    for line in FIRST_LINES {
-        assert!(rt;
-            prints(alloc, line.as_bytes(), "bad line 1\n", Ok(2)),
-            "{line}"
-        );
-    }
+fn is_no_first_line(alloc: Global, line: &str) -> bool {
+    prints(alloc, line.as_bytes(), "bad line 1\n", Ok(2))
 }
 
 /// Whether a script whose third line this is ends there.
@@ -107,24 +101,11 @@ const LINES: [&str; 50] = [
     "skip 11 0 1",
 ];
 
-#[test]
-fn lines_that_cannot_be_read(rt: HostRuntime) {
-    let alloc = rt.alloc();
-    for line in LINES {
-        assert!(rt; ends_a_script(alloc, line), "{line}");
-    }
-}
-
 fn is_refused_as_input(alloc: Global, script: &[u8]) -> bool {
     prints(alloc, script, "", Err(RunFault::Input))
 }
 
-#[test]
-fn input_that_is_not_utf8(rt: HostRuntime) {
-    let alloc = rt.alloc();
-    let in_a_line = is_refused_as_input(alloc, b"link 10 3 100\nopen 1\n\xff\n");
-    assert!(rt; in_a_line && is_refused_as_input(alloc, b"bad\n\x80"));
-}
+const NO_UTF8: [&[u8]; 2] = [b"link 10 3 100\nopen 1\n\xff\n", b"bad\n\x80"];
 
 /// Gives its bytes, and then fails.
 #[derive(Drop)]
@@ -196,12 +177,10 @@ fn each_output_fails(alloc: Global, script: &[u8], whole: usize) -> bool {
     well && fills(alloc, script, whole, Ok(2))
 }
 
-#[test]
-fn streams_that_fail(rt: HostRuntime) {
-    let alloc = rt.alloc();
+fn streams_fail(alloc: Global) -> bool {
     let script = b"link 10 3 100\nopen 1\nopen 1\nreed 1\n".as_slice();
     let whole = "opened\nrefused L2\nbad line 4\n".len();
-    assert!(rt; each_input_fails(alloc, script) && each_output_fails(alloc, script, whole));
+    each_input_fails(alloc, script) && each_output_fails(alloc, script, whole)
 }
 
 fn is_shown(alloc: Global, bytes: &[u8], text: &str) -> bool {
@@ -220,25 +199,61 @@ fn is_told(alloc: Global, text: &str, bytes: &[u8]) -> bool {
 
 const FIELDS: [(&str, &[u8]); 3] = [("-", b""), ("00ff", b"\x00\xff"), ("616263", b"abc")];
 
-#[test]
-fn fields(rt: HostRuntime) {
-    let alloc = rt.alloc();
+const NO_FIELDS: [&str; 7] = ["", "--", "6", "6g", "0x61", " 61", "61 "];
+
+fn are_fields_so(alloc: Global) -> bool {
+    let mut well = is_told(alloc, "aFFa", b"\xaf\xfa");
     for (text, bytes) in FIELDS {
-        assert!(rt;
-            is_shown(alloc, bytes, text) && is_told(alloc, text, bytes),
-            "{text}"
-        );
+        well = well && is_shown(alloc, bytes, text) && is_told(alloc, text, bytes);
     }
-    assert!(rt; is_told(alloc, "aFFa", b"\xaf\xfa"));
+    for text in NO_FIELDS {
+        well = well && field_bytes(alloc, text).err() == Some(FieldFault::NotHex);
+    }
+    well
 }
 
-#[test]
-fn texts_that_are_no_field(rt: HostRuntime) {
-    let alloc = rt.alloc();
-    for text in ["", "--", "6", "6g", "0x61", " 61", "61 "] {
-        assert!(rt;
-            field_bytes(alloc, text).err() == Some(FieldFault::NotHex),
-            "{text}"
-        );
+/// Plays the case of the longest fragment, which has 65,519 bytes.
+fn play_longest(alloc: Global, log: &mut Vec<u8>) {
+    let case = match "00".repeat(alloc, 65_520) {
+        Ok(zeros) => format!(in alloc; "{LONGEST} {zeros}: wrote 0 2\n{LONGEST_READ} {zeros}"),
+        Err(e) => Err(e),
+    };
+    match case {
+        Ok(case) => play_case(alloc, case.as_str(), log),
+        Err(_) => tell(log, "no memory", "for the longest fragment"),
     }
+}
+
+const LONGEST: &str =
+    "== the longest fragment\nlink 10 65519 4294967295\nopen 1: opened\nwrite 1 53";
+
+const LONGEST_READ: &str =
+    "send 0: sent 0 10 0\nsend 0: sent 1 11 0\narrive 1: new\narrive 0: new\nread 1: message 1 53";
+
+fn tell(log: &mut Vec<u8>, what: &str, of: &str) {
+    let _ = write!(log, "{what}: {of:?}\n");
+}
+
+/// Puts to the log each row of the tables that is not as it ought to be.
+pub(crate) fn read_tables(alloc: Global, log: &mut Vec<u8>) {
+    for line in FIRST_LINES {
+        if !is_no_first_line(alloc, line) {
+            tell(log, "a first line that cannot be read", line);
+        }
+    }
+    for line in LINES {
+        if !ends_a_script(alloc, line) {
+            tell(log, "a line that cannot be read", line);
+        }
+    }
+    if !is_refused_as_input(alloc, NO_UTF8[0]) || !is_refused_as_input(alloc, NO_UTF8[1]) {
+        tell(log, "input", "that is not UTF-8");
+    }
+    if !streams_fail(alloc) {
+        tell(log, "streams", "that fail");
+    }
+    if !are_fields_so(alloc) {
+        tell(log, "fields", "or texts that are none");
+    }
+    play_longest(alloc, log);
 }

@@ -1,27 +1,37 @@
-//! Tests of the link, of its scripts, and of packets under CRC-32C; the program refuses a link memory.
+//! Plays the cases and the scripts of standard input to links, and reads lines that are no events.
+//!
+//! The first line says how often memory is taken, and given back, before anything is played. Then come blocks, with an empty line between
+//! two: scripts, which are played to two links in step (`refusals`); cases, which begin with a name (`cases`); and `tables`, for the tables
+//! of this program (`lines`). The first line that is printed is of the scripts. Behind it stands what a case or a table answered that
+//! is not as it ought to be, or how many cases there were. The status is 0 where all is as it ought to be.
 #![tactic(auto)]
 
-#[cfg(test)]
-mod abandonment;
 pub mod callers;
-#[cfg(test)]
 mod cases;
-#[cfg(test)]
-mod exchanges;
-#[cfg(test)]
-mod large;
-#[cfg(test)]
 mod lines;
-#[cfg(test)]
-mod packets;
-#[cfg(test)]
-mod play;
 mod refusals;
 
-use self::refusals::turn::{Refused, State};
-use self::refusals::{play_scripts, print, take_memory};
+use self::refusals::turn::State;
+use self::refusals::{print, take_memory};
+use std::alloc::Global;
 use std::io::{self, Read};
 use std::process::ExitCode;
+
+/// Plays blocks, with an empty line between two.
+fn play_blocks(alloc: Global, blocks: &str, state: &mut State, log: &mut Vec<u8>) -> u32 {
+    let mut count = 0u32;
+    for block in blocks.split("\n\n") {
+        if block.starts_with("== ") {
+            cases::play_case(alloc, block, log);
+            count = count.saturating_add(1);
+        } else if block == "tables" {
+            lines::read_tables(alloc, log);
+        } else {
+            refusals::play_script(alloc, block, state);
+        }
+    }
+    count
+}
 
 fn main(rt: HostRuntime) -> ExitCode {
     let alloc = rt.alloc();
@@ -30,15 +40,17 @@ fn main(rt: HostRuntime) -> ExitCode {
         return ExitCode::FAILURE;
     }
     let text = str::from_utf8(&input).unwrap_or("").trim_end();
-    let (number, scripts) = text.split_once("\n\n").unwrap_or((text, ""));
+    let (number, blocks) = text.split_once("\n\n").unwrap_or((text, ""));
     take_memory(alloc, number);
-    let mut state = State {
-        line: 1,
-        refused: Refused::Nowhere,
-    };
-    let outcome = play_scripts(alloc, scripts, &mut state);
-    match (print(&mut io::writer(&rt), outcome, &state), outcome) {
-        (Ok(()), Ok(())) => ExitCode::SUCCESS,
+    let mut state = State::new();
+    let mut log = Vec::new(alloc);
+    let count = play_blocks(alloc, blocks, &mut state, &mut log);
+    let _ = rt.eprint(str::from_utf8(&log).unwrap_or(""));
+    if let Some(what) = state.fault {
+        let _ = eprintln!(rt; "differs at line {}: {what}", state.line);
+    }
+    match print(&mut io::writer(&rt), &state, count, &log) {
+        Ok(()) if state.fault.is_none() && log.is_empty() => ExitCode::SUCCESS,
         _ => ExitCode::FAILURE,
     }
 }

@@ -2,56 +2,64 @@
 //!
 //! A link that answers OutOfMemory is compared with its twin, to which that event was not given yet, and is given the
 //! event again. Each event must have the reply that stands behind it, and both links must be alike after it. Where all is as it ought
-//! to be, the one line that is printed begins with `same`, and the status is 0.
+//! to be, the line that is printed of the scripts begins with `same`.
 //!
 //! The first line on standard input says how often memory is taken, and given back, before the scripts begin. So where
-//! each run has the same allocation refused, this number says which one of the scripts it is. Behind that line stand the
-//! scripts, with an empty line between two, and behind each event its reply: `open 1: opened`.
+//! each run has the same allocation refused, this number says which one of the scripts it is. Behind each event stands its
+//! reply: `open 1: opened`.
 
 mod compare;
 pub(crate) mod turn;
 
-use self::turn::{Fault, Refused, State, Zero, play_line};
-use linkscript::script::read_link;
+use self::turn::{Refused, State, Zero, play_line};
+use linkscript::script::{Play, read_link};
 use std::alloc::Global;
 use std::io::{self, Write};
 
-/// Plays scripts, with an empty line between two.
-pub(crate) fn play_scripts(alloc: Global, scripts: &str, state: &mut State) -> Result<(), Fault> {
-    for script in scripts.split("\n\n") {
-        play_script(alloc, script, state)?;
-    }
-    Ok(())
-}
-
-fn play_script(alloc: Global, script: &str, state: &mut State) -> Result<(), Fault> {
+/// Plays a script, as far as its lines go so.
+pub(crate) fn play_script(alloc: Global, script: &str, state: &mut State) {
+    let (first, lines) = script.split_once('\n').unwrap_or((script, ""));
     state.line = state.line.saturating_add(2);
-    let mut lines = script.split('\n');
-    let first = lines.next().unwrap_or("");
-    let Some(mut play) = read_link(alloc, Zero, first) else {
-        return Err("a first line");
-    };
-    let Some(mut twin) = read_link(alloc, Zero, first) else {
-        return Err("a first line");
-    };
-    for line in lines {
-        state.line = state.line.saturating_add(1);
-        play_line(alloc, &mut play, &mut twin.link, line, state)?;
+    match (read_link(alloc, Zero, first), read_link(alloc, Zero, first)) {
+        (Some(mut play), Some(mut twin)) => play_lines(alloc, &mut play, &mut twin, lines, state),
+        _ => state.fault = state.fault.or(Some("a first line")),
     }
-    Ok(())
 }
 
+/// Plays the lines behind the first one, up to one that does not go as it says.
+fn play_lines(
+    alloc: Global,
+    play: &mut Play<Zero>,
+    twin: &mut Play<Zero>,
+    lines: &str,
+    state: &mut State,
+) {
+    for line in lines.split('\n') {
+        if state.fault.is_none() {
+            state.line = state.line.saturating_add(1);
+            state.fault = play_line(alloc, play, twin, line, state);
+        }
+    }
+}
+
+/// Prints what came of the scripts, and then what came of the cases, if there were any.
 pub(crate) fn print<W: Write>(
     output: &mut W,
-    outcome: Result<(), Fault>,
     state: &State,
+    count: u32,
+    log: &[u8],
 ) -> io::Result<()> {
-    match (outcome, state.refused) {
-        (Err(what), _) => write!(output, "differs at line {}: {what}\n", state.line),
-        (Ok(()), Refused::Nowhere) => write!(output, "same\n"),
-        (Ok(()), Refused::Line(line)) => write!(output, "same, line {line} refused\n"),
-        (Ok(()), Refused::Beside) => write!(output, "same, refused beside the link\n"),
+    match (state.fault, state.refused) {
+        (Some(what), _) => write!(output, "differs at line {}: {what}\n", state.line)?,
+        (None, Refused::Nowhere) => write!(output, "same\n")?,
+        (None, Refused::Line(line)) => write!(output, "same, line {line} refused\n")?,
+        (None, Refused::Beside) => write!(output, "same, refused beside the link\n")?,
     }
+    output.write_all(log)?;
+    if count > 0 {
+        write!(output, "{count} cases\n")?;
+    }
+    Ok(())
 }
 
 /// Takes memory so often, and gives it back.

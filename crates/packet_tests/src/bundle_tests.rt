@@ -1,4 +1,5 @@
 use crate::kind_tests::is_printed;
+use crate::log::{check, check_bytes};
 use crate::tests::{Answer, ZERO, is_encoding, packet_bytes, read_chunks};
 use bytes::Bytes;
 use sctp_packets::checksum::Crc32c;
@@ -91,36 +92,61 @@ fn is_recorded(alloc: Global, read: Result<Packet, Error>, raw: &[u8], printed: 
     }
 }
 
-// The packet, read chunk by chunk and written so, as long as it fits.
-fn rewritten(alloc: Global, raw: &[u8], limit: usize) -> Result<PacketWriter, Error> {
-    let (header, mut chunks) = PacketReader::open(&Bytes::copy_from_slice(alloc, raw)?, &Crc32c)?;
-    let mut writer = PacketWriter::new(alloc, limit)?;
-    writer.begin(header);
-    for _ in 0..raw.len() {
-        let Some(chunk) = chunks.next(alloc)? else {
-            break;
-        };
-        writer.put(&chunk)?;
+// Whether the next chunk is read, where there is one, and written, where it fits.
+fn is_put(alloc: Global, chunks: &mut PacketReader, writer: &mut PacketWriter) -> bool {
+    match chunks.next(alloc) {
+        Ok(Some(chunk)) => writer.put(&chunk).is_ok(),
+        Ok(None) => true,
+        Err(_) => false,
     }
-    writer.seal(&Crc32c);
-    Ok(writer)
 }
 
-// How many bytes it then has; whether they are the recorded ones.
-fn rewriting(alloc: Global, raw: &[u8], limit: usize) -> Result<(usize, bool), Error> {
-    let writer = rewritten(alloc, raw, limit)?;
-    Ok((writer.bytes().len(), writer.bytes() == raw))
+// Whether each chunk is read and written so.
+fn are_put(
+    alloc: Global,
+    chunks: &mut PacketReader,
+    writer: &mut PacketWriter,
+    most: usize,
+) -> bool {
+    let mut well = true;
+    for _ in 0..most {
+        well = well && is_put(alloc, chunks, writer);
+    }
+    well
 }
 
-#[test]
-fn vectors(rt: HostRuntime) {
-    let alloc = rt.alloc();
+// Whether the packet, read chunk by chunk and written so, has so many bytes then, and is the recorded one or not.
+fn is_rewritten(alloc: Global, raw: &Bytes, writer: &mut PacketWriter, due: (usize, bool)) -> bool {
+    match PacketReader::open(raw, &Crc32c) {
+        Ok((header, mut chunks)) => {
+            writer.begin(header);
+            let well = are_put(alloc, &mut chunks, writer, raw.len());
+            writer.seal(&Crc32c);
+            let written = writer.bytes();
+            well && written.len() == due.0 && (written == raw.as_slice()) == due.1
+        }
+        Err(_) => false,
+    }
+}
+
+// Whether that is so of a writer of so many bytes.
+fn rewrites(alloc: Global, raw: &'static [u8], limit: usize, due: (usize, bool)) -> bool {
+    match PacketWriter::new(alloc, limit) {
+        Ok(mut writer) => is_rewritten(alloc, &Bytes::from_static(raw), &mut writer, due),
+        Err(_) => false,
+    }
+}
+
+fn vectors(alloc: Global, log: &mut Vec<u8>) {
     for (raw, typ, tag, printed) in VECTORS {
-        assert!(rt; told(alloc, raw) == Ok((typ, Some(tag))));
-        assert!(rt; is_recorded(alloc, whole(alloc, raw, &Crc32c), raw, printed));
-        assert!(rt; is_recorded(alloc, finished(alloc, raw, &Crc32c), raw, printed));
-        assert!(rt; rewriting(alloc, raw, raw.len()) == Ok((raw.len(), true)));
-        assert!(rt; rewriting(alloc, raw, raw.len().saturating_sub(1)) == Ok((12, false)));
+        let holds = told(alloc, raw) == Ok((typ, Some(tag)));
+        check_bytes(log, holds, "what a recorded packet tells", raw);
+        let holds = is_recorded(alloc, whole(alloc, raw, &Crc32c), raw, printed)
+            && is_recorded(alloc, finished(alloc, raw, &Crc32c), raw, printed);
+        check_bytes(log, holds, "a recorded packet", raw);
+        let holds = rewrites(alloc, raw, raw.len(), (raw.len(), true))
+            && rewrites(alloc, raw, raw.len().saturating_sub(1), (12, false));
+        check_bytes(log, holds, "a recorded packet, chunk by chunk", raw);
     }
 }
 
@@ -151,22 +177,31 @@ fn refusals_of(alloc: Global, raw: &[u8]) -> (Option<Error>, Option<Error>) {
     )
 }
 
-#[test]
-fn fronts(rt: HostRuntime) {
-    let alloc = rt.alloc();
-    for (raw, _, _, _) in VECTORS {
-        for length in 0..raw.len() {
-            // only the first vector ends in padding, of two bytes
-            let expected = refusals_of_front(length, length >= 98);
-            assert!(rt;
-                refusals_of(alloc, &raw[..length]) == expected,
-                "at {length}"
-            );
-        }
+fn are_fronts_refused(alloc: Global, raw: &[u8]) -> bool {
+    let mut well = true;
+    for length in 0..raw.len() {
+        // only the first vector ends in padding, of two bytes
+        let expected = refusals_of_front(length, length >= 98);
+        well = well && refusals_of(alloc, &raw[..length]) == expected;
     }
+    well
+}
+
+// Without its padding the first vector is still read so far.
+fn is_begun(alloc: Global) -> bool {
     let front = &VECTORS[0].0[..98];
-    let decode = partial(alloc, front, &field_of(front));
-    assert!(rt; decode.is_ok_and(|decode| decode.first_chunk_type == CT_INIT));
+    match partial(alloc, front, &field_of(front)) {
+        Ok(decode) => decode.first_chunk_type == CT_INIT,
+        Err(_) => false,
+    }
+}
+
+fn fronts(alloc: Global) -> bool {
+    let mut well = is_begun(alloc);
+    for (raw, _, _, _) in VECTORS {
+        well = well && are_fronts_refused(alloc, raw);
+    }
+    well
 }
 
 const TOLD: [(&[u8], ChunkType, Option<u32>, Option<&[u8]>); 4] = [
@@ -228,14 +263,13 @@ fn refusal_in_two(alloc: Global, chunks: &[u8]) -> Result<Option<Error>, Error> 
     }
 }
 
-#[test]
-fn first_chunks(rt: HostRuntime) {
+fn first_chunks(alloc: Global, log: &mut Vec<u8>) {
     for row in TOLD {
-        assert!(rt; is_told(rt.alloc(), row), "at {:?}", row.0);
+        check_bytes(log, is_told(alloc, row), "a first chunk", row.0);
     }
     for (chunks, expected) in REFUSED {
-        let refused = refusal_in_two(rt.alloc(), chunks);
-        assert!(rt; refused == Ok(Some(expected)), "no {expected:?}");
+        let holds = refusal_in_two(alloc, chunks) == Ok(Some(expected));
+        check_bytes(log, holds, "a first chunk that is refused", chunks);
     }
 }
 
@@ -301,16 +335,15 @@ fn refused_by_rules(
     Ok(packet.check_packet().err())
 }
 
-#[test]
-fn rules_for_all_packets(rt: HostRuntime) {
+fn rules_for_all_packets(alloc: Global, log: &mut Vec<u8>) {
     for (source_port, destination_port, verification_tag, chunks, expected) in CHECKED {
         let header = CommonHeader {
             source_port,
             destination_port,
             verification_tag,
         };
-        let refused = refused_by_rules(rt.alloc(), header, chunks);
-        assert!(rt; refused == Ok(expected), "not {expected:?}");
+        let holds = refused_by_rules(alloc, header, chunks) == Ok(expected);
+        check_bytes(log, holds, "the rules for all packets", chunks);
     }
 }
 
@@ -322,8 +355,18 @@ fn printed(alloc: Global, chunks: &[u8]) -> Result<String, Error> {
     Ok(format!(in alloc; "{packet}")?)
 }
 
-#[test]
-fn printed_packet(rt: HostRuntime) {
-    let text = printed(rt.alloc(), b"\x0b\0\0\x04\x08\0\0\x04");
-    assert!(rt; text.is_ok_and(|text| text.as_str() == PRINTED));
+fn printed_packet(alloc: Global) -> bool {
+    match printed(alloc, b"\x0b\0\0\x04\x08\0\0\x04") {
+        Ok(text) => text.as_str() == PRINTED,
+        Err(_) => false,
+    }
+}
+
+/// What does not hold of packets.
+pub fn all(alloc: Global, log: &mut Vec<u8>) {
+    vectors(alloc, log);
+    check(log, fronts(alloc), "fronts of recorded packets");
+    first_chunks(alloc, log);
+    rules_for_all_packets(alloc, log);
+    check(log, printed_packet(alloc), "a packet prints");
 }

@@ -1,5 +1,6 @@
 //! Datagrams that real stacks wrote, read and written back.
 
+use crate::log::check;
 use bytes::Bytes;
 use sctp_packets::checksum::Crc32c;
 use sctp_packets::packet::Packet;
@@ -172,9 +173,8 @@ fn is_as_wanted(alloc: Global, text: &str, want: Want) -> bool {
 }
 
 /// The checksum that each stack wrote was taken with 0 in its field (RFC 4960 6.8).
-#[test]
-fn recorded_datagrams_are_written_back(rt: HostRuntime) {
+pub(crate) fn recorded_datagrams_are_written_back(alloc: Global, log: &mut Vec<u8>) {
     for (text, want) in DATAGRAMS {
-        assert!(rt; is_as_wanted(rt.alloc(), text, want), "at {text}");
+        check(log, is_as_wanted(alloc, text, want), text);
     }
 }

@@ -1,3 +1,4 @@
+use crate::log::{check, check_bytes, check_number};
 use crate::tests::{ZERO, data, is_encoding, packet_of, read_chunks, refusal, written_behind};
 use bytes::{Bytes, BytesMut};
 use sctp_chunks::chunk::chunk_abort::ChunkAbort;
@@ -146,11 +147,10 @@ const ROWS: [(&[u8], &str, Option<&[u8]>); 20] = [
     ),
 ];
 
-#[test]
-fn kinds(rt: HostRuntime) {
+fn kinds(alloc: Global, log: &mut Vec<u8>) {
     for (chunks, printed, written) in ROWS {
-        let well = is_read_so(rt.alloc(), chunks, printed, written.unwrap_or(chunks));
-        assert!(rt; well, "at {chunks:?}");
+        let holds = is_read_so(alloc, chunks, printed, written.unwrap_or(chunks));
+        check_bytes(log, holds, "chunks", chunks);
     }
 }
 
@@ -204,14 +204,10 @@ const REFUSED: [(&[u8], Error); 20] = [
     (b"\x01\0\0\x04", Error::ErrChunkValueNotLongEnough),
 ];
 
-#[test]
-fn kinds_refuse(rt: HostRuntime) {
-    let alloc = rt.alloc();
+fn kinds_refuse(alloc: Global, log: &mut Vec<u8>) {
     for (chunks, expected) in REFUSED {
-        assert!(rt;
-            refusal(alloc, chunks) == Ok(Some(expected)),
-            "no {expected:?}"
-        );
+        let holds = refusal(alloc, chunks) == Ok(Some(expected));
+        check_bytes(log, holds, "chunks that are refused", chunks);
     }
 }
 
@@ -222,14 +218,11 @@ fn is_unknown(alloc: Global, number: u8) -> Result<bool, Error> {
 }
 
 // Each other number has no kind.
-#[test]
-fn numbers_of_kinds(rt: HostRuntime) {
+fn numbers_of_kinds(alloc: Global, log: &mut Vec<u8>) {
     for number in 0..=255 {
         let has_kind = matches!(number, 0..=11 | 14 | 130 | 192 | 194);
-        assert!(rt;
-            is_unknown(rt.alloc(), number) == Ok(!has_kind),
-            "at {number}"
-        );
+        let holds = is_unknown(alloc, number) == Ok(!has_kind);
+        check_number(log, holds, "the number of a kind", number as usize);
     }
 }
 
@@ -329,18 +322,11 @@ const LONGEST: [(ChunkType, usize); 5] = [
     (CT_ABORT, 65_527),
 ];
 
-#[test]
-fn longest_lists(rt: HostRuntime) {
-    let alloc = rt.alloc();
+fn longest_lists(alloc: Global, log: &mut Vec<u8>) {
     for (typ, count) in LONGEST {
-        assert!(rt;
-            is_filled_written(alloc, typ, count) == Ok(Some(true)),
-            "at {count}"
-        );
-        assert!(rt;
-            is_filled_written(alloc, typ, count + 1) == Ok(Some(false)),
-            "after {count}"
-        );
+        let holds = is_filled_written(alloc, typ, count) == Ok(Some(true))
+            && is_filled_written(alloc, typ, count.saturating_add(1)) == Ok(Some(false));
+        check_number(log, holds, "the longest list", count);
     }
 }
 
@@ -368,16 +354,12 @@ fn is_pair(alloc: Global, raw: &Bytes) -> bool {
     }
 }
 
+fn is_short_pair(raw: &Bytes) -> bool {
+    ChunkForwardTsnStream::unmarshal(raw).err() == Some(Error::ErrChunkTooShort)
+}
+
 // A header prints the name of its type, a pair its two numbers, a refusal its name.
-#[test]
-fn parts_alone(rt: HostRuntime) {
-    let alloc = rt.alloc();
-    assert!(rt; length_of(alloc, 65_531) == Ok(Ok(65_535)));
-    assert!(rt; length_of(alloc, 65_532) == Ok(Err(Error::ErrLengthTooLarge)));
-    assert!(rt; is_cause(alloc, &Bytes::from_static(b"\0\x0c\0\x05\x07")));
-    assert!(rt; is_pair(alloc, &Bytes::from_static(b"\0\x01\0\x02\x03")));
-    let short = ChunkForwardTsnStream::unmarshal(&Bytes::from_static(b"\0\x01\0"));
-    assert!(rt; short.err() == Some(Error::ErrChunkTooShort));
+fn parts_print(alloc: Global) -> bool {
     let header = ChunkHeader {
         typ: CT_SACK,
         flags: 0,
@@ -387,8 +369,19 @@ fn parts_alone(rt: HostRuntime) {
         identifier: 1,
         sequence: 2,
     };
-    let text = format!(in alloc; "{header}: {pair}: {}", Error::ErrShortBuffer);
-    assert!(rt; text.is_ok_and(|text| text.as_str() == "SACK: 1, 2: ErrShortBuffer"));
+    match format!(in alloc; "{header}: {pair}: {}", Error::ErrShortBuffer) {
+        Ok(text) => text.as_str() == "SACK: 1, 2: ErrShortBuffer",
+        Err(_) => false,
+    }
+}
+
+fn parts_alone(alloc: Global) -> bool {
+    length_of(alloc, 65_531) == Ok(Ok(65_535))
+        && length_of(alloc, 65_532) == Ok(Err(Error::ErrLengthTooLarge))
+        && is_cause(alloc, &Bytes::from_static(b"\0\x0c\0\x05\x07"))
+        && is_pair(alloc, &Bytes::from_static(b"\0\x01\0\x02\x03"))
+        && is_short_pair(&Bytes::from_static(b"\0\x01\0"))
+        && parts_print(alloc)
 }
 
 // How a HEARTBEAT-ACK of these is refused; nothing also where the buffer was not left as it was.
@@ -424,21 +417,21 @@ fn refusal_of_other(alloc: Global) -> Result<Option<Error>, Error> {
     heartbeat_ack(alloc, other)
 }
 
-#[test]
-fn heartbeat_acks(rt: HostRuntime) {
-    let rows = [
-        (0, 1, Some(Error::ErrHeartbeatAckParams)),
-        (2, 1, Some(Error::ErrHeartbeatAckParams)),
-        (1, 1, None),
-        (1, 65_527, None),
-        (1, 65_528, Some(Error::ErrLengthTooLarge)),
-    ];
-    for (count, length, expected) in rows {
-        let refused = refusal_of_infos(rt.alloc(), count, length);
-        assert!(rt; refused == Ok(expected), "{count} of {length}");
+const INFOS: [(usize, usize, Option<Error>); 5] = [
+    (0, 1, Some(Error::ErrHeartbeatAckParams)),
+    (2, 1, Some(Error::ErrHeartbeatAckParams)),
+    (1, 1, None),
+    (1, 65_527, None),
+    (1, 65_528, Some(Error::ErrLengthTooLarge)),
+];
+
+fn heartbeat_acks(alloc: Global) -> bool {
+    let expected = Ok(Some(Error::ErrHeartbeatAckNotHeartbeatInfo));
+    let mut well = refusal_of_other(alloc) == expected;
+    for (count, length, expected) in INFOS {
+        well = well && refusal_of_infos(alloc, count, length) == Ok(expected);
     }
-    let refused = refusal_of_other(rt.alloc());
-    assert!(rt; refused == Ok(Some(Error::ErrHeartbeatAckNotHeartbeatInfo)));
+    well
 }
 
 fn init(alloc: Global) -> ChunkInit {
@@ -484,11 +477,9 @@ const INIT_REFUSED: [Option<Error>; 4] = [
     Some(Error::ErrChunkTypeInitInitiateTagZero),
 ];
 
-#[test]
-fn inits_checked(rt: HostRuntime) {
-    let mut chunk = init(rt.alloc());
-    assert!(rt; has_extensions(rt.alloc(), &mut chunk));
-    assert!(rt; refusals_of_init(&mut chunk) == INIT_REFUSED);
+fn inits_checked(alloc: Global) -> bool {
+    let mut chunk = init(alloc);
+    has_extensions(alloc, &mut chunk) && refusals_of_init(&mut chunk) == INIT_REFUSED
 }
 
 // How the chunk is checked, and how it is refused to be written.
@@ -517,14 +508,30 @@ fn is_padded(alloc: Global, chunk: &ChunkReconfig) -> bool {
         && is_encoding(clone_written(alloc, chunk), encoding)
 }
 
-#[test]
-fn reconfigs(rt: HostRuntime) {
+fn empty_is_refused(alloc: Global) -> bool {
     let chunk = ChunkReconfig {
         param_a: None,
         param_b: None,
     };
     let expected = Some(Error::ErrChunkReconfigInvalidParamA);
-    assert!(rt; refusals_of(rt.alloc(), &chunk) == (expected, expected));
-    let chunk = of_two_infos(rt.alloc());
-    assert!(rt; chunk.is_ok_and(|chunk| is_padded(rt.alloc(), &chunk)));
+    refusals_of(alloc, &chunk) == (expected, expected)
+}
+
+fn reconfigs(alloc: Global) -> bool {
+    match of_two_infos(alloc) {
+        Ok(chunk) => is_padded(alloc, &chunk) && empty_is_refused(alloc),
+        Err(_) => false,
+    }
+}
+
+/// What does not hold of chunks.
+pub fn all(alloc: Global, log: &mut Vec<u8>) {
+    kinds(alloc, log);
+    kinds_refuse(alloc, log);
+    numbers_of_kinds(alloc, log);
+    longest_lists(alloc, log);
+    check(log, parts_alone(alloc), "parts of chunks alone");
+    check(log, heartbeat_acks(alloc), "HEARTBEAT ACKs");
+    check(log, inits_checked(alloc), "INITs are checked");
+    check(log, reconfigs(alloc), "RE-CONFIGs");
 }

@@ -1,3 +1,4 @@
+use crate::log::{check, check_bytes, check_number};
 use crate::tests::is_encoding;
 use bytes::{Bytes, BytesMut};
 use sctp_params::param::Param;
@@ -143,23 +144,19 @@ fn is_kept<P: Param + PartialEq + Drop>(alloc: Global, raw: &[u8]) -> bool {
     }
 }
 
-#[test]
-fn each_kind(rt: HostRuntime) {
-    let alloc = rt.alloc();
-    assert!(rt; is_kept::<ParamHeartbeatInfo>(alloc, HEARTBEAT_INFO));
-    assert!(rt; is_kept::<ParamStateCookie>(alloc, STATE_COOKIE));
-    assert!(rt; is_kept::<ParamSupportedAddressTypes>(alloc, ADDRESS_TYPES));
-    assert!(rt; is_kept::<ParamOutgoingResetRequest>(alloc, RESET_REQUEST));
-    assert!(rt; is_kept::<ParamReconfigResponse>(alloc, RESPONSE));
-    assert!(rt; is_kept::<ParamRandom>(alloc, RANDOM));
-    assert!(rt; is_kept::<ParamChunkList>(alloc, CHUNK_LIST));
-    assert!(rt; is_kept::<ParamRequestedHmacAlgorithm>(alloc, ALGORITHMS));
-    assert!(rt; is_kept::<ParamSupportedExtensions>(alloc, EXTENSIONS));
-    assert!(rt; is_kept::<ParamForwardTsnSupported>(alloc, FORWARD_TSN));
-    assert!(rt; is_kept::<ParamUnknown>(alloc, UNKNOWN));
-    for raw in KINDS {
-        assert!(rt; is_kept::<ParamKind>(alloc, raw), "at {raw:?}");
-    }
+// Each kind of parameter by itself.
+fn each_kind(alloc: Global) -> bool {
+    is_kept::<ParamHeartbeatInfo>(alloc, HEARTBEAT_INFO)
+        && is_kept::<ParamStateCookie>(alloc, STATE_COOKIE)
+        && is_kept::<ParamSupportedAddressTypes>(alloc, ADDRESS_TYPES)
+        && is_kept::<ParamOutgoingResetRequest>(alloc, RESET_REQUEST)
+        && is_kept::<ParamReconfigResponse>(alloc, RESPONSE)
+        && is_kept::<ParamRandom>(alloc, RANDOM)
+        && is_kept::<ParamChunkList>(alloc, CHUNK_LIST)
+        && is_kept::<ParamRequestedHmacAlgorithm>(alloc, ALGORITHMS)
+        && is_kept::<ParamSupportedExtensions>(alloc, EXTENSIONS)
+        && is_kept::<ParamForwardTsnSupported>(alloc, FORWARD_TSN)
+        && is_kept::<ParamUnknown>(alloc, UNKNOWN)
 }
 
 const KINDS: [&[u8]; 11] = [
@@ -298,11 +295,14 @@ fn is_read_so(alloc: Global, raw: &[u8], printed: &str, fields: &str, written: &
     }
 }
 
-#[test]
-fn kinds(rt: HostRuntime) {
+fn kinds(alloc: Global, log: &mut Vec<u8>) {
+    for raw in KINDS {
+        let holds = is_kept::<ParamKind>(alloc, raw);
+        check_bytes(log, holds, "a kind of parameter", raw);
+    }
     for (raw, printed, fields, written) in READ {
-        let well = is_read_so(rt.alloc(), raw, printed, fields, written.unwrap_or(raw));
-        assert!(rt; well, "at {raw:?}");
+        let holds = is_read_so(alloc, raw, printed, fields, written.unwrap_or(raw));
+        check_bytes(log, holds, "a parameter", raw);
     }
 }
 
@@ -318,11 +318,9 @@ fn cookie(alloc: Global, raw: &[u8]) -> Result<ParamStateCookie, Error> {
 }
 
 // A single kind is read under any type number.
-#[test]
-fn cookies(rt: HostRuntime) {
-    let alloc = rt.alloc();
-    assert!(rt; is_cookie(cookie(alloc, b"\x00\x01\x00\x06ab"), b"ab"));
-    assert!(rt; is_cookie(ParamStateCookie::new(alloc, [9; 32]), &[9; 32]));
+fn cookies(alloc: Global) -> bool {
+    is_cookie(cookie(alloc, b"\x00\x01\x00\x06ab"), b"ab")
+        && is_cookie(ParamStateCookie::new(alloc, [9; 32]), &[9; 32])
 }
 
 const REFUSED: [(&[u8], Error); 8] = [
@@ -356,14 +354,14 @@ fn refusal_of_list(alloc: Global, raw: &[u8]) -> Result<Option<Error>, Error> {
     Ok(ParamChunkList::unmarshal(alloc, &bytes(alloc, raw)?).err())
 }
 
-#[test]
-fn refusals(rt: HostRuntime) {
-    let alloc = rt.alloc();
+fn refusals(alloc: Global, log: &mut Vec<u8>) {
     for (raw, expected) in REFUSED {
-        assert!(rt; refusal(alloc, raw) == Ok(Some(expected)), "at {raw:?}");
+        let holds = refusal(alloc, raw) == Ok(Some(expected));
+        check_bytes(log, holds, "a parameter that is refused", raw);
     }
     let list = refusal_of_list(alloc, b"\x80\x08\x00\x05\x01");
-    assert!(rt; list == Ok(Some(Error::ErrParamTypeUnexpected)));
+    let holds = list == Ok(Some(Error::ErrParamTypeUnexpected));
+    check(log, holds, "a chunk list that is refused");
 }
 
 // Types that are read as no kind, and as one that is unknown.
@@ -378,20 +376,34 @@ fn type_of(alloc: Global, raw: &[u8]) -> Result<ParamType, Error> {
     Ok(read(alloc, raw)?.param_type())
 }
 
-#[test]
-fn types(rt: HostRuntime) {
-    let alloc = rt.alloc();
+// The type is looked at before the length.
+fn is_no_kind(alloc: Global, typ: u16) -> bool {
+    let [high, low] = u16::to_be_bytes(typ);
+    let expected = Ok(Some(Error::ErrParamTypeUnhandled { typ }));
+    refusal(alloc, &[high, low, 0, 4]) == expected && refusal(alloc, &[high, low, 0, 3]) == expected
+}
+
+fn is_unknown(alloc: Global, typ: u16) -> bool {
+    let [high, low] = u16::to_be_bytes(typ);
+    type_of(alloc, &[high, low, 0, 5, 9]) == Ok(ParamType::Unknown { param_type: typ })
+}
+
+fn types(alloc: Global, log: &mut Vec<u8>) {
     for typ in NO_KIND {
-        let [high, low] = u16::to_be_bytes(typ);
-        let expected = Ok(Some(Error::ErrParamTypeUnhandled { typ }));
-        assert!(rt; refusal(alloc, &[high, low, 0, 4]) == expected, "at {typ}");
-        // the type is looked at before the length
-        assert!(rt; refusal(alloc, &[high, low, 0, 3]) == expected, "at {typ}");
+        check_number(
+            log,
+            is_no_kind(alloc, typ),
+            "a type of no kind",
+            typ as usize,
+        );
     }
     for typ in KEPT {
-        let [high, low] = u16::to_be_bytes(typ);
-        let kept = Ok(ParamType::Unknown { param_type: typ });
-        assert!(rt; type_of(alloc, &[high, low, 0, 5, 9]) == kept, "at {typ}");
+        check_number(
+            log,
+            is_unknown(alloc, typ),
+            "a type that is unknown",
+            typ as usize,
+        );
     }
 }
 
@@ -493,17 +505,11 @@ fn is_bounded(alloc: Global, typ: ParamType, count: usize, length: Option<u16>) 
     }
 }
 
-#[test]
-fn longest_values(rt: HostRuntime) {
+fn longest_values(alloc: Global, log: &mut Vec<u8>) {
     for (typ, count, length) in LONGEST {
-        assert!(rt;
-            is_bounded(rt.alloc(), typ, count, Some(length)),
-            "of {count}"
-        );
-        assert!(rt;
-            is_bounded(rt.alloc(), typ, count + 1, None),
-            "behind {count}"
-        );
+        let holds = is_bounded(alloc, typ, count, Some(length))
+            && is_bounded(alloc, typ, count.saturating_add(1), None);
+        check_number(log, holds, "the longest value", count);
     }
 }
 
@@ -532,36 +538,44 @@ fn one_header_fits(alloc: Global) -> bool {
     }
 }
 
-#[test]
-fn headers(rt: HostRuntime) {
-    let alloc = rt.alloc();
-    assert!(rt; header(alloc, &[0xc0, 6, 0, 6, 1, 2, 3]) == Ok(ADAPTATION));
-    assert!(rt; ADAPTATION.value_length() == 2);
-    assert!(rt; ParamHeader::of(ParamType::AdaptLayerInd, 2) == Ok(ADAPTATION));
-    assert!(rt; is_encoding(ADAPTATION.marshal(alloc), &[0xc0, 6, 0, 6]));
-    assert!(rt; prints(alloc, &ADAPTATION, "Adaptation Layer Indication"));
-    assert!(rt; one_header_fits(alloc));
+fn headers(alloc: Global) -> bool {
+    header(alloc, &[0xc0, 6, 0, 6, 1, 2, 3]) == Ok(ADAPTATION)
+        && ADAPTATION.value_length() == 2
+        && ParamHeader::of(ParamType::AdaptLayerInd, 2) == Ok(ADAPTATION)
+        && is_encoding(ADAPTATION.marshal(alloc), &[0xc0, 6, 0, 6])
+        && prints(alloc, &ADAPTATION, "Adaptation Layer Indication")
+        && one_header_fits(alloc)
 }
 
-#[test]
-fn numbers(rt: HostRuntime) {
+// Whether each number is the number of what is read from it, or of the last one that is known.
+fn numbers() -> bool {
+    let mut well = true;
     for number in 0..=u16::MAX {
-        assert!(rt; u16::from(ParamType::from(number)) == number, "at {number}");
+        well = well && u16::from(ParamType::from(number)) == number;
     }
     for number in 0..9 {
-        let result = ReconfigResult::from(number);
-        assert!(rt; u32::from(result) == number.min(7), "at {number}");
+        well = well && u32::from(ReconfigResult::from(number)) == number.min(7);
     }
     for number in 0..6 {
-        let algorithm = HmacAlgorithm::from(number);
-        assert!(rt; u16::from(algorithm) == number.min(4), "at {number}");
+        well = well && u16::from(HmacAlgorithm::from(number)) == number.min(4);
     }
-    assert!(rt;
-        prints(
-            rt.alloc(),
-            &ReconfigResult::from(9),
-            "Unknown ReconfigResult"
-        )
-    );
-    assert!(rt; prints(rt.alloc(), &HmacAlgorithm::from(0), "HMAC Reserved (0x00)"));
+    well
+}
+
+fn unknown_numbers(alloc: Global) -> bool {
+    prints(alloc, &ReconfigResult::from(9), "Unknown ReconfigResult")
+        && prints(alloc, &HmacAlgorithm::from(0), "HMAC Reserved (0x00)")
+}
+
+/// What does not hold of parameters.
+pub fn all(alloc: Global, log: &mut Vec<u8>) {
+    check(log, each_kind(alloc), "each kind of parameter");
+    kinds(alloc, log);
+    check(log, cookies(alloc), "cookies");
+    refusals(alloc, log);
+    types(alloc, log);
+    longest_values(alloc, log);
+    check(log, headers(alloc), "headers of parameters");
+    check(log, numbers(), "numbers of parameters");
+    check(log, unknown_numbers(alloc), "unknown numbers print");
 }

@@ -1,3 +1,4 @@
+use crate::log::check;
 use bytes::Bytes;
 use sctp_util::util::bytes_source::{ByteSlice, BytesArray, BytesSource, constant_time_eq};
 use std::alloc::Global;
@@ -17,36 +18,46 @@ fn pops<S: BytesSource>(
 }
 
 // A slice is copied in pieces; byte strings are compared.
-#[test]
-fn slices(rt: HostRuntime) {
+fn slices(alloc: Global) -> bool {
     let mut source = ByteSlice::from_slice(&[1, 2, 3]);
-    assert_eq!(rt; source.remaining(), 3);
-    assert!(rt; pops(&mut source, rt.alloc(), 2, &[1, 2], 0));
-    assert!(rt; source.has_remaining());
-    assert!(rt; pops(&mut source, rt.alloc(), 2, &[3], 1));
-    assert!(rt; !source.has_remaining());
-    assert!(rt; constant_time_eq(&[1, 2], &[1, 2]));
-    assert!(rt; !constant_time_eq(&[1, 2], &[1, 3]));
-    assert!(rt; !constant_time_eq(&[1, 2], &[1]));
+    source.remaining() == 3
+        && pops(&mut source, alloc, 2, &[1, 2], 0)
+        && source.has_remaining()
+        && pops(&mut source, alloc, 2, &[3], 1)
+        && !source.has_remaining()
+        && constant_time_eq(&[1, 2], &[1, 2])
+        && !constant_time_eq(&[1, 2], &[1, 3])
+        && !constant_time_eq(&[1, 2], &[1])
 }
 
-// Buffers leave one by one, and an empty one is used up.
-#[test]
-fn buffers(rt: HostRuntime) {
+// Three buffers leave one by one, and an empty one is used up.
+fn three_leave(alloc: Global, source: &mut BytesArray) -> bool {
+    source.remaining() == 3
+        && pops(source, alloc, 1, &[1], 1)
+        && pops(source, alloc, 5, &[2], 1)
+        && pops(source, alloc, 5, &[3], 1)
+        && pops(source, alloc, 5, &[], 0)
+        && !source.has_remaining()
+}
+
+fn buffers(alloc: Global) -> bool {
     let mut chunks = [
         Bytes::new(),
         Bytes::from_static(&[1, 2]),
         Bytes::from_static(&[3]),
     ];
-    let mut source = BytesArray::from_chunks(&mut chunks);
-    assert_eq!(rt; source.remaining(), 3);
-    assert!(rt; pops(&mut source, rt.alloc(), 1, &[1], 1));
-    assert!(rt; pops(&mut source, rt.alloc(), 5, &[2], 1));
-    assert!(rt; pops(&mut source, rt.alloc(), 5, &[3], 1));
-    assert!(rt; pops(&mut source, rt.alloc(), 5, &[], 0));
-    assert!(rt; !source.has_remaining());
+    three_leave(alloc, &mut BytesArray::from_chunks(&mut chunks))
+}
+
+// None of the bytes is taken, and the empty buffer is used up.
+fn empty_leaves(alloc: Global) -> bool {
     let mut chunks = [Bytes::new(), Bytes::from_static(&[1])];
     let mut source = BytesArray::from_chunks(&mut chunks);
-    assert!(rt; pops(&mut source, rt.alloc(), 0, &[], 1));
-    assert_eq!(rt; source.remaining(), 1);
+    pops(&mut source, alloc, 0, &[], 1) && source.remaining() == 1
+}
+
+pub(crate) fn all(alloc: Global, log: &mut Vec<u8>) {
+    check(log, slices(alloc), "slices");
+    check(log, buffers(alloc), "buffers");
+    check(log, empty_leaves(alloc), "an empty buffer");
 }

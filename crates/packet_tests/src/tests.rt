@@ -1,3 +1,4 @@
+use crate::log::check;
 use bytes::{Bytes, BytesMut};
 use sctp_chunks::chunk::Chunk;
 use sctp_chunks::chunk::chunk_header::ChunkHeader;
@@ -122,20 +123,21 @@ const WHOLE: [u8; 20] = [
     0, 3, 0, 0x13, 0, 0, 0, 0x0a, 0, 1, 0, 0, 0, 0, 0, 0x35, 0x61, 0x62, 0x63, 0,
 ];
 
-#[test]
-fn serial_numbers(rt: HostRuntime) {
-    assert!(rt; !sna32lt(0, 2147483648));
-    assert!(rt; sna32gt(0, 2147483648));
-    assert!(rt; sna32gt(2147483648, 0));
-    assert!(rt; sna32lt(4294967295, 0));
-    assert!(rt; sna32lte(5, 5));
-    assert!(rt; sna32gte(6, 5));
-    assert!(rt; sna32eq(2147483648, 2147483648) && !sna32eq(0, 2147483648));
-    assert!(rt; sna16lt(65535, 0));
-    assert!(rt; sna16gt(0, 32768));
-    assert!(rt; sna16eq(32768, 32768) && !sna16eq(0, 32768));
-    assert_eq!(rt; get_padding_size(5), 3);
-    assert_eq!(rt; get_padding_size(8), 0);
+fn serial_numbers() -> bool {
+    !sna32lt(0, 2147483648)
+        && sna32gt(0, 2147483648)
+        && sna32gt(2147483648, 0)
+        && sna32lt(4294967295, 0)
+        && sna32lte(5, 5)
+        && sna32gte(6, 5)
+        && sna32eq(2147483648, 2147483648)
+        && !sna32eq(0, 2147483648)
+        && sna16lt(65535, 0)
+        && sna16gt(0, 32768)
+        && sna16eq(32768, 32768)
+        && !sna16eq(0, 32768)
+        && get_padding_size(5) == 3
+        && get_padding_size(8) == 0
 }
 
 const BARE: [u8; 12] = [0x13, 0x88, 0x13, 0x88, 0, 0, 0, 0, 0x06, 0xa9, 0, 0xe1];
@@ -164,18 +166,17 @@ fn is_bare(alloc: Global, raw: &Bytes) -> bool {
     }
 }
 
-#[test]
-fn bare_header(rt: HostRuntime) {
-    let alloc = rt.alloc();
+// The sum of a header includes four zero bytes.
+fn bare_header(alloc: Global) -> bool {
     let small = Some(Error::ErrPacketRawTooSmall);
     let bare = (
         Some(Error::ErrChecksumMismatch),
         Some(Error::ErrParseSctpChunkNotEnoughData),
     );
-    assert!(rt; refusals(alloc, b"") == Ok((small, small)));
-    assert!(rt; refusals(alloc, &BARE) == Ok(bare));
-    let raw = Bytes::copy_from_slice(alloc, &BARE);
-    assert!(rt; raw.is_ok_and(|raw| is_bare(alloc, &raw)));
+    refusals(alloc, b"") == Ok((small, small))
+        && refusals(alloc, &BARE) == Ok(bare)
+        && is_bare(alloc, &Bytes::from_static(&BARE))
+        && Crc32c.checksum(b"\x13\x88\x13\x88\0\0\0\0", b"") == 0xe100_a906
 }
 
 // The packet's chunk, where it is one of user data.
@@ -220,53 +221,64 @@ fn ends(alloc: Global, chunk: &[u8]) -> Result<Option<(u32, bool, bool)>, Error>
     Ok(only_data(&packet).map(|c| (c.tsn, c.beginning_fragment, c.ending_fragment)))
 }
 
-#[test]
-fn messages_and_fragments(rt: HostRuntime) {
-    let alloc = rt.alloc();
-    assert!(rt; whole_is_read(alloc));
+fn messages_and_fragments(alloc: Global) -> bool {
+    let mut well = whole_is_read(alloc);
     for (flags, first, last) in [(2, true, false), (0, false, false), (1, false, true)] {
         let chunk = fragment(flags);
-        assert!(rt; ends(alloc, &chunk) == Ok(Some((4294967294, first, last))));
+        well = well && ends(alloc, &chunk) == Ok(Some((4294967294, first, last)));
     }
+    well
 }
 
 fn long(alloc: Global, length: usize) -> Result<Packet, Error> {
     packet_of(alloc, ChunkKind::PayloadData(data(alloc, length)?))
 }
 
-// The longest chunk behind "abc", and a COOKIE-ACK behind it; nothing where it is not written so.
-fn longest_and_another(alloc: Global) -> Result<Option<Bytes>, Error> {
-    let (answer, mut buf) = written_behind(alloc, &long(alloc, 65_519)?)?;
+// Whether the longest chunk was written behind "abc".
+fn is_longest(answer: &Result<usize, Error>, buf: &BytesMut) -> bool {
     let front = b"abc\x13\x88\x13\x88\0\0\0\x01\0\0\0\0\0\x03\xff\xff";
-    let well = answer == Ok(3 + 12 + 65_536)
+    *answer == Ok(3 + 12 + 65_536)
         && buf.len() == 3 + 12 + 65_536
-        && buf.as_slice().starts_with(front);
-    if !well {
-        return Ok(None);
-    }
-    buf.extend_from_slice(b"\x0b\0\0\x04")?;
-    buf.advance(3);
-    Ok(Some(buf.freeze()?))
+        && buf.as_slice().starts_with(front)
 }
 
-fn both_are_read(alloc: Global, bytes: &Bytes) -> bool {
-    match Packet::unmarshal(alloc, bytes, &ZERO) {
+// These bytes, and a COOKIE-ACK behind them.
+fn with_another(alloc: Global, written: &[u8]) -> Result<Bytes, Error> {
+    let mut buf = BytesMut::copy_from_slice(alloc, written)?;
+    buf.extend_from_slice(b"\x0b\0\0\x04")?;
+    Ok(buf.freeze()?)
+}
+
+fn both_are_read(alloc: Global, written: &[u8]) -> bool {
+    match with_another(alloc, written) {
+        Ok(bytes) => has_both(Packet::unmarshal(alloc, &bytes, &ZERO)),
+        Err(_) => false,
+    }
+}
+
+fn has_both(packet: Result<Packet, Error>) -> bool {
+    match packet {
         Ok(packet) => lengths(&packet) == Some((65_519, true)),
         Err(_) => false,
     }
 }
 
-fn longest_is_kept(alloc: Global) -> bool {
-    match longest_and_another(alloc) {
-        Ok(Some(bytes)) => both_are_read(alloc, &bytes),
-        _ => false,
+fn longest_is_kept(alloc: Global, packet: &Packet) -> bool {
+    match written_behind(alloc, packet) {
+        Ok((answer, buf)) => {
+            is_longest(&answer, &buf)
+                && both_are_read(alloc, buf.as_slice().get(3..).unwrap_or(&[]))
+        }
+        Err(_) => false,
     }
 }
 
 // It is read also where another chunk follows it.
-#[test]
-fn longest_chunk(rt: HostRuntime) {
-    assert!(rt; longest_is_kept(rt.alloc()));
+fn longest_chunk(alloc: Global) -> bool {
+    match long(alloc, 65_519) {
+        Ok(packet) => longest_is_kept(alloc, &packet),
+        Err(_) => false,
+    }
 }
 
 // The length of the first chunk's user data, and whether a COOKIE-ACK follows.
@@ -297,12 +309,6 @@ fn is_asked_twice(alloc: Global, calls: &Cell<u32>) -> bool {
     }
 }
 
-#[test]
-fn checksum_is_asked(rt: HostRuntime) {
-    let calls = Cell::new(0);
-    assert!(rt; is_asked_twice(rt.alloc(), &calls));
-}
-
 const WHOLE_HEADER: ChunkHeader = ChunkHeader {
     typ: CT_PAYLOAD_DATA,
     flags: 3,
@@ -327,14 +333,20 @@ fn is_read_alone(alloc: Global, raw: &Bytes) -> bool {
     }
 }
 
-fn whole_alone(alloc: Global) -> bool {
+fn chunk_alone(alloc: Global) -> bool {
     match Bytes::copy_from_slice(alloc, &WHOLE) {
         Ok(raw) => ChunkHeader::unmarshal(&raw) == Ok(WHOLE_HEADER) && is_read_alone(alloc, &raw),
         Err(_) => false,
     }
 }
 
-#[test]
-fn chunk_alone(rt: HostRuntime) {
-    assert!(rt; whole_alone(rt.alloc()));
+/// What does not hold of serial numbers, headers and DATA chunks.
+pub fn all(alloc: Global, log: &mut Vec<u8>) {
+    let calls = Cell::new(0);
+    check(log, serial_numbers(), "serial numbers");
+    check(log, bare_header(alloc), "a bare header");
+    check(log, messages_and_fragments(alloc), "messages and fragments");
+    check(log, longest_chunk(alloc), "the longest chunk");
+    check(log, is_asked_twice(alloc, &calls), "the checksum is asked");
+    check(log, chunk_alone(alloc), "a chunk alone");
 }

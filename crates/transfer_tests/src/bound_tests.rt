@@ -45,15 +45,9 @@ fn goes_on(alloc: Global, sender: &mut Sender) -> bool {
 }
 
 /// 2^14 ordered messages of a stream are in flight at most; the next one waits until the first is acknowledged.
-#[test]
-fn bounded(rt: HostRuntime) {
-    let alloc = rt.alloc();
+pub(crate) fn bounded(alloc: Global) -> bool {
     let mut sender = Sender::new(alloc, 1, 3, 100, Reported::Drop);
-    let well = match Bytes::copy_from_slice(alloc, b"a") {
-        Ok(byte) => is_bounded(&mut sender, &byte) && goes_on(alloc, &mut sender),
-        Err(_) => false,
-    };
-    assert!(rt; well);
+    is_bounded(&mut sender, &Bytes::from_static(b"a")) && goes_on(alloc, &mut sender)
 }
 
 // Whether a sender answers this to a write.
@@ -98,10 +92,7 @@ fn the_others_write(alloc: Global, sender: &mut Sender) -> bool {
 }
 
 /// The one in the middle of three streams is closed, and one that is not open: the others keep what they have.
-#[test]
-fn sender_closes_the_middle(rt: HostRuntime) {
-    let alloc = rt.alloc();
+pub(crate) fn sender_closes_the_middle(alloc: Global) -> bool {
     let mut sender = Sender::new(alloc, 1, 3, 4, Reported::Drop);
-    let well = three_are_written(alloc, &mut sender);
-    assert!(rt; well && the_others_write(alloc, &mut sender));
+    three_are_written(alloc, &mut sender) && the_others_write(alloc, &mut sender)
 }

@@ -1,5 +1,6 @@
 //! SACKs whose blocks report some of what is in flight, to a sender that keeps what was reported (RFC 4960 6.2.1 D iv).
 
+use crate::log::check;
 use bytes::Bytes;
 use sctp_chunks::chunk::chunk_payload_data::PayloadProtocolIdentifier;
 use sctp_chunks::chunk::chunk_selective_ack::{ChunkSelectiveAck, GapAckBlock};
@@ -114,9 +115,8 @@ fn all_go(alloc: Global, sacks: &[Sack]) -> bool {
 }
 
 /// What a SACK takes back, by its blocks.
-#[test]
-fn cut_sacks(rt: HostRuntime) {
+pub(crate) fn cut_sacks(alloc: Global, log: &mut Vec<u8>) {
     for (name, sacks) in CASES {
-        assert!(rt; all_go(rt.alloc(), sacks), "{name}");
+        check(log, all_go(alloc, sacks), name);
     }
 }

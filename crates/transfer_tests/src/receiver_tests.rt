@@ -1,5 +1,6 @@
 //! A receiver, by the examples of the RFCs and by what a peer may forge.
 
+use crate::log::check;
 use crate::receivers::Step::{
     Advised, Close, Cumulative, Data, Discard, Forward, HasStats, Held, IsReadable, MakeSack,
     NothingBeyond, Open, OpenAgain, Read, ReadOf, Readable, Reset, Sack, SackSent, SackWithin,
@@ -12,6 +13,7 @@ use sctp_receiver::receiver::Receiver;
 use sctp_receiver::receiver::arrival::{Arrival, Forwarded};
 use sctp_receiver::receiver::limits::Limits;
 use sctp_receiver::receiver::refusal::ReceiverRefusal;
+use std::alloc::Global;
 
 type Flags = (bool, bool, bool);
 
@@ -565,12 +567,11 @@ const CASES: [(&str, u32, u32, Option<Limits>, &[Step]); 26] = [
 ];
 
 /// Each case goes by the calls that count their turns as by those that do not.
-#[test]
-fn receiver_cases(rt: HostRuntime) {
+pub(crate) fn receiver_cases(alloc: Global, log: &mut Vec<u8>) {
     for (name, first_tsn, most, limits, steps) in CASES {
-        for counted in [false, true] {
-            let mut receiver = Receiver::new(rt.alloc(), first_tsn, most, limits);
-            assert!(rt; all_go(rt.alloc(), &mut receiver, steps, counted), "{name}");
-        }
+        let mut receiver = Receiver::new(alloc, first_tsn, most, limits);
+        check(log, all_go(alloc, &mut receiver, steps, false), name);
+        receiver = Receiver::new(alloc, first_tsn, most, limits);
+        check(log, all_go(alloc, &mut receiver, steps, true), name);
     }
 }

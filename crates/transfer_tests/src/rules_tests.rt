@@ -26,9 +26,7 @@ fn empty_comes(alloc: Global, receiver: &mut Receiver) -> bool {
 
 /// A DATA chunk without user data is read from its bytes and taken as a message of no bytes: it is acknowledged and read
 /// (RFC 4960 6.2).
-#[test]
-fn no_user_data(rt: HostRuntime) {
-    let alloc = rt.alloc();
+pub(crate) fn no_user_data(alloc: Global) -> bool {
     let mut receiver = Receiver::new(alloc, 1, 100, None);
-    assert!(rt; receiver.open(1).is_ok() && empty_comes(alloc, &mut receiver));
+    receiver.open(1).is_ok() && empty_comes(alloc, &mut receiver)
 }

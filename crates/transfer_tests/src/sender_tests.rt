@@ -9,6 +9,7 @@ use crate::hosts::Step::{
     Swap, TakeBack, Threshold, Unused, UpTo, Within, Worn, Write,
 };
 use crate::hosts::{Step, all_go};
+use crate::log::check;
 use sctp_chunks::chunk::chunk_payload_data::ReliabilityType;
 use sctp_sender::sender::flight::Released;
 use sctp_sender::sender::flight::kept::TakenBack;
@@ -784,15 +785,11 @@ fn goes_well(alloc: Global, tsns: (u32, u32), parts: [&[Step]; 2], counted: bool
 }
 
 /// Each case goes by the calls that count their turns as by those that do not.
-#[test]
-fn sender_cases(rt: HostRuntime) {
+pub(crate) fn sender_cases(alloc: Global, log: &mut Vec<u8>) {
     for (name, first_tsn, second_tsn, first, steps) in CASES {
-        for counted in [false, true] {
-            let tsns = (first_tsn, second_tsn);
-            assert!(rt;
-                goes_well(rt.alloc(), tsns, [first, steps], counted),
-                "{name}"
-            );
-        }
+        let tsns = (first_tsn, second_tsn);
+        let holds = goes_well(alloc, tsns, [first, steps], false)
+            && goes_well(alloc, tsns, [first, steps], true);
+        check(log, holds, name);
     }
 }

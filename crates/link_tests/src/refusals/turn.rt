@@ -31,26 +31,45 @@ pub enum Refused {
     Beside,
 }
 
-/// The line that is played, and where memory was refused so far.
+/// What was not as it ought to be.
+pub type Fault = &'static str;
+
+/// The line that is played, where memory was refused so far, and what was not as it ought to be.
 #[derive(Drop)]
 pub struct State {
     pub line: u64,
     pub refused: Refused,
+    pub fault: Option<Fault>,
 }
 
-/// What was not as it ought to be.
-pub type Fault = &'static str;
+impl State {
+    /// Before the scripts, whose first line is behind the number and an empty line.
+    pub fn new() -> State {
+        State {
+            line: 1,
+            refused: Refused::Nowhere,
+            fault: None,
+        }
+    }
+}
+
+/// What came of an event that a link was given.
+#[derive(Clone, Copy)]
+enum Came {
+    AsDue,
+    /// The link was refused memory.
+    Refused,
+    Wrong(Fault),
+}
 
 /// Reads an event, again where memory was refused.
-fn made(alloc: Global, line: &str, state: &mut State) -> Result<Event, Fault> {
-    let mut read = read_event(alloc, line);
-    if matches!(read, Err(LineFault::Memory)) {
-        state.refused = Refused::Beside;
-        read = read_event(alloc, line);
-    }
-    match read {
-        Ok(event) => Ok(event),
-        Err(_) => Err("an event was not read"),
+fn read(alloc: Global, line: &str, state: &mut State) -> Result<Event, LineFault> {
+    match read_event(alloc, line) {
+        Err(LineFault::Memory) => {
+            state.refused = Refused::Beside;
+            read_event(alloc, line)
+        }
+        other => other,
     }
 }
 
@@ -60,44 +79,6 @@ fn may_be_refused(line: &str) -> bool {
         && !line.starts_with("start ")
         && !line.starts_with("expire ")
         && !line.starts_with("read ")
-}
-
-/// Gives the first link an event that its twin did not have yet. Where memory is refused, both must be as before, and it
-/// is given the event again.
-fn give(
-    alloc: Global,
-    link: &mut Link<Zero>,
-    twin: &Link<Zero>,
-    line: &str,
-    state: &mut State,
-) -> Result<Result<Reply, LinkRefusal>, Fault> {
-    let reply = link.step(made(alloc, line, state)?);
-    if !matches!(reply, Err(LinkRefusal::OutOfMemory)) {
-        return Ok(reply);
-    }
-    state.refused = Refused::Line(state.line);
-    if !may_be_refused(line) {
-        return Err("an event that takes no memory was refused");
-    }
-    match difference(link, twin) {
-        Some(what) => Err(what),
-        None => Ok(link.step(made(alloc, line, state)?)),
-    }
-}
-
-/// Gives the twin an event, again where memory was refused.
-fn give_twin(
-    alloc: Global,
-    twin: &mut Link<Zero>,
-    line: &str,
-    state: &mut State,
-) -> Result<Result<Reply, LinkRefusal>, Fault> {
-    let reply = twin.step(made(alloc, line, state)?);
-    if !matches!(reply, Err(LinkRefusal::OutOfMemory)) {
-        return Ok(reply);
-    }
-    state.refused = Refused::Beside;
-    Ok(twin.step(made(alloc, line, state)?))
 }
 
 /// The text that is to be printed, of which this is left, as far as what was printed is like it.
@@ -157,25 +138,71 @@ fn is_due(
     is_printed(alloc, reply, counts, want) == Some(true)
 }
 
+/// What a reply comes to, where this is due.
+fn judged(
+    alloc: Global,
+    reply: &Result<Reply, LinkRefusal>,
+    counts: bool,
+    want: &str,
+    state: &mut State,
+) -> Came {
+    if matches!(reply, Err(LinkRefusal::OutOfMemory)) {
+        Came::Refused
+    } else if is_due(alloc, reply, counts, want, state) {
+        Came::AsDue
+    } else {
+        Came::Wrong("the reply")
+    }
+}
+
+/// Gives a link an event, whose reply stands behind it.
+fn given(alloc: Global, play: &mut Play<Zero>, line: &str, state: &mut State) -> Came {
+    let (asked, want) = line.split_once(": ").unwrap_or((line, ""));
+    match read(alloc, asked, state) {
+        Ok(event) => judged(alloc, &play.link.step(event), play.counts, want, state),
+        Err(_) => Came::Wrong("an event was not read"),
+    }
+}
+
+/// Gives a link again the event at which it was refused memory, and which its twin did not have yet. Both must be as before.
+fn given_again(
+    alloc: Global,
+    play: &mut Play<Zero>,
+    twin: &Link<Zero>,
+    line: &str,
+    state: &mut State,
+) -> Came {
+    state.refused = Refused::Line(state.line);
+    if !may_be_refused(line) {
+        return Came::Wrong("an event that takes no memory was refused");
+    }
+    match difference(&play.link, twin) {
+        Some(what) => Came::Wrong(what),
+        None => given(alloc, play, line, state),
+    }
+}
+
 /// Gives an event to the first link and then to its twin. Each must answer what stands behind the event, and then both links must
-/// be alike.
+/// be alike. The answer is what is not so.
 pub fn play_line(
     alloc: Global,
     play: &mut Play<Zero>,
-    twin: &mut Link<Zero>,
+    twin: &mut Play<Zero>,
     line: &str,
     state: &mut State,
-) -> Result<(), Fault> {
-    let (event, want) = line.split_once(": ").unwrap_or((line, ""));
-    let reply = give(alloc, &mut play.link, twin, event, state)?;
-    let other = give_twin(alloc, twin, event, state)?;
-    if !is_due(alloc, &reply, play.counts, want, state)
-        || !is_due(alloc, &other, play.counts, want, state)
-    {
-        return Err("the reply");
+) -> Option<Fault> {
+    let mut came = given(alloc, play, line, state);
+    if matches!(came, Came::Refused) {
+        came = given_again(alloc, play, &twin.link, line, state);
     }
-    match difference(&play.link, twin) {
-        Some(what) => Err(what),
-        None => Ok(()),
+    let mut other = given(alloc, twin, line, state);
+    if matches!(other, Came::Refused) {
+        state.refused = Refused::Beside;
+        other = given(alloc, twin, line, state);
+    }
+    match (came, other) {
+        (Came::AsDue, Came::AsDue) => difference(&play.link, &twin.link),
+        (Came::Wrong(what), _) | (_, Came::Wrong(what)) => Some(what),
+        _ => Some("the reply"),
     }
 }

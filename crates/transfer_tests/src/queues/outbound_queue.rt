@@ -1,5 +1,6 @@
 //! Worked examples of an outbound queue. Moments are nanoseconds; the lifetimes here are one millisecond.
 
+use crate::log::check;
 use crate::queues::chunk::chunk;
 use bytes::Bytes;
 use sctp_data::chunk::chunk_payload_data::{ChunkPayloadData, ReliabilityType};
@@ -491,11 +492,10 @@ fn all_go(alloc: Global, queue: &mut OutboundQueue, first_tsn: u32, steps: &[Ste
     well
 }
 
-#[test]
-fn outbound_cases(rt: HostRuntime) {
+pub(crate) fn outbound_cases(alloc: Global, log: &mut Vec<u8>) {
     for (name, first_tsn, steps) in CASES {
-        let mut queue = OutboundQueue::new(rt.alloc());
-        assert!(rt; all_go(rt.alloc(), &mut queue, first_tsn, steps), "{name}");
+        let mut queue = OutboundQueue::new(alloc);
+        check(log, all_go(alloc, &mut queue, first_tsn, steps), name);
     }
 }
 
@@ -555,9 +555,7 @@ fn takes_one_message(alloc: Global, queue: &OutboundQueue) -> bool {
     well
 }
 
-#[test]
-fn takes_one_message_of_one_kind_or_nothing(rt: HostRuntime) {
-    let mut queue = OutboundQueue::new(rt.alloc());
-    assert!(rt; takes_one_message(rt.alloc(), &queue));
-    assert!(rt; nothing_is_pushed(&mut queue, Vec::new(rt.alloc())));
+pub(crate) fn takes_one_message_of_one_kind_or_nothing(alloc: Global) -> bool {
+    let mut queue = OutboundQueue::new(alloc);
+    takes_one_message(alloc, &queue) && nothing_is_pushed(&mut queue, Vec::new(alloc))
 }

@@ -1,5 +1,6 @@
 //! Worked examples of a payload queue.
 
+use crate::log::check;
 use crate::queues::chunk::chunk;
 use sctp_data::chunk::chunk_selective_ack::GapAckBlock;
 use sctp_queues::payload_queue::PayloadQueue;
@@ -383,13 +384,12 @@ fn all_go(alloc: Global, queue: &mut PayloadQueue, steps: &[Step], counted: bool
 }
 
 /// Each case goes by the calls that count their turns as by those that do not.
-#[test]
-fn payload_cases(rt: HostRuntime) {
+pub(crate) fn payload_cases(alloc: Global, log: &mut Vec<u8>) {
     for (name, steps) in CASES {
-        for counted in [false, true] {
-            let mut queue = PayloadQueue::new(rt.alloc());
-            assert!(rt; all_go(rt.alloc(), &mut queue, steps, counted), "{name}");
-        }
+        let mut queue = PayloadQueue::new(alloc);
+        check(log, all_go(alloc, &mut queue, steps, false), name);
+        queue = PayloadQueue::new(alloc);
+        check(log, all_go(alloc, &mut queue, steps, true), name);
     }
 }
 
@@ -412,8 +412,7 @@ fn copy_stays(alloc: Global, queue: &mut PayloadQueue) -> bool {
     }
 }
 
-#[test]
-fn chunks_are_taken_out_and_a_copy_stays(rt: HostRuntime) {
-    let mut queue = PayloadQueue::new(rt.alloc());
-    assert!(rt; fills(&mut queue, 10, &[13, 11, 12], false) && copy_stays(rt.alloc(), &mut queue));
+pub(crate) fn chunks_are_taken_out_and_a_copy_stays(alloc: Global) -> bool {
+    let mut queue = PayloadQueue::new(alloc);
+    fills(&mut queue, 10, &[13, 11, 12], false) && copy_stays(alloc, &mut queue)
 }

@@ -6,6 +6,7 @@ use crate::queues::chunk::chunk;
 use sctp_data::chunk::chunk_payload_data::ChunkPayloadData;
 use sctp_queues::pending_queue::PendingQueue;
 use sctp_util::error::Error;
+use std::alloc::Global;
 
 // A chunk of one byte that begins a message.
 fn beginning(message_id: u64, unordered: bool, ending_fragment: bool) -> ChunkPayloadData
@@ -61,10 +62,9 @@ fn ordered_is_popped(queue: &mut PendingQueue) -> bool {
         && !queue.is_empty()
 }
 
-#[test]
-fn unordered_goes_first(rt: HostRuntime) {
-    let mut queue = PendingQueue::new(rt.alloc());
-    assert!(rt; unordered_is_first(&mut queue) && ordered_is_popped(&mut queue));
+pub(crate) fn unordered_goes_first(alloc: Global) -> bool {
+    let mut queue = PendingQueue::new(alloc);
+    unordered_is_first(&mut queue) && ordered_is_popped(&mut queue)
 }
 
 // Whether so many bytes of this message are removed, and the last chunk of them is of this one.
@@ -95,11 +95,10 @@ fn next_is_unchanged(queue: &PendingQueue) -> bool {
     }
 }
 
-#[test]
-fn a_message_with_no_end_stays_partially_sent(rt: HostRuntime) {
-    let mut queue = PendingQueue::new(rt.alloc());
+pub(crate) fn a_message_with_no_end_stays_partially_sent(alloc: Global) -> bool {
+    let mut queue = PendingQueue::new(alloc);
     let well = half_is_sent(&mut queue);
     queue.start_timed_messages(0, 5);
     queue.compact_ordered_ssns(1);
-    assert!(rt; well && next_is_unchanged(&queue));
+    well && next_is_unchanged(&queue)
 }

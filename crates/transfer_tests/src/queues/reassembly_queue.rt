@@ -1,5 +1,6 @@
 //! Worked examples of a reassembly queue. Where sets stand is worked out from the order of serial numbers by hand.
 
+use crate::log::check;
 use crate::queues::part::{FIRST, LAST, MIDDLE, WHOLE, ordered, unordered};
 use sctp_data::chunk::chunk_payload_data::ChunkPayloadData;
 use sctp_queues::chunks::Chunks;
@@ -529,13 +530,12 @@ fn all_go(alloc: Global, queue: &mut ReassemblyQueue, steps: &[Step], counted: b
 }
 
 /// Each case goes by the calls that count their turns as by those that do not.
-#[test]
-fn reassembly_cases(rt: HostRuntime) {
+pub(crate) fn reassembly_cases(alloc: Global, log: &mut Vec<u8>) {
     for (name, most, steps) in CASES {
-        for counted in [false, true] {
-            let mut queue = ReassemblyQueue::new(rt.alloc(), 1, most);
-            assert!(rt; all_go(rt.alloc(), &mut queue, steps, counted), "{name}");
-        }
+        let mut queue = ReassemblyQueue::new(alloc, 1, most);
+        check(log, all_go(alloc, &mut queue, steps, false), name);
+        queue = ReassemblyQueue::new(alloc, 1, most);
+        check(log, all_go(alloc, &mut queue, steps, true), name);
     }
 }
 
@@ -565,10 +565,9 @@ fn leaves_nothing(alloc: Global, queue: &mut ReassemblyQueue) -> bool {
     }
 }
 
-#[test]
-fn a_push_is_undone_and_a_copy_stays(rt: HostRuntime) {
-    let mut queue = ReassemblyQueue::new(rt.alloc(), 1, 100);
-    assert!(rt; leaves_nothing(rt.alloc(), &mut queue));
-    assert!(rt; all_go(rt.alloc(), &mut queue, HALF_CIRCLE, false));
-    assert!(rt; copy_stays(rt.alloc(), &mut queue));
+pub(crate) fn a_push_is_undone_and_a_copy_stays(alloc: Global) -> bool {
+    let mut queue = ReassemblyQueue::new(alloc, 1, 100);
+    leaves_nothing(alloc, &mut queue)
+        && all_go(alloc, &mut queue, HALF_CIRCLE, false)
+        && copy_stays(alloc, &mut queue)
 }
