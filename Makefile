@@ -1,12 +1,13 @@
 # Builds the library for C and installs it. The crates themselves are proved and built by rt (README.md).
 #
-#     make                       out/libsctp-rattle.a: the archive of the crate sctp_c, and memory calls over malloc
+#     make                       out/libsctp-rattle.a: the calls of the crate sctp_c, and memory calls over malloc
 #     make shared                out/libsctp-rattle.so.0: the same as a shared library, which exports the calls of the header alone
 #     make install PREFIX=DIR    the archive, the headers for C and C++, and sctp-rattle.pc, below DIR (/usr/local), or below DESTDIR/DIR
 #     make uninstall PREFIX=DIR
 #
 # LIBDIR=DIR is where the library goes (PREFIX/lib). SHARED=yes installs the shared library too; its memory calls are those over malloc.
-# ARCHIVE=FILE takes another archive of the crate, and asks for no rt. What rt ci has proved and built in this checkout is taken as it is.
+# ARCHIVE=FILE takes another archive of the crate, and asks for no rt. What rt ci has proved and built in this checkout, sctp_c too, is taken as
+# it is; packaging/archive.py makes the archive of it.
 # There is no build without a proof (docs/DECISIONS.md), so PROVE=no is refused.
 PREFIX = /usr/local
 LIBDIR = $(PREFIX)/lib
@@ -25,16 +26,16 @@ ifeq ($(PROVE),no)
 $(error there is no build without a proof (docs/DECISIONS.md): ARCHIVE=FILE takes an archive that was built elsewhere)
 endif
 LIBRARIES = $(DESTDIR)$(LIBDIR)
-SOURCES := $(shell find crates -name '*.rt' -path '*/src/*')
+SOURCES := $(shell find crates -name '*.rt' -path '*/src/*') packaging/archive.py
 
 all: $(OUT)/libsctp-rattle.a $(OUT)/sctp-rattle.pc
 shared: $(OUT)/$(SONAME)
 
 crates/sctp_c/out/libsctp_c.a: $(SOURCES)
 	@if ! command -v rt >/dev/null; then echo 'make: no rt on the PATH; ARCHIVE=FILE takes an archive that was built elsewhere'; exit 1; fi
-	@if command -v python3 >/dev/null; then python3 c_tests/built_libraries.py; fi
-	@echo 'make: rt proves the libraries that rt ci has not built here, half an hour or more where none is, and sctp_c: 9 processor minutes'
-	cd crates/sctp_c && rt lib
+	python3 c_tests/built_libraries.py
+	@echo 'make: rt proves the libraries that rt ci has not built here, an hour or more where none is'
+	python3 packaging/archive.py
 
 $(OUT)/memory.o: packaging/memory.c
 	mkdir -p $(OUT)

@@ -27,7 +27,7 @@ def libraries():
 
     # A crate's stamp holds those of the crates below it: each is computed once.
     rtlib.Crate.stamp = stamp
-    return [it for it in rtlib.crates_below(os.getcwd()) if not it.is_program and not it.is_static], rtlib
+    return [it for it in rtlib.crates_below(os.getcwd()) if not it.is_program], rtlib
 
 
 def newest(crate, rtlib):

@@ -46,6 +46,29 @@ static void freed(void) {
     CHECK(sender.at == NULL && receiver.at == NULL);
 }
 
+/* What only looks takes a handle that it can't write. */
+static void observers(void) {
+    const sctpr_sender *s = &sender;
+    const sctpr_receiver *r = &receiver;
+    struct sctpr_in_flight row;
+    struct sctpr_outstanding told;
+    size_t n;
+    uint16_t stream;
+    uint32_t tsn, type;
+    uint64_t at;
+    open_both(1000, 1000);
+    CHECK(sctpr_receiver_next_length(r, 3, &n, &type) == SCTPR_NOTHING && sctpr_receiver_readable_streams(r, &stream, 1, &n) == SCTPR_OK && n == 0);
+    CHECK(sctpr_receiver_cumulative_tsn(r) == 999 && sctpr_receiver_window(r) == 1 << 20 && sctpr_receiver_held_bytes(r) == 0);
+    CHECK(sctpr_sender_in_flight(s, 1000, &row) == SCTPR_NOT_IN_FLIGHT && sctpr_sender_in_flight_at(s, 0, &row) == SCTPR_NOTHING);
+    CHECK(sctpr_sender_next_to_retransmit(s, &row) == SCTPR_NOTHING && sctpr_sender_earliest_outstanding(s, &tsn) == SCTPR_NOTHING);
+    CHECK(sctpr_sender_next_tsn(s) == 1000 && sctpr_sender_acked_tsn(s) == 999 && sctpr_sender_advanced_ack_point(s) == 999);
+    CHECK(sctpr_sender_bytes_in_flight(s) == 0 && sctpr_sender_chunks_in_flight(s) == 0 && sctpr_sender_pending(s) == 0);
+    sctpr_sender_outstanding(s, &told);
+    CHECK(told.bytes == 0 && sctpr_sender_next_timeout(s, &at) == SCTPR_NOTHING);
+    CHECK(sctpr_sender_buffered_amount(s, 3, &n) == SCTPR_OK && n == 0 && sctpr_sender_is_drained(s, 3) == 1);
+    free_both();
+}
+
 /* Begins with five messages of one chunk each in flight, from TSN 1000 on. */
 static void five_in_flight(void) {
     uint8_t chunk[64];
@@ -358,6 +381,7 @@ static void expired(void) {
 
 int main(void) {
     freed();
+    observers();
     newly_marked();
     credit();
     traps();

@@ -135,6 +135,38 @@ void reconfig() {
     CHECK(sctpr::read_data(chunk)->payload_type == 99 && s.in_flight(1)->payload_type == 99);
 }
 
+/** What the RFCs allow and read_packet refuses: a request behind a SACK (RFC 6525 4.5), a padded cause before another (RFC 9260 3.3.10), an INIT
+ * with flags, an address and a cookie preservative (3.3.2). */
+void allowed() {
+    std::array<std::uint8_t, 44> packet{};
+    std::array<sctpr::any_chunk, 2> rows{};
+    std::array<sctpr::chunk, 2> strict{};
+    auto two = bytes_of("\3\0\0\20\0\0\0\11\0\1\0\0\0\0\0\0\202\0\0\20\0\21\0\14\0\0\0\1\0\1\0\0", 32);
+    std::copy(two.begin(), two.end(), packet.begin() + 12);
+    CHECK(sctpr::seal_packet({ 1, 5000, 5001 }, packet) && is_refused(sctpr::read_packet(packet, strict), sctpr::code::err_param_type_unhandled));
+    auto read = sctpr::read_any_packet(packet, rows);
+    CHECK(read && read->count == 2 && rows[0].type == SCTPR_SACK && rows[1].type == SCTPR_RECONFIG && rows[1].at == 28);
+    auto request = sctpr::read_request(sctpr::chunk_bytes(packet, rows[1]).subspan(4));
+    CHECK(request && *request == 1);
+    auto causes = bytes_of("\0\6\0\11\100\7\0\5v\0\0\0\0\14\0\4", 16);
+    auto cause = sctpr::read_cause(causes);
+    CHECK(cause && cause->code == 6 && cause->next == 12 && sctpr::cause_value(causes, *cause).size() == 5);
+    CHECK(sctpr::read_cause(causes.subspan(12))->code == SCTPR_CAUSE_USER_INITIATED_ABORT);
+    auto chunk = bytes_of("\1\5\0\44\0\0\0\7\0\1\0\0\0\10\0\20\377\377\377\360\0\5\0\10\300\0\2\1\0\11\0\10\0\0\3\350", 36);
+    auto init = sctpr::read_init(chunk);
+    auto address = sctpr::read_any_param(sctpr::init_params(chunk));
+    CHECK(init && init->initiate_tag == 7 && address && address->type == 5 && address->next == 8);
+    CHECK(sctpr::read_any_param(sctpr::init_params(chunk).subspan(8))->type == 9);
+    CHECK(sctpr::init_params({}).empty() && sctpr::chunk_bytes({}, rows[0]).empty() && sctpr::cause_value({}, *cause).empty());
+}
+
+/** The window of a message, and the credit of short ones. */
+void windows() {
+    static_assert(sctpr::receiver::least_window(65536, 65519) == 66336 && sctpr::receiver::least_window(1201, 1200) == 2001);
+    auto r = *sctpr::receiver::make(1, 60, 100000, 9);
+    CHECK(r.credit(60) == 13020 && r.credit(0) == 249 && r.window() == 100000 && sctpr::receiver::least_window(9, 0) == 3609);
+}
+
 /** A message of three chunks goes over, its middle one late. */
 void goes_over() {
     auto s = *sctpr::sender::make(1000, 10, 100);
@@ -177,6 +209,7 @@ void goes_over() {
     std::copy_n(sack.begin(), 24, old_sack.begin());
     CHECK(s.add_miss_indications(1002) == 0 && !s.next_to_retransmit() && s.earliest_outstanding() == 1001u);
     s.retransmit_all();
+    CHECK(s.outstanding().bytes == 0 && s.outstanding().chunks == 0 && s.outstanding().marked == 1);
     CHECK(s.add_miss_indications(1002) + s.add_miss_indications(1002) + s.add_miss_indications(1002) == 0);
     CHECK(s.next_to_retransmit() && s.in_flight(1001)->is_marked && s.in_flight_at(0)->tsn == 1001 && !s.in_flight_at(9) && !s.in_flight(7));
     CHECK(*s.resend(1001, 50, out[1]) == 28 && is_refused(s.resend(1002, 50, out[1]), sctpr::code::not_in_flight));
@@ -272,6 +305,8 @@ int main() {
     packets();
     chunks();
     reconfig();
+    allowed();
+    windows();
     goes_over();
     abandoned();
     without_rows();

@@ -6,7 +6,7 @@
 #     evidence/c_figures.sh [ROUNDS]
 #
 # It is run by hand, and needs Debian's packages libusrsctp-dev and valgrind, gcc or the CC given, and the archive
-# crates/sctp_c/out/libsctp_c.a, which 'rt lib' writes.
+# crates/sctp_c/out/libsctp_c.a, which packaging/archive.py writes.
 set -eu
 cd "$(dirname "$0")/.."
 CC=${CC:-gcc}

@@ -5,7 +5,7 @@
 #     evidence/pion.sh [RUNS] [SECONDS] [SEED] [LOST]
 #
 # It is run by hand. It needs Debian's packages golang-go and golang-github-pion-sctp-dev, gcc or the CC given, and the archive
-# crates/sctp_c/out/libsctp_c.a, which 'rt lib' writes. The status is 0 where no fault was found.
+# crates/sctp_c/out/libsctp_c.a, which packaging/archive.py writes. The status is 0 where no fault was found.
 set -eu
 cd "$(dirname "$0")/.."
 CC=${CC:-gcc}

@@ -262,6 +262,10 @@ inline bool is_refused(sctpr_code c) { return c >= SCTPR_NO_MEMORY; }
 inline error refusal(sctpr_code c, std::size_t wanted = 0) {
     return { static_cast<code>(c), c == SCTPR_SHORT_BUFFER ? wanted : 0 };
 }
+/** So many bytes from a place on; none where they are not there. */
+inline bytes part(bytes all, std::size_t at, std::size_t length) {
+    return at <= all.size() && length <= all.size() - at ? all.subspan(at, length) : bytes();
+}
 inline result<void> done(sctpr_code c) {
     if (is_refused(c)) return refusal(c);
     return {};
@@ -308,8 +312,8 @@ struct packet {
     std::span<const chunk> chunks;
 };
 
-/** The bytes of a chunk of a packet, as the calls below take them. */
-inline bytes chunk_bytes(bytes packet, const chunk &row) { return packet.subspan(row.at, row.length); }
+/** The bytes of a chunk of a packet, as the calls below take them. This and the like below answer no bytes where these are not there. */
+inline bytes chunk_bytes(bytes packet, const chunk &row) { return detail::part(packet, row.at, row.length); }
 
 /** sctpr_read_packet. */
 inline result<packet> read_packet(bytes datagram, std::span<chunk> rows) {
@@ -327,13 +331,14 @@ inline result<packet> read_packet(bytes datagram, std::uint32_t sum, std::span<c
     return detail::value_of(c, p);
 }
 
-/** A packet that may have chunks of unknown types. */
+/** A packet with all that RFC 9260 allows, which read_packet refuses. Of an INIT, INIT-ACK, ABORT, ERROR and RE-CONFIG the header was read;
+ * read_any_param and read_cause walk the rest. */
 struct any_packet {
     sctpr::head head;
     std::size_t count;
     std::span<const any_chunk> chunks;
 };
-inline bytes chunk_bytes(bytes packet, const any_chunk &row) { return packet.subspan(row.at, row.length); }
+inline bytes chunk_bytes(bytes packet, const any_chunk &row) { return detail::part(packet, row.at, row.length); }
 
 /** sctpr_read_any_packet. */
 inline result<any_packet> read_any_packet(bytes datagram, std::span<any_chunk> rows) {
@@ -357,7 +362,7 @@ inline result<data> read_data(bytes chunk) {
     return detail::value_of(sctpr_read_data(chunk.data(), chunk.size(), &d), d);
 }
 /** The user data of bytes that were read as a DATA chunk. */
-inline bytes user_data(bytes chunk, const data &d) { return chunk.subspan(16, d.length); }
+inline bytes user_data(bytes chunk, const data &d) { return detail::part(chunk, 16, d.length); }
 
 /** A SACK, and as many of its blocks and duplicates as there was room for. */
 inline result<sack> read_sack(bytes chunk, std::span<gap> blocks = {}, std::span<std::uint32_t> duplicates = {}) {
@@ -384,7 +389,7 @@ inline result<init> read_init(bytes chunk) {
     init i{};
     return detail::value_of(sctpr_read_init(chunk.data(), chunk.size(), &i), i);
 }
-inline bytes init_params(bytes chunk) { return chunk.subspan(20); }
+inline bytes init_params(bytes chunk) { return chunk.size() < 20 ? bytes() : chunk.subspan(20); }
 
 /** The TSN of a SHUTDOWN. */
 inline result<std::uint32_t> read_shutdown(bytes chunk) {
@@ -398,14 +403,14 @@ inline result<cause> read_cause(bytes all) {
     cause c{};
     return detail::value_of(sctpr_read_cause(all.data(), all.size(), &c), c);
 }
-inline bytes cause_value(bytes all, const cause &c) { return all.subspan(4, c.length); }
+inline bytes cause_value(bytes all, const cause &c) { return detail::part(all, 4, c.length); }
 
 /** The parameter that the bytes begin with; its value is `param_value(bytes, p)`, and the next one begins at byte p.next. */
 inline result<param> read_param(bytes all) {
     param p{};
     return detail::value_of(sctpr_read_param(all.data(), all.size(), &p), p);
 }
-inline bytes param_value(bytes all, const param &p) { return all.subspan(4, p.length); }
+inline bytes param_value(bytes all, const param &p) { return detail::part(all, 4, p.length); }
 
 /** The same of any type and any value: its header alone is read. */
 inline result<param> read_any_param(bytes all) {
@@ -544,6 +549,10 @@ struct message {
 /** The receiving half of an association. */
 class receiver {
 public:
+    /** SCTPR_LEAST_WINDOW; a `fragment` of 0 counts as 1. */
+    static constexpr std::size_t least_window(std::uint32_t max_message_size, std::uint32_t fragment) {
+        return SCTPR_LEAST_WINDOW(max_message_size, fragment == 0 ? 1 : fragment);
+    }
     /** sctpr_receiver_new. */
     static result<receiver> make(std::uint32_t first_tsn, std::uint32_t max_message_size, std::size_t window, std::uint32_t reach) {
         sctpr_receiver r{};
@@ -625,6 +634,10 @@ public:
     }
     std::uint32_t cumulative_tsn() const { return detail::told(sctpr_receiver_cumulative_tsn, handle_); }
     std::uint32_t window() const { return detail::told(sctpr_receiver_window, handle_); }
+    /** SCTPR_CREDIT of what is left of the window, for a peer whose chunks have `fragment` bytes of user data or more; 0 counts as 1. */
+    std::uint32_t credit(std::uint32_t fragment) const {
+        return static_cast<std::uint32_t>(SCTPR_CREDIT(window(), fragment == 0 ? 1 : fragment));
+    }
     std::size_t held_bytes() const { return detail::told(sctpr_receiver_held_bytes, handle_); }
 
     /** The handle, for calls of sctpr.h; it stays this object's. */

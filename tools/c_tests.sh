@@ -1,5 +1,5 @@
 #!/bin/sh
-# Builds the static library for C, where its crate is proved, installs it into a folder of its own, and runs on it
+# Builds the static library for C out of the proved crate sctp_c, installs it into a folder of its own, and runs on it
 #   - the tests in C, with sanitizers and an allocator that refuses: eight million calls in any order, 13,000 sessions with hostile
 #     peers, the heap against its bound, and the worst packets by the clock
 #   - the endpoints of examples/c: with one another, and with usrsctp
@@ -71,9 +71,9 @@ has libsctp-dev test -e /usr/include/netinet/sctp.h || leave_out "netinet/sctp.h
 
 # ---- The library -------------------------------------------------------------------------------------------------------------
 
-# Of the libraries that rt ci has just proved here none is proved again; sctp_c is, for its archive, unless rt has kept one.
-if command -v python3 >/dev/null; then python3 c_tests/built_libraries.py; fi
-(cd crates/sctp_c && rt lib) >"$BUILD/lib.log" 2>&1 || { tail -20 "$BUILD/lib.log"; echo "0 passed, 1 failed"; exit 1; }
+# Of the libraries that rt ci has just proved here none is proved again, sctp_c neither.
+python3 c_tests/built_libraries.py
+python3 packaging/archive.py >"$BUILD/lib.log" 2>&1 || { tail -20 "$BUILD/lib.log"; echo "0 passed, 1 failed"; exit 1; }
 ARCHIVE=crates/sctp_c/out/libsctp_c.a
 sed -n '/^typedef uint32_t sctpr_code;/,/^};/s/^    \(SCTPR_[A-Z0-9_]*\) = [0-9]*,*$/ROW(\1)/p' include/sctpr.h >"$BUILD/codes.inc"
 

@@ -4,7 +4,7 @@
 #
 #     c_tests/interop/interop.sh [RUNS] [TICKS] [SEED]
 #
-# It needs Debian's package libusrsctp-dev, gcc or the CC given, and the archive crates/sctp_c/out/libsctp_c.a, which 'rt lib' writes.
+# It needs Debian's package libusrsctp-dev, gcc or the CC given, and the archive crates/sctp_c/out/libsctp_c.a, which packaging/archive.py writes.
 # tools/c_tests.sh runs it, five short runs; longer ones are run by hand. A seed's run is the same each time. The last line sums the runs
 # up; the status is 0 where no fault was found.
 set -eu

@@ -28,8 +28,13 @@ type Chunk struct {
 	Bytes       []byte
 }
 
-// Value is what follows the header of four bytes.
-func (c Chunk) Value() []byte { return c.Bytes[4:] }
+// Value is what follows the header of four bytes; nothing, of a Chunk that no call answered.
+func (c Chunk) Value() []byte {
+	if len(c.Bytes) < 4 {
+		return nil
+	}
+	return c.Bytes[4:]
+}
 
 // ReadPacket reads a packet under CRC-32C: header, checksum, and each of its chunks whole.
 func ReadPacket(packet []byte) (Head, []Chunk, error) {
@@ -64,14 +69,15 @@ func readPacket(packet []byte, read func(*C.struct_sctpr_head, *C.struct_sctpr_c
 	return Head{uint32(head.verification_tag), uint16(head.source_port), uint16(head.destination_port)}, chunks, nil
 }
 
-// An AnyChunk is a chunk of a type that may be unknown. Where Known is true it was read whole; where Reported is true its sender is to be
-// told of it: in an ERROR, by the cause 6 with the chunk as its value (RFC 4960 3.2, 3.3.10.6).
+// An AnyChunk is a chunk of a packet with all that RFC 9260 allows. Known says whether its type is one that ReadPacket reads. Where Reported is
+// true its sender is to be told of it: in an ERROR, by the cause 6 with the chunk as its value (RFC 4960 3.2, 3.3.10.6).
 type AnyChunk struct {
 	Chunk
 	Known, Reported bool
 }
 
-// ReadAnyPacket reads a packet under CRC-32C that may have chunks of unknown types.
+// ReadAnyPacket reads a packet under CRC-32C with all that RFC 9260 allows, which ReadPacket refuses: chunks of unknown types, and parameters
+// and causes of any type. Of an INIT, INIT-ACK, ABORT, ERROR and RE-CONFIG it reads the header; ReadAnyParam and ReadCause walk the rest.
 func ReadAnyPacket(packet []byte) (Head, []AnyChunk, error) {
 	return readAnyPacket(packet, func(head *C.struct_sctpr_head, rows *C.struct_sctpr_any_chunk, room C.size_t, count *C.size_t) C.sctpr_code {
 		at, length := bytesOf(packet)

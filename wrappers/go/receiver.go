@@ -2,6 +2,8 @@ package sctprattle
 
 /*
 #include <sctpr.h>
+static size_t least_window(uint32_t size, uint32_t fragment) { return SCTPR_LEAST_WINDOW(size, fragment == 0 ? 1 : fragment); }
+static size_t credit(uint32_t left, uint32_t fragment) { return SCTPR_CREDIT(left, fragment == 0 ? 1 : fragment); }
 */
 import "C"
 
@@ -28,6 +30,12 @@ type Message struct {
 	PayloadType uint32
 }
 
+// LeastWindow is the least window in which a message of so many bytes fits, in chunks of fragment bytes of user data each: in a smaller one a
+// message may never fit. A fragment of 0 counts as 1.
+func LeastWindow(maxMessageSize, fragment uint32) int {
+	return int(C.least_window(C.uint32_t(maxMessageSize), C.uint32_t(fragment)))
+}
+
 // NewReceiver makes a receiver with no stream, to which nothing came: firstTSN is expected next, a message may have maxMessageSize bytes.
 // About window bytes are held at most, and no TSN farther than reach past the cumulative one.
 func NewReceiver(firstTSN, maxMessageSize uint32, window int, reach uint32) (*Receiver, error) {
@@ -51,7 +59,7 @@ func NewUnlimitedReceiver(firstTSN, maxMessageSize uint32) (*Receiver, error) {
 	return r, nil
 }
 
-// Close frees the receiver and all that it holds. A second Close does nothing.
+// Close frees the receiver and all that it holds. A second Close does nothing, nor does one of nil.
 func (r *Receiver) Close() error {
 	if r.isOpen() {
 		C.sctpr_receiver_free(&r.handle)
@@ -60,7 +68,7 @@ func (r *Receiver) Close() error {
 	return nil
 }
 
-func (r *Receiver) isOpen() bool { return r.handle.at != nil }
+func (r *Receiver) isOpen() bool { return r != nil && r.handle.at != nil }
 
 // Open opens a stream.
 func (r *Receiver) Open(stream uint16) error {
@@ -219,6 +227,13 @@ func (r *Receiver) Window() uint32 {
 		return 0
 	}
 	return uint32(C.sctpr_receiver_window(&r.handle))
+}
+
+// Credit is the credit within which none of a peer's chunks is refused as the window is full, where each has fragment bytes of user data or
+// more; a fragment of 0 counts as 1. A SACK tells Window: a caller whose peer sends short messages puts this into the bytes 8 to 11 of each
+// SACK, and tells it in its INIT (RFC 9260 3.3.4).
+func (r *Receiver) Credit(fragment uint32) uint32 {
+	return uint32(C.credit(C.uint32_t(r.Window()), C.uint32_t(fragment)))
 }
 
 // HeldBytes is what is held and was not read: its bytes, and 400 for each chunk.

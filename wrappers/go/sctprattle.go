@@ -6,7 +6,7 @@
 // sctpr.h; what it was to change is as it was then. An error is a Code, or, where a buffer is too short, a *ShortBufferError; errors.Is
 // compares both with a Code.
 //
-// A Sender or Receiver is used by one goroutine at a time, and freed by Close. After Close its methods answer ErrClosed, or 0.
+// A Sender or Receiver is used by one goroutine at a time, and freed by Close. After Close, and of nil, its methods answer ErrClosed, or 0.
 package sctprattle
 
 /*
@@ -21,7 +21,7 @@ import (
 	"unsafe"
 )
 
-// ErrClosed is what the methods of a Sender or Receiver answer after Close.
+// ErrClosed is what the methods of a Sender or Receiver answer after Close, and those of nil.
 var ErrClosed = errors.New("sctprattle: closed")
 
 // Name is the name that sctpr.h has for a code: "SCTPR_NO_MEMORY".
@@ -105,8 +105,7 @@ const (
 // FlagT is the flag T of an ABORT or SHUTDOWN-COMPLETE (RFC 4960 3.3.7, 3.3.13, 8.5.1).
 const FlagT = uint8(C.SCTPR_FLAG_T)
 
-// What user data are (RFC 8831 8). Any number is read as it came (RFC 9260 3.3.1). A Sender sends the first five, and on a reliable stream the
-// number that its mode names.
+// What user data are (RFC 8831 8). Any number is read as it came, and a Sender sends the number that it was given (RFC 9260 3.3.1).
 const (
 	PPIDDCEP        = uint32(C.SCTPR_PPID_DCEP)
 	PPIDString      = uint32(C.SCTPR_PPID_STRING)

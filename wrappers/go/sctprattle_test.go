@@ -167,6 +167,42 @@ func TestReconfig(t *testing.T) {
 	check(t, "any payload type", err == nil && data.PayloadType == 99)
 }
 
+// What the RFCs allow and ReadPacket refuses: a request behind a SACK (RFC 6525 4.5), a padded cause before another (RFC 9260 3.3.10), an INIT
+// with flags, an address and a cookie preservative (3.3.2).
+func TestAllowed(t *testing.T) {
+	packet := []byte("............\x03\x00\x00\x10\x00\x00\x00\x09\x00\x01\x00\x00\x00\x00\x00\x00" +
+		"\x82\x00\x00\x10\x00\x11\x00\x0c\x00\x00\x00\x01\x00\x01\x00\x00")
+	must(t, SealPacket(Head{1, 5000, 5001}, packet))
+	_, _, err := ReadPacket(packet)
+	is(t, err, CodeErrParamTypeUnhandled)
+	_, chunks, err := ReadAnyPacket(packet)
+	must(t, err)
+	check(t, "two chunks", len(chunks) == 2 && chunks[0].Type == ChunkSack && chunks[1].Type == ChunkReconfig && chunks[1].Known)
+	number, err := ReadRequest(chunks[1].Value())
+	check(t, "request", number == 1 && err == nil)
+	cause, rest, err := ReadCause([]byte("\x00\x06\x00\x09\x40\x07\x00\x05v\x00\x00\x00\x00\x0c\x00\x04"))
+	check(t, "padded cause", cause.Code == 6 && len(cause.Value) == 5 && err == nil)
+	cause, rest, err = ReadCause(rest)
+	check(t, "the next cause", cause.Code == 12 && len(rest) == 0 && err == nil)
+	init, params, err := ReadInit([]byte("\x01\x05\x00\x24\x00\x00\x00\x07\x00\x01\x00\x00\x00\x08\x00\x10\xff\xff\xff\xf0" +
+		"\x00\x05\x00\x08\xc0\x00\x02\x01\x00\x09\x00\x08\x00\x00\x03\xe8"))
+	check(t, "INIT with flags", init.InitiateTag == 7 && err == nil)
+	address, params, err := ReadAnyParam(params)
+	check(t, "address", address.Type == 5 && len(address.Value) == 4 && err == nil)
+	cookie, params, err := ReadAnyParam(params)
+	check(t, "cookie preservative", cookie.Type == 9 && len(params) == 0 && err == nil)
+	check(t, "no chunk", AnyChunk{}.Value() == nil)
+}
+
+// The window of a message, and the credit of short ones.
+func TestWindows(t *testing.T) {
+	check(t, "least windows", LeastWindow(65536, 65519) == 66336 && LeastWindow(1201, 1200) == 2001 && LeastWindow(9, 0) == 3609)
+	r, err := NewReceiver(1, 60, 100000, 9)
+	must(t, err)
+	defer r.Close()
+	check(t, "credits", r.Credit(60) == 13020 && r.Credit(0) == 249 && r.Window() == 100000)
+}
+
 func halves(t *testing.T) (*Sender, *Receiver) {
 	s, err := NewSender(1000, 10, 100, true)
 	must(t, err)
@@ -233,6 +269,7 @@ func TestGoesOver(t *testing.T) {
 	tsn, isOut := s.EarliestOutstanding()
 	check(t, "outstanding", s.AddMissIndications(1002) == 0 && !isMarked && isOut && tsn == 1001)
 	must(t, s.RetransmitAll())
+	check(t, "all marked", s.Outstanding() == Outstanding{0, 0, 1})
 	check(t, "none newly marked", s.AddMissIndications(1002)+s.AddMissIndications(1002)+s.AddMissIndications(1002) == 0)
 	marked, _ := s.NextToRetransmit()
 	row, ok := s.InFlight(1001)
@@ -339,4 +376,8 @@ func TestClosed(t *testing.T) {
 	is(t, err, CodeInvalid)
 	amount, err := s.BufferedAmount(3)
 	check(t, "closed", amount == 0 && errors.Is(err, ErrClosed))
+	s, r = nil, nil
+	check(t, "none", s.Close() == nil && r.Close() == nil && errors.Is(s.Open(1), ErrClosed) && r.Window() == 0 && !s.Drained(3))
+	_, err = r.Data([]byte{0})
+	check(t, "none", errors.Is(err, ErrClosed) && s.AddMissIndications(1) == 0 && r.Credit(60) == 0)
 }

@@ -88,7 +88,7 @@ func NewSender(firstTSN, fragmentSize, maxMessageSize uint32, keepsReported bool
 	return s, nil
 }
 
-// Close frees the sender and all that it holds. A second Close does nothing.
+// Close frees the sender and all that it holds. A second Close does nothing, nor does one of nil.
 func (s *Sender) Close() error {
 	if s.isOpen() {
 		C.sctpr_sender_free(&s.handle)
@@ -97,7 +97,7 @@ func (s *Sender) Close() error {
 	return nil
 }
 
-func (s *Sender) isOpen() bool { return s.handle.at != nil }
+func (s *Sender) isOpen() bool { return s != nil && s.handle.at != nil }
 
 // Open opens a stream, ordered and reliable.
 func (s *Sender) Open(stream uint16) error {

@@ -78,8 +78,7 @@ pub mod chunk_type {
 /// The flag T of an ABORT or SHUTDOWN-COMPLETE (RFC 4960 3.3.7, 3.3.13, 8.5.1).
 pub const FLAG_T: u8 = sys::SCTPR_FLAG_T as u8;
 
-/// What user data are (RFC 8831 8). Any number is read as it came (RFC 9260 3.3.1). A [`Sender`] sends the first five, and on a reliable
-/// stream the number that its mode names.
+/// What user data are (RFC 8831 8). Any number is read as it came, and a [`Sender`] sends the number that it was given (RFC 9260 3.3.1).
 pub mod ppid {
     use crate::sys;
     /// A message of RFC 8832.

@@ -89,7 +89,8 @@ impl<'a, 'r> Packet<'a, 'r> {
     }
 }
 
-/// A packet that was read and may have chunks of unknown types (RFC 4960 3.2).
+/// A packet that was read with all that RFC 9260 allows, which [`Packet`] refuses: chunks of unknown types, and parameters and causes of any
+/// type. Of an INIT, INIT-ACK, ABORT, ERROR and RE-CONFIG the header is read; [`Params::any`] and [`Causes`] walk the rest.
 #[derive(Clone, Copy, Debug)]
 pub struct AnyPacket<'a, 'r> {
     bytes: &'a [u8],
@@ -100,12 +101,12 @@ pub struct AnyPacket<'a, 'r> {
     pub count: usize,
 }
 
-/// A chunk of a type that may be unknown.
+/// A chunk of such a packet.
 #[derive(Clone, Copy, Debug, PartialEq, Eq)]
 pub struct AnyChunk<'a> {
     /// Type, flags and bytes.
     pub chunk: Chunk<'a>,
-    /// Whether its type is known; it was read whole then.
+    /// Whether its type is one that [`Packet::read`] reads.
     pub is_known: bool,
     /// Whether its sender is to be told of it: in an ERROR, by the cause 6 with the chunk as its value.
     pub is_reported: bool,

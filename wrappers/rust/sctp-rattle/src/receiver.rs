@@ -42,7 +42,22 @@ pub struct Message {
     pub payload_type: u32,
 }
 
+/// What a chunk counts beside its user data.
+const OVERHEAD: u64 = 400;
+
 impl Receiver {
+    /// The least window in which a message of so many bytes fits, in chunks of `fragment` bytes of user data each: in a smaller one a message
+    /// may never fit. A `fragment` of 0 counts as 1.
+    pub const fn least_window(max_message_size: u32, fragment: u32) -> usize {
+        let (size, each) = (max_message_size as u64, if fragment == 0 { 1 } else { fragment as u64 });
+        let bytes = size + OVERHEAD * ((size + each - 1) / each);
+        if bytes > usize::MAX as u64 {
+            usize::MAX
+        } else {
+            bytes as usize
+        }
+    }
+
     /// A receiver with no stream, to which nothing came: `first_tsn` is expected next, a message may have `max_message_size` bytes. About
     /// `window` bytes are held at most, and no TSN farther than `reach` past the cumulative one.
     pub fn new(first_tsn: u32, max_message_size: u32, window: usize, reach: u32) -> Result<Receiver> {
@@ -180,6 +195,14 @@ impl Receiver {
     pub fn window(&self) -> u32 {
         // SAFETY: as in `cumulative_tsn`.
         unsafe { sys::sctpr_receiver_window(self.handle.get()) }
+    }
+
+    /// The credit within which none of a peer's chunks is refused as the window is full, where each has `fragment` bytes of user data or more;
+    /// a `fragment` of 0 counts as 1. A SACK tells [`Receiver::window`]: a caller whose peer sends short messages puts this into the bytes 8
+    /// to 11 of each SACK, and tells it in its INIT (RFC 9260 3.3.4).
+    pub fn credit(&self, fragment: u32) -> u32 {
+        let each = u64::from(fragment.max(1));
+        (u64::from(self.window()) / (each + OVERHEAD) * each) as u32
     }
 
     /// What is held and was not read: its bytes, and 400 for each chunk.

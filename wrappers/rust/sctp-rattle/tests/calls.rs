@@ -116,6 +116,40 @@ fn words_of_a_reconfig() {
     assert_eq!((read_data(&chunk).unwrap().payload_type, s.in_flight(1).unwrap().payload_type), (99, 99));
 }
 
+/// What the RFCs allow and `Packet` refuses: a request behind a SACK (RFC 6525 4.5), a padded cause before another (RFC 9260 3.3.10), an INIT with
+/// flags, an address and a cookie preservative (3.3.2).
+#[test]
+fn what_the_rfcs_allow_is_read() {
+    let (mut packet, mut rows, mut any_rows) = ([0; 44], [ChunkRow::default(); 2], [AnyChunkRow::default(); 2]);
+    packet[12..28].copy_from_slice(b"\x03\0\0\x10\0\0\0\x09\0\x01\0\0\0\0\0\0");
+    packet[28..].copy_from_slice(b"\x82\0\0\x10\0\x11\0\x0c\0\0\0\x01\0\x01\0\0");
+    seal_packet(&Head { verification_tag: 1, source_port: 5000, destination_port: 5001 }, &mut packet).unwrap();
+    assert_eq!(Packet::read(&packet, &mut rows).unwrap_err(), Error::ErrParamTypeUnhandled);
+    let chunks: Vec<_> = AnyPacket::read(&packet, &mut any_rows).unwrap().chunks().collect();
+    assert_eq!(
+        chunks.iter().map(|c| (c.chunk.kind, c.is_known)).collect::<Vec<_>>(),
+        [(chunk_type::SACK, true), (chunk_type::RECONFIG, true)]
+    );
+    assert_eq!(read_request(chunks[1].chunk.value()), Ok(1));
+    let causes: Result<Vec<_>> = Causes::new(b"\0\x06\0\x09\x40\x07\0\x05v\0\0\0\0\x0c\0\x04").collect();
+    assert_eq!(causes.unwrap(), [Cause { code: 6, value: b"\x40\x07\0\x05v" }, Cause { code: 12, value: b"" }]);
+    let init = b"\x01\x05\0\x24\0\0\0\x07\0\x01\0\0\0\x08\0\x10\xff\xff\xff\xf0\0\x05\0\x08\xc0\0\x02\x01\0\x09\0\x08\0\0\x03\xe8";
+    assert_eq!(read_init(init).unwrap().0.initiate_tag, 7);
+    let params: Result<Vec<_>> = Params::any(&init[20..]).collect();
+    assert_eq!(params.unwrap().iter().map(|p| p.kind).collect::<Vec<_>>(), [5, 9]);
+}
+
+/// The window of a message, and the credit of short ones.
+#[test]
+fn windows_and_credits() {
+    assert_eq!(
+        (Receiver::least_window(65536, 65519), Receiver::least_window(1201, 1200), Receiver::least_window(9, 0)),
+        (66336, 2001, 3609)
+    );
+    let r = Receiver::new(1, 60, 100_000, 9).unwrap();
+    assert_eq!((r.credit(60), r.credit(0), r.window()), (13020, 249, 100_000));
+}
+
 /// A message of three chunks goes over, its middle one late.
 #[test]
 fn a_message_goes_over() {
@@ -157,6 +191,7 @@ fn a_message_goes_over() {
     );
     assert_eq!((s.add_miss_indications(1002), s.next_to_retransmit(), s.earliest_outstanding()), (0, None, Some(1001)));
     s.retransmit_all();
+    assert_eq!(s.outstanding(), Outstanding { bytes: 0, chunks: 0, marked: 1 });
     assert_eq!([0; 3].map(|_: usize| s.add_miss_indications(1002)), [0; 3]);
     assert_eq!(
         s.in_flight_chunks().map(|c| (c.tsn, c.is_marked, c.is_acked)).collect::<Vec<_>>(),
