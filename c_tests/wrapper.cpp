@@ -298,6 +298,18 @@ void moved() {
     CHECK(is_refused(sctpr::sender::make(1, 0, 100), sctpr::code::invalid));
 }
 
+/** A handle that was freed behind the object's back is empty: each call is refused, and the object frees nothing. */
+void freed() {
+    auto s = *sctpr::sender::make(1, 10, 100);
+    auto r = *sctpr::receiver::make(1, 100, 1000, 10);
+    sctpr_sender_free(s.handle());
+    sctpr_receiver_free(r.handle());
+    CHECK(is_refused(s.open(3), sctpr::code::invalid) && is_refused(s.take_sack({}, {}), sctpr::code::invalid) && s.pending() == 0);
+    CHECK(is_refused(r.open(3), sctpr::code::invalid) && is_refused(r.read(3), sctpr::code::invalid) && r.window() == 0);
+    sctpr_sender_free(s.handle());
+    CHECK(s.handle()->at == nullptr && r.handle()->at == nullptr);
+}
+
 } // namespace
 
 int main() {
@@ -311,6 +323,7 @@ int main() {
     abandoned();
     without_rows();
     moved();
+    freed();
     std::printf("wrapper: %u passed, %u failed\n", passed, failed);
     return failed != 0;
 }

@@ -381,3 +381,27 @@ func TestClosed(t *testing.T) {
 	_, err = r.Data([]byte{0})
 	check(t, "none", errors.Is(err, ErrClosed) && s.AddMissIndications(1) == 0 && r.Credit(60) == 0)
 }
+
+// Each method of a Sender and a Receiver that is nil, that no New made, or that was closed twice answers ErrClosed, or nothing; Close does nothing.
+func TestWithoutHandle(t *testing.T) {
+	s, r := halves(t)
+	must(t, s.Close())
+	must(t, r.Close())
+	must(t, s.Close())
+	must(t, r.Close())
+	for _, of := range []any{s, (*Sender)(nil), new(Sender), r, (*Receiver)(nil), new(Receiver)} {
+		for i := 0; i < reflect.TypeOf(of).NumMethod(); i++ {
+			method, name := reflect.ValueOf(of).Method(i), reflect.TypeOf(of).Method(i).Name
+			given := make([]reflect.Value, method.Type().NumIn())
+			for k := range given {
+				given[k] = reflect.Zero(method.Type().In(k))
+			}
+			for _, result := range method.Call(given) {
+				err, isError := result.Interface().(error)
+				check(t, name, isError && errors.Is(err, ErrClosed) || result.IsZero() && (name == "Close" || !result.Type().Implements(errorType)))
+			}
+		}
+	}
+}
+
+var errorType = reflect.TypeOf((*error)(nil)).Elem()

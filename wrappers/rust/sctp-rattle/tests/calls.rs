@@ -286,3 +286,32 @@ fn halves_go_to_other_threads() {
     assert_eq!(format!("{r:?}"), "Receiver { cumulative_tsn: 6, window: 500, held_bytes: 0 }");
     assert_eq!(Sender::new(7, 0, 100, false).err(), Some(Error::Invalid));
 }
+
+#[test]
+fn plain_calls_refuse_null_and_empty_handles() {
+    use core::ptr::{null, null_mut};
+    use sctp_rattle_sys as sys;
+    let (mut sender, mut receiver) = (sys::sctpr_sender { at: null_mut() }, sys::sctpr_receiver { at: null_mut() });
+    let (mut number, mut count, mut data) = (7, 7, sys::sctpr_data::default());
+    // SAFETY: each pointer is NULL, or leads to what the call wants; the handles are empty.
+    unsafe {
+        for handle in [null_mut(), &mut sender as *mut _] {
+            assert_eq!(sys::sctpr_sender_open(handle, 1), sys::SCTPR_INVALID);
+            assert_eq!(sys::sctpr_sender_write(handle, 1, 51, b"a".as_ptr(), 1, &mut number, &mut count), sys::SCTPR_INVALID);
+            assert_eq!((sys::sctpr_sender_pending(handle), sys::sctpr_sender_next_tsn(handle), sys::sctpr_sender_is_drained(handle, 1)), (0, 0, 0));
+            sys::sctpr_sender_free(handle);
+        }
+        for handle in [null_mut(), &mut receiver as *mut _] {
+            assert_eq!(sys::sctpr_receiver_data(handle, b"a".as_ptr(), 1, null_mut()), sys::SCTPR_INVALID);
+            assert_eq!((sys::sctpr_receiver_window(handle), sys::sctpr_receiver_held_bytes(handle)), (0, 0));
+            sys::sctpr_receiver_free(handle);
+        }
+        assert_eq!(sys::sctpr_sender_new(1, 100, 1000, 0, null_mut()), sys::SCTPR_INVALID);
+        assert_eq!(sys::sctpr_read_data(null(), 8, &mut data), sys::SCTPR_INVALID);
+        assert_eq!(sys::sctpr_read_data(null(), 0, &mut data), sys::SCTPR_ERR_CHUNK_HEADER_TOO_SMALL);
+        assert_eq!(sys::sctpr_sender_new(1, 100, 1000, 0, &mut sender), sys::SCTPR_OK);
+        sys::sctpr_sender_free(&mut sender);
+        sys::sctpr_sender_free(&mut sender);
+    }
+    assert_eq!((number, count), (7, 7));
+}
