@@ -314,13 +314,15 @@ is_clean() {
 }
 if [ "$valgrind" = yes ]; then try is_clean; fi
 
-# Each of the four runs that reset streams is a test, and each of the five that exchange messages.
+# What tells usrsctp's faults from ours, each of them with usrsctp, and the runs: six that reset streams, and five more that exchange messages.
 if [ "$usrsctp" = yes ]; then
     wait "$interop" || true
     cat "$BUILD/interop.log"
-    good=$(grep -c '^\(usrsctp\|reconfig\): .* 0 faults' "$BUILD/interop.log" || true)
+    grep '^known: ' "$BUILD/interop.log" >"$BUILD/known.log" || true
+    count known
+    good=$(grep -c '^\(usrsctp\|reconfig\): .* 0 faults\|^usrsctp_faults: .*\(and told\|not done\)$' "$BUILD/interop.log" || true)
     passed=$((passed + good))
-    failed=$((failed + 9 - good))
+    failed=$((failed + 19 - good))
 else
     leave_out "the exchange with usrsctp" "there is no libusrsctp-dev"
 fi
