@@ -106,7 +106,6 @@ fn words_of_a_reconfig() {
     assert_eq!(Params::any(address).next(), Some(Ok(Param { kind: 5, value: &address[4..] })));
     assert_eq!(Params::new(address).next(), Some(Err(Error::ErrParamTypeUnhandled)));
     assert_eq!(write_chunk(chunk_type::COOKIE_ACK, b"a", &mut out), Err(Error::NotAsGiven));
-    assert_eq!(Receiver::new(1, 65536, 66335, 9).err(), Some(Error::Invalid));
     let mut s = Sender::new(1, 10, 100, false).unwrap();
     s.open(3).unwrap();
     s.set_mode(3, true, Mode::Rexmit(1)).unwrap();
@@ -148,6 +147,19 @@ fn windows_and_credits() {
     );
     let r = Receiver::new(1, 60, 100_000, 9).unwrap();
     assert_eq!((r.credit(60), r.credit(0), r.window()), (13020, 249, 100_000));
+    assert_eq!(Receiver::new(1, 65536, 66335, 9).err(), Some(Error::Invalid));
+    assert_eq!((Receiver::new(1, 65536, 66336, 9).err(), Receiver::new(1, 65536, 66336, 0).err()), (None, Some(Error::Invalid)));
+}
+
+/// What is missing for the third time is told once, when it is newly marked, and is outstanding no more.
+#[test]
+fn what_is_missing_is_marked_once() {
+    let (mut s, mut out) = (Sender::new(1000, 10, 100, false).unwrap(), [0; 32]);
+    s.open(3).unwrap();
+    s.write(3, ppid::STRING, b"two fragments").unwrap();
+    assert_eq!((0..2).map(|_| s.send_next(1, &mut out).unwrap().unwrap().tsn).collect::<Vec<_>>(), [1000, 1001]);
+    assert_eq!((0..5).map(|_| s.add_miss_indications(1001)).collect::<Vec<_>>(), [0, 0, 1, 0, 0]);
+    assert_eq!(s.outstanding(), Outstanding { bytes: 3, chunks: 1, marked: 1 });
 }
 
 /// A message of three chunks goes over, its middle one late.
