@@ -1,7 +1,7 @@
 #!/bin/sh
 # Builds c_tests/interop on the static library, and lets the endpoint of examples/c and usrsctp exchange messages: RUNS runs that write for
-# TICKS ticks of 10 ms each, in no real time, with seeds from SEED on. Before them both reset streams and add some: four runs without, and two
-# with messages of each mode meanwhile. First what tells usrsctp's own faults is tested (known.h).
+# TICKS ticks of 10 ms each, in no real time, with seeds from SEED on. Before them both reset streams and add some: four runs with
+# a few messages, and two with messages of each mode. First what tells usrsctp's own faults is tested (known.h).
 #
 #     c_tests/interop/interop.sh [RUNS] [TICKS] [SEED]
 #

@@ -7,7 +7,8 @@
  * It writes for so many ticks of 10 ms, in no real time, then waits until all came, and shuts down. By the seed our side connects, or
  * usrsctp, or both; a seed's run is the same each time. With `mixed` an unordered stream has messages of one chunk and of several. With
  * `short` messages have under 64 bytes, and enough of them are written that stream sequence numbers pass 65,535 within 20,000 ticks. With
- * `resets` both sides reset streams and add some, while messages go (RFC 6525).
+ * `resets` both sides reset streams and add some (RFC 6525): by an odd seed at any time, by an even one only where nothing waits or is in flight,
+ * so that usrsctp's faults are not met.
  *
  * usrsctp 0.9.5.0 has faults, which known.c tells from the chunks alone. legal.c looks at every chunk that we send: where it finds a fault, none is
  * usrsctp's. One that ends the run, or keeps messages from coming, is no fault of ours; everything else is. The last line says how many
@@ -70,23 +71,24 @@ static int our_reset = -1;
 static int is_asked;
 static unsigned long resets_performed, streams_added;
 
-/* Resets one stream after the other, and adds some in between. */
-static void we_reset(void) {
+/* Whether our last request has its answer. */
+static int is_answered(void) {
+    if (endpoint.request.length > 0) return 0;
+    if (!is_asked) return 1;
+    if (endpoint.request_result != SCTPR_RESULT_PERFORMED) fault("a request is answered with %u", (unsigned)endpoint.request_result);
+    resets_performed += our_reset >= 0;
+    streams_added += our_reset < 0;
+    is_asked = 0;
+    our_reset = -1;
+    return 1;
+}
+
+/* Adds a stream, or resets one as soon as it is drained. */
+static void we_ask(int adds) {
     uint16_t stream = (uint16_t)our_reset;
-    if (endpoint.request.length > 0) return;
-    if (is_asked) {
-        if (endpoint.request_result != SCTPR_RESULT_PERFORMED) fault("a request is answered with %u", (unsigned)endpoint.request_result);
-        resets_performed += our_reset >= 0;
-        streams_added += our_reset < 0;
-        is_asked = 0;
-        our_reset = -1;
-    } else if (our_reset >= 0) {
-        is_asked = endpoint_reset(&endpoint, &stream, 1) == SCTPR_OK;
-    } else if (network.tick % 500 == 0 && endpoint.outgoing < 40) {
-        is_asked = endpoint_add_streams(&endpoint, 1) == SCTPR_OK;
-    } else if (network.tick % 40 == 0) {
-        our_reset = (int)(random_next(&message_random) % STREAMS);
-    }
+    if (our_reset >= 0) is_asked = endpoint_reset(&endpoint, &stream, 1) == SCTPR_OK;
+    else if (adds && endpoint.outgoing < 40) is_asked = endpoint_add_streams(&endpoint, 1) == SCTPR_OK;
+    else our_reset = (int)(random_next(&message_random) % STREAMS);
 }
 
 static void our_output(void *context, const uint8_t *packet, size_t length) {
@@ -157,7 +159,7 @@ static void set_up_socket(struct socket *s) {
     must(usrsctp_setsockopt(s, IPPROTO_SCTP, SCTP_FRAGMENT_INTERLEAVE, &off, sizeof off), "SCTP_FRAGMENT_INTERLEAVE");
     must(usrsctp_setsockopt(s, IPPROTO_SCTP, SCTP_PARTIAL_DELIVERY_POINT, &point, sizeof point), "SCTP_PARTIAL_DELIVERY_POINT");
     must(usrsctp_setsockopt(s, IPPROTO_SCTP, SCTP_INITMSG, &init, sizeof init), "SCTP_INITMSG");
-    must(usrsctp_setsockopt(s, IPPROTO_SCTP, SCTP_ENABLE_STREAM_RESET, &resets, sizeof resets), "SCTP_ENABLE_STREAM_RESET");
+    if (has_resets) must(usrsctp_setsockopt(s, IPPROTO_SCTP, SCTP_ENABLE_STREAM_RESET, &resets, sizeof resets), "SCTP_ENABLE_STREAM_RESET");
     must(usrsctp_set_non_blocking(s, 1), "non-blocking");
 }
 
@@ -192,22 +194,21 @@ static int is_gone;
 /* The stream that usrsctp was told to reset: nothing is written on it for a while, and then as soon as it takes a message again. */
 static int their_reset = -1;
 
-/* usrsctp resets a stream, or adds one; it refuses where it does so already. */
-static void they_reset(void) {
+/* usrsctp adds a stream, or resets one; it refuses where it does so already. */
+static void they_ask(int adds) {
     union {
         struct sctp_reset_streams it;
         uint8_t room[sizeof(struct sctp_reset_streams) + 2];
     } reset;
     struct sctp_add_streams add = { .sas_outstrms = 1 };
-    if (network.tick % 500 == 250) usrsctp_setsockopt(theirs, IPPROTO_SCTP, SCTP_ADD_STREAMS, &add, sizeof add);
-    if (network.tick % 100 != 0) return;
-    their_reset = (int)(random_next(&message_random) % STREAMS);
-    uint16_t stream = (uint16_t)their_reset;
+    uint16_t stream = (uint16_t)(random_next(&message_random) % STREAMS);
     memset(&reset, 0, sizeof reset);
     reset.it.srs_flags = SCTP_STREAM_RESET_OUTGOING;
     reset.it.srs_number_streams = 1;
     memcpy(reset.room + sizeof reset.it, &stream, sizeof stream);
-    usrsctp_setsockopt(theirs, IPPROTO_SCTP, SCTP_RESET_STREAMS, &reset, sizeof reset.room);
+    if (adds) usrsctp_setsockopt(theirs, IPPROTO_SCTP, SCTP_ADD_STREAMS, &add, sizeof add);
+    else usrsctp_setsockopt(theirs, IPPROTO_SCTP, SCTP_RESET_STREAMS, &reset, sizeof reset.room);
+    if (!adds) their_reset = stream;
 }
 
 static void they_write(void) {
@@ -361,16 +362,41 @@ static int they_are_done(void) {
     return status.sstat_unackdata == 0 && status.sstat_penddata == 0;
 }
 
-static void exchange(long ticks) {
+/* Both sides ask at any time. */
+static void ask_at_any_time(void) {
+    if (is_answered() && (our_reset >= 0 || network.tick % 40 == 0)) we_ask(network.tick % 400 == 0);
+    if (network.tick % 100 == 0) they_ask(network.tick % 500 == 0);
+}
+
+/* Nobody writes until nothing waits or is in flight; then both sides ask, and go on when our request has its answer. Whether to write. */
+static int ask_where_calm(void) {
+    static uint64_t asked_at;
+    static int is_waiting;
+    if (!is_waiting && network.tick % 100 == 0) is_waiting = 1;
+    if (!is_waiting) return 1;
+    if (asked_at == 0 && is_done() && they_are_done()) {
+        asked_at = network.tick;
+        they_ask(asked_at % 3 == 0);
+        we_ask(asked_at % 4 == 0);
+        if (our_reset >= 0) we_ask(0);
+    } else if (asked_at > 0 && network.tick > asked_at + 60 && is_answered()) {
+        is_waiting = 0;
+        asked_at = 0;
+    }
+    return !is_waiting;
+}
+
+static void exchange(long ticks, int is_calm) {
     for (uint16_t i = 0; i < STREAMS; i++) {
         const struct mode *m = &modes[i];
         if (sctpr_sender_set_mode(&endpoint.sender, i, m->unordered, m->reliability, m->value) != SCTPR_OK) fault("mode %u", i);
     }
     for (long i = 0; i < ticks && may_go_on(); i++) {
-        if (has_resets) we_reset();
-        if (has_resets) they_reset();
-        we_write();
-        they_write();
+        if (has_resets && !is_calm) ask_at_any_time();
+        if (!has_resets || !is_calm || ask_where_calm()) {
+            we_write();
+            they_write();
+        }
         one_tick();
         if (network.tick % 256 == 0) messages_forget(20000);
     }
@@ -436,7 +462,7 @@ int main(int argc, char **argv) {
     set_up_usrsctp();
     set_up_endpoint();
     connect_sides(seed);
-    if (faults == 0) exchange(argc > 2 ? atol(argv[2]) : 3000);
+    if (faults == 0) exchange(argc > 2 ? atol(argv[2]) : 3000, seed % 2 == 0);
     if (faults == 0) shut_down(seed / 3 % 2);
     print_all();
     int is_own = is_own_abort() || (faults == 0 && is_spoiled());
