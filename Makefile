@@ -26,7 +26,7 @@ ifeq ($(PROVE),no)
 $(error there is no build without a proof (docs/DECISIONS.md): ARCHIVE=FILE takes an archive that was built elsewhere)
 endif
 LIBRARIES = $(DESTDIR)$(LIBDIR)
-SOURCES := $(shell find crates -name '*.rt' -path '*/src/*') packaging/archive.py
+SOURCES := $(shell find crates -name '*.rt' -path '*/src/*') packaging/archive.py packaging/checks.c include/sctpr.h
 
 all: $(OUT)/libsctp-rattle.a $(OUT)/sctp-rattle.pc
 shared: $(OUT)/$(SONAME)

@@ -4,7 +4,7 @@
 #     usrsctp.h, netinet/sctp.h (Debian's libsctp-dev) and linux/sctp.h, as many as are there. These three declare sctp_assoc_t in two ways,
 #     so that no file can have usrsctp.h and another one
 #   - the header declares no name, and defines no macro, that does not begin with sctpr_ or SCTPR_
-#   - the archive defines the calls that the header declares, and no other name
+#   - the archive defines the calls that the header declares, the proved ones behind them (packaging/checks.c), and no other name
 #
 #     c_tests/headers.sh [ARCHIVE]
 #
@@ -77,7 +77,7 @@ declared() {
 
 defines_the_calls() {
     declared >"$BUILD/declared"
-    nm -g --defined-only "$1" 2>"$BUILD/nm" | awk 'NF == 3 { print $3 }' | sort >"$BUILD/defined"
+    nm -g --defined-only "$1" 2>"$BUILD/nm" | awk 'NF == 3 { print $3 }' | sed 's/^sctpr_proved_/sctpr_/;s/_free_handle$/_free/' | sort -u >"$BUILD/defined"
     diff "$BUILD/declared" "$BUILD/defined"
 }
 if [ $# -gt 0 ]; then try defines_the_calls "$1"; fi

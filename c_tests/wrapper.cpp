@@ -128,7 +128,6 @@ void reconfig() {
     auto param = sctpr::read_any_param(bytes_of("\0\5\0\x08\xc0\0\2\1", 8));
     CHECK(param && param->type == 5 && param->length == 4 && param->next == 8);
     CHECK(is_refused(sctpr::write_chunk(SCTPR_COOKIE_ACK, bytes_of("a", 1), out), sctpr::code::not_as_given));
-    CHECK(is_refused(sctpr::receiver::make(1, 65536, 66335, 9), sctpr::code::invalid));
     auto s = *sctpr::sender::make(1, 10, 100);
     std::array<std::uint8_t, 20> chunk{};
     CHECK(s.open(3) && s.set_mode(3, true, sctpr::reliability::rexmit, 1) && s.write(3, 99, bytes_of("a", 1)) && s.send_next(1, chunk));
@@ -165,6 +164,17 @@ void windows() {
     static_assert(sctpr::receiver::least_window(65536, 65519) == 66336 && sctpr::receiver::least_window(1201, 1200) == 2001);
     auto r = *sctpr::receiver::make(1, 60, 100000, 9);
     CHECK(r.credit(60) == 13020 && r.credit(0) == 249 && r.window() == 100000 && sctpr::receiver::least_window(9, 0) == 3609);
+    CHECK(is_refused(sctpr::receiver::make(1, 65536, 66335, 9), sctpr::code::invalid) && sctpr::receiver::make(1, 65536, 66336, 9));
+    CHECK(is_refused(sctpr::receiver::make(1, 65536, 66336, 0), sctpr::code::invalid));
+}
+
+/** What is missing for the third time is told once, when it is newly marked, and is outstanding no more. */
+void marked() {
+    auto s = *sctpr::sender::make(1000, 10, 100);
+    std::array<std::uint8_t, 32> out{};
+    CHECK(s.open(3) && s.write(3, SCTPR_PPID_STRING, bytes_of("two fragments", 13)) && s.send_next(1, out) && s.send_next(1, out));
+    for (std::size_t i = 0; i < 5; i++) CHECK(s.add_miss_indications(1001) == (i == 2 ? 1 : 0));
+    CHECK(s.outstanding().marked == 1 && s.outstanding().chunks == 1 && s.outstanding().bytes == 3);
 }
 
 /** A message of three chunks goes over, its middle one late. */
@@ -298,6 +308,18 @@ void moved() {
     CHECK(is_refused(sctpr::sender::make(1, 0, 100), sctpr::code::invalid));
 }
 
+/** A handle that was freed behind the object's back is empty: each call is refused, and the object frees nothing. */
+void freed() {
+    auto s = *sctpr::sender::make(1, 10, 100);
+    auto r = *sctpr::receiver::make(1, 100, 1000, 10);
+    sctpr_sender_free(s.handle());
+    sctpr_receiver_free(r.handle());
+    CHECK(is_refused(s.open(3), sctpr::code::invalid) && is_refused(s.take_sack({}, {}), sctpr::code::invalid) && s.pending() == 0);
+    CHECK(is_refused(r.open(3), sctpr::code::invalid) && is_refused(r.read(3), sctpr::code::invalid) && r.window() == 0);
+    sctpr_sender_free(s.handle());
+    CHECK(s.handle()->at == nullptr && r.handle()->at == nullptr);
+}
+
 } // namespace
 
 int main() {
@@ -307,10 +329,12 @@ int main() {
     reconfig();
     allowed();
     windows();
+    marked();
     goes_over();
     abandoned();
     without_rows();
     moved();
+    freed();
     std::printf("wrapper: %u passed, %u failed\n", passed, failed);
     return failed != 0;
 }

@@ -10,8 +10,12 @@
  * There is no global state, clock, socket, thread or random source in the library, and no call that ends the program.
  *
  * Bytes. Each call takes any bytes of any length. A length of 0 goes with any pointer, also NULL; any other pointer leads to as many
- * bytes, or rows, as its length says. A pointer to one value is not NULL, but the value may be anything, also not yet set.
+ * bytes, or rows, as its length says, and a pointer to one value to that value, which may be anything, also not yet set.
  * What a call writes must not overlap anything else that it is handed. A call writes nothing but where its description says so.
+ *
+ * NULL. A call that is handed NULL in place of a handle, a value, or a length above 0 of bytes or rows, and one of an empty handle, does
+ * nothing: it answers SCTPR_INVALID, or 0 where it answers no code. A handle is empty as `sctpr_sender handle = { NULL }`, and after it was
+ * freed. Of any other pointer nothing is tested.
  *
  * Threads. Calls on different memory may run at the same time. A handle is used by one call at a time, and never copied.
  *
@@ -48,7 +52,7 @@ enum {
     SCTPR_NO_MEMORY = 16,
     /* The buffer is too short: the length that is wanted was told. */
     SCTPR_SHORT_BUFFER = 17,
-    /* An argument is out of its range. */
+    /* An argument is out of its range, or NULL, or an empty handle. */
     SCTPR_INVALID = 18,
     /* A chunk or a parameter would be longer than 65,535 bytes with its header (RFC 4960 3.2, 3.2.1). */
     SCTPR_LENGTH_TOO_LARGE = 19,
@@ -531,14 +535,8 @@ sctpr_code sctpr_receiver_new(uint32_t first_tsn, uint32_t max_message_size, siz
 /* The same, with no limit to what is held: for a peer that is trusted, or a replay. */
 sctpr_code sctpr_receiver_new_unlimited(uint32_t first_tsn, uint32_t max_message_size, sctpr_receiver *out);
 
-/* Frees a receiver and all that it holds, and empties its handle. It does nothing where the handle is empty, as after this call or with
- * `sctpr_receiver handle = { NULL }`, and where there is no handle. */
-void sctpr_receiver_free_handle(sctpr_receiver receiver);
-static inline void sctpr_receiver_free(sctpr_receiver *receiver) {
-    if (receiver == NULL || receiver->at == NULL) return;
-    sctpr_receiver_free_handle(*receiver);
-    receiver->at = NULL;
-}
+/* Frees a receiver and all that it holds, and empties its handle. It does nothing where the handle is empty, or NULL. */
+void sctpr_receiver_free(sctpr_receiver *receiver);
 
 /* Opens a stream. SCTPR_STREAM_OPEN, SCTPR_NO_MEMORY. */
 sctpr_code sctpr_receiver_open(sctpr_receiver *receiver, uint16_t stream);
@@ -613,14 +611,8 @@ typedef struct sctpr_sender {
 sctpr_code sctpr_sender_new(uint32_t first_tsn, uint32_t fragment_size, uint32_t max_message_size, uint8_t keeps_reported,
                             sctpr_sender *out);
 
-/* Frees a sender and all that it holds, and empties its handle. It does nothing where the handle is empty, as after this call or with
- * `sctpr_sender handle = { NULL }`, and where there is no handle. */
-void sctpr_sender_free_handle(sctpr_sender sender);
-static inline void sctpr_sender_free(sctpr_sender *sender) {
-    if (sender == NULL || sender->at == NULL) return;
-    sctpr_sender_free_handle(*sender);
-    sender->at = NULL;
-}
+/* Frees a sender and all that it holds, and empties its handle. It does nothing where the handle is empty, or NULL. */
+void sctpr_sender_free(sctpr_sender *sender);
 
 /* Opens a stream, ordered and reliable. SCTPR_STREAM_OPEN, SCTPR_NO_MEMORY. */
 sctpr_code sctpr_sender_open(sctpr_sender *sender, uint16_t stream);

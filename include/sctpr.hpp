@@ -7,7 +7,7 @@
  * std::string take memory of C++ itself.
  *
  * A sender or receiver is moved, never copied, and used by one thread at a time. Of one that was moved from each call is refused with
- * code::invalid, or answers 0 or nothing. */
+ * code::invalid, or answers 0 or nothing: its handle is empty. */
 #ifndef SCTPR_HPP
 #define SCTPR_HPP
 
@@ -36,7 +36,7 @@ enum class code : sctpr_code {
     no_memory = SCTPR_NO_MEMORY,
     /** The buffer is too short: the length that is wanted was told. */
     short_buffer = SCTPR_SHORT_BUFFER,
-    /** An argument is out of its range. */
+    /** An argument is out of its range, or NULL, or an empty handle. */
     invalid = SCTPR_INVALID,
     /** A chunk or a parameter would be longer than 65,535 bytes with its header (RFC 4960 3.2, 3.2.1). */
     length_too_large = SCTPR_LENGTH_TOO_LARGE,
@@ -290,16 +290,6 @@ template <class T> result<std::optional<std::span<T>>> rows_if_new(sctpr_code c,
 template <class T> result<std::span<T>> rows_of(sctpr_code c, std::span<T> rows, std::size_t count) {
     if (is_refused(c)) return refusal(c, count);
     return rows.first(count < rows.size() ? count : rows.size());
-}
-/** A call on a handle; of one that was moved from it is refused. */
-template <class F, class H, class... A> sctpr_code on(F call, H &handle, A... given) {
-    if (handle.at == nullptr) return SCTPR_INVALID;
-    return call(&handle, given...);
-}
-/** A call that answers a number, or nothing; of one that was moved from it answers 0. */
-template <class F, class H, class... A> auto told(F call, H &handle, A... given) {
-    using answer = decltype(call(&handle, given...));
-    return handle.at == nullptr ? answer() : call(&handle, given...);
 }
 } // namespace detail
 
@@ -574,40 +564,40 @@ public:
     }
     ~receiver() { sctpr_receiver_free(&handle_); }
 
-    result<void> open(std::uint16_t stream) { return detail::done(detail::on(sctpr_receiver_open, handle_, stream)); }
-    void close(std::uint16_t stream) { detail::told(sctpr_receiver_close, handle_, stream); }
+    result<void> open(std::uint16_t stream) { return detail::done(sctpr_receiver_open(&handle_, stream)); }
+    void close(std::uint16_t stream) { sctpr_receiver_close(&handle_, stream); }
     result<void> reset(std::uint16_t stream, std::uint32_t last_tsn) {
-        return detail::done(detail::on(sctpr_receiver_reset, handle_, stream, last_tsn));
+        return detail::done(sctpr_receiver_reset(&handle_, stream, last_tsn));
     }
     result<arrival> take_data(bytes chunk) {
         std::uint8_t complete = 0;
-        sctpr_code c = detail::on(sctpr_receiver_data, handle_, chunk.data(), chunk.size(), &complete);
+        sctpr_code c = sctpr_receiver_data(&handle_, chunk.data(), chunk.size(), &complete);
         return detail::value_of(c, c == SCTPR_REPEAT ? arrival::repeat : complete ? arrival::completed : arrival::added);
     }
     /** A DATA chunk that is dropped counts as come. */
     result<arrival> discard(std::uint32_t tsn) {
-        sctpr_code c = detail::on(sctpr_receiver_discard, handle_, tsn);
+        sctpr_code c = sctpr_receiver_discard(&handle_, tsn);
         return detail::value_of(c, c == SCTPR_REPEAT ? arrival::repeat : arrival::added);
     }
     /** Whether it was past the cumulative TSN, and was followed. */
     result<bool> take_forward_tsn(bytes chunk) {
-        sctpr_code c = detail::on(sctpr_receiver_forward_tsn, handle_, chunk.data(), chunk.size());
+        sctpr_code c = sctpr_receiver_forward_tsn(&handle_, chunk.data(), chunk.size());
         return detail::value_of(c, c == SCTPR_OK);
     }
     result<bool> take_forward_tsn_past_closed(bytes chunk) {
-        sctpr_code c = detail::on(sctpr_receiver_forward_tsn_past_closed, handle_, chunk.data(), chunk.size());
+        sctpr_code c = sctpr_receiver_forward_tsn_past_closed(&handle_, chunk.data(), chunk.size());
         return detail::value_of(c, c == SCTPR_OK);
     }
     /** The next message of a stream; nothing is taken out. */
     result<std::optional<message_info>> next(std::uint16_t stream) const {
         message_info m{};
-        sctpr_code c = detail::on(sctpr_receiver_next_length, handle_, stream, &m.size, &m.payload_type);
+        sctpr_code c = sctpr_receiver_next_length(&handle_, stream, &m.size, &m.payload_type);
         return detail::option_of(c, m);
     }
     /** Takes the next message out, to the front of a buffer. */
     result<std::optional<message_info>> read(std::uint16_t stream, buffer out) {
         message_info m{};
-        sctpr_code c = detail::on(sctpr_receiver_read, handle_, stream, out.data(), out.size(), &m.size, &m.payload_type);
+        sctpr_code c = sctpr_receiver_read(&handle_, stream, out.data(), out.size(), &m.size, &m.payload_type);
         return detail::option_of(c, m, m.size);
     }
     /** Takes the next message out. */
@@ -623,22 +613,22 @@ public:
     /** The streams with a message to read: the front of `rows`. */
     result<std::span<std::uint16_t>> readable_streams(std::span<std::uint16_t> rows) const {
         std::size_t n = 0;
-        sctpr_code c = detail::on(sctpr_receiver_readable_streams, handle_, rows.data(), rows.size(), &n);
+        sctpr_code c = sctpr_receiver_readable_streams(&handle_, rows.data(), rows.size(), &n);
         return detail::rows_of(c, rows, n);
     }
     /** Writes the SACK, and answers how many bytes it has. */
     result<std::size_t> write_sack(buffer out) {
         std::size_t n = 0;
-        sctpr_code c = detail::on(sctpr_receiver_sack, handle_, out.data(), out.size(), &n);
+        sctpr_code c = sctpr_receiver_sack(&handle_, out.data(), out.size(), &n);
         return detail::value_of(c, n, 16);
     }
-    std::uint32_t cumulative_tsn() const { return detail::told(sctpr_receiver_cumulative_tsn, handle_); }
-    std::uint32_t window() const { return detail::told(sctpr_receiver_window, handle_); }
+    std::uint32_t cumulative_tsn() const { return sctpr_receiver_cumulative_tsn(&handle_); }
+    std::uint32_t window() const { return sctpr_receiver_window(&handle_); }
     /** SCTPR_CREDIT of what is left of the window, for a peer whose chunks have `fragment` bytes of user data or more; 0 counts as 1. */
     std::uint32_t credit(std::uint32_t fragment) const {
         return static_cast<std::uint32_t>(SCTPR_CREDIT(window(), fragment == 0 ? 1 : fragment));
     }
-    std::size_t held_bytes() const { return detail::told(sctpr_receiver_held_bytes, handle_); }
+    std::size_t held_bytes() const { return sctpr_receiver_held_bytes(&handle_); }
 
     /** The handle, for calls of sctpr.h; it stays this object's. */
     sctpr_receiver *handle() { return &handle_; }
@@ -682,129 +672,129 @@ public:
     }
     ~sender() { sctpr_sender_free(&handle_); }
 
-    result<void> open(std::uint16_t stream) { return detail::done(detail::on(sctpr_sender_open, handle_, stream)); }
-    void close(std::uint16_t stream) { detail::told(sctpr_sender_close, handle_, stream); }
+    result<void> open(std::uint16_t stream) { return detail::done(sctpr_sender_open(&handle_, stream)); }
+    void close(std::uint16_t stream) { sctpr_sender_close(&handle_, stream); }
     result<void> set_mode(std::uint16_t stream, bool unordered, reliability kind = reliability::reliable, std::uint32_t value = 0) {
-        return detail::done(detail::on(sctpr_sender_set_mode, handle_, stream, unordered, static_cast<std::uint32_t>(kind), value));
+        return detail::done(sctpr_sender_set_mode(&handle_, stream, unordered, static_cast<std::uint32_t>(kind), value));
     }
-    result<void> set_fragment_size(std::uint32_t size) { return detail::done(detail::on(sctpr_sender_set_fragment_size, handle_, size)); }
+    result<void> set_fragment_size(std::uint32_t size) { return detail::done(sctpr_sender_set_fragment_size(&handle_, size)); }
     result<void> set_low_threshold(std::uint16_t stream, std::size_t size) {
-        return detail::done(detail::on(sctpr_sender_set_low_threshold, handle_, stream, size));
+        return detail::done(sctpr_sender_set_low_threshold(&handle_, stream, size));
     }
-    result<void> reset(std::uint16_t stream) { return detail::done(detail::on(sctpr_sender_reset, handle_, stream)); }
+    result<void> reset(std::uint16_t stream) { return detail::done(sctpr_sender_reset(&handle_, stream)); }
     /** Takes a copy of a message; none where it has no bytes. */
     result<std::optional<written>> write(std::uint16_t stream, std::uint32_t payload_type, bytes message) {
         written w{};
-        sctpr_code c = detail::on(sctpr_sender_write, handle_, stream, payload_type, message.data(), message.size(), &w.number, &w.fragments);
+        sctpr_code c = sctpr_sender_write(&handle_, stream, payload_type, message.data(), message.size(), &w.number, &w.fragments);
         return detail::option_of(c, w);
     }
-    void start(std::uint64_t now) { detail::told(sctpr_sender_start, handle_, now); }
+    void start(std::uint64_t now) { sctpr_sender_start(&handle_, now); }
     /** Writes the next DATA chunk; none where nothing waits. */
     result<std::optional<sent>> send_next(std::uint64_t now, buffer out) {
         sent s{};
-        sctpr_code c = detail::on(sctpr_sender_send_next, handle_, now, out.data(), out.size(), &s.size, &s.tsn);
+        sctpr_code c = sctpr_sender_send_next(&handle_, now, out.data(), out.size(), &s.size, &s.tsn);
         return detail::option_of(c, s, s.size);
     }
     /** Writes a DATA chunk again, and answers how many bytes it has. */
     result<std::size_t> resend(std::uint32_t tsn, std::uint64_t now, buffer out) {
         std::size_t n = 0;
-        sctpr_code c = detail::on(sctpr_sender_resend, handle_, tsn, now, out.data(), out.size(), &n);
+        sctpr_code c = sctpr_sender_resend(&handle_, tsn, now, out.data(), out.size(), &n);
         return detail::value_of(c, n, n);
     }
-    void retransmit_all() { detail::told(sctpr_sender_retransmit_all, handle_); }
-    std::size_t add_miss_indications(std::uint32_t before) { return detail::told(sctpr_sender_add_miss_indications, handle_, before); }
+    void retransmit_all() { sctpr_sender_retransmit_all(&handle_); }
+    std::size_t add_miss_indications(std::uint32_t before) { return sctpr_sender_add_miss_indications(&handle_, before); }
     /** The chunk in flight with a TSN. */
     std::optional<sctpr::in_flight> in_flight(std::uint32_t tsn) const {
         sctpr::in_flight row{};
-        return detail::on(sctpr_sender_in_flight, handle_, tsn, &row) == SCTPR_OK ? std::optional(row) : std::nullopt;
+        return sctpr_sender_in_flight(&handle_, tsn, &row) == SCTPR_OK ? std::optional(row) : std::nullopt;
     }
     /** The chunk in flight at a place, from 0 on. */
     std::optional<sctpr::in_flight> in_flight_at(std::size_t place) const {
         sctpr::in_flight row{};
-        return detail::on(sctpr_sender_in_flight_at, handle_, place, &row) == SCTPR_OK ? std::optional(row) : std::nullopt;
+        return sctpr_sender_in_flight_at(&handle_, place, &row) == SCTPR_OK ? std::optional(row) : std::nullopt;
     }
     std::optional<sctpr::in_flight> next_to_retransmit() const {
         sctpr::in_flight row{};
-        return detail::on(sctpr_sender_next_to_retransmit, handle_, &row) == SCTPR_OK ? std::optional(row) : std::nullopt;
+        return sctpr_sender_next_to_retransmit(&handle_, &row) == SCTPR_OK ? std::optional(row) : std::nullopt;
     }
     /** Takes a SACK: a row for each chunk that it reports anew; no span where it is out of date. There are to be as many rows as chunks in
      * flight, or none. */
     result<std::optional<std::span<acked>>> take_sack(bytes chunk, std::span<acked> rows) {
         std::size_t n = 0;
-        sctpr_code c = detail::on(sctpr_sender_acked, handle_, chunk.data(), chunk.size(), rows.data(), rows.size(), &n);
+        sctpr_code c = sctpr_sender_acked(&handle_, chunk.data(), chunk.size(), rows.data(), rows.size(), &n);
         return detail::rows_if_new(c, rows, n);
     }
     /** Takes the TSN of a SHUTDOWN, as a SACK. */
     result<std::optional<std::span<acked>>> take_shutdown(std::uint32_t tsn, std::span<acked> rows) {
         std::size_t n = 0;
-        sctpr_code c = detail::on(sctpr_sender_acked_up_to, handle_, tsn, rows.data(), rows.size(), &n);
+        sctpr_code c = sctpr_sender_acked_up_to(&handle_, tsn, rows.data(), rows.size(), &n);
         return detail::rows_if_new(c, rows, n);
     }
     /** Takes back what a SACK no longer reports, before take_sack with the same SACK; no span where it is out of date. */
     result<std::optional<std::span<taken_back>>> take_back(bytes chunk, std::span<taken_back> rows) {
         std::size_t n = 0;
-        sctpr_code c = detail::on(sctpr_sender_take_back, handle_, chunk.data(), chunk.size(), rows.data(), rows.size(), &n);
+        sctpr_code c = sctpr_sender_take_back(&handle_, chunk.data(), chunk.size(), rows.data(), rows.size(), &n);
         return detail::rows_if_new(c, rows, n);
     }
     result<abandoned> abandon(std::uint32_t tsn) {
         abandoned row{};
-        return detail::value_of(detail::on(sctpr_sender_abandon, handle_, tsn, &row), row);
+        return detail::value_of(sctpr_sender_abandon(&handle_, tsn, &row), row);
     }
     std::optional<expired> expire(std::uint64_t now) {
         expired row{};
-        return detail::on(sctpr_sender_expire, handle_, now, &row) == SCTPR_OK ? std::optional(row) : std::nullopt;
+        return sctpr_sender_expire(&handle_, now, &row) == SCTPR_OK ? std::optional(row) : std::nullopt;
     }
     result<std::optional<abandoned>> expire_tail(std::uint64_t now) {
         abandoned row{};
-        return detail::option_of(detail::on(sctpr_sender_expire_tail, handle_, now, &row), row);
+        return detail::option_of(sctpr_sender_expire_tail(&handle_, now, &row), row);
     }
     /** There are to be as many rows as chunks in flight, or none. */
     result<std::span<abandoned>> expire_late(std::uint64_t now, std::span<abandoned> rows) {
         std::size_t n = 0;
-        sctpr_code c = detail::on(sctpr_sender_expire_late, handle_, now, rows.data(), rows.size(), &n);
+        sctpr_code c = sctpr_sender_expire_late(&handle_, now, rows.data(), rows.size(), &n);
         return detail::rows_of(c, rows, n);
     }
     result<std::span<abandoned>> expire_rexmit(std::span<abandoned> rows) {
         std::size_t n = 0;
-        sctpr_code c = detail::on(sctpr_sender_expire_rexmit, handle_, rows.data(), rows.size(), &n);
+        sctpr_code c = sctpr_sender_expire_rexmit(&handle_, rows.data(), rows.size(), &n);
         return detail::rows_of(c, rows, n);
     }
     /** Writes the FORWARD-TSN that is to be sent; none where there is nothing to tell. */
     result<std::optional<std::size_t>> write_forward_tsn(buffer out) {
         std::size_t n = 0;
-        sctpr_code c = detail::on(sctpr_sender_forward_tsn, handle_, out.data(), out.size(), &n);
+        sctpr_code c = sctpr_sender_forward_tsn(&handle_, out.data(), out.size(), &n);
         return detail::option_of(c, n, n);
     }
     result<std::optional<std::size_t>> write_forward_tsn_to(std::uint32_t tsn, buffer out) {
         std::size_t n = 0;
-        sctpr_code c = detail::on(sctpr_sender_forward_tsn_to, handle_, tsn, out.data(), out.size(), &n);
+        sctpr_code c = sctpr_sender_forward_tsn_to(&handle_, tsn, out.data(), out.size(), &n);
         return detail::option_of(c, n, n);
     }
-    std::uint32_t next_tsn() const { return detail::told(sctpr_sender_next_tsn, handle_); }
-    std::uint32_t acked_tsn() const { return detail::told(sctpr_sender_acked_tsn, handle_); }
-    std::uint32_t advanced_ack_point() const { return detail::told(sctpr_sender_advanced_ack_point, handle_); }
-    std::size_t bytes_in_flight() const { return detail::told(sctpr_sender_bytes_in_flight, handle_); }
-    std::size_t chunks_in_flight() const { return detail::told(sctpr_sender_chunks_in_flight, handle_); }
+    std::uint32_t next_tsn() const { return sctpr_sender_next_tsn(&handle_); }
+    std::uint32_t acked_tsn() const { return sctpr_sender_acked_tsn(&handle_); }
+    std::uint32_t advanced_ack_point() const { return sctpr_sender_advanced_ack_point(&handle_); }
+    std::size_t bytes_in_flight() const { return sctpr_sender_bytes_in_flight(&handle_); }
+    std::size_t chunks_in_flight() const { return sctpr_sender_chunks_in_flight(&handle_); }
     outstanding_row outstanding() const {
         outstanding_row row{};
-        detail::told(sctpr_sender_outstanding, handle_, &row);
+        sctpr_sender_outstanding(&handle_, &row);
         return row;
     }
     std::optional<std::uint32_t> earliest_outstanding() const {
         std::uint32_t tsn = 0;
-        return detail::on(sctpr_sender_earliest_outstanding, handle_, &tsn) == SCTPR_OK ? std::optional(tsn) : std::nullopt;
+        return sctpr_sender_earliest_outstanding(&handle_, &tsn) == SCTPR_OK ? std::optional(tsn) : std::nullopt;
     }
     std::optional<std::uint64_t> next_timeout() const {
         std::uint64_t at = 0;
-        return detail::on(sctpr_sender_next_timeout, handle_, &at) == SCTPR_OK ? std::optional(at) : std::nullopt;
+        return sctpr_sender_next_timeout(&handle_, &at) == SCTPR_OK ? std::optional(at) : std::nullopt;
     }
-    std::size_t pending() const { return detail::told(sctpr_sender_pending, handle_); }
+    std::size_t pending() const { return sctpr_sender_pending(&handle_); }
     result<std::size_t> buffered_amount(std::uint16_t stream) const {
         std::size_t amount = 0;
-        sctpr_code c = detail::on(sctpr_sender_buffered_amount, handle_, stream, &amount);
+        sctpr_code c = sctpr_sender_buffered_amount(&handle_, stream, &amount);
         return detail::value_of(c, amount);
     }
-    bool is_drained(std::uint16_t stream) const { return detail::told(sctpr_sender_is_drained, handle_, stream) != 0; }
+    bool is_drained(std::uint16_t stream) const { return sctpr_sender_is_drained(&handle_, stream) != 0; }
 
     /** The handle, for calls of sctpr.h; it stays this object's. */
     sctpr_sender *handle() { return &handle_; }

@@ -4,11 +4,14 @@
 
 Of a static library `rt ci` keeps nothing, and a static library exports only functions of its own root crate. So sctp_c is a library: `rt ci`
 proves it once, and keeps it. This writes, into a temporary folder, a static library that has a function for each call of sctp_c that is marked
-#[unsafe(no_mangle)], with the same name and parameters, whose body is that call. The kit proves that none of them can do wrong, whatever is
+#[unsafe(no_mangle)], with the same parameters, whose body is that call. The kit proves that none of them can do wrong, whatever is
 handed in, and the compiler leaves nothing of it in the archive: each name is that of the proved call. What the kit proved of this is kept in
 out/archive, so that it is proved once.
 
-It needs the kit's command rt, and what `rt lib` in crates/sctp_c makes: where rt ci has proved sctp_c in this checkout,
+The proved calls take references, which are never NULL. So the name of each that takes one has `proved_` in it, and the archive has the calls of
+packaging/checks.c beside them, under the names of the header: these test for NULL first.
+
+It needs the kit's command rt, a C compiler, and what `rt lib` in crates/sctp_c makes: where rt ci has proved sctp_c in this checkout,
 c_tests/built_libraries.py has rt lib take that."""
 
 import os
@@ -23,6 +26,11 @@ CALL = re.compile(r'#\[unsafe\(no_mangle\)\]\n(?:#\[[^\n]*\n)*pub extern "C" fn 
 TYPE = re.compile(r"^pub struct (Sctp\w+)", re.M)
 # What the kit's last line has where a crate calls C, may end the process, or hides what it calls (as rt ci holds it).
 BEYOND = re.compile(r" (foreign|hides|bugs|may-abort|may-wait|may-serve|partial|main)=")
+
+
+def exported(name, params):
+    """The name of a call in the archive: one that takes a reference, or a handle, has another one than in the header."""
+    return name.replace("sctpr_", "sctpr_proved_", 1) if re.search(r"&|\bSctp", params) else name
 
 
 def sources(folder):
@@ -49,9 +57,9 @@ def text_of(folder):
             taken = ", ".join(f"{name.strip()}: {of.strip()}" for name, of in params)
             given = ", ".join(name.strip() for name, _ in params)
             end = "" if found["result"] else ";"
-            names.append(found["name"])
+            names.append(exported(found["name"], found["params"]))
             calls.append(
-                f'#[unsafe(no_mangle)]\npub extern "C" fn {found["name"]}({taken}){found["result"] or ""} {{\n'
+                f'#[unsafe(no_mangle)]\npub extern "C" fn {names[-1]}({taken}){found["result"] or ""} {{\n'
                 f"    {module}::{found['name']}({given}){end}\n}}\n"
             )
     uses = [f"use {types[it]}::{it};" if it in types else f"use std::alloc::{it};" for it in sorted(used)]
@@ -68,6 +76,13 @@ def words_of(crate, rtlib):
     words += ["--antt-project", f"{kit}/rattle/logic/antt-project.json", "--logic-built", f"{kit}/logic_built"]
     words += ["--links", f"{NAME}=", "--crate-type", "staticlib", "--jobs", os.environ.get("RT_JOBS", "2"), "--backend", "llvm"]
     return words + ["--toolchain", f"{kit}/toolchain", "--incremental", os.path.abspath("out/archive")]
+
+
+def add_checks(archive, room):
+    """Puts the calls of checks.c beside the proved ones."""
+    flags = ["-std=c99", "-O2", "-fPIC", "-ffunction-sections", "-Wall", "-Wextra", "-Iinclude"]
+    subprocess.run([os.environ.get("CC", "cc"), *flags, "-c", "packaging/checks.c", "-o", f"{room}/checks.o"], check=True)
+    subprocess.run([os.environ.get("AR", "ar"), "rs", archive, f"{room}/checks.o"], check=True, stderr=subprocess.DEVNULL)
 
 
 def main():
@@ -97,6 +112,7 @@ def main():
         if ran.returncode or not verdict or not are_proved or BEYOND.search(verdict):
             print(f"archive.py: no archive: the {len(names)} calls are not proved, or reach past the library")
             return ran.returncode or 1
+        add_checks(f"{room}/made.a", room)
         shutil.copyfile(f"{room}/made.a", archive)
     return 0
 

@@ -1,8 +1,10 @@
 #!/usr/bin/env python3
-"""Writes what the wrappers repeat of include/sctpr.h: declarations and codes for Rust, codes for C++ and Go, and the version, which sctpdump says too.
+"""Writes what repeats include/sctpr.h: the calls of packaging/checks.c, which test for NULL before the proved calls, declarations and codes for
+Rust, codes for C++ and Go, and the version, which sctpdump says too.
 
     python3 tools/c_bindings.py            writes
-    python3 tools/c_bindings.py --check    says what is out of date; the status is 1 where anything is
+    python3 tools/c_bindings.py --check    says what is out of date, and which calls take other things here than in sctp_c; the status is 1
+                                           where anything is
 """
 import pathlib
 import re
@@ -109,6 +111,96 @@ extern "C" {{
 '''
 
 
+HANDLES = {'sctpr_sender': 'SctpSender', 'sctpr_receiver': 'SctpReceiver'}
+
+
+def params_of(match):
+    """Of each parameter of a call its declaration and its name."""
+    return [(text.strip(), re.search(r'\w+$', text.strip())[0]) for text in match['params'].split(',') if text.strip() != 'void']
+
+
+def kinds_of(match):
+    """Of each parameter of a call what it is: a handle, one value behind a pointer, items behind a pointer whose number follows it, or a number."""
+    params, kinds = params_of(match), []
+    for i, (text, _) in enumerate(params):
+        base = re.sub(r'\bconst\b|\*|\w+$', '', text).strip()
+        next_one = params[i + 1][0] if i + 1 < len(params) else ''
+        if '*' not in text:
+            kinds.append('number')
+        elif base in HANDLES and not text.endswith(' *out'):
+            kinds.append('handle')
+        else:
+            kinds.append('items' if re.fullmatch(r'size_t \w+', next_one) else 'value')
+    return kinds
+
+
+def proved_kinds():
+    """Of each call of sctp_c the same: there a slice takes the place of items and their number, and memory is a parameter too."""
+    kinds = {}
+    for path in sorted((TOP / 'crates/sctp_c/src').rglob('*.rt')):
+        for name, params in re.findall(r'#\[unsafe\(no_mangle\)\]\n(?:#\[[^\n]*\n)*pub extern "C" fn (\w+)\(([^)]*)\)', path.read_text()):
+            types = [it.split(':', 1)[1].strip() for it in params.split(',') if it.strip()]
+            kinds[name] = [kind for it in types if it != 'Global' for kind in
+                           (['items', 'number'] if re.match(r'&(mut )?\[', it) else
+                            ['handle'] if it.removeprefix('&').removeprefix('mut ') in HANDLES.values() else
+                            ['value'] if it.startswith('&') else ['number'])]
+    return kinds
+
+
+def strays():
+    """The calls that take other things in the header than in sctp_c, and those that stand in one of both."""
+    declared = {match['name']: kinds_of(match) for match in CALL.finditer(HEADER)}
+    proved = {name.removesuffix('_handle'): kinds for name, kinds in proved_kinds().items()}
+    return sorted(name for name in declared.keys() | proved.keys() if declared.get(name) != proved.get(name))
+
+
+def test_of(kind, name, following):
+    """What is true where a parameter can't be handed on."""
+    return {'handle': f'{name} == NULL || {name}->at == NULL', 'value': f'{name} == NULL',
+            'items': f'({name} == NULL && {following} > 0)'}.get(kind)
+
+
+def folded(text, indent):
+    """A line, folded at 140 columns behind a comma or before an ||."""
+    lines = []
+    while len(text) > 140:
+        at = max(text.rfind(', ', 0, 139) + 1, text.rfind(' || ', 0, 140))
+        lines.append(text[:at].rstrip())
+        text = indent + text[at:].lstrip()
+    return '\n'.join([*lines, text])
+
+
+def checked_call(match):
+    name, params = match['name'], params_of(match)
+    names = [it for _, it in params]
+    proved = name.replace('sctpr_', 'sctpr_proved_', 1)
+    tests = [test_of(kind, it, following) for kind, it, following in zip(kinds_of(match), names, [*names[1:], ''])]
+    tests = [it for it in tests if it]
+    if not tests:
+        return None
+    refusal = {'sctpr_code': 'return SCTPR_INVALID', 'void': 'return'}.get(match['result'], 'return 0')
+    head = f'{match["result"]} {name}({", ".join(text for text, _ in params)})'
+    if name.endswith('_free'):
+        shown = f'void {proved}_handle({names[0].join(["sctpr_", " "])}{names[0]});'
+        calls = [f'    {proved}_handle(*{names[0]});', f'    {names[0]}->at = NULL;']
+    else:
+        shown = head.replace(name, proved) + ';'
+        calls = [f'    {"return " if match["result"] != "void" else ""}{proved}({", ".join(names)});']
+    lines = [folded(shown, '    '), folded(head + ' {', '    '), folded(f'    if ({" || ".join(tests)}) {refusal};', '        ')]
+    return '\n'.join([*lines, *(folded(it, '        ') for it in calls), '}\n'])
+
+
+def checks():
+    calls = [it for it in map(checked_call, CALL.finditer(HEADER)) if it]
+    return f'''/* {NOTE}
+ *
+ * Each call of sctpr.h that takes a pointer: it tests for NULL, and then makes the proved call, whose name has `proved_` in it
+ * (packaging/archive.py). Nothing else is done here. */
+#include "sctpr.h"
+
+{chr(10).join(calls)}'''
+
+
 WANTED = '\n        /// How many bytes, or rows, are enough.\n        wanted: usize,\n    '
 
 
@@ -201,6 +293,7 @@ def between(text, first, last, new):
 
 
 def files():
+    yield 'packaging/checks.c', checks()
     yield 'wrappers/rust/sctp-rattle-sys/src/lib.rs', rust_sys()
     yield 'wrappers/rust/sctp-rattle/src/error.rs', rust_errors()
     yield 'wrappers/go/codes.go', go_codes()
@@ -223,7 +316,9 @@ def main():
             print('out of date:' if is_check else 'written:', path)
             if not is_check:
                 (TOP / path).write_text(text)
-    return 1 if is_check and stale else 0
+    for name in strays():
+        print('other parameters than in sctp_c:', name)
+    return 1 if strays() or (is_check and stale) else 0
 
 
 if __name__ == '__main__':

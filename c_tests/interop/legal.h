@@ -1,5 +1,5 @@
-/* Whether what an endpoint sends keeps the rules for DATA and FORWARD-TSN, told from its packets alone: so that a peer's abort is told
- * from a fault of this side. Each breach is a fault (messages.h). */
+/* Whether what an endpoint sends keeps the rules for DATA, FORWARD-TSN and resets of its streams, told from its packets alone: so that a fault
+ * of a peer is told from one of this side. Each breach is a fault (messages.h). */
 #ifndef LEGAL_H
 #define LEGAL_H
 
@@ -8,7 +8,7 @@
 
 /* A packet that the endpoint sends. `first_tsn` is its initial TSN. */
 void legal_sent(uint32_t first_tsn, const uint8_t *packet, size_t length);
-/* A packet that comes to the endpoint: what its SACKs report. */
+/* A packet that comes to the endpoint: what its SACKs report, and its answer to a reset. */
 void legal_came(const uint8_t *packet, size_t length);
 
 #endif

@@ -6,6 +6,7 @@
  * After a reset the next message of the stream has the number 0 and arrives, and so does one on a stream that was added. The last line says
  * how many faults there were; the status is 0 where there was none. */
 #include "endpoint.h"
+#include "known.h"
 #include "network.h"
 #include <errno.h>
 #include <stdio.h>
@@ -24,6 +25,7 @@ static unsigned long faults, messages;
 /* The number of the last DATA chunk that usrsctp sent on a stream. */
 static uint16_t their_number[65536];
 
+/* Nothing here is abandoned or unordered, so that usrsctp's faults are not met (known.h); the last line says where one is. */
 static void fault(const char *what) {
     faults++;
     printf("FAULT: %s\n", what);
@@ -56,6 +58,7 @@ static int their_output(void *address, void *packet, size_t length, uint8_t tos,
     (void)address;
     (void)tos;
     (void)df;
+    known_sent(packet, length);
     network_send(&network, THEIRS, packet, length);
     return 0;
 }
@@ -94,6 +97,11 @@ static void set_up_usrsctp(void) {
     must(usrsctp_connect(theirs, (struct sockaddr *)&peer, sizeof peer), "usrsctp_connect");
 }
 
+static int never_abandons(uint16_t stream) {
+    (void)stream;
+    return 0;
+}
+
 static void set_up_endpoint(void) {
     struct endpoint_config config = { 0 };
     config.port = 5001;
@@ -112,6 +120,7 @@ static void set_up_endpoint(void) {
     config.max_retransmissions = 10000;
     config.output = our_output;
     endpoint_init(&endpoint, &config);
+    known_begin(config.first_tsn, never_abandons);
 }
 
 static void note_numbers(const struct datagram *d) {
@@ -131,7 +140,10 @@ static void one_tick(void) {
         note_numbers(d);
         endpoint_receive(&endpoint, d->bytes, d->length, now());
     }
-    while ((d = network_take(&network, OURS)) != NULL) usrsctp_conninput(&network, d->bytes, d->length, 0);
+    while ((d = network_take(&network, OURS)) != NULL) {
+        known_taken(d->bytes, d->length);
+        usrsctp_conninput(&network, d->bytes, d->length, 0);
+    }
     usrsctp_handle_timers(TICK_MS);
     endpoint_poll(&endpoint, now());
 }
@@ -275,6 +287,8 @@ int main(int argc, char **argv) {
     endpoint_free(&endpoint);
     for (int i = 0; i < 1000 && usrsctp_finish() != 0; i++) usrsctp_handle_timers(TICK_MS);
     network_free(&network);
-    printf("reconfig: seed %lu, %lu ticks, %lu messages, %lu faults\n", (unsigned long)seed, (unsigned long)network.tick, messages, faults);
+    printf("reconfig: seed %lu, %lu ticks, %lu messages, %lu faults", (unsigned long)seed, (unsigned long)network.tick, messages, faults);
+    known_print();
+    putchar('\n');
     return faults != 0;
 }

@@ -2,14 +2,19 @@
  * and damages datagrams. Each message that is read is compared, byte for byte, with what was written; of the reliable streams each has to
  * come.
  *
- *     usrsctp [seed] [ticks] [lost repeated late damaged, each of 10,000 datagrams] [mixed | short]
+ *     usrsctp [seed] [ticks] [lost repeated late damaged, each of 10,000 datagrams] [mixed | short | resets]
  *
  * It writes for so many ticks of 10 ms, in no real time, then waits until all came, and shuts down. By the seed our side connects, or
- * usrsctp, or both; a seed's run is the same each time. With `mixed` an unordered stream has messages of one chunk and of several: usrsctp
- * 0.9.5.0 then may abort over legal chunks, which is no fault of ours; legal.c looks at every chunk that we send. With `short` messages
- * have under 64 bytes, and enough of them are written that stream sequence numbers pass 65,535 within 20,000 ticks. The last line says how
- * many messages came and how many faults there were; the status is 0 where there was none, and 3 where usrsctp aborted so. */
+ * usrsctp, or both; a seed's run is the same each time. With `mixed` an unordered stream has messages of one chunk and of several. With
+ * `short` messages have under 64 bytes, and enough of them are written that stream sequence numbers pass 65,535 within 20,000 ticks. With
+ * `resets` both sides reset streams and add some (RFC 6525): by an odd seed at any time, by an even one only where nothing waits or is in flight,
+ * so that usrsctp's faults are not met.
+ *
+ * usrsctp 0.9.5.0 has faults, which known.c tells from the chunks alone. legal.c looks at every chunk that we send: where it finds a fault, none is
+ * usrsctp's. One that ends the run, or keeps messages from coming, is no fault of ours; everything else is. The last line says how many
+ * messages came, how many faults there were, and which of usrsctp's; the status is 0 where there was none, and 3 where usrsctp's ended the run. */
 #include "endpoint.h"
+#include "known.h"
 #include "legal.h"
 #include "messages.h"
 #include "network.h"
@@ -23,13 +28,11 @@
 #include <usrsctp.h>
 
 enum { TICK_MS = 10, OURS = 0, THEIRS = 1, WRITES = 20, SHORT_WRITES = 80 };
-/* What usrsctp says where it aborts over legal chunks. */
-static const char own_abort[] = "Illegal message sequence, missing end for MID";
 
 static struct network network;
 static struct endpoint endpoint;
 static struct socket *listener, *theirs;
-static int is_mixed, is_short;
+static int is_mixed, is_short, has_resets;
 
 static uint64_t now(void) { return (network.tick + 1) * TICK_MS * 1000000; }
 
@@ -50,6 +53,11 @@ int __wrap_read_random(void *bytes, int length) {
     return length;
 }
 
+/* Whether a fault of usrsctp keeps messages from coming. */
+static int is_spoiled(void) { return known[KNOWN_UNACKNOWLEDGED] + known[KNOWN_INTERLEAVED] > 0; }
+
+static int may_go_on(void) { return endpoint.state == ENDPOINT_ESTABLISHED && faults == 0 && !is_spoiled(); }
+
 static int writes_a_tick(void) { return is_short ? SHORT_WRITES : WRITES; }
 
 static uint32_t a_length(int stream, int separate) {
@@ -57,6 +65,31 @@ static uint32_t a_length(int stream, int separate) {
 }
 
 /* ---- Our side -------------------------------------------------------------------------------------------------------------- */
+
+/* The stream that we reset, -1 where there is none: nothing is written on it before that is performed. */
+static int our_reset = -1;
+static int is_asked;
+static unsigned long resets_performed, streams_added;
+
+/* Whether our last request has its answer. */
+static int is_answered(void) {
+    if (endpoint.request.length > 0) return 0;
+    if (!is_asked) return 1;
+    if (endpoint.request_result != SCTPR_RESULT_PERFORMED) fault("a request is answered with %u", (unsigned)endpoint.request_result);
+    resets_performed += our_reset >= 0;
+    streams_added += our_reset < 0;
+    is_asked = 0;
+    our_reset = -1;
+    return 1;
+}
+
+/* Adds a stream, or resets one as soon as it is drained. */
+static void we_ask(int adds) {
+    uint16_t stream = (uint16_t)our_reset;
+    if (our_reset >= 0) is_asked = endpoint_reset(&endpoint, &stream, 1) == SCTPR_OK;
+    else if (adds && endpoint.outgoing < 40) is_asked = endpoint_add_streams(&endpoint, 1) == SCTPR_OK;
+    else our_reset = (int)(random_next(&message_random) % STREAMS);
+}
 
 static void our_output(void *context, const uint8_t *packet, size_t length) {
     (void)context;
@@ -69,6 +102,7 @@ static void we_write(void) {
     for (int i = 0; i < writes_a_tick() && sctpr_sender_pending(&endpoint.sender) < 2000; i++) {
         int stream = (int)(random_next(&message_random) % STREAMS);
         size_t amount = 0;
+        if (stream == our_reset) continue;
         sctpr_sender_buffered_amount(&endpoint.sender, (uint16_t)stream, &amount);
         if (amount > 1 << 20) continue;
         uint32_t length = a_length(stream, !is_mixed);
@@ -102,6 +136,7 @@ static int their_output(void *address, void *packet, size_t length, uint8_t tos,
     (void)address;
     (void)tos;
     (void)df;
+    known_sent(packet, length);
     network_send(&network, THEIRS, packet, length);
     return 0;
 }
@@ -115,7 +150,8 @@ static void must(int result, const char *what) {
 static void set_up_socket(struct socket *s) {
     int size = 4 << 20, on = 1, off = 0;
     uint32_t point = 1 << 20;
-    struct sctp_initmsg init = { .sinit_num_ostreams = STREAMS, .sinit_max_instreams = STREAMS };
+    struct sctp_initmsg init = { .sinit_num_ostreams = STREAMS, .sinit_max_instreams = has_resets ? 100 : STREAMS };
+    struct sctp_assoc_value resets = { SCTP_FUTURE_ASSOC, SCTP_ENABLE_RESET_STREAM_REQ | SCTP_ENABLE_CHANGE_ASSOC_REQ };
     must(usrsctp_setsockopt(s, SOL_SOCKET, SO_RCVBUF, &size, sizeof size), "SO_RCVBUF");
     must(usrsctp_setsockopt(s, SOL_SOCKET, SO_SNDBUF, &size, sizeof size), "SO_SNDBUF");
     must(usrsctp_setsockopt(s, IPPROTO_SCTP, SCTP_NODELAY, &on, sizeof on), "SCTP_NODELAY");
@@ -123,6 +159,7 @@ static void set_up_socket(struct socket *s) {
     must(usrsctp_setsockopt(s, IPPROTO_SCTP, SCTP_FRAGMENT_INTERLEAVE, &off, sizeof off), "SCTP_FRAGMENT_INTERLEAVE");
     must(usrsctp_setsockopt(s, IPPROTO_SCTP, SCTP_PARTIAL_DELIVERY_POINT, &point, sizeof point), "SCTP_PARTIAL_DELIVERY_POINT");
     must(usrsctp_setsockopt(s, IPPROTO_SCTP, SCTP_INITMSG, &init, sizeof init), "SCTP_INITMSG");
+    if (has_resets) must(usrsctp_setsockopt(s, IPPROTO_SCTP, SCTP_ENABLE_STREAM_RESET, &resets, sizeof resets), "SCTP_ENABLE_STREAM_RESET");
     must(usrsctp_set_non_blocking(s, 1), "non-blocking");
 }
 
@@ -154,6 +191,26 @@ static struct sctp_sendv_spa send_info(int stream) {
 /* Whether usrsctp has no association any more: where it aborted, its ABORT may still be on the way to us. */
 static int is_gone;
 
+/* The stream that usrsctp was told to reset: nothing is written on it for a while, and then as soon as it takes a message again. */
+static int their_reset = -1;
+
+/* usrsctp adds a stream, or resets one; it refuses where it does so already. */
+static void they_ask(int adds) {
+    union {
+        struct sctp_reset_streams it;
+        uint8_t room[sizeof(struct sctp_reset_streams) + 2];
+    } reset;
+    struct sctp_add_streams add = { .sas_outstrms = 1 };
+    uint16_t stream = (uint16_t)(random_next(&message_random) % STREAMS);
+    memset(&reset, 0, sizeof reset);
+    reset.it.srs_flags = SCTP_STREAM_RESET_OUTGOING;
+    reset.it.srs_number_streams = 1;
+    memcpy(reset.room + sizeof reset.it, &stream, sizeof stream);
+    if (adds) usrsctp_setsockopt(theirs, IPPROTO_SCTP, SCTP_ADD_STREAMS, &add, sizeof add);
+    else usrsctp_setsockopt(theirs, IPPROTO_SCTP, SCTP_RESET_STREAMS, &reset, sizeof reset.room);
+    if (!adds) their_reset = stream;
+}
+
 static void they_write(void) {
     static uint8_t message[MAX_MESSAGE];
     static int stream = -1;
@@ -163,6 +220,10 @@ static void they_write(void) {
         if (stream < 0) {
             stream = (int)(random_next(&message_random) % STREAMS);
             length = a_length(stream, 0);
+        }
+        if (stream == their_reset) {
+            stream = -1;
+            continue;
         }
         struct sctp_sendv_spa info = send_info(stream);
         message_fill(message, length, THEIRS, stream, channels[THEIRS][stream].written);
@@ -232,13 +293,19 @@ static void one_tick(void) {
         legal_came(d->bytes, d->length);
         endpoint_receive(&endpoint, d->bytes, d->length, now());
     }
-    while ((d = network_take(&network, OURS)) != NULL) usrsctp_conninput(&network, d->bytes, d->length, 0);
+    while ((d = network_take(&network, OURS)) != NULL) {
+        known_taken(d->bytes, d->length);
+        usrsctp_conninput(&network, d->bytes, d->length, 0);
+    }
     accept_them();
     usrsctp_handle_timers(TICK_MS);
     we_read();
     they_read();
     endpoint_poll(&endpoint, now());
 }
+
+/* usrsctp's streams have the modes of ours. */
+static int they_may_abandon(uint16_t stream) { return stream >= STREAMS || modes[stream].reliability != SCTPR_RELIABLE; }
 
 static void set_up_endpoint(void) {
     struct endpoint_config config = { 0 };
@@ -258,6 +325,7 @@ static void set_up_endpoint(void) {
     config.max_retransmissions = 10000;
     config.output = our_output;
     endpoint_init(&endpoint, &config);
+    known_begin(config.first_tsn, they_may_abandon);
 }
 
 /* By the seed our side connects, usrsctp does, or both do. */
@@ -294,21 +362,48 @@ static int they_are_done(void) {
     return status.sstat_unackdata == 0 && status.sstat_penddata == 0;
 }
 
-static void exchange(long ticks) {
+/* Both sides ask at any time. */
+static void ask_at_any_time(void) {
+    if (is_answered() && (our_reset >= 0 || network.tick % 40 == 0)) we_ask(network.tick % 400 == 0);
+    if (network.tick % 100 == 0) they_ask(network.tick % 500 == 0);
+}
+
+/* Nobody writes until nothing waits or is in flight; then both sides ask, and go on when our request has its answer. Whether to write. */
+static int ask_where_calm(void) {
+    static uint64_t asked_at;
+    static int is_waiting;
+    if (!is_waiting && network.tick % 100 == 0) is_waiting = 1;
+    if (!is_waiting) return 1;
+    if (asked_at == 0 && is_done() && they_are_done()) {
+        asked_at = network.tick;
+        they_ask(asked_at % 3 == 0);
+        we_ask(asked_at % 4 == 0);
+        if (our_reset >= 0) we_ask(0);
+    } else if (asked_at > 0 && network.tick > asked_at + 60 && is_answered()) {
+        is_waiting = 0;
+        asked_at = 0;
+    }
+    return !is_waiting;
+}
+
+static void exchange(long ticks, int is_calm) {
     for (uint16_t i = 0; i < STREAMS; i++) {
         const struct mode *m = &modes[i];
         if (sctpr_sender_set_mode(&endpoint.sender, i, m->unordered, m->reliability, m->value) != SCTPR_OK) fault("mode %u", i);
     }
-    for (long i = 0; i < ticks && endpoint.state == ENDPOINT_ESTABLISHED && faults == 0; i++) {
-        we_write();
-        they_write();
+    for (long i = 0; i < ticks && may_go_on(); i++) {
+        if (has_resets && !is_calm) ask_at_any_time();
+        if (!has_resets || !is_calm || ask_where_calm()) {
+            we_write();
+            they_write();
+        }
         one_tick();
         if (network.tick % 256 == 0) messages_forget(20000);
     }
-    for (long i = 0; i < 200000 && !(is_done() && they_are_done()) && endpoint.state == ENDPOINT_ESTABLISHED && faults == 0; i++) one_tick();
+    for (long i = 0; i < 200000 && !(is_done() && they_are_done()) && may_go_on(); i++) one_tick();
     /* what usrsctp may still skip */
-    for (int i = 0; i < 500 && endpoint.state == ENDPOINT_ESTABLISHED; i++) one_tick();
-    if (endpoint.state == ENDPOINT_ESTABLISHED && !is_done()) fault("not all came");
+    for (int i = 0; i < 500 && may_go_on(); i++) one_tick();
+    if (may_go_on() && !is_done()) fault("not all came");
     for (int i = 0; i < 2 * STREAMS && is_short; i++)
         if (channels[i % 2][i / 2].written <= 65536) fault("direction %d, stream %d: too few messages", i % 2, i / 2);
     messages_forget(0);
@@ -316,20 +411,19 @@ static void exchange(long ticks) {
 
 /* Our side shuts down, or usrsctp does. */
 static void shut_down(int is_theirs) {
-    if (endpoint.state != ENDPOINT_ESTABLISHED) return;
+    if (!may_go_on()) return;
     if (is_theirs) usrsctp_shutdown(theirs, SHUT_WR);
     else endpoint_shutdown(&endpoint, now());
     for (int i = 0; i < 5000 && !endpoint_is_over(&endpoint); i++) one_tick();
     if (endpoint.state != ENDPOINT_SHUT_DOWN) fault("not shut down: state %d", endpoint.state);
 }
 
-/* What the peer's ABORT says, a text behind the headers of chunk and cause; whether usrsctp aborted over legal chunks. */
+/* Prints what the peer's ABORT says, a text behind the headers of chunk and cause; whether it is a fault of usrsctp. */
 static int is_own_abort(void) {
     const char *text = (const char *)endpoint.abort_chunk + 8;
-    size_t length = endpoint.abort_length > 8 ? endpoint.abort_length - 8 : 0;
     if (endpoint.state != ENDPOINT_ABORTED) return 0;
-    printf("ABORT: %.*s\n", (int)length, text);
-    return faults == 0 && length >= sizeof own_abort - 1 && memcmp(text, own_abort, sizeof own_abort - 1) == 0;
+    if (endpoint.abort_length > 8) printf("ABORT: %.*s\n", (int)(endpoint.abort_length - 8), text);
+    return faults == 0 && known_is_abort;
 }
 
 static void print_all(void) {
@@ -361,16 +455,17 @@ int main(int argc, char **argv) {
     }
     is_mixed = argc > 7 && strcmp(argv[7], "mixed") == 0;
     is_short = argc > 7 && strcmp(argv[7], "short") == 0;
+    has_resets = argc > 7 && strcmp(argv[7], "resets") == 0;
     message_random = seed * 0x9e3779b97f4a7c15ull | 1;
     their_random = seed * 0xbf58476d1ce4e5b9ull | 1;
     network_init(&network, seed, rates);
     set_up_usrsctp();
     set_up_endpoint();
     connect_sides(seed);
-    if (faults == 0) exchange(argc > 2 ? atol(argv[2]) : 3000);
+    if (faults == 0) exchange(argc > 2 ? atol(argv[2]) : 3000, seed % 2 == 0);
     if (faults == 0) shut_down(seed / 3 % 2);
     print_all();
-    int is_own = is_own_abort();
+    int is_own = is_own_abort() || (faults == 0 && is_spoiled());
     if (endpoint.state == ENDPOINT_ABORTED && !is_own) fault("aborted");
     if (is_gone && !endpoint_is_over(&endpoint)) fault("usrsctp has no association, and we were not told");
     uint64_t messages = messages_read(&bytes);
@@ -379,7 +474,10 @@ int main(int argc, char **argv) {
     if (listener) usrsctp_close(listener);
     for (int i = 0; i < 1000 && usrsctp_finish() != 0; i++) usrsctp_handle_timers(TICK_MS);
     network_free(&network);
-    printf("usrsctp: seed %lu, %lu ticks, %lu messages, %lu bytes, %lu faults%s\n", (unsigned long)seed, (unsigned long)network.tick,
-           (unsigned long)messages, (unsigned long)bytes, faults, is_own ? ", usrsctp aborted over legal chunks" : "");
+    if (has_resets) printf("usrsctp: %lu of our streams were reset, %lu added\n", resets_performed, streams_added);
+    printf("usrsctp: seed %lu, %lu ticks, %lu messages, %lu bytes, %lu faults", (unsigned long)seed, (unsigned long)network.tick,
+           (unsigned long)messages, (unsigned long)bytes, faults);
+    known_print();
+    printf("%s\n", is_own ? ", which ended the run" : "");
     return faults != 0 ? 1 : is_own ? 3 : 0;
 }

@@ -19,7 +19,7 @@ const (
 	CodeNoMemory Code = 16
 	// The buffer is too short: the length that is wanted was told.
 	CodeShortBuffer Code = 17
-	// An argument is out of its range.
+	// An argument is out of its range, or NULL, or an empty handle.
 	CodeInvalid Code = 18
 	// A chunk or a parameter would be longer than 65,535 bytes with its header (RFC 4960 3.2, 3.2.1).
 	CodeLengthTooLarge Code = 19
@@ -180,7 +180,7 @@ func (c Code) text() string {
 	case CodeShortBuffer:
 		return "The buffer is too short: the length that is wanted was told."
 	case CodeInvalid:
-		return "An argument is out of its range."
+		return "An argument is out of its range, or NULL, or an empty handle."
 	case CodeLengthTooLarge:
 		return "A chunk or a parameter would be longer than 65,535 bytes with its header (RFC 4960 3.2, 3.2.1)."
 	case CodeBadChecksum:

@@ -9,6 +9,7 @@ import "C"
 
 // A Receiver is the receiving half of an association: what came and was not read (RFC 4960 6.2, 6.5, 6.6, 6.9).
 type Receiver struct {
+	_      noCopy
 	handle C.sctpr_receiver
 }
 
@@ -61,9 +62,8 @@ func NewUnlimitedReceiver(firstTSN, maxMessageSize uint32) (*Receiver, error) {
 
 // Close frees the receiver and all that it holds. A second Close does nothing, nor does one of nil.
 func (r *Receiver) Close() error {
-	if r.isOpen() {
+	if r != nil {
 		C.sctpr_receiver_free(&r.handle)
-		r.handle.at = nil
 	}
 	return nil
 }

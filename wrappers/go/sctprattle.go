@@ -6,7 +6,8 @@
 // sctpr.h; what it was to change is as it was then. An error is a Code, or, where a buffer is too short, a *ShortBufferError; errors.Is
 // compares both with a Code.
 //
-// A Sender or Receiver is used by one goroutine at a time, and freed by Close. After Close, and of nil, its methods answer ErrClosed, or 0.
+// A Sender or Receiver is never copied (go vet tells where one is), used by one goroutine at a time, and freed by Close. After Close, and of
+// nil, its methods answer ErrClosed, or 0.
 package sctprattle
 
 /*
@@ -23,6 +24,12 @@ import (
 
 // ErrClosed is what the methods of a Sender or Receiver answer after Close, and those of nil.
 var ErrClosed = errors.New("sctprattle: closed")
+
+// noCopy has go vet tell of a copy: two copies of a handle would free the same memory.
+type noCopy struct{}
+
+func (*noCopy) Lock()   {}
+func (*noCopy) Unlock() {}
 
 // Name is the name that sctpr.h has for a code: "SCTPR_NO_MEMORY".
 func (c Code) Name() string {

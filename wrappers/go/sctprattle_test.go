@@ -151,8 +151,6 @@ func TestReconfig(t *testing.T) {
 	check(t, "address", param.Type == 5 && len(param.Value) == 4 && len(rest) == 0 && err == nil)
 	_, err = WriteChunk(ChunkCookieAck, []byte("a"), out)
 	is(t, err, CodeNotAsGiven)
-	_, err = NewReceiver(1, 65536, 66335, 9)
-	is(t, err, CodeInvalid)
 	s, err := NewSender(1, 10, 100, false)
 	must(t, err)
 	defer s.Close()
@@ -201,6 +199,28 @@ func TestWindows(t *testing.T) {
 	must(t, err)
 	defer r.Close()
 	check(t, "credits", r.Credit(60) == 13020 && r.Credit(0) == 249 && r.Window() == 100000)
+	_, err = NewReceiver(1, 65536, 66335, 9)
+	is(t, err, CodeInvalid)
+	_, err = NewReceiver(1, 65536, 66336, 0)
+	is(t, err, CodeInvalid)
+	least, err := NewReceiver(1, 65536, 66336, 9)
+	must(t, err)
+	must(t, least.Close())
+}
+
+// What is missing for the third time is told once, when it is newly marked, and is outstanding no more.
+func TestMarked(t *testing.T) {
+	s, _ := halves(t)
+	_, _, err := s.Write(3, PPIDString, []byte("two fragments"))
+	must(t, err)
+	for i := 0; i < 2; i++ {
+		_, _, err = s.SendNext(1, make([]byte, 28))
+		must(t, err)
+	}
+	for _, want := range []int{0, 0, 1, 0, 0} {
+		check(t, "newly marked", s.AddMissIndications(1001) == want)
+	}
+	check(t, "outstanding", s.Outstanding() == Outstanding{3, 1, 1})
 }
 
 func halves(t *testing.T) (*Sender, *Receiver) {
@@ -381,3 +401,27 @@ func TestClosed(t *testing.T) {
 	_, err = r.Data([]byte{0})
 	check(t, "none", errors.Is(err, ErrClosed) && s.AddMissIndications(1) == 0 && r.Credit(60) == 0)
 }
+
+// Each method of a Sender and a Receiver that is nil, that no New made, or that was closed twice answers ErrClosed, or nothing; Close does nothing.
+func TestWithoutHandle(t *testing.T) {
+	s, r := halves(t)
+	must(t, s.Close())
+	must(t, r.Close())
+	must(t, s.Close())
+	must(t, r.Close())
+	for _, of := range []any{s, (*Sender)(nil), new(Sender), r, (*Receiver)(nil), new(Receiver)} {
+		for i := 0; i < reflect.TypeOf(of).NumMethod(); i++ {
+			method, name := reflect.ValueOf(of).Method(i), reflect.TypeOf(of).Method(i).Name
+			given := make([]reflect.Value, method.Type().NumIn())
+			for k := range given {
+				given[k] = reflect.Zero(method.Type().In(k))
+			}
+			for _, result := range method.Call(given) {
+				err, isError := result.Interface().(error)
+				check(t, name, isError && errors.Is(err, ErrClosed) || result.IsZero() && (name == "Close" || !result.Type().Implements(errorType)))
+			}
+		}
+	}
+}
+
+var errorType = reflect.TypeOf((*error)(nil)).Elem()

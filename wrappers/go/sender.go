@@ -8,6 +8,7 @@ import "C"
 // A Sender is the sending half of an association: what was written and is not yet acknowledged (RFC 4960 6.1, 6.2.1, 6.9; RFC 3758). Times
 // are in nanoseconds from any one moment.
 type Sender struct {
+	_      noCopy
 	handle C.sctpr_sender
 }
 
@@ -90,9 +91,8 @@ func NewSender(firstTSN, fragmentSize, maxMessageSize uint32, keepsReported bool
 
 // Close frees the sender and all that it holds. A second Close does nothing, nor does one of nil.
 func (s *Sender) Close() error {
-	if s.isOpen() {
+	if s != nil {
 		C.sctpr_sender_free(&s.handle)
-		s.handle.at = nil
 	}
 	return nil
 }

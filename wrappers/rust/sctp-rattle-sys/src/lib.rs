@@ -20,7 +20,7 @@ pub const SCTPR_NOTHING: sctpr_code = 3;
 pub const SCTPR_NO_MEMORY: sctpr_code = 16;
 /// The buffer is too short: the length that is wanted was told.
 pub const SCTPR_SHORT_BUFFER: sctpr_code = 17;
-/// An argument is out of its range.
+/// An argument is out of its range, or NULL, or an empty handle.
 pub const SCTPR_INVALID: sctpr_code = 18;
 /// A chunk or a parameter would be longer than 65,535 bytes with its header (RFC 4960 3.2, 3.2.1).
 pub const SCTPR_LENGTH_TOO_LARGE: sctpr_code = 19;
@@ -573,9 +573,8 @@ extern "C" {
     /// The same, with no limit to what is held: for a peer that is trusted, or a replay.
     pub fn sctpr_receiver_new_unlimited(first_tsn: u32, max_message_size: u32, out: *mut sctpr_receiver) -> sctpr_code;
 
-    /// Frees a receiver and all that it holds, and empties its handle. It does nothing where the handle is empty, as after this call or with
-    /// `sctpr_receiver handle = { NULL }`, and where there is no handle.
-    pub fn sctpr_receiver_free_handle(receiver: sctpr_receiver);
+    /// Frees a receiver and all that it holds, and empties its handle. It does nothing where the handle is empty, or NULL.
+    pub fn sctpr_receiver_free(receiver: *mut sctpr_receiver);
 
     /// Opens a stream. SCTPR_STREAM_OPEN, SCTPR_NO_MEMORY.
     pub fn sctpr_receiver_open(receiver: *mut sctpr_receiver, stream: u16) -> sctpr_code;
@@ -642,9 +641,8 @@ extern "C" {
     /// `out` stays then.
     pub fn sctpr_sender_new(first_tsn: u32, fragment_size: u32, max_message_size: u32, keeps_reported: u8, out: *mut sctpr_sender) -> sctpr_code;
 
-    /// Frees a sender and all that it holds, and empties its handle. It does nothing where the handle is empty, as after this call or with
-    /// `sctpr_sender handle = { NULL }`, and where there is no handle.
-    pub fn sctpr_sender_free_handle(sender: sctpr_sender);
+    /// Frees a sender and all that it holds, and empties its handle. It does nothing where the handle is empty, or NULL.
+    pub fn sctpr_sender_free(sender: *mut sctpr_sender);
 
     /// Opens a stream, ordered and reliable. SCTPR_STREAM_OPEN, SCTPR_NO_MEMORY.
     pub fn sctpr_sender_open(sender: *mut sctpr_sender, stream: u16) -> sctpr_code;

@@ -13,7 +13,7 @@ pub enum Error {
         /// How many bytes, or rows, are enough.
         wanted: usize,
     },
-    /// An argument is out of its range.
+    /// An argument is out of its range, or NULL, or an empty handle.
     Invalid,
     /// A chunk or a parameter would be longer than 65,535 bytes with its header (RFC 4960 3.2, 3.2.1).
     LengthTooLarge,
@@ -328,7 +328,7 @@ impl Error {
         match self {
             Error::NoMemory => "Memory ran out.",
             Error::ShortBuffer { .. } => "The buffer is too short: the length that is wanted was told.",
-            Error::Invalid => "An argument is out of its range.",
+            Error::Invalid => "An argument is out of its range, or NULL, or an empty handle.",
             Error::LengthTooLarge => "A chunk or a parameter would be longer than 65,535 bytes with its header (RFC 4960 3.2, 3.2.1).",
             Error::BadChecksum => "The checksum of the packet is another one (RFC 4960 6.8).",
             Error::UnknownChunk => "A chunk is of a type that is not read.",

@@ -214,9 +214,8 @@ impl Receiver {
 
 impl Drop for Receiver {
     fn drop(&mut self) {
-        let sys::sctpr_receiver { at } = *self.handle.get_mut();
         // SAFETY: the handle was made by `new`, and is not used again.
-        unsafe { sys::sctpr_receiver_free_handle(sys::sctpr_receiver { at }) }
+        unsafe { sys::sctpr_receiver_free(self.handle.get_mut()) }
     }
 }
 

@@ -507,9 +507,8 @@ impl Sender {
 
 impl Drop for Sender {
     fn drop(&mut self) {
-        let sys::sctpr_sender { at } = *self.handle.get_mut();
         // SAFETY: the handle was made by `new`, and is not used again.
-        unsafe { sys::sctpr_sender_free_handle(sys::sctpr_sender { at }) }
+        unsafe { sys::sctpr_sender_free(self.handle.get_mut()) }
     }
 }
 

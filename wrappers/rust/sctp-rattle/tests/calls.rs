@@ -106,7 +106,6 @@ fn words_of_a_reconfig() {
     assert_eq!(Params::any(address).next(), Some(Ok(Param { kind: 5, value: &address[4..] })));
     assert_eq!(Params::new(address).next(), Some(Err(Error::ErrParamTypeUnhandled)));
     assert_eq!(write_chunk(chunk_type::COOKIE_ACK, b"a", &mut out), Err(Error::NotAsGiven));
-    assert_eq!(Receiver::new(1, 65536, 66335, 9).err(), Some(Error::Invalid));
     let mut s = Sender::new(1, 10, 100, false).unwrap();
     s.open(3).unwrap();
     s.set_mode(3, true, Mode::Rexmit(1)).unwrap();
@@ -148,6 +147,19 @@ fn windows_and_credits() {
     );
     let r = Receiver::new(1, 60, 100_000, 9).unwrap();
     assert_eq!((r.credit(60), r.credit(0), r.window()), (13020, 249, 100_000));
+    assert_eq!(Receiver::new(1, 65536, 66335, 9).err(), Some(Error::Invalid));
+    assert_eq!((Receiver::new(1, 65536, 66336, 9).err(), Receiver::new(1, 65536, 66336, 0).err()), (None, Some(Error::Invalid)));
+}
+
+/// What is missing for the third time is told once, when it is newly marked, and is outstanding no more.
+#[test]
+fn what_is_missing_is_marked_once() {
+    let (mut s, mut out) = (Sender::new(1000, 10, 100, false).unwrap(), [0; 32]);
+    s.open(3).unwrap();
+    s.write(3, ppid::STRING, b"two fragments").unwrap();
+    assert_eq!((0..2).map(|_| s.send_next(1, &mut out).unwrap().unwrap().tsn).collect::<Vec<_>>(), [1000, 1001]);
+    assert_eq!((0..5).map(|_| s.add_miss_indications(1001)).collect::<Vec<_>>(), [0, 0, 1, 0, 0]);
+    assert_eq!(s.outstanding(), Outstanding { bytes: 3, chunks: 1, marked: 1 });
 }
 
 /// A message of three chunks goes over, its middle one late.
@@ -285,4 +297,33 @@ fn halves_go_to_other_threads() {
     let r = Receiver::new(7, 10, 500, 5).unwrap();
     assert_eq!(format!("{r:?}"), "Receiver { cumulative_tsn: 6, window: 500, held_bytes: 0 }");
     assert_eq!(Sender::new(7, 0, 100, false).err(), Some(Error::Invalid));
+}
+
+#[test]
+fn plain_calls_refuse_null_and_empty_handles() {
+    use core::ptr::{null, null_mut};
+    use sctp_rattle_sys as sys;
+    let (mut sender, mut receiver) = (sys::sctpr_sender { at: null_mut() }, sys::sctpr_receiver { at: null_mut() });
+    let (mut number, mut count, mut data) = (7, 7, sys::sctpr_data::default());
+    // SAFETY: each pointer is NULL, or leads to what the call wants; the handles are empty.
+    unsafe {
+        for handle in [null_mut(), &mut sender as *mut _] {
+            assert_eq!(sys::sctpr_sender_open(handle, 1), sys::SCTPR_INVALID);
+            assert_eq!(sys::sctpr_sender_write(handle, 1, 51, b"a".as_ptr(), 1, &mut number, &mut count), sys::SCTPR_INVALID);
+            assert_eq!((sys::sctpr_sender_pending(handle), sys::sctpr_sender_next_tsn(handle), sys::sctpr_sender_is_drained(handle, 1)), (0, 0, 0));
+            sys::sctpr_sender_free(handle);
+        }
+        for handle in [null_mut(), &mut receiver as *mut _] {
+            assert_eq!(sys::sctpr_receiver_data(handle, b"a".as_ptr(), 1, null_mut()), sys::SCTPR_INVALID);
+            assert_eq!((sys::sctpr_receiver_window(handle), sys::sctpr_receiver_held_bytes(handle)), (0, 0));
+            sys::sctpr_receiver_free(handle);
+        }
+        assert_eq!(sys::sctpr_sender_new(1, 100, 1000, 0, null_mut()), sys::SCTPR_INVALID);
+        assert_eq!(sys::sctpr_read_data(null(), 8, &mut data), sys::SCTPR_INVALID);
+        assert_eq!(sys::sctpr_read_data(null(), 0, &mut data), sys::SCTPR_ERR_CHUNK_HEADER_TOO_SMALL);
+        assert_eq!(sys::sctpr_sender_new(1, 100, 1000, 0, &mut sender), sys::SCTPR_OK);
+        sys::sctpr_sender_free(&mut sender);
+        sys::sctpr_sender_free(&mut sender);
+    }
+    assert_eq!((number, count), (7, 7));
 }
