@@ -8,3 +8,8 @@ pub mod Reaching
 pub mod ReachedBounds
 pub mod UserData
 pub mod Kept
+pub mod Running
+pub mod Putting
+pub mod Others
+pub mod Making
+pub mod Sessions

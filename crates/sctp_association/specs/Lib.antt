@@ -5,13 +5,17 @@ pub mod Counts
 pub mod Drafts
 pub mod Events
 pub mod Failing
+pub mod Halves
 pub mod Held
 pub mod Once
+pub mod Packets
 pub mod Reached
 pub mod Reads
 pub mod Reports
 pub mod Rooms
+pub mod Runs
 pub mod Sending
+pub mod Sessions
 pub mod Steps
 pub mod Still
 pub mod StreamSet

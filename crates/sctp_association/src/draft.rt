@@ -1,6 +1,9 @@
 //! The packet that is being written.
 
-ghost use Rattle.std.specs.Prelude.{◌≡◌, ◌≤◌, nat_le, max, false, OnErr, [], length};
+ghost use Rattle.std.specs.Prelude.{◌≡◌, ◌≤◌, nat_le, max, false, OnErr, OnOk, [], length};
+ghost use Rattle.sctp_association.specs.Packets.{Adds, put_where, sum_of};
+ghost use Rattle.sctp_packets.specs.Draft.{IsDraft, headed};
+ghost use Rattle.sctp_packets.specs.Packet.{Parts, packet_encoding};
 
 use sctp_chunks::chunk::Chunk;
 use sctp_packets::PacketWriter;
@@ -58,6 +61,7 @@ impl Draft {
     /// Begins a packet. Refuses only for memory; no other call takes any.
     #[tactic(auto, using(crate::proofs::Drafting::headed_within))]
     pub(crate) fn begin(&mut self, header: CommonHeader) -> Result<(), AllocError>
+        ensures begun { OnOk result (IsDraft (headed header) self.new.bytes) }
         ensures limit { self.new.limit ≡ self.old.limit }
         ensures err { OnErr result (self.new ≡ self.old) }
     {
@@ -79,7 +83,9 @@ impl Draft {
     }
 
     /// Puts a chunk behind the others, if it fits, and answers whether it did. It changes nothing where the answer is no.
+    #[tactic(auto, using(crate::proofs::Putting::added_put))]
     pub(crate) fn put<K: Chunk>(&mut self, chunk: &K) -> bool
+        ensures added { Adds (put_where result (K.wire chunk.now)) self.old.bytes self.new.bytes }
         ensures limit { self.new.limit ≡ self.old.limit }
         ensures full { result ≡ false → self.new ≡ self.old }
     {
@@ -101,6 +107,8 @@ impl Draft {
 
     /// Writes the checksum, or 0 in its place.
     pub(crate) fn seal(&mut self, is_zero: bool)
+        ensures sealed { (p : Parts) → IsDraft p self.old.bytes
+            → self.new.bytes ≡ packet_encoding (sum_of is_zero) p }
         ensures limit { self.new.limit ≡ self.old.limit }
     {
         let Some(writer) = &mut self.writer else {

@@ -1,6 +1,7 @@
 //! What comes of the peer's messages, and when it is acknowledged (RFC 9260 6.2, 6.5; RFC 3758 3.6).
 
 ghost use Rattle.std.specs.Prelude.{◌≡◌, ◌==◌, ◌<◌, ◌≤◌, ℕ, Ok, IfOk, IsOk, OnOk, Some, length, option_map, true, false};
+ghost use Rattle.sctp_association.specs.Packets.{PutsIn};
 ghost use Rattle.sctp_association.specs.Reached.{IsLimited, most_user_data};
 ghost use Rattle.sctp_association.specs.StreamSet.{is_in};
 ghost use Rattle.sctp_params.specs.declared.param.param_reconfig_response.ReconfigResult.TheVariants.{SuccessPerformed};
@@ -315,6 +316,8 @@ impl Inbound {
         has_data: bool,
         now: u64,
     ) -> Result<(), Fault>
+        ensures made { PutsIn self.old.receiver self.new.receiver packet.old.bytes
+            packet.new.bytes }
         ensures limits { (self.new.receiver.limits ≡ self.old.receiver.limits)
             × (self.new.streams ≡ self.old.streams) }
     {
@@ -323,10 +326,11 @@ impl Inbound {
             return Ok(());
         }
         let sack = self.receiver.make_sack(packet.room())?;
-        if packet.put(&sack) {
-            self.receiver.sack_sent();
-            self.delay.sent();
+        if !packet.put(&sack) {
+            return Ok(());
         }
+        self.receiver.sack_sent();
+        self.delay.sent();
         Ok(())
     }
 }

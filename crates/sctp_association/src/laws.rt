@@ -1,6 +1,7 @@
-//! What holds of every association: a law, the contract of a function that does nothing.
+//! What holds of every association: laws, each the contract of a function that does nothing.
 
 ghost use Rattle.sctp_association.specs.Held.{CostsLittle, HoldsFewChunks, KeepsFewTsns, NotesFewDuplicates, OfEach, OpensFewStreams};
+ghost use Rattle.sctp_association.specs.Sessions.{EachIsSent};
 
 /// Whatever a peer sends, and whatever calls an association had, what it holds of the peer's messages is within its `Config`. By 400 a
 /// chunk, the chunks count for no more than `window` and one chunk for each TSN within `reach`; with their bytes, for no more than
@@ -12,4 +13,10 @@ pub fn what_is_held_is_bounded()
     ensures beyond { OfEach KeepsFewTsns }
     ensures duplicates { OfEach NotesFewDuplicates }
     ensures streams { OfEach OpensFewStreams }
+{}
+
+/// What `poll_transmit` makes is calls of a session of its sender (`sctp_delivery`), in whatever session the sender stands: so a datagram is a
+/// packet of which each DATA chunk and FORWARD-TSN was made in that session.
+pub fn what_is_sent_was_made()
+    ensures { EachIsSent }
 {}

@@ -1,8 +1,9 @@
 //! What is sent, and when (RFC 9260 6.1, 6.3, 7.2; RFC 3758 3.5; RFC 7496 3.1).
 
-ghost use Rattle.std.specs.Prelude.{◌≡◌, ◌<◌, ◌≤◌, ◌==◌, not, true, false, None, Some, OnOk, OnErr, IfOk, IfErr, IsOk, length};
+ghost use Rattle.std.specs.Prelude.{◌≡◌, ◌<◌, ◌≤◌, ◌==◌, [], not, true, false, None, Some, OnOk, OnErr, IfOk, IfErr, IsOk, length};
 ghost use Rattle.sctp_association.specs.declared.fault.Fault.TheVariants.{OutOfMemory};
 ghost use Rattle.sctp_association.specs.Counts.{IsCountedAlike};
+ghost use Rattle.sctp_association.specs.Runs.{Sends};
 ghost use Rattle.sctp_association.specs.Waiting.{IsRefusal, closed_where, fault_of, opened, waiting_fault};
 ghost use Rattle.sctp_sender.specs.Settings.{with_low_on};
 ghost use Rattle.sctp_stream.specs.Stats.{count_up};
@@ -389,6 +390,7 @@ impl Outbound {
 
     /// Abandons what is past its lifetime (RFC 3758 4.1), and what was sent as often as it may be (RFC 7496 3.1).
     pub(crate) fn abandon(&mut self, now: u64) -> Result<(), Fault>
+        ensures dropped { Sends [] self.old.sender self.new.sender }
         ensures rest { self.new ≡ record self.old {
           sender = self.new.sender;
           is_skip_due = self.new.is_skip_due;

@@ -1,7 +1,8 @@
 //! What the state machine is answered and tells.
 
-ghost use Rattle.std.specs.Prelude.{◌≡◌, ◌+◌, ◌≤◌, true, Some};
+ghost use Rattle.std.specs.Prelude.{◌≡◌, ◌+◌, ◌≤◌, true, None, Some};
 ghost use Rattle.sctp_association.specs.Failing.{IsGuarded};
+ghost use Rattle.sctp_association.specs.Halves.{HalvesAlike};
 
 use super::{Association, outbound_config};
 use crate::due::{Alone, AloneKind};
@@ -33,7 +34,8 @@ impl Association {
     /// What follows from an input to the machine, which was in the state `before`: its timer, a reply to `tag`, and what is told.
     #[inline(always)]
     pub(super) fn follow(&mut self, before: State, answer: Answer, tag: u32, now: u64)
-        ensures { self.new.machine ≡ self.old.machine }
+        ensures machine { self.new.machine ≡ self.old.machine }
+        ensures quiet { answer.told ≡ None → HalvesAlike self.old self.new }
     {
         let is_silent = answer.reply.is_none() && answer.told.is_none();
         if !is_silent || self.machine.state() != before {
@@ -44,7 +46,8 @@ impl Association {
     // The same, where something follows: seldom, and so apart.
     #[inline(never)]
     fn follow_answer(&mut self, before: State, answer: Answer, tag: u32, now: u64)
-        ensures { self.new.machine ≡ self.old.machine }
+        ensures machine { self.new.machine ≡ self.old.machine }
+        ensures quiet { answer.told ≡ None → HalvesAlike self.old self.new }
     {
         let state = self.machine.state();
         if state != before {
@@ -60,7 +63,8 @@ impl Association {
 
     /// The timer of the state runs from now on, if it has one.
     pub(super) fn run_control(&mut self, now: u64)
-        ensures { self.new.machine ≡ self.old.machine }
+        ensures machine { self.new.machine ≡ self.old.machine }
+        ensures halves { HalvesAlike self.old self.new }
     {
         match self.machine.state().timer() {
             Some(_) => self.control.restart(now, self.outbound.rto.get()),
@@ -177,7 +181,9 @@ impl Association {
 
     /// Begins the shutdown that was asked for before the association stood, and goes on with one where nothing waits or is in flight (RFC
     /// 9260 9.2).
-    pub(super) fn settle(&mut self, now: u64) {
+    pub(super) fn settle(&mut self, now: u64)
+        ensures halves { HalvesAlike self.old self.new }
+    {
         if self.wants_shutdown && self.machine.state() == State::Established {
             self.wants_shutdown = false;
             let _answer = self.machine.shutdown_asked();
@@ -186,7 +192,9 @@ impl Association {
     }
 
     // Tells the machine that nothing waits or is in flight, if that is so (RFC 9260 9.2).
-    fn note_drained(&mut self, now: u64) {
+    fn note_drained(&mut self, now: u64)
+        ensures halves { HalvesAlike self.old self.new }
+    {
         if !self.outbound.is_drained() {
             return;
         }

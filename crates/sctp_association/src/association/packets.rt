@@ -1,6 +1,8 @@
 //! What goes into a datagram (RFC 9260 6.10, 8.5).
 
-ghost use Rattle.std.specs.Prelude.{◌≡◌, ◌≤◌, None, Ok, true, false, length};
+ghost use Rattle.std.specs.Prelude.{◌≡◌, ◌≤◌, None, Ok, OnOk, [], true, false, length};
+ghost use Rattle.sctp_association.specs.Halves.{HalvesAlike, PutsOthers, is_sent, sides_of};
+ghost use Rattle.sctp_association.specs.Packets.{IsWritten, Puts, Transmits};
 
 use super::Association;
 use crate::due::{Alone, AloneKind};
@@ -33,6 +35,7 @@ impl Association {
     pub fn poll_transmit(&mut self, now: u64) -> Result<bool, Fault>
         ensures over { self.old.is_over ≡ true → self.old.due.alone ≡ None
             → (result ≡ Ok false) × (self.new ≡ self.old) }
+        ensures made { Transmits (is_sent result) (sides_of self.old) (sides_of self.new) }
     {
         if let Some(alone) = self.due.alone {
             self.put_alone(alone, now)?;
@@ -49,6 +52,13 @@ impl Association {
         };
         let is_zero = peer.zero_checksum && self.config.zero_checksum && !self.due.cookie_echo;
         let header = self.header(peer.tag);
+        self.put_packet(header, is_zero, now)
+    }
+
+    // Writes a packet of what is due, and answers whether it has a chunk.
+    fn put_packet(&mut self, header: CommonHeader, is_zero: bool, now: u64) -> Result<bool, Fault>
+        ensures made { Transmits (is_sent result) (sides_of self.old) (sides_of self.new) }
+    {
         self.draft.begin(header)?;
         let filled = self.fill(now);
         if self.draft.is_empty() {
@@ -79,34 +89,48 @@ impl Association {
 
     // Writes a packet of one reply.
     #[inline(never)]
-    fn put_alone(&mut self, alone: Alone, now: u64) -> Result<(), Fault> {
+    fn put_alone(&mut self, alone: Alone, now: u64) -> Result<(), Fault>
+        ensures written { OnOk result (IsWritten [] [] self.new.draft.bytes) }
+        ensures halves { HalvesAlike self.old self.new }
+    {
         let header = self.header(alone.tag);
         self.draft.begin(header)?;
-        match alone.kind {
+        self.put_reply(alone.kind, now)?;
+        self.draft.seal(false);
+        Ok(())
+    }
+
+    // Puts its chunks.
+    #[tactic(auto, using(crate::proofs::Others::others_one, crate::proofs::Others::others_none, crate::proofs::Others::others_then))]
+    fn put_reply(&mut self, kind: AloneKind, now: u64) -> Result<(), Fault>
+        ensures others { PutsOthers self.old self.new }
+    {
+        match kind {
             AloneKind::Init => {
                 let init = self.init_of(self.machine.own(), None)?;
                 self.draft.put(&init);
+                Ok(())
             }
             AloneKind::InitAck(ticket) => {
                 let cookie = self.cookie_of(&ticket, now)?;
                 let init = self.init_of(ticket.own, Some(cookie))?;
                 self.draft.put(&init);
                 self.due.unknown_params = None;
+                Ok(())
             }
-            AloneKind::StaleCookie(by) => self.put_error(3, &by.to_be_bytes())?,
+            AloneKind::StaleCookie(by) => self.put_error(3, &by.to_be_bytes()),
             AloneKind::ShuttingDown => {
                 self.draft.put(&ChunkShutdownAck);
-                self.put_error(10, &[])?;
+                self.put_error(10, &[])
             }
             AloneKind::ShutdownComplete => {
                 self.draft.put(&ChunkShutdownComplete);
+                Ok(())
             }
-            AloneKind::Abort(cause) => self.put_abort(cause, &[])?,
-            AloneKind::NoCookie => self.put_abort(2, &NO_COOKIE)?,
-            AloneKind::NoUserData(tsn) => self.put_abort(9, &tsn.to_be_bytes())?,
+            AloneKind::Abort(cause) => self.put_abort(cause, &[]),
+            AloneKind::NoCookie => self.put_abort(2, &NO_COOKIE),
+            AloneKind::NoUserData(tsn) => self.put_abort(9, &tsn.to_be_bytes()),
         }
-        self.draft.seal(false);
-        Ok(())
     }
 
     // An INIT, or with a cookie an INIT ACK, with an offer. An INIT ACK has what it reports before what it offers.
@@ -151,8 +175,11 @@ impl Association {
     }
 
     // Puts an ERROR with one cause.
+    #[tactic(auto, using(crate::proofs::Others::others_one, crate::proofs::Others::others_none, crate::proofs::Others::others_then))]
     #[inline(never)]
-    fn put_error(&mut self, code: u16, info: &[u8]) -> Result<(), Fault> {
+    fn put_error(&mut self, code: u16, info: &[u8]) -> Result<(), Fault>
+        ensures others { PutsOthers self.old self.new }
+    {
         let error = ChunkError {
             error_causes: self.causes(code, info)?,
         };
@@ -161,7 +188,10 @@ impl Association {
     }
 
     // Puts an ABORT with one cause.
-    fn put_abort(&mut self, code: u16, info: &[u8]) -> Result<(), Fault> {
+    #[tactic(auto, using(crate::proofs::Others::others_one, crate::proofs::Others::others_none, crate::proofs::Others::others_then))]
+    fn put_abort(&mut self, code: u16, info: &[u8]) -> Result<(), Fault>
+        ensures others { PutsOthers self.old self.new }
+    {
         let abort = ChunkAbort {
             error_causes: self.causes(code, info)?,
         };
@@ -181,10 +211,10 @@ impl Association {
     }
 
     // Puts what is due into a packet: control chunks first (RFC 9260 6.10).
-    fn fill(&mut self, now: u64) -> Result<(), Fault> {
-        if self.due.cookie_echo || self.due.cookie_ack {
-            self.put_cookies();
-        }
+    fn fill(&mut self, now: u64) -> Result<(), Fault>
+        ensures made { Puts (sides_of self.old) (sides_of self.new) }
+    {
+        self.put_cookies();
         if self.machine.state() == State::CookieEchoed {
             // With the cookie goes what is told of its INIT ACK (RFC 9260 3.2.2), and nothing else does (5.1 C).
             return if self.draft.is_empty() {
@@ -194,24 +224,37 @@ impl Association {
             };
         }
         self.put_sack(now)?;
-        if self.due.shutdown || self.due.shutdown_ack {
-            self.put_shutdown();
-        }
+        self.put_control(now)?;
+        self.put_data(now)
+    }
+
+    // Puts what is due beside cookies, SACKs and DATA.
+    fn put_control(&mut self, now: u64) -> Result<(), Fault>
+        ensures made { Puts (sides_of self.old) (sides_of self.new) }
+    {
+        self.put_shutdown();
         self.put_heartbeats(now)?;
         self.put_unknown_stream()?;
-        if self.due.report.is_some() {
-            self.put_report()?;
+        self.put_report()?;
+        self.put_resets(now)
+    }
+
+    // Puts FORWARD-TSN and DATA, in the states in which they may be sent.
+    fn put_data(&mut self, now: u64) -> Result<(), Fault>
+        ensures made { Puts (sides_of self.old) (sides_of self.new) }
+    {
+        if !self.machine.state().sends_data() {
+            return Ok(());
         }
-        self.put_resets(now)?;
-        if self.machine.state().sends_data() {
-            self.outbound.put(&mut self.draft, now)?;
-            self.note_use(now);
-        }
+        self.outbound.put(&mut self.draft, now)?;
+        self.note_use(now);
         Ok(())
     }
 
     // A path on which DATA left is not idle (RFC 9260 8.3).
-    fn note_use(&mut self, now: u64) {
+    fn note_use(&mut self, now: u64)
+        ensures { self.new ≡ record self.old { heartbeat = self.new.heartbeat } }
+    {
         if let Some(heartbeat) = &mut self.heartbeat {
             if self.outbound.was_used(now) {
                 heartbeat.used(now);
@@ -220,24 +263,46 @@ impl Association {
     }
 
     // Puts COOKIE-ECHO or COOKIE-ACK.
-    #[inline(never)]
-    fn put_cookies(&mut self) {
-        if self.due.cookie_echo {
-            if let Some(cookie) = self.cookie.take() {
-                let echo = ChunkCookieEcho { cookie };
-                if self.draft.put(&echo) {
-                    self.due.cookie_echo = false;
-                }
-                self.cookie = Some(echo.cookie);
-            }
+    fn put_cookies(&mut self)
+        ensures others { PutsOthers self.old self.new }
+    {
+        self.put_cookie_echo();
+        self.put_cookie_ack();
+    }
+
+    // The cookie stays, since its COOKIE-ECHO may be lost.
+    #[tactic(auto, using(crate::proofs::Others::others_one, crate::proofs::Others::others_none, crate::proofs::Others::others_then))]
+    fn put_cookie_echo(&mut self)
+        ensures others { PutsOthers self.old self.new }
+    {
+        if !self.due.cookie_echo {
+            return;
         }
+        let Some(cookie) = self.cookie.take() else {
+            return;
+        };
+        let echo = ChunkCookieEcho { cookie };
+        if self.draft.put(&echo) {
+            self.due.cookie_echo = false;
+        }
+        self.cookie = Some(echo.cookie);
+    }
+
+    // Puts the COOKIE-ACK that is due.
+    #[tactic(auto, using(crate::proofs::Others::others_one, crate::proofs::Others::others_none, crate::proofs::Others::others_then))]
+    fn put_cookie_ack(&mut self)
+        ensures others { PutsOthers self.old self.new }
+    {
         if self.due.cookie_ack && self.draft.put(&ChunkCookieAck) {
             self.due.cookie_ack = false;
         }
     }
 
     // Puts the SACK that is due, or one that waits where DATA goes with it (RFC 9260 6.1).
-    fn put_sack(&mut self, now: u64) -> Result<(), Fault> {
+    #[tactic(auto, using(crate::proofs::Others::sack_puts, crate::proofs::Others::same_puts))]
+    fn put_sack(&mut self, now: u64) -> Result<(), Fault>
+        ensures made { Puts (sides_of self.old) (sides_of self.new) }
+    {
         let has_data = self.outbound.has_data() && self.machine.state().sends_data();
         match &mut self.inbound {
             Some(inbound) => inbound.put_sack(&mut self.draft, has_data, now),
@@ -246,28 +311,48 @@ impl Association {
     }
 
     // Puts SHUTDOWN or SHUTDOWN-ACK (RFC 9260 9.2).
-    #[inline(never)]
-    fn put_shutdown(&mut self) {
-        if self.due.shutdown {
-            if let Some(inbound) = &self.inbound {
-                let shutdown = ChunkShutdown {
-                    cumulative_tsn_ack: inbound.receiver.cumulative_tsn(),
-                };
-                if self.draft.put(&shutdown) {
-                    self.due.shutdown = false;
-                }
-            }
+    fn put_shutdown(&mut self)
+        ensures made { Puts (sides_of self.old) (sides_of self.new) }
+    {
+        self.put_shutdown_asked();
+        self.put_shutdown_ack();
+    }
+
+    // Puts the SHUTDOWN that is due: it acknowledges what a SACK would.
+    #[tactic(auto, using(crate::proofs::Others::shutdown_puts, crate::proofs::Others::same_puts))]
+    fn put_shutdown_asked(&mut self)
+        ensures made { Puts (sides_of self.old) (sides_of self.new) }
+    {
+        if !self.due.shutdown {
+            return;
         }
+        let Some(inbound) = &self.inbound else {
+            return;
+        };
+        let shutdown = ChunkShutdown {
+            cumulative_tsn_ack: inbound.receiver.cumulative_tsn(),
+        };
+        if self.draft.put(&shutdown) {
+            self.due.shutdown = false;
+        }
+    }
+
+    // Puts the SHUTDOWN-ACK that is due.
+    #[tactic(auto, using(crate::proofs::Others::others_one, crate::proofs::Others::others_none, crate::proofs::Others::others_then))]
+    fn put_shutdown_ack(&mut self)
+        ensures others { PutsOthers self.old self.new }
+    {
         if self.due.shutdown_ack && self.draft.put(&ChunkShutdownAck) {
             self.due.shutdown_ack = false;
         }
     }
 
     // Puts the answer to a HEARTBEAT, and a HEARTBEAT of an idle path (RFC 9260 8.3).
-    fn put_heartbeats(&mut self, now: u64) -> Result<(), Fault> {
-        if self.due.heartbeat.is_some() {
-            self.put_heartbeat_ack()?;
-        }
+    #[tactic(auto, using(crate::proofs::Others::others_one, crate::proofs::Others::others_none, crate::proofs::Others::others_then))]
+    fn put_heartbeats(&mut self, now: u64) -> Result<(), Fault>
+        ensures others { PutsOthers self.old self.new }
+    {
+        self.put_heartbeat_ack()?;
         match self.next_heartbeat() {
             Some(at) if at <= now => self.put_heartbeat(now),
             _ => Ok(()),
@@ -275,8 +360,11 @@ impl Association {
     }
 
     // Puts the answer to a HEARTBEAT.
+    #[tactic(auto, using(crate::proofs::Others::others_one, crate::proofs::Others::others_none, crate::proofs::Others::others_then))]
     #[inline(never)]
-    fn put_heartbeat_ack(&mut self) -> Result<(), Fault> {
+    fn put_heartbeat_ack(&mut self) -> Result<(), Fault>
+        ensures others { PutsOthers self.old self.new }
+    {
         let Some(info) = self.due.heartbeat.take() else {
             return Ok(());
         };
@@ -289,8 +377,11 @@ impl Association {
     }
 
     // Puts a HEARTBEAT with this time.
+    #[tactic(auto, using(crate::proofs::Others::others_one, crate::proofs::Others::others_none, crate::proofs::Others::others_then))]
     #[inline(never)]
-    fn put_heartbeat(&mut self, now: u64) -> Result<(), Fault> {
+    fn put_heartbeat(&mut self, now: u64) -> Result<(), Fault>
+        ensures others { PutsOthers self.old self.new }
+    {
         let Some(heartbeat) = &mut self.heartbeat else {
             return Ok(());
         };
@@ -306,7 +397,10 @@ impl Association {
     }
 
     // Puts the ERROR about a chunk of no such stream (RFC 9260 6.5, 3.3.10.1).
-    fn put_unknown_stream(&mut self) -> Result<(), Fault> {
+    #[tactic(auto, using(crate::proofs::Others::others_one, crate::proofs::Others::others_none, crate::proofs::Others::others_then))]
+    fn put_unknown_stream(&mut self) -> Result<(), Fault>
+        ensures others { PutsOthers self.old self.new }
+    {
         let Some(inbound) = &mut self.inbound else {
             return Ok(());
         };

@@ -2,6 +2,7 @@
 
 ghost use Rattle.std.specs.Prelude.{◌≡◌, true, false, Ok, Err, IfErr, IsOk, OnOk, OnErr};
 ghost use Rattle.sctp_association.specs.Calls.{is_resettable};
+ghost use Rattle.sctp_association.specs.Halves.{PutsOthers};
 ghost use Rattle.sctp_association.specs.declared.fault.Fault.TheVariants.{NoSuchStream, OutOfMemory};
 ghost use Rattle.sctp_association.specs.declared.association.Reason.{Reason};
 ghost use Rattle.sctp_association.specs.declared.association.arrivals.Step.TheVariants as step;
@@ -82,33 +83,41 @@ impl Association {
     }
 
     /// Puts the RE-CONFIG chunk that is due, where there is room for it (RFC 6525 5.1, 5.2): a packet has one.
-    pub(super) fn put_resets(&mut self, now: u64) -> Result<(), Fault> {
+    #[tactic(auto, using(crate::proofs::Others::others_one, crate::proofs::Others::others_none, crate::proofs::Others::others_then))]
+    pub(super) fn put_resets(&mut self, now: u64) -> Result<(), Fault>
+        ensures others { PutsOthers self.old self.new }
+    {
         if self.draft.room() < MOST_BYTES {
             return Ok(());
         }
-        let request = if self.requests.is_idle() {
-            None
-        } else {
-            self.next_request(now)?
-        };
-        let response = match &mut self.peer_requests {
-            Some(peer) => peer.take_response(),
-            None => None,
-        };
-        if response.is_some() || request.is_some() {
-            self.put_reconfig(response, request, now);
-        }
+        let request = self.next_request(now)?;
+        let response = self.next_response();
+        self.put_reconfig(response, request, now);
         Ok(())
     }
 
+    // The response that is due, if there is one.
+    #[tactic(auto, using(crate::proofs::Others::others_one, crate::proofs::Others::others_none, crate::proofs::Others::others_then))]
+    fn next_response(&mut self) -> Option<ParamReconfigResponse>
+        ensures others { PutsOthers self.old self.new }
+    {
+        match &mut self.peer_requests {
+            Some(peer) => peer.take_response(),
+            None => None,
+        }
+    }
+
     // Puts a RE-CONFIG chunk with a response, a request, or both.
+    #[tactic(auto, using(crate::proofs::Others::others_one, crate::proofs::Others::others_none, crate::proofs::Others::others_then))]
     #[inline(never)]
     fn put_reconfig(
         &mut self,
         response: Option<ParamReconfigResponse>,
         request: Option<ParamOutgoingResetRequest>,
         now: u64,
-    ) {
+    )
+        ensures others { PutsOthers self.old self.new }
+    {
         let is_asking = request.is_some();
         let Some(chunk) = reconfig(response, request) else {
             return;
@@ -120,13 +129,21 @@ impl Association {
 
     // Begins the next request, where none is under way, and answers the one that is due.
     #[inline(never)]
-    fn next_request(&mut self, now: u64) -> Result<Option<ParamOutgoingResetRequest>, Fault> {
+    fn next_request(&mut self, now: u64) -> Result<Option<ParamOutgoingResetRequest>, Fault>
+        ensures others { PutsOthers self.old self.new }
+    {
+        if self.requests.is_idle() {
+            return Ok(None);
+        }
         self.begin_request(now)?;
         self.request_due(now)
     }
 
     // Begins the next request, where none is under way.
-    fn begin_request(&mut self, now: u64) -> Result<(), Fault> {
+    #[tactic(auto, using(crate::proofs::Others::others_one, crate::proofs::Others::others_none, crate::proofs::Others::others_then))]
+    fn begin_request(&mut self, now: u64) -> Result<(), Fault>
+        ensures others { PutsOthers self.old self.new }
+    {
         let sender = &self.outbound.sender;
         let last_tsn = sender.next_tsn().wrapping_sub(1);
         let begun = self.requests.begin(
@@ -143,7 +160,10 @@ impl Association {
     }
 
     // The request that is due, for the first time or again.
-    fn request_due(&mut self, now: u64) -> Result<Option<ParamOutgoingResetRequest>, Fault> {
+    #[tactic(auto, using(crate::proofs::Others::others_one, crate::proofs::Others::others_none, crate::proofs::Others::others_then))]
+    fn request_due(&mut self, now: u64) -> Result<Option<ParamOutgoingResetRequest>, Fault>
+        ensures others { PutsOthers self.old self.new }
+    {
         let Some(request) = self.requests.due(now) else {
             return Ok(None);
         };

@@ -1,6 +1,7 @@
 //! What the peer sent and this side does not know (RFC 9260 3.2, 3.2.1, 3.2.2).
 
 ghost use Rattle.std.specs.Prelude.{◌≡◌, ◌⊎◌, ◌<◌, ◌≤◌, None, Ok, IfOk, IfSome, OnOk, OnErr, length};
+ghost use Rattle.sctp_association.specs.Halves.{PutsOthers};
 ghost use Rattle.sctp_association.specs.Reports.{most_reported, reported_after};
 ghost use Rattle.sctp_association.specs.declared.association.Reason.{Reason};
 ghost use Rattle.sctp_association.specs.declared.association.arrivals.Step.TheVariants as step;
@@ -124,8 +125,10 @@ impl Association {
 
     /// Puts the ERROR about what this side does not know, if it fits: it waits for a packet that is empty, into which it always fits. Refuses
     /// only for memory, and nothing has changed then.
+    #[tactic(auto, using(crate::proofs::Others::others_one, crate::proofs::Others::others_none, crate::proofs::Others::others_then))]
     #[inline(never)]
     pub(super) fn put_report(&mut self) -> Result<(), Fault>
+        ensures others { PutsOthers self.old self.new }
         ensures once { OnOk result (self.new.due.report ≡ None
             ⊎ ((self.new.draft ≡ self.old.draft) × (12 < length self.old.draft.bytes))) }
         ensures due { self.new.due ≡ record self.old.due { report = self.new.due.report } }

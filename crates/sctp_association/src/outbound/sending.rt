@@ -2,6 +2,7 @@
 
 ghost use Rattle.std.specs.Prelude.{◌≡◌, ◌<◌, ◌≤◌, true, false, None, Some, IfOk, IfSome, OnErr, length};
 ghost use Rattle.sctp_association.specs.Counts.{IsCountedAlike, IsCountedOn};
+ghost use Rattle.sctp_association.specs.Packets.{PutsOut};
 ghost use Rattle.sctp_association.specs.Sending.{IsTimed, idle_times, is_later, lowered_times, lowered, may_send_again, may_send_next};
 ghost use Rattle.sctp_outbound.specs.pending_queue.PendingQueue.{next_pending};
 ghost use Rattle.sctp_stream.specs.Stats.{count_up};
@@ -26,6 +27,7 @@ impl Outbound {
     /// Puts the FORWARD-TSN that is due, what is to be sent again, and what waits, as far as they fit and may be sent. T3-rtx runs then, after
     /// a refusal too, while something is in flight.
     pub(crate) fn put(&mut self, packet: &mut Draft, now: u64) -> Result<(), Fault>
+        ensures made { PutsOut self.old.sender self.new.sender packet.old.bytes packet.new.bytes }
         ensures timed { IsTimed self.new.sender.flight.queue.inflight.chunks self.new.timer.at }
         ensures counts { IsCountedOn self.old self.new }
         ensures limit { packet.new.limit ≡ packet.old.limit }
@@ -37,6 +39,7 @@ impl Outbound {
 
     // The same, but the timer stays as it is.
     fn put_all(&mut self, packet: &mut Draft, now: u64) -> Result<(), Fault>
+        ensures made { PutsOut self.old.sender self.new.sender packet.old.bytes packet.new.bytes }
         ensures counts { IsCountedOn self.old self.new }
         ensures limit { packet.new.limit ≡ packet.old.limit }
     {
@@ -47,6 +50,7 @@ impl Outbound {
 
     // Puts the FORWARD-TSN that is due (RFC 3758 3.5 C3, F2), before any DATA.
     fn put_skip(&mut self, packet: &mut Draft) -> Result<(), Fault>
+        ensures made { PutsOut self.old.sender self.new.sender packet.old.bytes packet.new.bytes }
         ensures limit { packet.new.limit ≡ packet.old.limit }
         ensures rest { self.new ≡ record self.old { is_skip_due = self.new.is_skip_due } }
         ensures err { OnErr result (self.new ≡ self.old) }
@@ -54,15 +58,17 @@ impl Outbound {
         if !self.is_skip_due {
             return Ok(());
         }
-        if let Some(skip) = self.sender.forward_tsn(packet.room())? {
+        let skip = self.sender.forward_tsn(packet.room())?;
+        self.is_skip_due = false;
+        if let Some(skip) = skip {
             packet.put(&skip);
         }
-        self.is_skip_due = false;
         Ok(())
     }
 
     // Puts what is to be sent again, from the first on (RFC 9260 6.1 C, 6.3.3 E3, 7.2.4).
     fn put_lost(&mut self, packet: &mut Draft, now: u64) -> Result<(), Fault>
+        ensures made { PutsOut self.old.sender self.new.sender packet.old.bytes packet.new.bytes }
         ensures counts { IsCountedOn self.old self.new }
         ensures limit { packet.new.limit ≡ packet.old.limit }
     {
@@ -78,6 +84,7 @@ impl Outbound {
         flight: usize,
         now: u64,
     ) -> Result<(), Fault>
+        ensures made { PutsOut self.old.sender self.new.sender packet.old.bytes packet.new.bytes }
         ensures counts { IsCountedOn self.old self.new }
         ensures limit { packet.new.limit ≡ packet.old.limit }
     {
@@ -98,6 +105,7 @@ impl Outbound {
         flight: usize,
         now: u64,
     ) -> Result<bool, Fault>
+        ensures made { PutsOut self.old.sender self.new.sender packet.old.bytes packet.new.bytes }
         ensures sent { IfOk result (λ sent. sent ≡ true
             → may_send_again is_fast flight self.old.congestion ≡ true) }
         ensures counted { IfOk result (λ sent. sent ≡ true
@@ -123,11 +131,18 @@ impl Outbound {
         self.is_fast = false;
         self.resent = self.resent.saturating_add(1);
         self.used = now;
-        if chunk.tsn == self.sender.acked_tsn().wrapping_add(1) {
-            self.timer.stop();
-        }
+        self.stop_where_first(chunk.tsn);
         packet.put(&chunk);
         Ok(true)
+    }
+
+    // T3-rtx ends where the first chunk in flight is sent again (RFC 9260 7.2.4).
+    fn stop_where_first(&mut self, tsn: u32)
+        ensures { self.new ≡ record self.old { timer = self.new.timer } }
+    {
+        if tsn == self.sender.acked_tsn().wrapping_add(1) {
+            self.timer.stop();
+        }
     }
 
     /// Nothing more leaves at this moment: the time to send is over.
@@ -151,17 +166,29 @@ impl Outbound {
         }
     }
 
-    // Puts what waits, where nothing is left to be sent again (RFC 9260 6.1 C). While nothing is in flight the congestion window falls.
-    fn put_new(&mut self, packet: &mut Draft, now: u64) -> Result<(), Fault>
+    // Whether something waits, and nothing is left to be sent again (RFC 9260 6.1 C). While nothing is in flight the congestion window falls.
+    fn begin_new(&mut self, now: u64) -> bool
+        ensures sender { self.new.sender ≡ self.old.sender }
         ensures counts { IsCountedAlike self.old self.new }
-        ensures limit { packet.new.limit ≡ packet.old.limit }
     {
         self.begin_burst(now);
         if self.has_lost || self.sender.outbound().pending_len() == 0 {
-            return Ok(());
+            return false;
         }
         if self.sender.outbound().inflight_len() == 0 {
             self.note_idle(now);
+        }
+        true
+    }
+
+    // Puts what waits, where nothing is left to be sent again.
+    fn put_new(&mut self, packet: &mut Draft, now: u64) -> Result<(), Fault>
+        ensures made { PutsOut self.old.sender self.new.sender packet.old.bytes packet.new.bytes }
+        ensures counts { IsCountedAlike self.old self.new }
+        ensures limit { packet.new.limit ≡ packet.old.limit }
+    {
+        if !self.begin_new(now) {
+            return Ok(());
         }
         for _ in 0..MOST_CHUNKS {
             if !self.put_next(packet, now)? {
@@ -226,6 +253,7 @@ impl Outbound {
 
     // Sends the first chunk that waits, where it may go and fits, and answers whether it did (RFC 9260 6.1).
     fn put_next(&mut self, packet: &mut Draft, now: u64) -> Result<bool, Fault>
+        ensures made { PutsOut self.old.sender self.new.sender packet.old.bytes packet.new.bytes }
         ensures sent { IfOk result (λ sent. sent ≡ true
             → IfSome (next_pending self.old.sender.flight.queue.pending) (λ c. may_send_next
             (length c.user_data) self.old.most_in_flight self.old.peer_window self.old.burst

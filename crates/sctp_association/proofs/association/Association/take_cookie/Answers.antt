@@ -10,7 +10,7 @@ pub returns-in-Some-StaleCookie-clause-stale : goal.returns-in-Some-StaleCookie-
 returns-in-Some-StaleCookie-clause-stale c _ =
     let takes = c.cookie_echo-answer.ensures.takes in
     let found : c.cookie_echo-answer.result.reply ≡ Some reply.StaleCookie = search rules in
-    c.follow.ensures ∙ takes.machine ∙ stale_keeps _ _ _ (sym (ap (λ a. a.reply) takes.answer) ∙ found)
+    c.follow.ensures.machine ∙ takes.machine ∙ stale_keeps _ _ _ (sym (ap (λ a. a.reply) takes.answer) ∙ found)
 
 -- what is not answered changed nothing
 pub returns-then-is_none-2-clause-refused : goal.returns-then-is_none-2-clause-refused

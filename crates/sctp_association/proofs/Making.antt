@@ -1,0 +1,134 @@
+-- Each chunk of a half that is put is what a call of it answered.
+use Rattle.std.proofs.Common.{◌≡◌, ℕ, List, [], ◌∷◌, Bool, true, false, Option, Some, None, refl, ap, sym, subst, ◌∙◌, arith}
+use Rattle.std.specs.Prelude.{Contains, IfSome, find}
+use Rattle.std.specs.Option.{option_map}
+use Rattle.sctp_association.proofs.Putting.{adds_none, and_then, kept, puts_made, puts_none, puts_reported, there}
+use Rattle.sctp_association.proofs.Running.{dropped_each, none_sent, reported_once, sent_then}
+use Rattle.sctp_association.specs.declared.outbound.Outbound.{Outbound}
+use Rattle.sctp_association.specs.Packets.{Adds, PutsIn, PutsOut, put_where, sides}
+use Rattle.sctp_association.specs.Runs.{Sends}
+use Rattle.sctp_chunks.specs.Wire.{data_chunk, forward_tsn_chunk, sack_chunk}
+use Rattle.sctp_data.specs.declared.chunk.chunk_forward_tsn.ChunkForwardTsn.{ChunkForwardTsn}
+use Rattle.sctp_data.specs.declared.chunk.chunk_payload_data.ChunkPayloadData.{ChunkPayloadData}
+use Rattle.sctp_data.specs.declared.chunk.chunk_selective_ack.ChunkSelectiveAck.{ChunkSelectiveAck}
+use Rattle.sctp_data.specs.ForwardTsn.{forward_tsn_of}
+use Rattle.sctp_data.specs.PayloadData.{data_of}
+use Rattle.sctp_data.specs.SelectiveAck.{sack_of}
+use Rattle.sctp_delivery.specs.Amounts.{Drops}
+use Rattle.sctp_delivery.specs.ReceiverCalls.{forgets, makes_sack}
+use Rattle.sctp_delivery.specs.SenderCalls.{forwards_within, next_chunk, resends, sends, with_chunk}
+use Rattle.sctp_delivery.specs.SenderCalls as made
+use Rattle.sctp_receiver.specs.Receiver.{Reception, sack_within, without_duplicates}
+use Rattle.sctp_sender.specs.Abandonment.{Name, can_skip_to, is_end, named_up_to}
+use Rattle.sctp_sender.specs.declared.sender.Dropped.{Dropped}
+use Rattle.sctp_sender.specs.Flight.{can_resend}
+use Rattle.sctp_sender.specs.Numbers.{send_refusal}
+use Rattle.sctp_sender.specs.Resending.{count_again, next_within, resent_at, sent_again}
+use Rattle.sctp_sender.specs.Sender.{Transmission, after_send, with_flight}
+use Rattle.sctp_sender.specs.SenderRuns.{held_by_sender}
+use Rattle.sctp_serial.specs.DataChunks.{has_tsn}
+
+some-none : {X : Type 0} (x : X) → Some x ≡ None → ⊥
+some-none x e = cc
+
+of-some : {X : Type 0} (x y : X) → Some x ≡ Some y → x ≡ y
+of-some x y e = cc
+
+-- ## The sender
+
+pub skip_put : (room : ℕ) (c : ChunkForwardTsn) (b : Bool) (t : Transmission) (old new : List ℕ) → can_skip_to c.new_cumulative_tsn t.flight ≡ true
+    → is_end c.new_cumulative_tsn t.flight ≡ true → Name c.streams.items (named_up_to c.new_cumulative_tsn t.flight)
+    → Adds (put_where b (forward_tsn_chunk (forward_tsn_of c))) old new → PutsOut t t old new
+skip_put room c b t old new past ended names added =
+    puts_made (forwards_within room (forward_tsn_of c)) b (forward_tsn_chunk (forward_tsn_of c)) t t old new
+    (refl, (omega arith, (refl, ((past, ended, names), tt)))) (there (made.forward_tsn (forward_tsn_of c))) added
+
+-- the same, of what `forward_tsn` answers
+pub skip_put_where : (room : ℕ) (o : Option ChunkForwardTsn) (c : ChunkForwardTsn) (b : Bool) (t : Transmission) (old new : List ℕ) → o ≡ Some c
+    → IfSome o (λ c. can_skip_to c.new_cumulative_tsn t.flight ≡ true) → IfSome o (λ c. is_end c.new_cumulative_tsn t.flight ≡ true)
+    → IfSome o (λ c. Name c.streams.items (named_up_to c.new_cumulative_tsn t.flight))
+    → Adds (put_where b (forward_tsn_chunk (forward_tsn_of c))) old new → PutsOut t t old new
+skip_put_where room o c b t old new e past ended names added =
+    skip_put room c b t old new (subst (λ o. IfSome o (λ c. can_skip_to c.new_cumulative_tsn t.flight ≡ true)) e past)
+    (subst (λ o. IfSome o (λ c. is_end c.new_cumulative_tsn t.flight ≡ true)) e ended)
+    (subst (λ o. IfSome o (λ c. Name c.streams.items (named_up_to c.new_cumulative_tsn t.flight))) e names) added
+
+none-of : {X Y : Type 0} (f : X → Y) (o : Option X) → None ≡ option_map f o → o ≡ None
+none-of f None e = refl
+none-of f (Some x) e = absurd (cc)
+
+-- where none is marked, nothing changes
+pub none_again : (now room : ℕ) (t u : Transmission) (x : List ℕ) (a : Option ChunkPayloadData) → a ≡ None
+    → a ≡ option_map (λ c. sent_again (count_again c) now c) (next_within room t.flight) → (next_within room t.flight ≡ None → u ≡ t) → PutsOut t u x x
+none_again now room t u x a none answer same =
+    kept t u x x (same (none-of (λ c. sent_again (count_again c) now c) (next_within room t.flight) (sym none ∙ answer))) refl
+
+module _ (now room : ℕ) (chunk : ChunkPayloadData) (b : Bool) (t u : Transmission) (old new : List ℕ) where
+  again_of : (o : Option ChunkPayloadData) → next_within room t.flight ≡ o → Some chunk ≡ option_map (λ c. sent_again (count_again c) now c) o
+      → ((c : ChunkPayloadData) → next_within room t.flight ≡ Some c → u ≡ with_flight (resent_at c.tsn now c t.flight) t)
+      → ((c : ChunkPayloadData) → next_within room t.flight ≡ Some c
+      → (find (has_tsn c.tsn) t.flight.queue.inflight.chunks ≡ Some c) × (can_resend c.tsn t.flight ≡ true))
+      → Adds (put_where b (data_chunk (data_of chunk))) old new → PutsOut t u old new
+  again_of None is e exact marked added = absurd (some-none chunk e)
+  again_of (Some c) is e exact marked added =
+      let m = marked c is in
+      let own : chunk ≡ sent_again (count_again c) now c = of-some chunk _ e in
+      puts_made (resends c.tsn now c) b (data_chunk (data_of chunk)) t u old new (refl, (exact c is, (tt, ((m.1, m.0), tt))))
+      (subst (λ (d : ChunkPayloadData). Contains (made.data_chunk (data_of d) ∷ []) (made.data_chunk (data_of chunk))) own
+      (there (made.data_chunk (data_of chunk)))) added
+
+  pub again_put : Some chunk ≡ option_map (λ c. sent_again (count_again c) now c) (next_within room t.flight)
+      → ((c : ChunkPayloadData) → next_within room t.flight ≡ Some c → u ≡ with_flight (resent_at c.tsn now c t.flight) t)
+      → ((c : ChunkPayloadData) → next_within room t.flight ≡ Some c
+      → (find (has_tsn c.tsn) t.flight.queue.inflight.chunks ≡ Some c) × (can_resend c.tsn t.flight ≡ true))
+      → Adds (put_where b (data_chunk (data_of chunk))) old new → PutsOut t u old new
+  again_put e exact marked added = again_of (next_within room t.flight) refl e exact marked added
+
+-- a sending, and its chunk; where nothing waits there is none
+module _ (now : ℕ) (t u : Transmission) (exact : u ≡ after_send now t) (held : held_by_sender u ≡ held_by_sender t)
+    (accepted : send_refusal t.flight ≡ None) where
+  pub next_put : (chunk : ChunkPayloadData) (b : Bool) (old new : List ℕ) → Some chunk ≡ next_chunk now t
+      → Adds (put_where b (data_chunk (data_of chunk))) old new → PutsOut t u old new
+  next_put chunk b old new answer added =
+      puts_made (sends now) b (data_chunk (data_of chunk)) t u old new (refl, (held, (exact, (accepted, tt))))
+      (subst (λ o. Contains (with_chunk o []) (made.data_chunk (data_of chunk))) answer (there (made.data_chunk (data_of chunk)))) added
+
+  pub none_put : (x : List ℕ) → PutsOut t u x x
+  none_put x = puts_none (sends now) t u x (refl, (held, (exact, (accepted, tt))))
+
+-- what has expired is given up, and no chunk is made
+pub dropped_on : (now : ℕ) (d : Option Dropped) (s t u : Transmission) → Sends [] s t → Drops d now t u → Sends [] s u
+dropped_on now d s t u before h = sent_then [] [] s t u before (dropped_each now h.0 t u h.1.0 h.1.1.0)
+
+-- nothing else changes of what holds the sender
+pub dropped_in : (a l n : Outbound) (u : Transmission) (k : Bool) → l ≡ record a { sender = l.sender; is_skip_due = l.is_skip_due }
+    → n ≡ record l { sender = u; is_skip_due = k } → Sends [] a.sender u
+    → (n ≡ record a { sender = n.sender; is_skip_due = n.is_skip_due }) × Sends [] a.sender n.sender
+dropped_in a l n u k h e s =
+    let P : Outbound → Type 0 = λ m. (m ≡ record a { sender = m.sender; is_skip_due = m.is_skip_due }) × Sends [] a.sender m.sender in
+    let there : n ≡ record a { sender = u; is_skip_due = k } = e ∙ ap (λ (o : Outbound). let y : Outbound = record o { sender = u; is_skip_due = k } in y) h in
+    subst P (sym there) (refl, s)
+
+-- ## The receiver
+
+module _ (credit room : ℕ) (c : ChunkSelectiveAck) (r : Reception) (old new : List ℕ) (own : sack_of c ≡ sack_within credit room r) where
+  reported : (b : Bool) → Adds (put_where b (sack_chunk (sack_of c))) old new → PutsIn r r old new
+  reported b added = puts_reported (makes_sack credit room) b (sack_chunk (sack_of c)) r r old new (refl, (refl, tt))
+      (subst (λ s. Contains (s ∷ []) (sack_of c)) own (there (sack_of c))) added
+
+  forgotten : (s : Reception) → s ≡ without_duplicates r → PutsIn r s new new
+  forgotten s e t = record {
+    made = [];
+    sacks = [];
+    chunks = [];
+    sent = none_sent t;
+    reported = reported_once forgets r s (refl, (e, tt));
+    added = adds_none new;
+    own = tt;
+  }
+
+  pub sack_put : (s : Reception) → s ≡ without_duplicates r → Adds (put_where true (sack_chunk (sack_of c))) old new → PutsIn r s old new
+  sack_put s e added t = and_then (sides t (Some r) old) (sides t (Some r) new) (sides t (Some s) new) (reported true added t) (forgotten s e t)
+
+  pub sack_kept : Adds (put_where false (sack_chunk (sack_of c))) old new → PutsIn r r old new
+  sack_kept added = reported false added

@@ -1,0 +1,184 @@
+-- Chunks that neither half answers, and the datagram in the end.
+use Rattle.std.proofs.Common.{◌≡◌, ℕ, List, [], ◌++◌, Bool, true, false, Option, Some, Result, Ok, Err, refl, sym, subst, ◌∙◌}
+use Rattle.std.proofs.lemmas.Bool.{false≢true}
+use Rattle.std.proofs.lemmas.List.Elements.{Contains-append_left}
+use Rattle.std.specs.List.{AllByRecursion}
+use Rattle.std.specs.Result.{IsErr}
+use Rattle.sctp_association.proofs.Putting.{shutdown_put, adds_none, adds_then, all_append, all_of_more, all_put, and_then, nothing}
+use Rattle.sctp_association.proofs.Running.{none_in, none_sent, reported_in, sent_then}
+use Rattle.sctp_association.specs.declared.association.Association.{Association}
+use Rattle.sctp_association.specs.declared.inbound.Inbound.{Inbound}
+use Rattle.sctp_association.specs.Halves.{HalvesAlike, PutsOthers, is_sent, receiver_of, sides_of}
+use Rattle.sctp_association.specs.declared.fault.Fault.{Fault}
+use Rattle.sctp_association.specs.Packets.{Adds, IsOf, IsWritten, Puts, PutsIn, PutsOut, Sides, Transmits, put_where, sides, sum_of, with_chunks}
+use Rattle.sctp_association.specs.Runs.{ReportsIn, Sends}
+use Rattle.sctp_chunks.specs.Wire.{Wire, shutdown_chunk}
+use Rattle.sctp_data.specs.SelectiveAck.{Sack}
+use Rattle.sctp_delivery.specs.SenderCalls.{Made}
+use Rattle.sctp_packets.specs.declared.packet.CommonHeader.{CommonHeader}
+use Rattle.sctp_packets.specs.Draft.{IsDraft, headed}
+use Rattle.sctp_packets.specs.Packet.{Parts, packet_encoding}
+use Rattle.sctp_receiver.specs.Receiver.{Reception}
+use Rattle.sctp_sender.specs.Sender.{Transmission}
+
+pub alike : (a : Association) → HalvesAlike a a
+alike a = record { sender = refl; receiver = refl }
+
+pub alike_then : (a b c : Association) → HalvesAlike a b → HalvesAlike b c → HalvesAlike a c
+alike_then a b c h k = record { sender = k.sender ∙ h.sender; receiver = k.receiver ∙ h.receiver }
+
+pub others_none : (a b : Association) → HalvesAlike a b → b.draft.bytes ≡ a.draft.bytes → PutsOthers a b
+others_none a b h e = record {
+  halves = h;
+  chunks = [];
+  added = subst (λ x. Adds [] a.draft.bytes x) (sym e) (adds_none a.draft.bytes);
+  own = tt;
+}
+
+pub others_then : (a b c : Association) → PutsOthers a b → PutsOthers b c → PutsOthers a c
+others_then a b c p q = record {
+  halves = alike_then a b c p.halves q.halves;
+  chunks = p.chunks ++ q.chunks;
+  added = adds_then p.chunks q.chunks a.draft.bytes b.draft.bytes c.draft.bytes p.added q.added;
+  own = all_append (IsOf [] []) p.chunks q.chunks p.own q.own;
+}
+
+pub others_after : (a b c : Association) → PutsOthers b c → PutsOthers a b → PutsOthers a c
+others_after a b c q p = others_then a b c p q
+
+-- a chunk is put, where it fits
+pub others_one : (k : Bool) (w : Wire) (a b : Association) → Adds (put_where k w) a.draft.bytes b.draft.bytes → IsOf [] [] w → HalvesAlike a b
+    → PutsOthers a b
+others_one k w a b added of h = record { halves = h; chunks = put_where k w; added = added; own = all_put (IsOf [] []) k w of }
+
+module _ (a b : Association) where
+  -- what leads on from a side that is the same
+  put_alike : (x y : List ℕ) → HalvesAlike a b → Puts (sides a.outbound.sender (receiver_of a.inbound) x) (sides a.outbound.sender (receiver_of a.inbound) y)
+      → Puts (sides a.outbound.sender (receiver_of a.inbound) x) (sides b.outbound.sender (receiver_of b.inbound) y)
+  put_alike x y h p =
+      let s = subst (λ t. Puts (sides a.outbound.sender (receiver_of a.inbound) x) (sides t (receiver_of a.inbound) y)) (sym h.sender) p in
+      subst (λ r. Puts (sides a.outbound.sender (receiver_of a.inbound) x) (sides b.outbound.sender r y)) (sym h.receiver) s
+
+  pub others_puts : PutsOthers a b → Puts (sides_of a) (sides_of b)
+  others_puts p = put_alike a.draft.bytes b.draft.bytes p.halves (record {
+    made = [];
+    sacks = [];
+    chunks = p.chunks;
+    sent = none_sent a.outbound.sender;
+    reported = none_in (receiver_of a.inbound);
+    added = p.added;
+    own = p.own;
+  })
+
+  -- where nothing is put
+  pub alike_puts : HalvesAlike a b → (x : List ℕ) → Puts (sides a.outbound.sender (receiver_of a.inbound) x)
+      (sides b.outbound.sender (receiver_of b.inbound) x)
+  alike_puts h x = put_alike x x h (nothing (sides a.outbound.sender (receiver_of a.inbound) x))
+
+pub same_puts : (a b : Association) → b.draft.bytes ≡ a.draft.bytes → HalvesAlike a b → Puts (sides_of a) (sides_of b)
+same_puts a b e h = others_puts a b (others_none a b h e)
+
+pub puts_then : (a b c : Association) → Puts (sides_of a) (sides_of b) → Puts (sides_of b) (sides_of c) → Puts (sides_of a) (sides_of c)
+puts_then a b c p q = and_then (sides_of a) (sides_of b) (sides_of c) p q
+
+-- what a receiver puts, where there is one
+in_side : (t : Transmission) (o p : Option Inbound) (i j : Inbound) (x y : List ℕ) → o ≡ Some i → p ≡ Some j → PutsIn i.receiver j.receiver x y
+    → Puts (sides t (receiver_of o) x) (sides t (receiver_of p) y)
+in_side t o p i j x y e f h =
+    let first = subst (λ k. Puts (sides t (receiver_of k) x) (sides t (Some j.receiver) y)) (sym e) (h t) in
+    subst (λ k. Puts (sides t (receiver_of o) x) (sides t (receiver_of k) y)) (sym f) first
+
+pub shutdown_side : (n : ℕ) (k : Bool) (t : Transmission) (o : Option Inbound) (i : Inbound) (x y : List ℕ) → o ≡ Some i → n ≡ i.receiver.cumulative_tsn
+    → Adds (put_where k (shutdown_chunk n)) x y → Puts (sides t (receiver_of o) x) (sides t (receiver_of o) y)
+shutdown_side n k t o i x y e own added = in_side t o o i i x y e e (shutdown_put n k i.receiver x y own added)
+
+pub sack_puts : (a b : Association) (i j : Inbound) → PutsIn i.receiver j.receiver a.draft.bytes b.draft.bytes → a.inbound ≡ Some i → b.inbound ≡ Some j
+    → b.outbound.sender ≡ a.outbound.sender → Puts (sides_of a) (sides_of b)
+sack_puts a b i j h e f same =
+    subst (λ t. Puts (sides_of a) (sides t (receiver_of b.inbound) b.draft.bytes)) (sym same)
+    (in_side a.outbound.sender a.inbound b.inbound i j a.draft.bytes b.draft.bytes e f h)
+
+pub shutdown_puts : (k : Bool) (n : ℕ) (a b : Association) (i : Inbound) → Adds (put_where k (shutdown_chunk n)) a.draft.bytes b.draft.bytes
+    → a.inbound ≡ Some i → n ≡ i.receiver.cumulative_tsn → HalvesAlike a b → Puts (sides_of a) (sides_of b)
+shutdown_puts k n a b i added e own h =
+    put_alike a b a.draft.bytes b.draft.bytes h
+    (shutdown_side n k a.outbound.sender a.inbound i a.draft.bytes b.draft.bytes e own added)
+
+-- what the sender puts
+pub data_puts : (a b : Association) → PutsOut a.outbound.sender b.outbound.sender a.draft.bytes b.draft.bytes
+    → receiver_of b.inbound ≡ receiver_of a.inbound → Puts (sides_of a) (sides_of b)
+data_puts a b h e = subst (λ r. Puts (sides_of a) (sides b.outbound.sender r b.draft.bytes)) (sym e) (h (receiver_of a.inbound))
+
+pub sends_puts : (ms : List Made) (t u : Transmission) (r : Option Reception) (x : List ℕ) → Sends ms t u → Puts (sides t r x) (sides u r x)
+sends_puts ms t u r x s = record { made = ms; sacks = []; chunks = []; sent = s; reported = none_in r; added = adds_none x; own = tt }
+
+-- ## A datagram
+
+-- what was put behind a header, sealed
+pub written : (h : CommonHeader) (z : Bool) (ms : List Made) (ss : List Sack) (ws : List Wire) (begun full sealed : List ℕ) → IsDraft (headed h) begun
+    → Adds ws begun full → AllByRecursion (IsOf ms ss) ws → ((p : Parts) → IsDraft p full → sealed ≡ packet_encoding (sum_of z) p) → IsWritten ms ss sealed
+written h z ms ss ws begun full sealed draft added own encoded =
+    let d = added.draft (headed h) draft in
+    record { packet = with_chunks ws (headed h); is_zero = z; encoded = encoded _ d; encodings = d.encodings; fits = d.fits; own = own }
+
+module _ (t u : Transmission) (r q : Option Reception) (x begun full : List ℕ) (p : Puts (sides t r begun) (sides u q full)) where
+  -- where nothing was put, or a call was refused
+  pub unsent_after : (y : List ℕ) → Transmits false (sides t r x) (sides u q y)
+  unsent_after y = record { made = p.made; sacks = p.sacks; sent = p.sent; reported = p.reported; written = λ e. absurd (false≢true e) }
+
+  pub sealed_after : (h : CommonHeader) (z : Bool) (sealed : List ℕ) → IsDraft (headed h) begun
+      → ((d : Parts) → IsDraft d full → sealed ≡ packet_encoding (sum_of z) d) → Transmits true (sides t r x) (sides u q sealed)
+  sealed_after h z sealed draft encoded = record {
+    made = p.made;
+    sacks = p.sacks;
+    sent = p.sent;
+    reported = p.reported;
+    written = λ e. written h z p.made p.sacks p.chunks begun full sealed draft p.added p.own encoded;
+  }
+
+more_written : (ms ns : List Made) (ss ts : List Sack) (b : List ℕ) → IsWritten ms ss b → IsWritten (ms ++ ns) (ss ++ ts) b
+more_written ms ns ss ts b w = record {
+  packet = w.packet;
+  is_zero = w.is_zero;
+  encoded = w.encoded;
+  encodings = w.encodings;
+  fits = w.fits;
+  own = all_of_more ms (ms ++ ns) ss (ss ++ ts) (λ m c. Contains-append_left ms ns m c) (λ m c. Contains-append_left ss ts m c) w.packet.chunks w.own;
+}
+
+-- calls before
+pub before_then : (k : Bool) (s : Sides) (t : Transmission) (r : Option Reception) (x y : List ℕ) (z : Sides) → Puts s (sides t r x)
+    → Transmits k (sides t r y) z → Transmits k s z
+before_then k s t r x y z p f = record {
+  made = f.made ++ p.made;
+  sacks = f.sacks ++ p.sacks;
+  sent = sent_then p.made f.made s.sender t z.sender p.sent f.sent;
+  reported = reported_in p.sacks f.sacks s.receiver r z.receiver p.reported f.reported;
+  written = λ e. more_written f.made p.made f.sacks p.sacks z.bytes (f.written e);
+}
+
+pub sent_same : (k : Bool) (s : Sides) (u v : Transmission) (q : Option Reception) (y : List ℕ) → v ≡ u → Transmits k s (sides u q y)
+    → Transmits k s (sides v q y)
+sent_same k s u v q y e h = subst (λ w. Transmits k s (sides w q y)) (sym e) h
+
+-- no datagram
+pub unsent : (s : Sides) (t : Transmission) (r : Option Reception) (x y : List ℕ) → Puts s (sides t r x) → Transmits false s (sides t r y)
+unsent s t r x y p = record { made = p.made; sacks = p.sacks; sent = p.sent; reported = p.reported; written = λ e. absurd (false≢true e) }
+
+-- nor where the call is refused
+refused : (o : Result Bool Fault) → IsErr o → is_sent o ≡ false
+refused (Ok b) h = absurd (false≢true h)
+refused (Err e) h = refl
+
+pub none_sent_so : (o : Result Bool Fault) (s z : Sides) → IsErr o → Transmits false s z → Transmits (is_sent o) s z
+none_sent_so o s z h t = subst (λ k. Transmits k s z) (sym (refused o h)) t
+
+-- a packet of one reply
+pub sent_alone : (a b : Association) → HalvesAlike a b → IsWritten [] [] b.draft.bytes → Transmits true (sides_of a) (sides_of b)
+sent_alone a b h w = record {
+  made = [];
+  sacks = [];
+  sent = subst (λ t. Sends [] a.outbound.sender t) (sym h.sender) (none_sent a.outbound.sender);
+  reported = subst (λ r. ReportsIn [] (receiver_of a.inbound) r) (sym h.receiver) (none_in (receiver_of a.inbound));
+  written = λ e. w;
+}

@@ -1,0 +1,170 @@
+-- Chunks that are put behind others are of what calls answered.
+use Rattle.std.proofs.Common.{◌≡◌, ℕ, List, [], ◌∷◌, ◌++◌, Bool, true, false, Option, refl, sym, subst, append_assoc, arith}
+use Rattle.std.proofs.lemmas.List.{append-nil}
+use Rattle.std.proofs.lemmas.List.Elements.{Contains-append_left, Contains-append_right}
+use Rattle.std.specs.Prelude.{Contains}
+use Rattle.std.specs.List.{AllByRecursion}
+use Rattle.sctp_association.proofs.Running.{none_in, none_sent, reported_in, reported_once, sent_by, sent_then}
+use Rattle.sctp_association.specs.Packets.{Adds, IsOf, Puts, PutsIn, PutsOut, Sides, put_where, sides, with_chunks}
+use Rattle.sctp_association.specs.Runs.{AcksBy, SendsBy, made_by, reported_by}
+use Rattle.sctp_chunks.specs.Wire.{Wire, data_chunk, forward_tsn_chunk, i_forward_tsn_chunk, sack_chunk, shutdown_chunk}
+use Rattle.sctp_chunks.specs.Wire.{abort_chunk, cookie_ack_chunk, cookie_echo_chunk, error_chunk, heartbeat_ack_chunk, heartbeat_chunk, init_chunk}
+use Rattle.sctp_chunks.specs.Wire.{reconfig_chunk, shutdown_ack_chunk, shutdown_complete_chunk}
+use Rattle.sctp_data.specs.SelectiveAck.{Sack}
+use Rattle.sctp_delivery.specs.ReceiverCalls.{ReceiverCall, makes_sack}
+use Rattle.sctp_delivery.specs.SenderCalls.{Made, SenderCall}
+use Rattle.sctp_packets.specs.Draft.{IsDraft, with_chunk}
+use Rattle.sctp_packets.specs.Packet.{Parts}
+use Rattle.sctp_receiver.specs.Receiver.{Reception, sack_within}
+use Rattle.sctp_sender.specs.Sender.{Transmission}
+
+-- ## A packet
+
+pub adds_none : (b : List ℕ) → Adds [] b b
+adds_none b = record { draft = λ p d. subst (λ l. IsDraft (record p { chunks = l }) b) (sym (append-nil p.chunks)) d }
+
+pub adds_then : (ws vs : List Wire) (x y z : List ℕ) → Adds ws x y → Adds vs y z → Adds (ws ++ vs) x z
+adds_then ws vs x y z a b = record {
+  draft = λ p d. subst (λ l. IsDraft (record p { chunks = l }) z) (append_assoc p.chunks ws vs) (b.draft (with_chunks ws p) (a.draft p d));
+}
+
+-- a chunk that is put, where that is answered
+pub added_put : (b : Bool) (w : Wire) (old new : List ℕ) → (b ≡ true → (p : Parts) → IsDraft p old → IsDraft (with_chunk w p) new)
+    → (b ≡ false → new ≡ old) → Adds (put_where b w) old new
+added_put true w old new added full = record { draft = added refl }
+added_put false w old new added full = subst (λ x. Adds [] old x) (sym (full refl)) (adds_none old)
+
+-- ## Of whom chunks are
+
+module _ (ms ns : List Made) (ss ts : List Sack) (more : (m : Made) → Contains ms m → Contains ns m) (others : (s : Sack) → Contains ss s → Contains ts s) where
+  of_more : (w : Wire) → IsOf ms ss w → IsOf ns ts w
+  of_more (data_chunk d) h = more _ h
+  of_more (init_chunk i) h = h
+  of_more (sack_chunk s) h = others _ h
+  of_more (heartbeat_chunk ps) h = h
+  of_more (heartbeat_ack_chunk ps) h = h
+  of_more (abort_chunk cs) h = h
+  of_more (shutdown_chunk n) h = record { sack = h.sack; own = others _ h.own; cumulative = h.cumulative }
+  of_more shutdown_ack_chunk h = h
+  of_more (error_chunk cs) h = h
+  of_more (cookie_echo_chunk b) h = h
+  of_more cookie_ack_chunk h = h
+  of_more shutdown_complete_chunk h = h
+  of_more (reconfig_chunk r) h = h
+  of_more (forward_tsn_chunk f) h = more _ h
+  of_more (i_forward_tsn_chunk f) h = h
+
+  pub all_of_more : (ws : List Wire) → AllByRecursion (IsOf ms ss) ws → AllByRecursion (IsOf ns ts) ws
+  all_of_more [] h = tt
+  all_of_more (w ∷ ws) h = (of_more w h.0, all_of_more ws h.1)
+
+pub all_append : {X : Type 0} (P : X → Type 0) (xs ys : List X) → AllByRecursion P xs → AllByRecursion P ys → AllByRecursion P (xs ++ ys)
+all_append P [] ys h k = k
+all_append P (x ∷ xs) ys h k = (h.0, all_append P xs ys h.1 k)
+
+pub all_put : (P : Wire → Type 0) (b : Bool) (w : Wire) → P w → AllByRecursion P (put_where b w)
+all_put P true w h = (h, tt)
+all_put P false w h = tt
+
+-- ## Puts
+
+pub nothing : (s : Sides) → Puts s s
+nothing s = record {
+  made = [];
+  sacks = [];
+  chunks = [];
+  sent = none_sent s.sender;
+  reported = none_in s.receiver;
+  added = adds_none s.bytes;
+  own = tt;
+}
+
+pub and_then : (a b c : Sides) → Puts a b → Puts b c → Puts a c
+and_then a b c p q = record {
+  made = q.made ++ p.made;
+  sacks = q.sacks ++ p.sacks;
+  chunks = p.chunks ++ q.chunks;
+  sent = sent_then p.made q.made a.sender b.sender c.sender p.sent q.sent;
+  reported = reported_in p.sacks q.sacks a.receiver b.receiver c.receiver p.reported q.reported;
+  added = adds_then p.chunks q.chunks a.bytes b.bytes c.bytes p.added q.added;
+  own = all_append (IsOf (q.made ++ p.made) (q.sacks ++ p.sacks)) p.chunks q.chunks
+      (all_of_more p.made (q.made ++ p.made) p.sacks (q.sacks ++ p.sacks) (λ m h. Contains-append_right q.made p.made m h)
+      (λ s h. Contains-append_right q.sacks p.sacks s h) p.chunks p.own)
+      (all_of_more q.made (q.made ++ p.made) q.sacks (q.sacks ++ p.sacks) (λ m h. Contains-append_left q.made p.made m h)
+      (λ s h. Contains-append_left q.sacks p.sacks s h) q.chunks q.own);
+}
+
+-- where neither half changes, nor the packet
+pub kept : (t u : Transmission) (x y : List ℕ) → u ≡ t → y ≡ x → PutsOut t u x y
+kept t u x y e f r =
+    subst (λ v. Puts (sides t r x) (sides v r y)) (sym e) (subst (λ b. Puts (sides t r x) (sides t r b)) (sym f) (nothing (sides t r x)))
+
+-- and what follows
+pub from_same : (t u v : Transmission) (x y : List ℕ) → u ≡ t → PutsOut u v x y → PutsOut t v x y
+from_same t u v x y e p = subst (λ w. PutsOut w v x y) e p
+
+pub to_same : (t u v : Transmission) (x y : List ℕ) → v ≡ u → PutsOut t u x y → PutsOut t v x y
+to_same t u v x y e p = subst (λ w. PutsOut t w x y) (sym e) p
+
+pub out_then : (t u v : Transmission) (x y z : List ℕ) → PutsOut t u x y → PutsOut u v y z → PutsOut t v x z
+out_then t u v x y z p q r = and_then (sides t r x) (sides u r y) (sides v r z) (p r) (q r)
+
+-- a chunk that no call of a half answers
+pub puts_other : (b : Bool) (w : Wire) (t : Transmission) (r : Option Reception) (old new : List ℕ) → IsOf [] [] w → Adds (put_where b w) old new
+    → Puts (sides t r old) (sides t r new)
+puts_other b w t r old new of added = record {
+  made = [];
+  sacks = [];
+  chunks = put_where b w;
+  sent = none_sent t;
+  reported = none_in r;
+  added = added;
+  own = all_put (IsOf [] []) b w of;
+}
+
+-- a chunk that a call of the sender answers
+pub puts_made : (c : SenderCall) (b : Bool) (w : Wire) (t u : Transmission) (old new : List ℕ) → SendsBy c t u → IsOf (made_by c t) [] w
+    → Adds (put_where b w) old new → PutsOut t u old new
+puts_made c b w t u old new m of added r = record {
+  made = made_by c t;
+  sacks = [];
+  chunks = put_where b w;
+  sent = sent_by c t u m;
+  reported = none_in r;
+  added = added;
+  own = all_put (IsOf (made_by c t) []) b w of;
+}
+
+-- a call of the sender, of which no chunk is put
+pub puts_none : (c : SenderCall) (t u : Transmission) (b : List ℕ) → SendsBy c t u → PutsOut t u b b
+puts_none c t u b m r = record {
+  made = made_by c t;
+  sacks = [];
+  chunks = [];
+  sent = sent_by c t u m;
+  reported = none_in r;
+  added = adds_none b;
+  own = tt;
+}
+
+-- a chunk that a call of the receiver answers
+pub puts_reported : (c : ReceiverCall) (b : Bool) (w : Wire) (r s : Reception) (old new : List ℕ) → AcksBy c r s → IsOf [] (reported_by c r) w
+    → Adds (put_where b w) old new → PutsIn r s old new
+puts_reported c b w r s old new m of added t = record {
+  made = [];
+  sacks = reported_by c r;
+  chunks = put_where b w;
+  sent = none_sent t;
+  reported = reported_once c r s m;
+  added = added;
+  own = all_put (IsOf [] (reported_by c r)) b w of;
+}
+
+pub there : {X : Type 0} (x : X) → Contains (x ∷ []) x
+there x = (0, omega arith, refl)
+
+-- a SHUTDOWN acknowledges what a SACK would
+pub shutdown_put : (n : ℕ) (b : Bool) (r : Reception) (old new : List ℕ) → n ≡ r.cumulative_tsn → Adds (put_where b (shutdown_chunk n)) old new
+    → PutsIn r r old new
+shutdown_put n b r old new e added = puts_reported (makes_sack 0 16) b (shutdown_chunk n) r r old new (refl, (refl, tt))
+    (record { sack = sack_within 0 16 r; own = there (sack_within 0 16 r); cumulative = sym e }) added

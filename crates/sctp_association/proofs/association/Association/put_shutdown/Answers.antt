@@ -1,0 +1,6 @@
+use Rattle.sctp_association.proofs.Putting.{and_then}
+use Rattle.sctp_association.proofs.Others.{others_puts}
+use Rattle.sctp_association.proofs.association.Association.put_shutdown.Goals as goal
+
+pub returns : goal.returns
+returns c = record { made = and_then _ _ _ c.put_shutdown_asked.ensures.made (others_puts _ _ c.put_shutdown_ack.ensures.others) }
