@@ -4,9 +4,13 @@
     python3 evidence/bench_page.py --growth < GROWTH > docs/growth.svg      the picture: time of a call over what is held, both in powers of ten
     python3 evidence/bench_page.py --growth-table < GROWTH                  the same as a table
     python3 evidence/bench_page.py --times < TIMES                          the rows of times as a table
+    python3 evidence/bench_page.py --exchange OURS RUST > docs/exchange.svg picture: instructions of a message over its size
+    python3 evidence/bench_page.py --exchange-table OURS RUST               the same as a table
+    python3 evidence/bench_page.py --parts OURS RUST                        instructions of all other rows that both have
 
 GROWTH is what `bench growth` prints, TIMES what `bench times` or `bench times --against FILE` does. A line of GROWTH has a call, its
-nanoseconds at each size and the exponent, with tabs between them; the first line names the sizes.
+nanoseconds at each size and the exponent, with tabs between them; the first line names the sizes. OURS and RUST are what
+evidence/instructions.py prints of `bench`, and of the programs of evidence/rust_side.sh one after another.
 """
 import math
 import re
@@ -16,6 +20,18 @@ WIDTH, HEIGHT = 940, 520
 LEFT, TOP, RIGHT, BOTTOM = 70, 40, 640, 470
 LINE = 16
 COLORS = {"Sender": "#1a7f37", "Receiver": "#d1242f", "": "#1f6feb"}
+EXCHANGES = (
+    ("100 bytes, ten a packet", 100, "exchange of 100 bytes, ten messages a packet"),
+    ("100 bytes", 100, "exchange of 100 bytes, a message a packet"),
+    ("1,200 bytes", 1200, "exchange of 1200 bytes, a message a packet"),
+    ("16 KiB", 16_384, "exchange of 16384 bytes, steady"),
+    ("64 KiB", 65_536, "64 KiB in packets"),
+)
+SIDES = (
+    ("this repository", "circle", "stroke:#1a7f37;fill:#1a7f37"),
+    ("Rust crate", "square", "stroke:#d1242f;fill:#d1242f;stroke-dasharray:7 4"),
+    ("limit", "triangle", "stroke:#1f6feb;fill:#1f6feb;stroke-dasharray:2 3"),
+)
 UNITS = ((10**9, "s"), (10**6, "ms"), (10**3, "µs"), (1, "ns"))
 ROW = re.compile(r"(?P<row>.*): (?P<nanos>\d+) ns a (?P<unit>\w+)(?:, other (?P<other>\d+) ns, ratio (?P<ratio>[\d.]+))?$")
 
@@ -95,12 +111,89 @@ def times_table(lines):
     return "\n".join([*out, ""])
 
 
+def instructions_in(file):
+    """Returns the instructions of each row of a file."""
+    with open(file, encoding="utf-8") as it:
+        return {row: int(count) for row, _, count in (line.rstrip("\n").rpartition("\t") for line in it)}
+
+
+def exchanges_of(ours, rust, sum_name):
+    """Returns for each size of messages what the two and the limit take, None where it was not measured."""
+    limit = "two copies" if sum_name == "sum 0" else "two copies and CRC-32C by instruction"
+    for name, length, row in EXCHANGES:
+        yield name, length, [ours.get(f"{row}, {sum_name}"), rust.get(f"{row}, {sum_name}"), rust.get(f"limit of {length} bytes, {limit}")]
+
+
+def mark(shape, x, y):
+    """Returns a mark that is told from others without color."""
+    if shape == "circle":
+        return f'<circle cx="{x:.1f}" cy="{y:.1f}" r="4.5"/>'
+    points = f"{x - 4.5:.1f},{y + 4.5:.1f} {x + 4.5:.1f},{y + 4.5:.1f}"
+    points += f" {x + 4.5:.1f},{y - 4.5:.1f} {x - 4.5:.1f},{y - 4.5:.1f}" if shape == "square" else f" {x:.1f},{y - 5:.1f}"
+    return f'<polygon points="{points}"/>'
+
+
+def panel(title, left, right, rows):
+    """Returns one half of the picture of exchanges: both axes in powers, a line for each of ours, the Rust crate and the limit."""
+    sizes = [it for it in rows if "packet" not in it[0]]
+    low, high, first, last = 1, 6, math.log10(sizes[0][1]), math.log10(sizes[-1][1])
+    across = lambda length: left + (right - left) * (math.log10(length) - first) / (last - first)
+    down = lambda count: BOTTOM - (BOTTOM - TOP) * (math.log10(count) - low) / (high - low)
+    out = [f'<text x="{left}" y="{TOP - 18}">{title}</text>']
+    for power in range(low, high + 1):
+        y = down(10**power)
+        out.append(f'<path class="g" d="M{left} {y:.1f}H{right}"/><text class="e" x="{left - 8}" y="{y + 4:.1f}">{10**power:,}</text>')
+    for name, length, _ in sizes:
+        out.append(f'<path class="g" d="M{across(length):.1f} {TOP}V{BOTTOM}"/><text class="m" x="{across(length):.1f}" y="{BOTTOM + 20}">{name}</text>')
+    for place, (name, shape, style) in enumerate(SIDES):
+        points = [(across(length), down(counts[place])) for _, length, counts in sizes if counts[place]]
+        line = " ".join(f"{x:.1f},{y:.1f}" for x, y in points)
+        out.append(f'<g style="{style}"><polyline points="{line}"/>{"".join(mark(shape, x, y) for x, y in points)}</g>')
+        out.append(f'<text x="{points[0][0] + 10:.1f}" y="{points[0][1] + (-12 if place == 1 else 20):.1f}">{name}</text>')
+    return out
+
+
+def exchange_picture(ours, rust):
+    """Returns the picture of exchanges."""
+    out = [f'<svg xmlns="http://www.w3.org/2000/svg" viewBox="0 0 {WIDTH} {HEIGHT}">',
+           "<style>text{font:13px sans-serif;fill:#222}.e{text-anchor:end}.m{text-anchor:middle}.g{stroke:#ddd}polyline{fill:none;stroke-width:2}</style>",
+           f'<rect width="{WIDTH}" height="{HEIGHT}" fill="#fff"/>']
+    for sum_name, left, right in (("sum 0", 80, 450), ("CRC-32C", 540, 910)):
+        out += panel(f"instructions of a message, {sum_name}, over its size", left, right, list(exchanges_of(ours, rust, sum_name)))
+    return "\n".join([*out, "</svg>", ""])
+
+
+def exchange_table(ours, rust):
+    """Returns the table of exchanges, in instructions."""
+    out = ["message | sum | here | Rust crate | here / Rust | limit", "---|---|---|---|---|---"]
+    for sum_name in ("sum 0", "CRC-32C"):
+        for name, _, (here, there, limit) in exchanges_of(ours, rust, sum_name):
+            ratio = f"{here / there:.2f}" if here and there else ""
+            out.append(f"{name} | {sum_name} | " + " | ".join([f"{here or 0:,}", f"{there or 0:,}", ratio, f"{limit or 0:,}"]))
+    return "\n".join([*out, ""])
+
+
+def parts_table(ours, rust):
+    """Returns the table of the other rows that both have, in instructions."""
+    out = ["row | here | Rust crate | here / Rust", "---|---|---|---"]
+    for row, here in ours.items():
+        if row in rust and not row.startswith("exchange"):
+            out.append(f"{row} | {here:,} | {rust[row]:,} | {here / rust[row]:.2f}")
+    return "\n".join([*out, ""])
+
+
 def main():
     what = sys.argv[1:]
     if what == ["--growth"]:
         print(picture(*growth_in(sys.stdin)), end="")
     elif what == ["--growth-table"]:
         print(growth_table(*growth_in(sys.stdin)), end="")
+    elif what[:1] == ["--exchange"] and len(what) == 3:
+        print(exchange_picture(*map(instructions_in, what[1:])), end="")
+    elif what[:1] == ["--exchange-table"] and len(what) == 3:
+        print(exchange_table(*map(instructions_in, what[1:])), end="")
+    elif what[:1] == ["--parts"] and len(what) == 3:
+        print(parts_table(*map(instructions_in, what[1:])), end="")
     elif what == ["--times"]:
         print(times_table(sys.stdin), end="")
     else:
