@@ -27,11 +27,7 @@ EXCHANGES = (
     ("16 KiB", 16_384, "exchange of 16384 bytes, steady"),
     ("64 KiB", 65_536, "64 KiB in packets"),
 )
-SIDES = (
-    ("this repository", "circle", "stroke:#1a7f37;fill:#1a7f37"),
-    ("Rust crate", "square", "stroke:#d1242f;fill:#d1242f;stroke-dasharray:7 4"),
-    ("limit", "triangle", "stroke:#1f6feb;fill:#1f6feb;stroke-dasharray:2 3"),
-)
+BARS = (("here", "#1a7f37"), ("Rust crate", "url(#hatch)"), ("kept buffer", "#fff"), ("limit", "#222"))
 UNITS = ((10**9, "s"), (10**6, "ms"), (10**3, "µs"), (1, "ns"))
 ROW = re.compile(r"(?P<row>.*): (?P<nanos>\d+) ns a (?P<unit>\w+)(?:, other (?P<other>\d+) ns, ratio (?P<ratio>[\d.]+))?$")
 
@@ -118,58 +114,52 @@ def instructions_in(file):
 
 
 def exchanges_of(ours, rust, sum_name):
-    """Returns for each size of messages what the two and the limit take, None where it was not measured."""
+    """Returns for each size of messages what each of BARS takes, None where it was not measured."""
     limit = "two copies" if sum_name == "sum 0" else "two copies and CRC-32C by instruction"
     for name, length, row in EXCHANGES:
-        yield name, length, [ours.get(f"{row}, {sum_name}"), rust.get(f"{row}, {sum_name}"), rust.get(f"limit of {length} bytes, {limit}")]
+        counts = [ours.get(f"{row}, {sum_name}"), rust.get(f"{row}, {sum_name}"), rust.get(f"{row}, kept buffer, {sum_name}")]
+        yield name, [*counts, rust.get(f"limit of {length} bytes, {limit}")]
 
 
-def mark(shape, x, y):
-    """Returns a mark that is told from others without color."""
-    if shape == "circle":
-        return f'<circle cx="{x:.1f}" cy="{y:.1f}" r="4.5"/>'
-    points = f"{x - 4.5:.1f},{y + 4.5:.1f} {x + 4.5:.1f},{y + 4.5:.1f}"
-    points += f" {x + 4.5:.1f},{y - 4.5:.1f} {x - 4.5:.1f},{y - 4.5:.1f}" if shape == "square" else f" {x:.1f},{y - 5:.1f}"
-    return f'<polygon points="{points}"/>'
-
-
-def panel(title, left, right, rows):
-    """Returns one half of the picture of exchanges: both axes in powers, a line for each of ours, the Rust crate and the limit."""
-    sizes = [it for it in rows if "packet" not in it[0]]
-    low, high, first, last = 1, 6, math.log10(sizes[0][1]), math.log10(sizes[-1][1])
-    across = lambda length: left + (right - left) * (math.log10(length) - first) / (last - first)
-    down = lambda count: BOTTOM - (BOTTOM - TOP) * (math.log10(count) - low) / (high - low)
-    out = [f'<text x="{left}" y="{TOP - 18}">{title}</text>']
-    for power in range(low, high + 1):
-        y = down(10**power)
-        out.append(f'<path class="g" d="M{left} {y:.1f}H{right}"/><text class="e" x="{left - 8}" y="{y + 4:.1f}">{10**power:,}</text>')
-    for name, length, _ in sizes:
-        out.append(f'<path class="g" d="M{across(length):.1f} {TOP}V{BOTTOM}"/><text class="m" x="{across(length):.1f}" y="{BOTTOM + 20}">{name}</text>')
-    for place, (name, shape, style) in enumerate(SIDES):
-        points = [(across(length), down(counts[place])) for _, length, counts in sizes if counts[place]]
-        line = " ".join(f"{x:.1f},{y:.1f}" for x, y in points)
-        out.append(f'<g style="{style}"><polyline points="{line}"/>{"".join(mark(shape, x, y) for x, y in points)}</g>')
-        out.append(f'<text x="{points[0][0] + 10:.1f}" y="{points[0][1] + (-12 if place == 1 else 20):.1f}">{name}</text>')
-    return out
+def bars(title, left, width, rows):
+    """Returns one half of the picture of exchanges: for each size a bar for each of BARS, as a part of what the Rust crate takes."""
+    out, y = [f'<text x="{left}" y="24">{title}</text>'], 40
+    for name, counts in rows:
+        out.append(f'<text x="{left}" y="{y + 12}" class="b">{name}</text>')
+        for (who, fill), count in zip(BARS, counts):
+            if count:
+                y += LINE + 1
+                length = width * count / counts[1]
+                out.append(f'<rect x="{left}" y="{y}" width="{length:.1f}" height="{LINE - 2}" fill="{fill}" stroke="#222"/>')
+                out.append(f'<text x="{left + max(length, 0) + 5:.1f}" y="{y + 12}">{who}: {count:,}</text>')
+        y += LINE + 12
+    return out, y
 
 
 def exchange_picture(ours, rust):
     """Returns the picture of exchanges."""
-    out = [f'<svg xmlns="http://www.w3.org/2000/svg" viewBox="0 0 {WIDTH} {HEIGHT}">',
-           "<style>text{font:13px sans-serif;fill:#222}.e{text-anchor:end}.m{text-anchor:middle}.g{stroke:#ddd}polyline{fill:none;stroke-width:2}</style>",
-           f'<rect width="{WIDTH}" height="{HEIGHT}" fill="#fff"/>']
-    for sum_name, left, right in (("sum 0", 80, 450), ("CRC-32C", 540, 910)):
-        out += panel(f"instructions of a message, {sum_name}, over its size", left, right, list(exchanges_of(ours, rust, sum_name)))
-    return "\n".join([*out, "</svg>", ""])
+    left, low = bars("instructions of a message, sum 0", 10, 270, exchanges_of(ours, rust, "sum 0"))
+    right, high = bars("instructions of a message, CRC-32C", 490, 270, exchanges_of(ours, rust, "CRC-32C"))
+    out = [f'<svg xmlns="http://www.w3.org/2000/svg" viewBox="0 0 {WIDTH} {max(low, high)}">',
+           "<style>text{font:13px sans-serif;fill:#222}.b{font-weight:bold}</style>",
+           '<defs><pattern id="hatch" width="6" height="6" patternUnits="userSpaceOnUse" patternTransform="rotate(45)"><rect width="6" height="6" fill="#fff"/>'
+           '<path d="M0 0V6" stroke="#555" stroke-width="3"/></pattern></defs>',
+           f'<rect width="{WIDTH}" height="{max(low, high)}" fill="#fff"/>']
+    return "\n".join([*out, *left, *right, "</svg>", ""])
+
+
+def ratio_of(here, there):
+    """Returns a ratio as text, none where one of both was not measured."""
+    return f"{here / there:.2f}" if here and there else ""
 
 
 def exchange_table(ours, rust):
     """Returns the table of exchanges, in instructions."""
-    out = ["message | sum | here | Rust crate | here / Rust | limit", "---|---|---|---|---|---"]
+    out = ["message | sum | here | Rust crate | ratio | with a kept buffer | ratio | limit", "---|---|---|---|---|---|---|---"]
     for sum_name in ("sum 0", "CRC-32C"):
-        for name, _, (here, there, limit) in exchanges_of(ours, rust, sum_name):
-            ratio = f"{here / there:.2f}" if here and there else ""
-            out.append(f"{name} | {sum_name} | " + " | ".join([f"{here or 0:,}", f"{there or 0:,}", ratio, f"{limit or 0:,}"]))
+        for name, (here, there, kept, limit) in exchanges_of(ours, rust, sum_name):
+            cells = [name, sum_name, f"{here or 0:,}", f"{there or 0:,}", ratio_of(here, there), f"{kept or 0:,}", ratio_of(here, kept), f"{limit or 0:,}"]
+            out.append(" | ".join(cells))
     return "\n".join([*out, ""])
 
 
@@ -177,8 +167,8 @@ def parts_table(ours, rust):
     """Returns the table of the other rows that both have, in instructions."""
     out = ["row | here | Rust crate | here / Rust", "---|---|---|---"]
     for row, here in ours.items():
-        if row in rust and not row.startswith("exchange"):
-            out.append(f"{row} | {here:,} | {rust[row]:,} | {here / rust[row]:.2f}")
+        if row in rust and not row.startswith(("exchange", "64 KiB")):
+            out.append(f"{row} | {here:,} | {rust[row]:,} | {ratio_of(here, rust[row])}")
     return "\n".join([*out, ""])
 
 

@@ -2,10 +2,11 @@
 """What each row of `bench times`, or of `rust_side times`, takes in instructions of one unit.
 
     python3 evidence/instructions.py PROGRAM > FILE                     a line of FILE: a row's name, a tab, instructions
+    python3 evidence/instructions.py PROGRAM --word WORD                the same of rows in whose name WORD stands (`rust_side` alone)
     python3 evidence/instructions.py PROGRAM --profile ROW              the functions in which the instructions of a row are
 
-PROGRAM runs under valgrind, which counts between two looks at the clock; evidence/clock.c, preloaded, lets two runs of a row be enough. The shorter
-one counts. Between the looks are all instructions of a run, and none of what was prepared for it. gcc or the CC given, and valgrind, are needed.
+PROGRAM runs under valgrind, which counts between two looks at the clock; evidence/clock.c, preloaded, lets a few runs of a row be enough. The shortest
+counts. Between the looks are all instructions of a run, and none of what was prepared for it. gcc or the CC given, and valgrind, are needed.
 """
 import argparse
 import collections
@@ -64,10 +65,11 @@ def rows_of(lines, dumps):
 
 
 def fewest(row, stretches):
-    """Returns the shortest run of a row: a look begins a run, and the next ends it; what was prepared takes less than a packet's run."""
+    """Returns the shortest run of a row. Three looks belong to a run, of which the second ends it; the first row may have a look more before it.
+    Packets have two or three, but what is prepared for them takes less."""
     if units_of(row) == ROUNDS:
         return min(it for it in stretches if it[0] > max(stretches)[0] / 2)
-    return min(stretches[2::3])
+    return min(stretches[-2::-3][: (len(stretches) - 1) // 3])
 
 
 def profile_of(file):
@@ -86,13 +88,13 @@ def profile_of(file):
     return own.most_common(20)
 
 
-def run(program, folder):
+def run(program, words_after, folder):
     """Runs the program, and returns what it printed."""
     clock = f"{folder}/clock.so"
     subprocess.run([os.environ.get("CC", "gcc"), "-O2", "-shared", "-fPIC", f"{TOP}/evidence/clock.c", "-o", clock], check=True)
     words = ["valgrind", "--tool=callgrind", "--compress-strings=no", "--dump-before=clock_gettime*", "--dump-before=write*", f"--callgrind-out-file={folder}/out"]
     env = dict(os.environ, LD_PRELOAD=clock)
-    done = subprocess.run([*words, program, "times"], env=env, stdout=subprocess.PIPE, stderr=subprocess.PIPE, text=True)
+    done = subprocess.run([*words, program, "times", *words_after], env=env, stdout=subprocess.PIPE, stderr=subprocess.PIPE, text=True)
     if done.returncode:
         sys.exit(done.stderr)
     return done.stdout.splitlines()
@@ -101,10 +103,11 @@ def run(program, folder):
 def main():
     parser = argparse.ArgumentParser()
     parser.add_argument("program")
+    parser.add_argument("--word")
     parser.add_argument("--profile")
     args = parser.parse_args()
     with tempfile.TemporaryDirectory() as folder:
-        lines = run(args.program, folder)
+        lines = run(args.program, [args.word] if args.word else [], folder)
         for row, stretches in rows_of(lines, dumps_in(folder)):
             count, file = fewest(row, stretches)
             if args.profile == row:

@@ -1,7 +1,7 @@
 //! The everyday exchange: messages are written, sent in packets, read, and acknowledged by SACKs in packets of their own.
 //!
-//! The crate's own association does these steps between its private parts. Here they stand without its timers, its windows and its map of
-//! streams, as crates/bench has them without ours.
+//! The steps are those that an association needs of the crate's private parts, without timers, windows and a map of streams, as crates/bench has
+//! them without ours.
 use crate::parts::{CALLS, FRAGMENT, STREAM, TEXT};
 use crate::{timed, Measured, Row};
 use bytes::{Bytes, BytesMut};
@@ -23,9 +23,9 @@ const LIMIT: usize = 1_400;
 
 /// How a packet becomes a datagram.
 pub enum Writer {
-    /// As in the crate's association: each packet has a new buffer, which grows while it is written, and which is the datagram.
+    /// By `Packet::marshal`: each packet has a new buffer, which grows while it is written, and which is the datagram.
     New,
-    /// As in crates/bench: packets are written into one buffer, and each datagram is copied once.
+    /// By `Packet::marshal_to`, as in crates/bench: packets are written into one buffer, and each datagram is copied once.
     Kept(BytesMut),
 }
 
@@ -91,7 +91,7 @@ impl Pair {
         chunks
     }
 
-    /// As the crate's association takes DATA whose stream is known.
+    /// DATA is noted, reassembled, and taken off the notes where its TSN is the next.
     fn data(&mut self, chunk: &ChunkPayloadData) {
         if self.arrived.can_push(chunk, self.last_tsn) {
             self.arrived.push(chunk.clone(), self.last_tsn);

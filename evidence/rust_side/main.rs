@@ -2,6 +2,7 @@
 //!
 //!     rust_side              prints what came out of a run of each row
 //!     rust_side times        prints each row and the nanoseconds of the fastest of many runs, as `bench times --against` reads them
+//!     rust_side times WORD   the same of the rows in whose name WORD stands
 //!     rust_side heap N       prints the heap of N pairs of a sender and a receiver
 mod exchange;
 #[cfg(feature = "heap")]
@@ -64,10 +65,14 @@ impl Row {
 
 fn all_rows() -> Vec<Row> {
     if cfg!(feature = "zero") {
-        parts::rows().into_iter().chain(exchange::rows("sum 0")).chain(limit::rows()).collect()
+        exchange::rows("sum 0").into_iter().chain(limit::rows()).chain(parts::rows()).collect()
     } else {
-        parts::sums().into_iter().chain(exchange::rows("CRC-32C")).collect()
+        exchange::rows("CRC-32C").into_iter().chain(parts::sums()).collect()
     }
+}
+
+fn print_times(word: &str) {
+    all_rows().iter().filter(|row| row.name.contains(word)).for_each(|row| println!("{}\t{}", row.name, row.fastest()));
 }
 
 fn main() {
@@ -75,9 +80,10 @@ fn main() {
     let words: Vec<String> = std::env::args().skip(1).collect();
     match words.iter().map(String::as_str).collect::<Vec<_>>()[..] {
         [] => all_rows().iter().for_each(|row| println!("{}: {}", row.name, (row.run)().given)),
-        ["times"] => all_rows().iter().for_each(|row| println!("{}\t{}", row.name, row.fastest())),
+        ["times"] => print_times(""),
+        ["times", word] => print_times(word),
         #[cfg(feature = "heap")]
         ["heap", pairs] => heap::run(pairs.parse().expect("a number of pairs")),
-        _ => panic!("rust_side [times | heap N]"),
+        _ => panic!("rust_side [times [WORD] | heap N]"),
     }
 }
