@@ -4,9 +4,13 @@
     python3 evidence/bench_page.py --growth < GROWTH > docs/growth.svg      the picture: time of a call over what is held, both in powers of ten
     python3 evidence/bench_page.py --growth-table < GROWTH                  the same as a table
     python3 evidence/bench_page.py --times < TIMES                          the rows of times as a table
+    python3 evidence/bench_page.py --exchange OURS RUST > docs/exchange.svg picture: instructions of a message over its size
+    python3 evidence/bench_page.py --exchange-table OURS RUST               the same as a table
+    python3 evidence/bench_page.py --parts OURS RUST                        instructions of all other rows that both have
 
 GROWTH is what `bench growth` prints, TIMES what `bench times` or `bench times --against FILE` does. A line of GROWTH has a call, its
-nanoseconds at each size and the exponent, with tabs between them; the first line names the sizes.
+nanoseconds at each size and the exponent, with tabs between them; the first line names the sizes. OURS and RUST are what
+evidence/instructions.py prints of `bench`, and of the programs of evidence/rust_side.sh one after another.
 """
 import math
 import re
@@ -16,6 +20,14 @@ WIDTH, HEIGHT = 940, 520
 LEFT, TOP, RIGHT, BOTTOM = 70, 40, 640, 470
 LINE = 16
 COLORS = {"Sender": "#1a7f37", "Receiver": "#d1242f", "": "#1f6feb"}
+EXCHANGES = (
+    ("100 bytes, ten a packet", 100, "exchange of 100 bytes, ten messages a packet"),
+    ("100 bytes", 100, "exchange of 100 bytes, a message a packet"),
+    ("1,200 bytes", 1200, "exchange of 1200 bytes, a message a packet"),
+    ("16 KiB", 16_384, "exchange of 16384 bytes, steady"),
+    ("64 KiB", 65_536, "64 KiB in packets"),
+)
+BARS = (("here", "#1a7f37"), ("Rust crate", "url(#hatch)"), ("kept buffer", "#fff"), ("limit", "#222"))
 UNITS = ((10**9, "s"), (10**6, "ms"), (10**3, "µs"), (1, "ns"))
 ROW = re.compile(r"(?P<row>.*): (?P<nanos>\d+) ns a (?P<unit>\w+)(?:, other (?P<other>\d+) ns, ratio (?P<ratio>[\d.]+))?$")
 
@@ -95,12 +107,83 @@ def times_table(lines):
     return "\n".join([*out, ""])
 
 
+def instructions_in(file):
+    """Returns the instructions of each row of a file."""
+    with open(file, encoding="utf-8") as it:
+        return {row: int(count) for row, _, count in (line.rstrip("\n").rpartition("\t") for line in it)}
+
+
+def exchanges_of(ours, rust, sum_name):
+    """Returns for each size of messages what each of BARS takes, None where it was not measured."""
+    limit = "two copies" if sum_name == "sum 0" else "two copies and CRC-32C by instruction"
+    for name, length, row in EXCHANGES:
+        counts = [ours.get(f"{row}, {sum_name}"), rust.get(f"{row}, {sum_name}"), rust.get(f"{row}, kept buffer, {sum_name}")]
+        yield name, [*counts, rust.get(f"limit of {length} bytes, {limit}")]
+
+
+def bars(title, left, width, rows):
+    """Returns one half of the picture of exchanges: for each size a bar for each of BARS, as a part of what the Rust crate takes."""
+    out, y = [f'<text x="{left}" y="24">{title}</text>'], 40
+    for name, counts in rows:
+        out.append(f'<text x="{left}" y="{y + 12}" class="b">{name}</text>')
+        for (who, fill), count in zip(BARS, counts):
+            if count:
+                y += LINE + 1
+                length = width * count / counts[1]
+                out.append(f'<rect x="{left}" y="{y}" width="{length:.1f}" height="{LINE - 2}" fill="{fill}" stroke="#222"/>')
+                out.append(f'<text x="{left + max(length, 0) + 5:.1f}" y="{y + 12}">{who}: {count:,}</text>')
+        y += LINE + 12
+    return out, y
+
+
+def exchange_picture(ours, rust):
+    """Returns the picture of exchanges."""
+    left, low = bars("instructions of a message, sum 0", 10, 270, exchanges_of(ours, rust, "sum 0"))
+    right, high = bars("instructions of a message, CRC-32C", 490, 270, exchanges_of(ours, rust, "CRC-32C"))
+    out = [f'<svg xmlns="http://www.w3.org/2000/svg" viewBox="0 0 {WIDTH} {max(low, high)}">',
+           "<style>text{font:13px sans-serif;fill:#222}.b{font-weight:bold}</style>",
+           '<defs><pattern id="hatch" width="6" height="6" patternUnits="userSpaceOnUse" patternTransform="rotate(45)"><rect width="6" height="6" fill="#fff"/>'
+           '<path d="M0 0V6" stroke="#555" stroke-width="3"/></pattern></defs>',
+           f'<rect width="{WIDTH}" height="{max(low, high)}" fill="#fff"/>']
+    return "\n".join([*out, *left, *right, "</svg>", ""])
+
+
+def ratio_of(here, there):
+    """Returns a ratio as text, none where one of both was not measured."""
+    return f"{here / there:.2f}" if here and there else ""
+
+
+def exchange_table(ours, rust):
+    """Returns the table of exchanges, in instructions."""
+    out = ["message | sum | here | Rust crate | ratio | with a kept buffer | ratio | limit", "---|---|---|---|---|---|---|---"]
+    for sum_name in ("sum 0", "CRC-32C"):
+        for name, (here, there, kept, limit) in exchanges_of(ours, rust, sum_name):
+            cells = [name, sum_name, f"{here or 0:,}", f"{there or 0:,}", ratio_of(here, there), f"{kept or 0:,}", ratio_of(here, kept), f"{limit or 0:,}"]
+            out.append(" | ".join(cells))
+    return "\n".join([*out, ""])
+
+
+def parts_table(ours, rust):
+    """Returns the table of the other rows that both have, in instructions."""
+    out = ["row | here | Rust crate | here / Rust", "---|---|---|---"]
+    for row, here in ours.items():
+        if row in rust and not row.startswith(("exchange", "64 KiB")):
+            out.append(f"{row} | {here:,} | {rust[row]:,} | {ratio_of(here, rust[row])}")
+    return "\n".join([*out, ""])
+
+
 def main():
     what = sys.argv[1:]
     if what == ["--growth"]:
         print(picture(*growth_in(sys.stdin)), end="")
     elif what == ["--growth-table"]:
         print(growth_table(*growth_in(sys.stdin)), end="")
+    elif what[:1] == ["--exchange"] and len(what) == 3:
+        print(exchange_picture(*map(instructions_in, what[1:])), end="")
+    elif what[:1] == ["--exchange-table"] and len(what) == 3:
+        print(exchange_table(*map(instructions_in, what[1:])), end="")
+    elif what[:1] == ["--parts"] and len(what) == 3:
+        print(parts_table(*map(instructions_in, what[1:])), end="")
     elif what == ["--times"]:
         print(times_table(sys.stdin), end="")
     else:
