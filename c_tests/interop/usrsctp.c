@@ -368,22 +368,22 @@ static void ask_at_any_time(void) {
     if (network.tick % 100 == 0) they_ask(network.tick % 500 == 0);
 }
 
-/* Nobody writes until nothing waits or is in flight; then both sides ask, and go on when our request has its answer. Whether to write. */
+/* After ten ticks of writes nobody writes until nothing waits or is in flight; then both sides ask, and go on when our request has its answer.
+ * Whether to write. */
 static int ask_where_calm(void) {
-    static uint64_t asked_at;
-    static int is_waiting;
-    if (!is_waiting && network.tick % 100 == 0) is_waiting = 1;
-    if (!is_waiting) return 1;
+    static uint64_t went_on_at, asked_at;
+    static unsigned round;
+    if (network.tick < went_on_at + 10) return 1;
     if (asked_at == 0 && is_done() && they_are_done()) {
         asked_at = network.tick;
-        they_ask(asked_at % 3 == 0);
-        we_ask(asked_at % 4 == 0);
+        they_ask(++round % 3 == 0);
+        we_ask(round % 4 == 0);
         if (our_reset >= 0) we_ask(0);
-    } else if (asked_at > 0 && network.tick > asked_at + 60 && is_answered()) {
-        is_waiting = 0;
+    } else if (asked_at > 0 && network.tick > asked_at + 30 && is_answered()) {
+        went_on_at = network.tick;
         asked_at = 0;
     }
-    return !is_waiting;
+    return 0;
 }
 
 static void exchange(long ticks, int is_calm) {
