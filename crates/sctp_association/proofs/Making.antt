@@ -96,7 +96,7 @@ module _ (now : ℕ) (t u : Transmission) (exact : u ≡ after_send now t) (held
   pub none_put : (x : List ℕ) → PutsOut t u x x
   none_put x = puts_none (sends now) t u x (refl, (held, (exact, (accepted, tt))))
 
--- what has expired is given up, and no chunk is made
+-- what has expired is abandoned, and no chunk is made
 pub dropped_on : (now : ℕ) (d : Option Dropped) (s t u : Transmission) → Sends [] s t → Drops d now t u → Sends [] s u
 dropped_on now d s t u before h = sent_then [] [] s t u before (dropped_each now h.0 t u h.1.0 h.1.1.0)
 

@@ -43,7 +43,7 @@ sent_then ps bs t u v r s = record {
 pub sent_by : (c : SenderCall) (t u : Transmission) → SendsBy c t u → Sends (made_by c t) t u
 sent_by c t u m = record { calls = c ∷ []; run = runs_one SendsBy made_by c t u m }
 
--- a call that gives up what has expired is one by which a sender sends, and makes no chunk; the others do not so
+-- a call that abandons what has expired is one by which a sender sends, and makes no chunk; the others do not so
 abbrev IsSilent : SenderCall → Transmission → Type 0
 IsSilent c t = (is_sending c ≡ true) × (made_by c t ≡ [])
 

@@ -25,7 +25,7 @@ Runs Makes answers (c ∷ cs) all old new =
 
 -- ## The sender
 
--- a call by which a sender sends or gives up: no other comes between
+-- a call by which a sender sends or abandons: no other comes between
 abbrev pub is_sending : SenderCall → Bool
 is_sending (sends now) = true
 is_sending (resends tsn now c) = true
