@@ -548,8 +548,9 @@ def not_cited(citations):
 
 def page():
     print("# Which rule of an RFC stands where\n")
-    print("Sections are of RFC 4960, whose numbers RFC 9260 keeps, or of the RFC named before them. *not ours*: the caller does it; the code named there is")
-    print("an example or what the caller calls. Contract: names of clauses of these calls, then definitions. `python3 tools/trace.py NAME` prints any name.\n")
+    print("Sections are of RFC 4960, or of the RFC named before them. RFC 9260 keeps the numbers of sections 3 to 9. *not ours*: the caller of the halves does")
+    print("it; the code named there is an `Association`'s, an example, or what the caller calls. Contract: names of clauses of these calls, then definitions.")
+    print("`python3 tools/trace.py NAME` prints any name.\n")
     print("`python3 tools/rfc.py --page` makes this page from a list in which each name must exist. Without `--page` the script prints how often the sources")
     print("cite each section; with `RFC SECTION` it prints what cites it.")
     rules()
