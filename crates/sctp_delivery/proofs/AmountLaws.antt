@@ -21,8 +21,7 @@ use Rattle.sctp_outbound.specs.payload_queue.PayloadQueue as payload
 use Rattle.sctp_sender.specs.Flight.{is_half, open_messages}
 use Rattle.sctp_sender.specs.Sender.{stream_of}
 use Rattle.sctp_stream.specs.Stream.{new_stream}
-use Rattle.sctp_delivery.specs.Amounts.{told_by, written_by, AmountsAreLeft, AmountsEnd, told_on, written_on}
-use Rattle.sctp_delivery.specs.Amounts.{EachIsTold, IsToldOf}
+use Rattle.sctp_delivery.specs.Amounts.{told_by, written_by, AmountsAreLeft, AmountsEnd, told_on, written_on, EachIsTold, IsToldOf}
 use Rattle.sctp_delivery.specs.SenderCalls.{misses}
 use Rattle.sctp_delivery.proofs.StreamBytes.{IsBare, IsOff, abandoned, amount, amount-at, amount-elsewhere, amount-found, amount-kept, amount-left, amount-less}
 use Rattle.sctp_delivery.proofs.StreamBytes.{amount-mapped, amount-opened, amount-released, changed, expired, first-changed, held, lows-told, message-lows-told}

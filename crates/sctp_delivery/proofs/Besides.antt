@@ -1,21 +1,16 @@
 -- Sessions that can end: beside each one is one of a sender that keeps what is reported, which ends by the same calls.
-use Rattle.sctp_delivery.proofs.Names.{◌≡◌, ℕ, ◌<◌, ◌≤◌, ◌+◌, ◌^◌, Bool, true, false, not, List, [], ◌∷◌, length, refl, ap, ap₂, sym, subst, ◌∙◌, arith}
-use Rattle.sctp_delivery.proofs.Names.{Option, Some, None, option_map, ◌==◌, ◌&&◌, ◌||◌, find, list_all, list_any, Contains, change_where}
-use Rattle.sctp_delivery.proofs.Names.{and, fails, not_both, none-some, some-same}
-use Rattle.sctp_delivery.proofs.Names.{ChunkPayloadData, ForwardTsn, Sack, Flight, Transmission, Ledger, Stand, Session, SenderFollows, ReceiverFollows, Follows, Call}
-use Rattle.sctp_delivery.proofs.Names.{of_receiver, of_sender, ReceiverCall, sends, resends, forwards, takes_sack, data_chunk, forward_tsn, made_after}
-use Rattle.sctp_delivery.proofs.Names.{Outbound, with_chunk, reports_after, data_of, has_tsn, bytes_written, held_by_sender, total_bytes, bytes_of}
-use Rattle.sctp_delivery.proofs.Names.{with_inflight, all_started, as_sent, next_pending, sent_next, started-inflight, next_after_send, send_refusal}
-use Rattle.sctp_delivery.proofs.Names.{with_flight, is_outstanding_in, count_again, sent_again, resent_at}
-use Rattle.sctp_delivery.proofs.Names.{skip_end, named_up_to, is_outdated, sack_refusal, after_sack, after_acked, released_by, with_lows}
-use Rattle.sctp_delivery.proofs.Names.{distance, accepted_after, chunk_count, reads_nothing, is_exhausted, EachOtherIsReadOnce, chunks_waiting}
-use Rattle.sctp_delivery.proofs.Names.{New, Repeat, tsn}
+use Rattle.sctp_delivery.proofs.Names.{nat_tests, common_steps, ◌≡◌, ℕ, ◌<◌, ◌≤◌, ◌+◌, ◌^◌, true, false, List, ◌∷◌, length, refl, ap, ap₂, sym, subst, ◌∙◌}
+use Rattle.sctp_delivery.proofs.Names.{arith, Option, Some, None, option_map, ◌||◌, find, list_all, list_any, Contains, change_where, and, not_both, none-some}
+use Rattle.sctp_delivery.proofs.Names.{some-same, ChunkPayloadData, ForwardTsn, Sack, Flight, Transmission, Stand, Session, SenderFollows, ReceiverFollows}
+use Rattle.sctp_delivery.proofs.Names.{Follows, Call, of_receiver, of_sender, ReceiverCall, sends, resends, forwards, takes_sack, data_chunk, forward_tsn}
+use Rattle.sctp_delivery.proofs.Names.{made_after, Outbound, reports_after, data_of, has_tsn, bytes_written, held_by_sender, total_bytes, with_inflight}
+use Rattle.sctp_delivery.proofs.Names.{all_started, next_pending, sent_next, started-inflight, next_after_send, with_flight, count_again, sent_again, resent_at}
+use Rattle.sctp_delivery.proofs.Names.{skip_end, named_up_to, is_outdated, sack_refusal, after_sack, after_acked, released_by, with_lows, distance}
+use Rattle.sctp_delivery.proofs.Names.{accepted_after, is_exhausted, EachOtherIsReadOnce, chunks_waiting, tsn}
 use Rattle.sctp_outbound.specs.payload_queue.PayloadQueue as payload
-use Rattle.sctp_outbound.specs.outbound_queue.OutboundQueue.{sent_peeked}
 use Rattle.sctp_sender.specs.Abandonment.{Name}
 use Rattle.sctp_sender.specs.declared.sender.flight.Released.{Released}
 use Rattle.sctp_sender.specs.declared.sender.flight.kept.TakenBack.{TakenBack}
-use Rattle.sctp_sender.specs.Keeping.{restored}
 use Rattle.sctp_sender.specs.Sender.{taken_back_by}
 use Rattle.sctp_sender.specs.Totals.{bytes_in}
 use Rattle.sctp_sender.proofs.Lows.{released-same}
@@ -33,8 +28,8 @@ use Rattle.sctp_delivery.proofs.Every.{Every, every-all, every-changed, every-co
 use Rattle.sctp_delivery.proofs.GivenTsns.{IsNumbered}
 use Rattle.sctp_delivery.proofs.Plain.{AreLike, IsBareSack, IsLike, are-changed, are-long, are-plain, found-plain, paired, plain}
 use Rattle.sctp_delivery.proofs.PlainCalls.{in-place, kept-sacked, sent-bytes}
-use Rattle.sctp_delivery.proofs.PlainFlights.{are-sacked, are-sent, chunks_of, flight_with, named-both, next-same, refusal-same, sack-same, send-same, settled-kept, skip-same}
-use Rattle.sctp_delivery.proofs.PlainFlights.{started-same}
+use Rattle.sctp_delivery.proofs.PlainFlights.{are-sacked, are-sent, chunks_of, flight_with, named-both, next-same, refusal-same, sack-same, send-same}
+use Rattle.sctp_delivery.proofs.PlainFlights.{settled-kept, skip-same, started-same}
 use Rattle.sctp_delivery.proofs.PlainReturns.{back-fits, back-like, back-more}
 use Rattle.sctp_delivery.proofs.PlainSessions.{kept_of, sent-too}
 use Rattle.sctp_delivery.proofs.QueueChunks.{EachIs}
@@ -85,25 +80,7 @@ module _ (now : ℕ) (gone : List ℕ) (sacks made' : ℕ) where
 
   pub ends-here : (s : Session) → is_exhausted s.sending.sender s.receiving.receiver ≡ true → EachOtherIsReadOnce gone s → chunks_waiting s.sending.sender ≡ 0
       → length s.sacks ≤ sacks → length s.made ≤ made' → EachEnds s
-  ends-here s exhausted read waiting few few-made k x =
-      let long = are-long (kept_of k.sending.sender.kept) (flying k) (flying s) x.like in
-      record {
-        calls = [];
-        ended = k;
-        run = refl;
-        delivery = refl;
-        acked = refl;
-        given = sym waiting;
-        written = refl;
-        few-sacks = omega (arith, few);
-        few-made = let e = ap length x.made in omega (arith, e, few-made);
-        exhausted =
-            ap₂ (λ (f : Flight) n. ((chunk_count f.queue.pending == 0) && (n == 0)) && reads_nothing k.receiving.receiver) (sym x.flight) long
-            ∙ ap (λ (r : Stand). ((chunk_count s.sending.sender.flight.queue.pending == 0) && (length (flying s) == 0)) && reads_nothing r.receiver)
-            (sym x.receiving) ∙ exhausted;
-        read = subst (λ r. let y : Session = record k { receiving = r } in EachOtherIsReadOnce gone y) x.receiving
-            (subst (λ ws. let y : Session = record k { receiving = s.receiving; written = ws } in EachOtherIsReadOnce gone y) x.written read);
-      }
+  ends-here s exhausted read waiting few few-made k x = grind (arith, nat_tests, common_steps, are-long)
 
   -- ## A call in front
 
@@ -156,24 +133,11 @@ module _ (now : ℕ) (gone : List ℕ) (sacks made' : ℕ) where
 -- one more was taken, or none
 came-more : (call : ReceiverCall) (accepted : List ChunkPayloadData) (c : ChunkPayloadData) → IsCame accepted c
     → IsCame (accepted_after (incoming.as_run call) accepted) c
-came-more (incoming.takes d (New complete)) accepted c h = λ a. more (has_tsn c.tsn d) (list_any (has_tsn c.tsn) accepted) c.abandoned (h a)
-  where
-    more : (p l b : Bool) → (l || b) ≡ true → ((p || l) || b) ≡ true
-    more true l b e = refl
-    more false l b e = e
-came-more (incoming.takes d Repeat) accepted c h = h
-came-more call accepted c h = h
+came-more h0 h1 h2 h3 = grind (arith, nat_tests, common_steps)
 
 one-more-sack : (call : ReceiverCall) (r : _) (ks ss : List Sack)
     → length (reports_after call r ks) + length ss ≡ length ks + length (reports_after call r ss)
-one-more-sack (incoming.reports credit) r ks ss = omega arith
-one-more-sack (incoming.reports_within credit bytes) r ks ss = omega arith
-one-more-sack (incoming.makes_sack credit bytes) r ks ss = omega arith
-one-more-sack (incoming.takes c arrival) r ks ss = refl
-one-more-sack (incoming.follows f) r ks ss = refl
-one-more-sack (incoming.opens stream) r ks ss = refl
-one-more-sack incoming.forgets r ks ss = refl
-one-more-sack (incoming.reads stream) r ks ss = refl
+one-more-sack h0 h1 h2 h3 = grind (arith, nat_tests, common_steps)
 
 module _ (call : ReceiverCall) (s t k : Session) (f : ReceiverFollows call s t) (x : IsBeside s k) where
   abbrev pub received : Session
@@ -192,12 +156,7 @@ module _ (call : ReceiverCall) (s t k : Session) (f : ReceiverFollows call s t) 
     sacks = reports_after call k.receiving.receiver k.sacks;
     written = k.written;
   })
-  receives-so = record {
-    handed = sent-too call s k (sym x.made) f.handed;
-    step = subst (λ y. receiver_runs.Follows (incoming.as_run call) y t.receiving) x.receiving f.step;
-    accepted = subst (λ (y : Stand). incoming.IsAccepted call y.receiver) x.receiving f.accepted;
-    after = refl;
-  }
+  receives-so = grind (arith, nat_tests, common_steps, sent-too)
 
   pub received-beside : IsBeside t (record {
     sending = k.sending;
@@ -206,20 +165,7 @@ module _ (call : ReceiverCall) (s t k : Session) (f : ReceiverFollows call s t) 
     sacks = reports_after call k.receiving.receiver k.sacks;
     written = k.written;
   })
-  received-beside = record {
-    flight = subst (λ (l : Ledger). l.sender.flight ≡ flight_with k.sending.sender.flight l.sender.flight.queue.inflight.chunks) (sym still) x.flight;
-    like = subst (λ (l : Ledger). AreLike (kept_of k.sending.sender.kept) (flying k) l.sender.flight.queue.inflight.chunks) (sym still) x.like;
-    receiving = refl;
-    made = ap (λ (y : Session). y.made) f.after ∙ x.made;
-    written = ap (λ (y : Session). y.written) f.after ∙ x.written;
-    came = subst (λ xs. Every (IsCame xs) (flying k)) (sym f.step.accepted)
-        (every-of (IsCame s.receiving.accepted) (IsCame (accepted_after (incoming.as_run call) s.receiving.accepted))
-        (came-more call s.receiving.accepted) (flying k) x.came);
-    short = let e = ap bytes_written f.after in let h = x.short in omega (arith, e, h);
-  }
-    where
-      still : t.sending ≡ s.sending
-      still = ap (λ (y : Session). y.sending) f.after
+  received-beside = grind (arith, nat_tests, common_steps, every-of, came-more)
 
 pub receiver-so : (now : ℕ) (gone : List ℕ) (sacks made : ℕ) (call : ReceiverCall) (s t : Session) → ReceiverFollows call s t
     → distance (next_tsn s) (next_tsn s) ≡ 0 → EachEnds now gone sacks made t → EachEnds now gone sacks made s
@@ -249,11 +195,7 @@ module _ (p n : ℕ) (few : n < 2 ^ 31) (s k : Session) (i : IsInStep p n s) (x 
 
   -- what waits is neither acknowledged nor abandoned; and what is in flight came, where it is acknowledged
   are-so : EachIs IsUnmarked (IsCame s.receiving.accepted) k.sending.sender.flight.queue
-  are-so = record {
-    ordered = subst (λ (f : Flight). Every IsUnmarked f.queue.pending.ordered) x.flight i.valid.ordered;
-    unordered = subst (λ (f : Flight). Every IsUnmarked f.queue.pending.unordered) x.flight i.valid.unordered;
-    inflight = x.came;
-  }
+  are-so = grind (arith, nat_tests, common_steps)
 
   started-so : (now : ℕ) → EachIs IsUnmarked (IsCame s.receiving.accepted) (all_started now k.sending.sender.flight.queue)
   started-so now = queues.started IsUnmarked (IsCame s.receiving.accepted) now (λ c h. h) q are-so
@@ -275,40 +217,16 @@ module _ (p n : ℕ) (few : n < 2 ^ 31) (s k : Session) (i : IsInStep p n s) (x 
       queue = sent_next k.sending.sender.flight.queue k.sending.sender.flight.next_tsn now;
       next_tsn = next_after_send k.sending.sender.flight;
     }) (sent_next (with_inflight k.sending.sender.flight.queue s.sending.sender.flight.queue.inflight.chunks) k.sending.sender.flight.next_tsn now).inflight.chunks
-    after-is =
-        ap (λ (y : Transmission). y.flight) f.exact
-        ∙ ap (λ (g : Flight). let h : Flight = record g { queue = sent_next g.queue g.next_tsn now; next_tsn = next_after_send g } in h) x.flight
-        ∙ ap (λ r. let h : Flight = record u.flight { queue = r; next_tsn = next_after_send u.flight } in h) (next-same q ds u.flight.next_tsn now)
+    after-is = grind (arith, nat_tests, common_steps, next-same)
 
     same-bytes : total_bytes (sent_next k.sending.sender.flight.queue k.sending.sender.flight.next_tsn now) ≡ total_bytes k.sending.sender.flight.queue
-    same-bytes =
-        let next = u.flight.next_tsn in
-        let r = all_started now q in
-        let a = sent-bytes (next_pending r.pending) r ds next now in
-        let b = ap (λ (w : payload.Payload). bytes_of w.chunks) (started-inflight now q) in
-        let d = ap (λ z. total_bytes (sent_peeked z next now)) (started-same now q ds) in
-        let calm = f.step.sender in
-        let e = ap held_by_sender f.exact in
-        let g = ap (λ (y : Flight). total_bytes (sent_next y.queue y.next_tsn now)) x.flight in
-        let h = ap (λ (y : Flight). total_bytes y.queue) x.flight in
-        omega (arith, a, b, d, calm, e, g, h)
+    same-bytes = grind (arith, nat_tests, common_steps, sent-bytes, started-inflight, started-same)
 
     sends-step : SenderFollows (sends now) k sent
-    sends-step = record {
-      handed = tt;
-      step = record { sender = same-bytes; written = omega arith; released = omega arith; taken_back = omega arith };
-      exact = refl;
-      accepted = sym (send-same u.flight (kept_of u.kept) ds x.like) ∙ ap send_refusal (sym x.flight) ∙ f.accepted;
-      answered = tt;
-      after = refl;
-    }
+    sends-step = grind (arith, nat_tests, common_steps, same-bytes, send-same)
 
     made-same : t.made ≡ made_after (sends now) k.sending.sender k.made
-    made-same =
-        ap (λ (y : Session). y.made) f.after
-        ∙ ap (λ (g : Flight). with_chunk (option_map (as_sent g.next_tsn now) (next_pending (all_started now g.queue).pending)) s.made) x.flight
-        ∙ ap (λ (r : Outbound). with_chunk (option_map (as_sent u.flight.next_tsn now) (next_pending r.pending)) s.made) (started-same now q ds)
-        ∙ ap (made_after (sends now) u) x.made
+    made-same = grind (arith, nat_tests, common_steps, started-same, sends)
 
     sent-beside : IsBeside t sent
     sent-beside = record {
@@ -364,10 +282,7 @@ module _ (s k : Session) (x : IsBeside s k) (d : ChunkPayloadData) (found : find
 
   -- it is not acknowledged, since it did not come
   unacked : is-there.chunk.acked ≡ false
-  unacked =
-      let came = every-found (IsCame s.receiving.accepted) (has_tsn d.tsn) (flying k) c is-there.there x.came in
-      fails c.acked (λ e. not_both (sym (ap₂ (λ a b. list_any (has_tsn a) s.receiving.accepted || b) (ap (λ (y : ChunkPayloadData). y.tsn) is-there.like.same)
-      (ap (λ (y : ChunkPayloadData). y.abandoned) is-there.like.same) ∙ ap₂ (λ a b. a || b) untaken kept) ∙ came e))
+  unacked = grind (arith, nat_tests, common_steps, every-found, not_both)
 
   again-same : count_again is-there.chunk ≡ count_again d
   again-same = ap count_again is-there.like.same
@@ -384,44 +299,14 @@ module _ (s k : Session) (x : IsBeside s k) (d : ChunkPayloadData) (found : find
     }
 
     resends-step : SenderFollows (resends d.tsn now is-there.chunk) k resent
-    resends-step = record {
-      handed = tt;
-      step = record { sender = refl; written = omega arith; released = omega arith; taken_back = omega arith };
-      exact = tt;
-      accepted = (
-        ap is_outstanding_in is-there.there
-            ∙ ap₂ (λ a b. not a && not b) unacked (ap (λ (y : ChunkPayloadData). y.abandoned) is-there.like.same ∙ kept),
-        is-there.there,
-      );
-      answered = tt;
-      after = refl;
-    }
+    resends-step = grind (arith, nat_tests, common_steps, unacked)
 
     again-is : t.sending.sender.flight ≡ flight_with (resent_at d.tsn now is-there.chunk k.sending.sender.flight)
         (change_where (has_tsn d.tsn) (sent_again (count_again d) now) s.sending.sender.flight.queue.inflight.chunks)
     again-is = ap (λ (y : Transmission). y.flight) f.step.sender ∙ ap (λ (g : Flight). resent_at d.tsn now d g) x.flight
 
     resent-beside : IsBeside t resent
-    resent-beside = record {
-      flight = again-is ∙ ap (flight_with resent.sending.sender.flight) (sym (ap (λ (g : Flight). g.queue.inflight.chunks) again-is));
-      like = subst (AreLike (kept_of k.sending.sender.kept) (flying resent)) (sym (ap (λ (g : Flight). g.queue.inflight.chunks) again-is))
-          (are-changed IsLike (has_tsn d.tsn) (has_tsn d.tsn) (sent_again (count_again c) now) (sent_again (count_again d) now)
-          (λ _ y z j. ap (has_tsn d.tsn) (sym j.same))
-          (λ _ y z j. record {
-            same = ap₂ (λ m (w : ChunkPayloadData). let r : ChunkPayloadData = record w { nsent = m; since = Some now } in r) again-same j.same;
-            open' = j.open';
-            whole = j.whole;
-            kept = j.kept;
-            settled = j.settled;
-          })
-          (kept_of k.sending.sender.kept) (flying k) (flying s) x.like);
-      receiving = ap (λ (y : Session). y.receiving) f.after ∙ x.receiving;
-      made = ap (λ (y : Session). y.made) f.after ∙ ap₂ (λ (e : _) ms. data_chunk e ∷ ms) same-data x.made;
-      written = ap (λ (y : Session). y.written) f.after ∙ x.written;
-      came = subst (λ (r : Stand). Every (IsCame r.accepted) (flying resent)) (sym (ap (λ (y : Session). y.receiving) f.after))
-          (every-changed (IsCame s.receiving.accepted) (has_tsn d.tsn) (sent_again (count_again c) now) (λ y h e. e) (flying k) x.came);
-      short = let e = ap bytes_written f.after in let h = x.short in omega (arith, e, h);
-    }
+    resent-beside = grind (arith, nat_tests, common_steps, again-is, are-changed, again-same, same-data, every-changed)
 
 pub resends-so : (now : ℕ) (gone : List ℕ) (sacks made : ℕ) (s t : Session) (d : ChunkPayloadData)
     → find (has_tsn d.tsn) s.sending.sender.flight.queue.inflight.chunks ≡ Some d → d.abandoned ≡ false
@@ -479,14 +364,6 @@ forwards-so now gone sacks made s t point g f zero' ends k x =
 
 -- ## A SACK without gap ack blocks
 
--- what comes back is not acknowledged
-came-back : (accepted : List ChunkPayloadData) (bs : List (Option (List ℕ))) (cs : List ChunkPayloadData) → Every (IsCame accepted) cs
-    → Every (IsCame accepted) (restored bs cs)
-came-back accepted [] cs e = e
-came-back accepted (b ∷ bs) [] e = tt
-came-back accepted (None ∷ bs) (c ∷ cs) e = (e.0, came-back accepted bs cs e.1)
-came-back accepted (Some bytes ∷ bs) (c ∷ cs) e = ((λ a. absurd (not_both a)), came-back accepted bs cs e.1)
-
 module _ (p n : ℕ) (few : n < 2 ^ 31) (s u t : Session) (w : ℕ) (f : ReceiverFollows (makes_sack w 0) s u) (left : List Released)
     (g : SenderFollows (takes_sack (sack_within w 0 s.receiving.receiver) left) u t) (i : IsInStep p n u) (full : held_by_sender u.sending.sender < 2 ^ 64)
     (came : Every (λ c. (list_any (has_tsn c.tsn) s.receiving.accepted || c.abandoned) ≡ true) u.sending.sender.flight.queue.inflight.chunks)
@@ -499,10 +376,6 @@ module _ (p n : ℕ) (few : n < 2 ^ 31) (s u t : Session) (w : ℕ) (f : Receive
 
   abbrev others : List ChunkPayloadData
   others = u.sending.sender.flight.queue.inflight.chunks
-
-  -- where the SACK was made
-  abbrev told : Session
-  told = received (makes_sack w 0) s u k f x
 
   y : IsBeside u (received (makes_sack w 0) s u k f x)
   y = received-beside (makes_sack w 0) s u k f x
@@ -580,11 +453,7 @@ module _ (p n : ℕ) (few : n < 2 ^ 31) (s u t : Session) (w : ℕ) (f : Receive
   acked-is = ap (λ (r : Transmission). r.flight) g.exact ∙ ap (after_sack sack) y.flight ∙ sack-same sack sack v others bare
 
   fits : (sack_within w 0 s.receiving.receiver).cumulative_tsn_ack < 2 ^ 32
-  fits =
-      let truth = every-contained _ u.sacks sack g.handed i.sacks in
-      let z = tsn-small p truth.place in
-      let is = truth.is in
-      omega (arith, z, is)
+  fits = grind (arith, nat_tests, common_steps, every-contained, tsn-small)
 
   -- each chunk that is left came, or is abandoned
   all-came : Every (λ c. (list_any (has_tsn c.tsn) s.receiving.accepted || c.abandoned) ≡ true) (flying acked)

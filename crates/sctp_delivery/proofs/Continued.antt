@@ -1,9 +1,9 @@
 -- Behind a chunk in flight that does not end its message stands one of it, abandoned where it is: whatever is sent, abandoned, marked or
 -- taken out.
-use Rattle.sctp_delivery.proofs.Names.{◌≡◌, ℕ, zero, suc, ◌+◌, Bool, true, false, not, List, [], ◌∷◌, ◌++◌, map, take, drop, Option, Some, refl, ap, ap₂, sym}
-use Rattle.sctp_delivery.proofs.Names.{subst, ◌∙◌, arith, if◌then◌else◌, ◌==◌, filter, map-append, take-append-drop, none-some, nat_tests, change_where}
-use Rattle.sctp_delivery.proofs.Names.{same-is, same-yes, some-same, fails, not_both, tsn, ChunkPayloadData, as_abandoned, is_of, Outbound, last_of, ends}
-use Rattle.sctp_delivery.proofs.Names.{partially_sent, IsRunFrom, is_first_abandoned}
+use Rattle.sctp_delivery.proofs.Names.{common_steps, ◌≡◌, ℕ, zero, suc, ◌+◌, Bool, true, false, not, List, [], ◌∷◌, ◌++◌, map, take, drop, Option, Some, refl}
+use Rattle.sctp_delivery.proofs.Names.{ap, ap₂, sym, subst, ◌∙◌, arith, if◌then◌else◌, ◌==◌, filter, map-append, take-append-drop, none-some, nat_tests}
+use Rattle.sctp_delivery.proofs.Names.{change_where, same-is, same-yes, some-same, fails, not_both, tsn, ChunkPayloadData, as_abandoned, is_of, Outbound}
+use Rattle.sctp_delivery.proofs.Names.{last_of, ends, partially_sent, IsRunFrom, is_first_abandoned}
 use Rattle.sctp_delivery.proofs.Cases.{at-test, by-test}
 use Rattle.sctp_delivery.proofs.GivenTsns.{lead, rest-run}
 
@@ -54,10 +54,7 @@ gone_at m x = if x.0 == m then (x.0, x.1, true) else x
 
 pub facts-abandoned : (m : ℕ) (cs : List ChunkPayloadData) → facts_of (change_where (is_of m) as_abandoned cs) ≡ map (gone_at m) (facts_of cs)
 facts-abandoned m [] = refl
-facts-abandoned m (c ∷ cs) = ap₂ (λ x xs. x ∷ xs) (at-test (λ b. facts (if b then as_abandoned c else c) ≡
-    (if b then (c.message_id, c.ending_fragment, true) else facts c)) (c.message_id == m)
-    (λ e. refl)
-    (λ e. refl)) (facts-abandoned m cs)
+facts-abandoned m (c ∷ cs) = grind (arith, nat_tests, common_steps, facts-abandoned m cs)
 
 same-number : (m : ℕ) (x : Facts) → (gone_at m x).0 ≡ x.0
 same-number m x = elim (x.0 == m) as (λ b. (if b then (x.0, x.1, true) else x).0 ≡ x.0) [ true ↦ refl | false ↦ refl ]
@@ -83,23 +80,14 @@ pair-gone m x y p e = let h = p (sym (same-end m x) ∙ e) in (same-number m y �
 pub abandoned-continued : (partial : Option ℕ) (m : ℕ) (xs : List Facts) → (partial ≡ Some m → ⊥) → AreContinued partial xs
     → AreContinued partial (map (gone_at m) xs)
 abandoned-continued partial m [] other a = tt
-abandoned-continued partial m (x ∷ []) other a =
-    λ e. let h = a (sym (same-end m x) ∙ e) in (
-      h.0 ∙ ap Some (sym (same-number m x)),
-      kept m x (λ is. other (h.0 ∙ ap Some is)) ∙ h.1,
-    )
+abandoned-continued partial m (x ∷ []) other a = grind (arith, nat_tests, common_steps, same-end, same-number, kept)
 abandoned-continued partial m (x ∷ y ∷ ys) other a = (pair-gone m x y a.0, abandoned-continued partial m (y ∷ ys) other a.1)
 
 -- the one that is: its terminal chunk stands behind its chunks
 pub ended-continued : (partial next : Option ℕ) (m : ℕ) (xs : List Facts) → partial ≡ Some m → AreContinued partial xs
     → AreContinued next (map (gone_at m) xs ++ (m, true, true) ∷ [])
 ended-continued partial next m [] is a = λ e. absurd (not_both (sym e))
-ended-continued partial next m (x ∷ []) is a = (
-  λ e. let h = a (sym (same-end m x) ∙ e) in
-      let same : m ≡ x.0 = some-same (sym is ∙ h.0) in
-      (same ∙ sym (same-number m x), sym (gone m x (sym same))),
-  λ e. absurd (not_both (sym e)),
-)
+ended-continued partial next m (x ∷ []) is a = grind (arith, nat_tests, common_steps, same-end, some-same, same-number, gone, not_both)
 ended-continued partial next m (x ∷ y ∷ ys) is a = (pair-gone m x y a.0, ended-continued partial next m (y ∷ ys) is a.1)
 
 -- ## Other changes

@@ -1,7 +1,7 @@
 -- The counters of each open stream are sums over what was written to it.
 use Rattle.sctp_delivery.proofs.Names.{◌≡◌, ℕ, ◌-◌, ◌^◌, Bool, true, false, List, [], ◌∷◌, length, Option, Some, None, is_some, refl, ap, sym, subst, ◌∙◌}
-use Rattle.sctp_delivery.proofs.Names.{arith, find, if◌then◌else◌, ◌==◌, min, sum_by, sum_by-cons, nat_tests, common_steps, change_where, same-is, same-yes}
-use Rattle.sctp_delivery.proofs.Names.{not_both, PayloadProtocolIdentifier, ExpiredMessage, Released, AbandonedMessage, after_leaving, late_order, leaving_each}
+use Rattle.sctp_delivery.proofs.Names.{arith, find, ◌==◌, min, sum_by, sum_by-cons, nat_tests, common_steps, change_where, same-is, same-yes, not_both}
+use Rattle.sctp_delivery.proofs.Names.{PayloadProtocolIdentifier, ExpiredMessage, Released, AbandonedMessage, after_leaving, late_order, leaving_each}
 use Rattle.sctp_delivery.proofs.Names.{worn_order, after_expiry, after_releases, has_number, less_by, with_low, with_size, wrote, Transmission, Makes}
 use Rattle.sctp_delivery.proofs.Names.{OutboundStream, AfterEachFitSession, Expires, IsAccepted, MakesExactly, SenderCall, Write, abandons, as_run, expires}
 use Rattle.sctp_delivery.proofs.Names.{expires_late, expires_rexmit, expires_tail, forwards, forwards_within, opens, sends, sets_low, sets_mode, sets_size}
@@ -70,11 +70,7 @@ module _ (stream : ℕ) (ppi : PayloadProtocolIdentifier) (bytes : List ℕ) (ws
 
   written-counts : (ls : List OutboundStream) → Every (Counts ws) ls → Every (Counts (w ∷ ws)) (change_where (has_number stream) (wrote ppi bytes) ls)
   written-counts [] h = tt
-  written-counts (l ∷ ls) h = (by (l.stream_identifier == stream) refl, written-counts ls h.1)
-    where
-      by : (k : Bool) → (l.stream_identifier == stream) ≡ k → Counts (w ∷ ws) (if k then wrote ppi bytes l else l)
-      by true e = own-counts l e h.0
-      by false e = other-counts l e h.0
+  written-counts (l ∷ ls) h = grind (arith, nat_tests, common_steps, own-counts, other-counts, written-counts ls h.1)
 
 -- ## A stream that is opened
 

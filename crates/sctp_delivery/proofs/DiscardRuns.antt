@@ -9,9 +9,8 @@ use Rattle.sctp_delivery.proofs.Names.{Reception, filter_of, with_filter, has_co
 use Rattle.sctp_receiver.specs.ReceiverRuns as receiver_runs
 use Rattle.sctp_sender.specs.SenderRuns as sender_runs
 use Rattle.sctp_sender.proofs.Accounts as accounts
-use Rattle.sctp_delivery.specs.Discards.{AfterEachWithDiscards, AfterEachWithDiscardsOfFewTsns, AcknowledgedCameSo, LeftCameSo}
-use Rattle.sctp_delivery.specs.Discards.{ReleasedCameSo, ReportWhatCameSo, WhileFewerTsnsWithDiscards, tsns_given_so}
-use Rattle.sctp_delivery.specs.Discards.{was_discarded}
+use Rattle.sctp_delivery.specs.Discards.{AfterEachWithDiscards, AfterEachWithDiscardsOfFewTsns, AcknowledgedCameSo, LeftCameSo, ReleasedCameSo}
+use Rattle.sctp_delivery.specs.Discards.{ReportWhatCameSo, WhileFewerTsnsWithDiscards, tsns_given_so, was_discarded}
 use Rattle.sctp_delivery.specs.ReceiverCalls as incoming
 use Rattle.sctp_delivery.specs.SenderCalls as outgoing
 use Rattle.sctp_delivery.proofs.Cases.{at-if, at-test}

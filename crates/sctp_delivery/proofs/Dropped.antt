@@ -8,8 +8,7 @@ use Rattle.sctp_delivery.proofs.Names.{change_where, same-yes, bytes_for, bytes_
 use Rattle.sctp_delivery.proofs.Names.{expires_tail, starts}
 use Rattle.std.specs.Prelude.{◌≢◌, is_some}
 use Rattle.sctp_outbound.proofs.lemmas.pending_queue.Waiting.{bytes_of-change_where}
-use Rattle.sctp_outbound.specs.outbound_queue.OutboundQueue.{AreExpiredOf, expired_times}
-use Rattle.sctp_outbound.specs.outbound_queue.OutboundQueue.{stream_and_kind}
+use Rattle.sctp_outbound.specs.outbound_queue.OutboundQueue.{AreExpiredOf, expired_times, stream_and_kind}
 use Rattle.sctp_sender.specs.declared.sender.Dropped.{Dropped}
 use Rattle.sctp_sender.specs.declared.sender.Dropped.TheVariants.{Expired, Abandoned}
 use Rattle.sctp_sender.specs.Drops.{TailGoes, bytes_dropped, list_in, run_in, with_lifetimes}

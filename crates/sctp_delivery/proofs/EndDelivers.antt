@@ -1,25 +1,24 @@
 -- Sessions that can end: each chunk in flight that was lost is sent again, and taken.
 use Rattle.sctp_delivery.proofs.Names.{◌≡◌, ℕ, zero, suc, ◌^◌, ◌<◌, ◌≤◌, Bool, true, false, not, List, [], ◌∷◌, length, get_or, Option, Some, None, is_some}
 use Rattle.sctp_delivery.proofs.Names.{inl, inr, refl, ap, sym, subst, ◌∙◌, arith, ◌+◌, ◌%◌, ◌==◌, ◌||◌, All, Contains, find, if◌then◌else◌, nat_le, ◌&&◌}
-use Rattle.sctp_delivery.proofs.Names.{list_any, filter, list_all, sum_by, nat_tests, get_or_default, cases_lt, or-left, or-right, or-split, same-is, same-yes, some-same}
-use Rattle.sctp_delivery.proofs.Names.{length-change_where, fails, not_both, and, both, distance-tsn, tsn, change_where, Seen, advance_over, at_or_before}
-use Rattle.sctp_delivery.proofs.Names.{distance, data_of, ChunkPayloadData, ReassemblyState, after_ordered_push, Pushes, PushesAs, with_queue, Reception}
-use Rattle.sctp_delivery.proofs.Names.{arrival_refusal, filter_of, is_open, stream_of, with_filter, follow_forward_tsn, is_stale, window, has_come, with_tsn}
-use Rattle.sctp_delivery.proofs.Names.{New, InboundStream, has_tsn, Flight, can_resend, after_sack, count_again, resent_at, sent_again, with_flight}
-use Rattle.sctp_delivery.proofs.Names.{Transmission, Ledger, reads_nothing, takes, follows, flight_of, in_flight, IsCaughtUp, passes, tsns_given}
-use Rattle.sctp_delivery.proofs.Names.{was_passed, was_taken, Made, data_chunk, resends, forward_tsn, forwards, takes_sack, ReceiverFollows, SenderFollows}
-use Rattle.sctp_delivery.proofs.Names.{Session, of_receiver, of_sender, none-some, ForwardTsn, Sack, ChunkForwardTsnStream, as_acknowledged, Stand}
-use Rattle.sctp_delivery.proofs.Names.{after_forward_tsn, without_incomplete, advanced_ack_point, named_up_to, skip_end, chunks_waiting, reads_nothing_on}
+use Rattle.sctp_delivery.proofs.Names.{list_any, filter, list_all, sum_by, nat_tests, get_or_default, cases_lt, or-left, or-right, or-split, same-is, same-yes}
+use Rattle.sctp_delivery.proofs.Names.{some-same, length-change_where, fails, not_both, and, both, distance-tsn, tsn, change_where, Seen, advance_over}
+use Rattle.sctp_delivery.proofs.Names.{at_or_before, distance, data_of, ChunkPayloadData, ReassemblyState, after_ordered_push, Pushes, PushesAs, with_queue}
+use Rattle.sctp_delivery.proofs.Names.{Reception, arrival_refusal, filter_of, is_open, stream_of, with_filter, follow_forward_tsn, is_stale, window, has_come}
+use Rattle.sctp_delivery.proofs.Names.{with_tsn, New, InboundStream, has_tsn, Flight, can_resend, after_sack, count_again, resent_at, sent_again, with_flight}
+use Rattle.sctp_delivery.proofs.Names.{Transmission, Ledger, reads_nothing, takes, follows, flight_of, in_flight, IsCaughtUp, passes, tsns_given, was_passed}
+use Rattle.sctp_delivery.proofs.Names.{was_taken, Made, data_chunk, resends, forward_tsn, forwards, takes_sack, ReceiverFollows, SenderFollows, Session}
+use Rattle.sctp_delivery.proofs.Names.{of_receiver, of_sender, none-some, ForwardTsn, Sack, ChunkForwardTsnStream, as_acknowledged, Stand, after_forward_tsn}
+use Rattle.sctp_delivery.proofs.Names.{without_incomplete, advanced_ack_point, named_up_to, skip_end, chunks_waiting, reads_nothing_on, Call, Limits, RunsTo}
+use Rattle.sctp_delivery.proofs.Names.{ap₂, at_start, bytes_written, common_steps, held_by_sender, sum_by-cons}
 use Rattle.sctp_reassembly.specs.reassembly_queue.ReassemblyQueue.{is_complete_with}
 use Rattle.sctp_receiver.specs.Inbound.{has_number}
-use Rattle.sctp_delivery.proofs.Names.{Call, Limits, RunsTo, ap₂, at_start, bytes_written, common_steps, held_by_sender, sum_by-cons}
 use Rattle.sctp_delivery.specs.Ending.{is_to_come, left_on}
 use Rattle.sctp_receiver.specs.Receiver.{sack_within}
 use Rattle.sctp_delivery.specs.ReceiverCalls.{makes_sack}
 use Rattle.sctp_delivery.proofs.HeldCosts.{lefts-le}
 use Rattle.sctp_delivery.proofs.RoundsEnd.{ahead-of-sacks, leaves-fewer, all-go-on, found-in, same-next, same-pending, reporting-of}
 use Rattle.sctp_delivery.proofs.ArrivedTsns.{IsArrived, IsKnown}
-use Rattle.sctp_delivery.proofs.Cases.{by-test}
 use Rattle.sctp_delivery.proofs.EndSteps.{Rests, ends-open, ends-read, rests-same, rests-then, due, is_due, less-due, none-refused, price, same-due, spent}
 use Rattle.sctp_delivery.proofs.EndSteps.{taken-cost, due_by, followed-cost, rest_of, sack-due, At, Ends, Setting, apart-at, at-same, kept-at, long-enough}
 use Rattle.sctp_delivery.proofs.EndSteps.{all-left, no-distance, reached, receiver-alone, receiver-before, sender-before, start}
@@ -335,10 +334,7 @@ nothing-on x r none = grind (arith, nat_tests, is_some, unread-of)
 all-due : (ns : List ChunkForwardTsnStream) (r : Reception) → reads_nothing r ≡ true → list_all (λ m. is_open m.identifier r) ns ≡ true
     → list_all (λ m. is_open m.identifier r && reads_nothing_on m.identifier r) ns ≡ true
 all-due [] r none e = refl
-all-due (m ∷ ms) r none e =
-    let h = both (is_open m.identifier r) (list_all (λ k. is_open k.identifier r) ms) e in
-    and (is_open m.identifier r && reads_nothing_on m.identifier r) (list_all (λ k. is_open k.identifier r && reads_nothing_on k.identifier r) ms)
-    (and (is_open m.identifier r) (reads_nothing_on m.identifier r) h.0 (nothing-on m.identifier r none)) (all-due ms r none h.1)
+all-due (m ∷ ms) r none e = grind (arith, nat_tests, common_steps, both, and, nothing-on)
 
 -- ## The cumulative TSN
 
@@ -526,12 +522,7 @@ first-of e = cc
 
 -- each chunk in flight was taken, or its message is abandoned
 each-came : (s : Session) → AreTaken s → Every (λ c. (list_any (has_tsn c.tsn) s.receiving.accepted || c.abandoned) ≡ true) (in_flight s)
-each-came s h =
-    every-of (λ c. c.abandoned ≡ false → list_any (has_tsn c.tsn) s.receiving.accepted ≡ true)
-    (λ c. (list_any (has_tsn c.tsn) s.receiving.accepted || c.abandoned) ≡ true)
-    (λ c g. by-test c.abandoned (λ e. or-right (list_any (has_tsn c.tsn) s.receiving.accepted) c.abandoned e)
-    (λ e. or-left (list_any (has_tsn c.tsn) s.receiving.accepted) c.abandoned (g e))) (in_flight s)
-    (every-of-all (λ c. c.abandoned ≡ false → list_any (has_tsn c.tsn) s.receiving.accepted ≡ true) (in_flight s) h)
+each-came s h = grind (arith, nat_tests, common_steps, every-of, or-right, or-left, every-of-all)
 
 module _ (b : Setting) where
   -- what is held is no more than what was written

@@ -1,21 +1,19 @@
 -- Each session can end: round after round leaves fewer chunks, and then all that is to be read is read.
-use Rattle.sctp_delivery.proofs.Names.{◌≡◌, ℕ, zero, suc, ◌+◌, ◌-◌, ◌%◌, ◌^◌, ◌<◌, ◌≤◌, Bool, true, false, List, [], ◌∷◌, length, Option, Some, None, is_some}
-use Rattle.sctp_delivery.proofs.Names.{inl, inr, refl, ap, subst, ◌∙◌, arith, ◌==◌, if◌then◌else◌, nat_le, cases_lt, nat_tests}
-use Rattle.sctp_delivery.proofs.Names.{and-none, same-yes, length-change_where, and, not_both, distance-tsn, insert_before, distance}
-use Rattle.sctp_delivery.proofs.Names.{ChunkPayloadData, peeked_all_started, sendable-sent, Selected, Outbound, all_started, as_sent, sent_next, sent_of}
-use Rattle.sctp_delivery.proofs.Names.{Pending, chunk_count, front_of, list_of, list_to_pop, next_pending, next_pending_of, IsSendable, IsWhole}
-use Rattle.sctp_delivery.proofs.Names.{begun, free, stage_of, Limits, chunk_before, following_tsn, started-inflight, Flight, next_after_send}
-use Rattle.sctp_delivery.proofs.Names.{send_refusal, with_flight, Ledger, EachOtherIsReadOnce, abandoned_in, is_all_acknowledged, reads_nothing, chunks_waiting}
-use Rattle.sctp_delivery.proofs.Names.{chunks_left, in_flight, tsns_given, Made, made_after, next_chunk, sends, with_chunk, Call}
-use Rattle.sctp_delivery.proofs.Names.{RunsTo, SenderFollows, Session, at_start, of_sender}
+use Rattle.sctp_delivery.proofs.Names.{common_steps, ◌≡◌, ℕ, zero, suc, ◌+◌, ◌-◌, ◌%◌, ◌^◌, ◌<◌, ◌≤◌, Bool, true, false, List, [], ◌∷◌, length, Option, Some}
+use Rattle.sctp_delivery.proofs.Names.{None, is_some, inl, inr, refl, ap, subst, ◌∙◌, arith, ◌==◌, if◌then◌else◌, nat_le, cases_lt, nat_tests, and-none}
+use Rattle.sctp_delivery.proofs.Names.{same-yes, length-change_where, and, not_both, distance-tsn, insert_before, distance, ChunkPayloadData}
+use Rattle.sctp_delivery.proofs.Names.{peeked_all_started, sendable-sent, Selected, Outbound, all_started, as_sent, sent_next, sent_of, Pending, chunk_count}
+use Rattle.sctp_delivery.proofs.Names.{front_of, list_of, list_to_pop, next_pending, next_pending_of, IsSendable, IsWhole, begun, free, stage_of, Limits}
+use Rattle.sctp_delivery.proofs.Names.{chunk_before, following_tsn, started-inflight, Flight, next_after_send, send_refusal, with_flight, Ledger}
+use Rattle.sctp_delivery.proofs.Names.{EachOtherIsReadOnce, abandoned_in, is_all_acknowledged, reads_nothing, chunks_waiting, chunks_left, in_flight}
+use Rattle.sctp_delivery.proofs.Names.{tsns_given, Made, made_after, sends, with_chunk, Call, RunsTo, SenderFollows, Session, at_start, of_sender}
 use Rattle.std.specs.Prelude.{◌*◌, slice_get}
 use Rattle.sctp_sender.proofs.Amounts.{sent-bytes}
 use Rattle.sctp_delivery.specs.Ending.{CanEnd}
 use Rattle.sctp_delivery.proofs.Besides.{EachEnds, ends-here, sends-so}
 use Rattle.sctp_delivery.proofs.Delivered.{next_tsn}
 use Rattle.sctp_delivery.proofs.EndDelivers.{ends-delivered, few-given, ends-answered, ends-caught-up}
-use Rattle.sctp_delivery.proofs.EndSteps.{ends-read, RoomIn, few-spent, spent, At, Ends, Setting, at-next}
-use Rattle.sctp_delivery.proofs.EndSteps.{kept-at, numbered-at, sender-before}
+use Rattle.sctp_delivery.proofs.EndSteps.{ends-read, RoomIn, few-spent, spent, At, Ends, Setting, at-next, kept-at, numbered-at, sender-before}
 use Rattle.sctp_delivery.proofs.RefusedLaw.{fit-session}
 use Rattle.sctp_delivery.proofs.Numbers.{number_of}
 use Rattle.sctp_delivery.proofs.OthersOnce.{others-read}
@@ -126,22 +124,7 @@ module _ (b : Setting) (n : ℕ) (s : Session) (i : At b n s) (none : length (in
       moved (all_started b.now q) next b.now stands-started (next_pending (all_started b.now q).pending) refl (peeked_all_started b.now q ∙ there)
 
   pub sent : Sent s (after_sends b.now s)
-  sent =
-      let m = taken in
-      let waits = m.waiting in
-      let flies = m.flying in
-      let count = started-count b.now q in
-      let same = ap (λ p. length p.chunks) (started-inflight b.now q) in
-      record {
-        waiting = omega (arith, waits, count);
-        flying = omega (arith, flies, same);
-        few =
-            let most = few-spent (after_sends b.now s) in
-            let made = few-made (next_chunk b.now s.sending.sender) s.made in
-            let long : length (in_flight (after_sends b.now s)) ≡ 1 = omega (arith, flies, same, none) in
-            omega (arith, most, made, long);
-        sacks = refl;
-      }
+  sent = grind (arith, nat_tests, common_steps, taken, started-count, started-inflight, few-spent, few-made)
 
   one-tsn : distance (next_tsn s) (next_tsn (after_sends b.now s)) ≡ 1
   one-tsn =

@@ -2,13 +2,13 @@
 use Rattle.sctp_delivery.proofs.Names.{◌≡◌, ℕ, ◌+◌, ◌<◌, ◌≤◌, Bool, true, false, not, List, [], ◌∷◌, ◌++◌, length, Option, Some, None, refl, ap, ◌∙◌, arith}
 use Rattle.sctp_delivery.proofs.Names.{◌-◌, ◌^◌, subst, zero, suc, is_some, sym, ◌||◌, find, if◌then◌else◌, ◌&&◌, list_any, sum_by, list_all, nat_tests}
 use Rattle.sctp_delivery.proofs.Names.{sum_by-cons, none-some, common_steps, and-none, same-yes, some-same, sum_by-inserted, and, not_both, change_where}
-use Rattle.sctp_delivery.proofs.Names.{insert_before, distance, ForwardTsn, ChunkPayloadData, as_acknowledged, past, Pending, chunk_count, ReassemblyState}
-use Rattle.sctp_delivery.proofs.Names.{Reassembly, front_readable, message_read, rest_read, without_first, Pushes, new_stream, stream_read}
-use Rattle.sctp_delivery.proofs.Names.{unassembled_forwarded, with_queue, cost_of, Reception, follow_forward_tsn, is_stale, new_refusal, is_open}
-use Rattle.sctp_delivery.proofs.Names.{after_forward_tsn, incomplete_forwarded, without_incomplete, InboundStream, Limits, chunk_before, has_tsn}
-use Rattle.sctp_delivery.proofs.Names.{sent_again, chunks_waiting, ReceiverCall, reads, in_flight, Call, ReceiverFollows, RunsTo}
-use Rattle.sctp_delivery.proofs.Names.{Session, of_receiver, of_sender, Follows, SenderFollows, at_start, distance-tsn, EachOtherIsReadOnce}
-use Rattle.sctp_delivery.proofs.Names.{ap₂, append-nil, abandoned_in, is_exhausted, reads_nothing, tsns_given, SenderCall, Write, written_after, list_all-append, ChunkSet}
+use Rattle.sctp_delivery.proofs.Names.{insert_before, distance, ForwardTsn, ChunkPayloadData, as_acknowledged, past, Pending, ReassemblyState, Reassembly}
+use Rattle.sctp_delivery.proofs.Names.{front_readable, message_read, rest_read, without_first, Pushes, new_stream, stream_read, unassembled_forwarded}
+use Rattle.sctp_delivery.proofs.Names.{with_queue, cost_of, Reception, follow_forward_tsn, is_stale, new_refusal, is_open, after_forward_tsn}
+use Rattle.sctp_delivery.proofs.Names.{incomplete_forwarded, without_incomplete, InboundStream, Limits, chunk_before, has_tsn, sent_again, chunks_waiting}
+use Rattle.sctp_delivery.proofs.Names.{ReceiverCall, reads, in_flight, Call, ReceiverFollows, RunsTo, Session, of_receiver, of_sender, Follows, SenderFollows}
+use Rattle.sctp_delivery.proofs.Names.{at_start, distance-tsn, EachOtherIsReadOnce, ap₂, append-nil, abandoned_in, is_exhausted, reads_nothing, tsns_given}
+use Rattle.sctp_delivery.proofs.Names.{SenderCall, Write, written_after, list_all-append, ChunkSet}
 use Rattle.sctp_receiver.proofs.DataEach.{takes-keeps}
 use Rattle.sctp_receiver.proofs.Forwarded.{followed-numbers}
 use Rattle.sctp_receiver.proofs.Inbounds.{stays-mapped}
@@ -143,27 +143,13 @@ RoomIn (Some l) s =
 -- there still is, where the same chunks wait
 room-still : (o : Option Limits) (s t : Session) → pending_of t ≡ pending_of s → length (in_flight t) ≤ length (in_flight s)
     → load t ≤ load s → cost t ≤ cost s → RoomIn o s → RoomIn o t
-room-still None s t same left lighter less r = tt
-room-still (Some l) s t same left lighter less r = (
-  let h = r.0 in omega (arith, left, h),
-  λ some. r.1 (subst (λ q. 0 < chunk_count q) same some),
-  λ some. let h = r.2 (omega (arith, some, lighter)) in omega (arith, less, h),
-  subst (FitEach l.window) (sym same) r.3,
-)
+room-still h0 h1 h2 h3 h4 h5 h6 h7 = grind (arith, nat_tests, common_steps)
 
 -- so no TSN in flight is refused for the limits, while something is due
 pub none-refused : (o : Option Limits) (s : Session) (tsn : ℕ) → RoomIn o s → s.receiving.receiver.limits ≡ o
     → distance s.receiving.receiver.cumulative_tsn tsn ≤ length (in_flight s) → 0 < due_by price s.receiving.accepted (in_flight s)
     → sum_by left_on s.receiving.receiver.streams ≡ sum_by cost_of s.receiving.receiver.streams → new_refusal tsn s.receiving.receiver ≡ None
-none-refused o s tsn room is near some unread = by o room is
-  where
-    by : (o : Option Limits) → RoomIn o s → s.receiving.receiver.limits ≡ o → new_refusal tsn s.receiving.receiver ≡ None
-    by None r e = grind (arith, nat_tests)
-    by (Some l) r e =
-        let reach = r.0 in
-        let within = r.2 (omega (arith, some)) in
-        let left : sum_by cost_of s.receiving.receiver.streams < l.window = omega (arith, within, some, unread) in
-        grind (arith, nat_tests, and-none)
+none-refused o s tsn room is near some unread = grind (arith, nat_tests, common_steps, and-none)
 
 -- ## What a call makes of it
 
@@ -190,14 +176,7 @@ followed-cost g r = by (is_stale g r)
 
 apart-after : (call : ReceiverCall) (old new : Session) → ReceiverFollows call old new → are_apart (numbers_of old.receiving.receiver.streams) ≡ true
     → are_apart (numbers_of new.receiving.receiver.streams) ≡ true
-apart-after (incoming.opens stream) old new f a =
-    ap (λ (r : Reception). are_apart (numbers_of r.streams)) f.step.receiver.1
-    ∙ more-apart old.receiving.receiver.streams (new_stream stream old.receiving.receiver.max_message_size) a f.step.receiver.0
-apart-after (incoming.takes c arrival) old new f a = ap are_apart (takes-keeps c arrival old.receiving.receiver new.receiving.receiver f.step.receiver).0 ∙ a
-apart-after (incoming.follows g) old new f a = grind (arith, nat_tests, followed-numbers, stays-mapped)
-apart-after (incoming.reads stream) old new f a =
-    ap (λ (r : Reception). are_apart (numbers_of r.streams)) f.step.receiver ∙ ap are_apart (read-numbers stream old.receiving.receiver) ∙ a
-apart-after call old new f a = ap (λ (r : Reception). are_apart (numbers_of r.streams)) f.step.receiver ∙ a
+apart-after h0 h1 h2 h3 h4 = grind (arith, nat_tests, common_steps, more-apart, takes-keeps, followed-numbers, stays-mapped, read-numbers)
 
 pub apart-in : (cs : List Call) (old new : Session) → RunsTo old cs new → are_apart (numbers_of old.receiving.receiver.streams) ≡ true
     → are_apart (numbers_of new.receiving.receiver.streams) ≡ true

@@ -1,24 +1,20 @@
 -- Each session can end by a window for one message after another: at rest the receiver holds nothing.
-use Rattle.sctp_delivery.proofs.Names.{◌≡◌, ℕ, ◌+◌, ◌≤◌, ◌==◌, ◌&&◌, ◌||◌, Bool, true, false, not, List, [], ◌∷◌, length, Option, Some, None, refl, ap, sym, subst}
-use Rattle.sctp_delivery.proofs.Names.{◌∙◌, arith, if◌then◌else◌, nat_le, find, filter, list_all, list_any, sum_by, sum_by-cons, none-some}
-use Rattle.sctp_delivery.proofs.Names.{nat_tests, same-is, same-yes, some-same, negated, both, fails, not_both, change_where}
-use Rattle.sctp_delivery.proofs.Names.{ChunkPayloadData, Limits, InboundStream}
-use Rattle.sctp_delivery.proofs.Names.{number, Reception}
-use Rattle.sctp_delivery.proofs.Names.{cost_of, Selected, Pending, Outbound, IsSendable, is_of, partial_of, selected_after}
-use Rattle.sctp_delivery.proofs.Names.{chunk_to_pop_from, list_to_pop, rest_from, rest_after, next_pending, with_deadline, is_to_start, start_pending}
-use Rattle.sctp_delivery.proofs.Names.{all_started, as_sent, sent_of, made, sendable-sent, goes_on, peeked_all_started, started-inflight, bytes_of}
-use Rattle.sctp_delivery.proofs.Names.{Session, at_start}
-use Rattle.sctp_delivery.proofs.Names.{reads_nothing, chunks_waiting, in_flight}
+use Rattle.sctp_delivery.proofs.Names.{◌≡◌, ℕ, ◌+◌, ◌≤◌, ◌==◌, Bool, true, false, not, List, [], ◌∷◌, length, Option, Some, None, refl, ap, sym, subst, ◌∙◌}
+use Rattle.sctp_delivery.proofs.Names.{arith, if◌then◌else◌, nat_le, find, filter, list_all, list_any, sum_by, sum_by-cons, none-some, nat_tests, same-is}
+use Rattle.sctp_delivery.proofs.Names.{same-yes, some-same, negated, both, fails, not_both, change_where, ChunkPayloadData, Limits, InboundStream, number}
+use Rattle.sctp_delivery.proofs.Names.{Reception, cost_of, Selected, Pending, Outbound, IsSendable, is_of, partial_of, selected_after, chunk_to_pop_from}
+use Rattle.sctp_delivery.proofs.Names.{list_to_pop, rest_from, rest_after, next_pending, with_deadline, all_started, as_sent, sent_of, made, sendable-sent}
+use Rattle.sctp_delivery.proofs.Names.{goes_on, peeked_all_started, started-inflight, bytes_of, Session, at_start, reads_nothing, chunks_waiting, in_flight}
 use Rattle.sctp_delivery.proofs.Names.{common_steps, and, chunks_left, EachOtherIsReadOnce, has_room, Transmission}
-use Rattle.std.specs.Prelude.{◌<◌, ◌^◌, max, min, nat_lt}
+use Rattle.std.specs.Prelude.{◌<◌, ◌^◌, max, nat_lt}
 use Rattle.sctp_reassembly.specs.reassembly_queue.Counts.{set_chunks}
 use Rattle.sctp_reassembly.specs.reassembly_queue.ReassemblyQueue.{set_bytes}
 use Rattle.sctp_receiver.proofs.StreamCosts.{are_apart}
 use Rattle.sctp_receiver.proofs.Weights as weights
 use Rattle.sctp_receiver.specs.Credit.{cost_of_chunks}
 use Rattle.sctp_receiver.specs.Inbound.{has_number, numbers_of}
-use Rattle.sctp_delivery.specs.Ending.{AfterEachSessionWithTsnsLeft, EndsWhereTaken, EndsWithAllRead, begun_cost, cost_left, each_within, has_window}
-use Rattle.sctp_delivery.specs.Ending.{CanEnd, is_to_come, left_on, rest_cost, takes_each_of, waiting_cost}
+use Rattle.sctp_delivery.specs.Ending.{AfterEachSessionWithTsnsLeft, EndsWhereTaken, EndsWithAllRead, cost_left, has_window, CanEnd, is_to_come, left_on}
+use Rattle.sctp_delivery.specs.Ending.{rest_cost, waiting_cost}
 use Rattle.sctp_delivery.proofs.EndDelivers.{due-to-come, few-given, some-of}
 use Rattle.sctp_delivery.proofs.EndSessions.{after_sends, ends-in, sent, stands-started, there}
 use Rattle.sctp_delivery.proofs.EndSteps.{At, FitEach, RoomIn, Setting, apart-at, cost, due_by, pending_of, price, put-due, rest_of, start}
@@ -146,28 +142,7 @@ record IsAlike (w : ℕ) (q r : Pending) : Type 0 where
   fit : FitEach w q → FitEach w r
 
 alike-started : (w now : ℕ) (q : Outbound) → IsAlike w q.pending (all_started now q).pending
-alike-started w now q = by (q.next_unstarted == q.next_message_id)
-  where
-    same : (m : ℕ) → waiting_cost m (start_pending q.next_unstarted now q.pending) ≡ waiting_cost m q.pending
-    same m =
-        let x = cost-started m (is_to_start q.next_unstarted) now q.pending.ordered in
-        let y = cost-started m (is_to_start q.next_unstarted) now q.pending.unordered in
-        omega (arith, x, y)
-
-    each : (xs : List ChunkPayloadData) → Every (λ x. waiting_cost x.message_id q.pending ≤ w) xs
-        → Every (λ x. waiting_cost x.message_id (start_pending q.next_unstarted now q.pending) ≤ w)
-        (change_where (is_to_start q.next_unstarted) (with_deadline now) xs)
-    each xs e =
-        every-changed (λ x. waiting_cost x.message_id (start_pending q.next_unstarted now q.pending) ≤ w) (is_to_start q.next_unstarted) (with_deadline now)
-        (λ x h le. le) xs (every-of (λ x. waiting_cost x.message_id q.pending ≤ w) (λ x. waiting_cost x.message_id (start_pending q.next_unstarted now q.pending)
-        ≤ w) (λ x le. let h = same x.message_id in omega (arith, h, le)) xs e)
-
-    by : (b : Bool) → IsAlike w q.pending (if b then q else (record q {
-      pending = start_pending q.next_unstarted now q.pending;
-      next_unstarted = q.next_message_id;
-    })).pending
-    by true = record { selected = refl; same = λ m. refl; fit = λ e. e }
-    by false = record { selected = refl; same = same; fit = λ e. (each q.pending.ordered e.0, each q.pending.unordered e.1) }
+alike-started w now q = grind (arith, nat_tests, common_steps, cost-started, every-changed, every-of)
 
 -- ## Room for the next chunk
 
@@ -267,32 +242,7 @@ module _ (b : Setting) (n : ℕ) (s : Session) (i : At b n s) (none : length (in
 
 pub room-each : (o : Option Limits) (s : Session)
     → due_by price s.receiving.accepted (in_flight s) ≤ sum_by price (filter (is_to_come s.receiving.receiver) (in_flight s)) → has_window o s.sending.sender s.receiving.receiver ≡ true → RoomIn o s
-room-each None s due-all h = tt
-room-each (Some l) s due-all h =
-    let q = pending_of s in
-    let begun = begun_cost s.sending.sender s.receiving.receiver in
-    let held = sum_by left_on s.receiving.receiver.streams + begun in
-    let far = max (length (in_flight s)) (min 1 (chunks_waiting s.sending.sender)) in
-    let a = both (nat_le far l.reach) ((begun == 0 || nat_le held l.window) && each_within l.window q) h in
-    let c = both (begun == 0 || nat_le held l.window) (each_within l.window q) a.1 in
-    let d = both (list_all (λ c. nat_le (waiting_cost c.message_id q) l.window) q.ordered)
-    (list_all (λ c. nat_le (waiting_cost c.message_id q) l.window) q.unordered) c.1 in
-    let reach : far ≤ l.reach = le-of far l.reach a.0 in
-    let one = λ (x : ChunkPayloadData) (t : nat_le (waiting_cost x.message_id q) l.window ≡ true). le-of (waiting_cost x.message_id q) l.window t in (
-      omega (arith, reach),
-      λ some. omega (arith, reach, some),
-      λ some. let window = over begun held l.window c.0 (omega (arith, some, due-all)) in omega (arith, window, due-all),
-      (
-        all-every (λ x. nat_le (waiting_cost x.message_id q) l.window) (λ x. waiting_cost x.message_id q ≤ l.window) one q.ordered d.0,
-        all-every (λ x. nat_le (waiting_cost x.message_id q) l.window) (λ x. waiting_cost x.message_id q ≤ l.window) one q.unordered d.1,
-      ),
-    )
-  where
-    le-of : (m n : ℕ) → nat_le m n ≡ true → m ≤ n
-    le-of m n e = grind (arith, nat_tests, e)
-
-    over : (k m n : ℕ) → (k == 0 || nat_le m n) ≡ true → 0 < k → m ≤ n
-    over k m n e some = grind (arith, nat_tests, e)
+room-each h0 h1 h2 h3 = grind (arith, nat_tests, common_steps, both, all-every)
 
 pub all-end : AfterEachSessionWithTsnsLeft EndsWhereTaken
 all-end tsn size max most limits cs s small some run few takes now =
@@ -347,8 +297,4 @@ room-window (Some l) t r h =
 pub can-end : (o : Option Limits) (t : Transmission) (r : Reception) (m : ℕ) → has_room o t r ≡ true → nat_le t.max_message_size m ≡ true → o ≡ r.limits
     → m ≡ r.max_message_size → AfterEachSessionWithTsnsLeft (λ gone s. s.sending.sender ≡ t → s.receiving.receiver ≡ r → (now : ℕ) → CanEnd now gone s)
 can-end o t r m room fits limited same tsn size max most limits cs s small some run few sending receiving =
-    let window = room-window r.limits t r (subst (λ l. has_room l t r ≡ true) limited room) in
-    let takes : takes_each_of t r ≡ true =
-    and (has_window r.limits t r) (nat_le t.max_message_size r.max_message_size) window (subst (λ k. nat_le t.max_message_size k ≡ true) same fits) in
-    all-end tsn size max most limits cs s small some run few (subst (λ u. takes_each_of u s.receiving.receiver ≡ true) (sym sending)
-    (subst (λ q. takes_each_of t q ≡ true) (sym receiving) takes))
+    grind (arith, nat_tests, common_steps, room-window, and, all-end)

@@ -1,8 +1,8 @@
 -- The fragments of a message together are no longer than its write, those of an ordered message that a set has, and those of an unordered one
 -- that stand beside a chunk among unassembled ones.
 use Rattle.sctp_delivery.proofs.Names.{◌≡◌, ℕ, ◌+◌, ◌%◌, ◌^◌, ◌<◌, ◌≤◌, Bool, true, false, not, List, [], ◌∷◌, length, length-append, inl, inr, refl, ap, sym}
-use Rattle.sctp_delivery.proofs.Names.{subst, ◌∙◌, arith, ◌==◌, ◌&&◌, if◌then◌else◌, list_any, cases_lt, sum_by-cons, nat_tests, common_steps, same-is, fails}
-use Rattle.sctp_delivery.proofs.Names.{not_both, ChunkPayloadData, Data, data_of, bytes_of, following_tsn, has_tsn, preceding_tsn, size_after, size_before}
+use Rattle.sctp_delivery.proofs.Names.{subst, ◌∙◌, arith, ◌==◌, ◌&&◌, if◌then◌else◌, cases_lt, sum_by-cons, nat_tests, common_steps, same-is, fails, not_both}
+use Rattle.sctp_delivery.proofs.Names.{ChunkPayloadData, Data, data_of, bytes_of, following_tsn, has_tsn, preceding_tsn, size_after, size_before}
 use Rattle.std.specs.Prelude.{reverse}
 use Rattle.std.proofs.lemmas.List.{reverse-append}
 use Rattle.sctp_reassembly.specs.reassembly_queue.Sizes.{back_from, bytes_down, bytes_up, on_from}
@@ -44,10 +44,7 @@ has_fragment st k sent = of_entry false (is_fragment_on st) k sent
 
 entry-within : (q : Entry → Bool) (k : ℕ) (sent : List Entry) → of_entry false q k sent ≡ true → (0 < k) × (k ≤ length sent)
 entry-within q k [] e = absurd (not_both e)
-entry-within q k (x ∷ xs) e = at-test (λ b. (if b then q x else of_entry false q k xs) ≡ true → (0 < k) × (k ≤ length (x ∷ xs)))
-    (length (x ∷ xs) == k)
-    (λ h f. let same = same-is (length (x ∷ xs)) k h in (omega (arith, same), omega (arith, same)))
-    (λ h f. let le = ((entry-within q k xs) f).1 in (((entry-within q k xs) f).0, omega (arith, le))) e
+entry-within q k (x ∷ xs) e = grind (arith, nat_tests, common_steps, same-is, entry-within q k xs)
 
 -- how many bytes a fragment has, and how many of its write are left behind it
 abbrev pub size_of : Entry → ℕ
@@ -195,12 +192,7 @@ every-reversed P (x ∷ xs) h =
 
 every-on : (P : ChunkPayloadData → Type 0) (t : ℕ) (xs : List ChunkPayloadData) → Every P xs → Every P (on_from t xs)
 every-on P t [] h = tt
-every-on P t (x ∷ xs) h = by (list_any (has_tsn t) xs) (has_tsn t x) (every-on P t xs h.1)
-  where
-    by : (b c : Bool) → Every P (on_from t xs) → Every P (if b then on_from t xs else (if c then x ∷ xs else []))
-    by true c ih = ih
-    by false true ih = h
-    by false false ih = tt
+every-on P t (x ∷ xs) h = grind (arith, nat_tests, common_steps, every-on P t xs h.1)
 
 module _ (first : ℕ) (ns : List Numbered) (sent : List Entry) (few : length sent < 2 ^ 32) (line : IsLine ns first sent) (joined : AreJoined sent) where
   -- down from a fragment that does not begin its message: the neighbours and the fragment, with what is left behind it

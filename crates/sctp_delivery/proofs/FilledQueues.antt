@@ -1,8 +1,8 @@
 -- Each chunk that waits has some bytes, whatever a sender does.
-use Rattle.sctp_delivery.proofs.Names.{◌≡◌, ℕ, zero, suc, ◌+◌, ◌<◌, ◌≤◌, List, [], ◌∷◌, length, map, drop, refl, sym, subst, arith, always, numbers_where}
-use Rattle.sctp_delivery.proofs.Names.{pieces, ChunkPayloadData, PayloadProtocolIdentifier, Outbound, with_message, OutboundStream, fragment_at, fragments_of}
-use Rattle.sctp_delivery.proofs.Names.{pieces_of, fragments_with_mode, with_reliability, Transmission, Makes, IsAccepted, MakesExactly, SenderCall, as_run}
-use Rattle.sctp_delivery.proofs.Names.{writes}
+use Rattle.sctp_delivery.proofs.Names.{nat_tests, common_steps, ◌≡◌, ℕ, zero, suc, ◌+◌, ◌<◌, ◌≤◌, List, [], ◌∷◌, length, map, drop, refl, sym, subst, arith}
+use Rattle.sctp_delivery.proofs.Names.{always, numbers_where, pieces, ChunkPayloadData, PayloadProtocolIdentifier, Outbound, with_message, OutboundStream}
+use Rattle.sctp_delivery.proofs.Names.{fragment_at, fragments_of, pieces_of, fragments_with_mode, with_reliability, Transmission, Makes, IsAccepted}
+use Rattle.sctp_delivery.proofs.Names.{MakesExactly, SenderCall, as_run, writes}
 use Rattle.sctp_delivery.proofs.Every.{Every, every-at, every-mapped, every-all}
 use Rattle.sctp_delivery.proofs.Numbers.{AreSized, size-found}
 use Rattle.sctp_delivery.proofs.Writing.{accepted-stream}
@@ -29,10 +29,7 @@ module _ (l : OutboundStream) (ppi : PayloadProtocolIdentifier) (bytes : List �
 
   fragments-from : (i k : ℕ) → i + k ≤ length (pieces_of l bytes) → Every IsFilled (map (fragment_at l ppi bytes) (numbers_where always i k))
   fragments-from i zero le = tt
-  fragments-from i (suc k) le = (
-    every-at (λ (p : List ℕ). 0 < length p) (pieces_of l bytes) i [] (omega (arith, le)) all-pieces,
-    fragments-from (i + 1) k (omega (arith, le)),
-  )
+  fragments-from i (suc k) le = grind (arith, nat_tests, common_steps, every-at, all-pieces, fragments-from (i + 1) k (omega (arith, le)))
 
   pub fragments-filled : Every IsFilled (fragments_with_mode l ppi bytes)
   fragments-filled =
@@ -59,15 +56,7 @@ module _ (t : Transmission) (sized : AreSized t.streams) (h : AreFilled t.flight
   to u v e i = subst (λ (x : Transmission). AreFilled x.flight.queue) (sym e) i
 
   keeps : Keeps IsFilled Any t
-  keeps = record {
-    start = λ now c i. i;
-    lower = λ c i. i;
-    put = λ now c i. tt;
-    mark = λ f k c i. tt;
-    leave = λ c i. tt;
-    end' = λ tsn c i. tt;
-    acknowledge = λ c i. tt;
-  }
+  keeps = grind (arith, nat_tests, common_steps)
 
   filled-call : (call : SenderCall) (u : Transmission) → Makes (as_run call) t u → MakesExactly call t u → IsAccepted call t → AreFilled u.flight.queue
   filled-call (writes stream ppi (b ∷ bs)) u e x a =

@@ -1,11 +1,11 @@
 -- A receiver that is read refuses no FORWARD-TSN that the sender may make now.
-use Rattle.sctp_delivery.proofs.Names.{◌≡◌, ℕ, zero, suc, ◌+◌, ◌-◌, ◌%◌, ◌^◌, ◌<◌, ◌≤◌, Bool, true, false, not, List, [], ◌∷◌, take, Option, Some, None, inl}
-use Rattle.sctp_delivery.proofs.Names.{inr, refl, ap, sym, subst, ◌∙◌, arith, ◌⊎◌, ◌==◌, ◌&&◌, ◌||◌, if◌then◌else◌, nat_le, nat_lt, filter, list_all, list_any}
-use Rattle.sctp_delivery.proofs.Names.{cases_lt, nat_tests, distance, same-yes, both, not_both, distance-tsn, tsn, ChunkPayloadData, ChunkForwardTsnStream}
-use Rattle.sctp_delivery.proofs.Names.{ForwardTsn, data_of, last_of, is_on, message_read, InboundStream, NamedSsnTooFar, NamedStreamUnknown, TsnOpposite}
-use Rattle.sctp_delivery.proofs.Names.{Reception, forward_refusal, is_open, stream_of, is_ahead, names_too_far, skip_refusal, is_name_too_far, is_named_too_far}
-use Rattle.sctp_delivery.proofs.Names.{lowest_ssn, Name, ahead, is_named, is_pair_of, named_up_to, pairs_of, Flight, abandoned_in, WhileFewTsns, MayMake}
-use Rattle.sctp_delivery.proofs.Names.{is_due_named, reads_nothing_on, tsns_given, Session, at_start}
+use Rattle.sctp_delivery.proofs.Names.{common_steps, ◌≡◌, ℕ, zero, suc, ◌+◌, ◌-◌, ◌%◌, ◌^◌, ◌<◌, ◌≤◌, Bool, true, false, not, List, [], ◌∷◌, take, Option, Some}
+use Rattle.sctp_delivery.proofs.Names.{None, inl, inr, refl, ap, sym, subst, ◌∙◌, arith, ◌⊎◌, ◌==◌, ◌&&◌, ◌||◌, if◌then◌else◌, nat_le, nat_lt, filter, list_all}
+use Rattle.sctp_delivery.proofs.Names.{list_any, cases_lt, nat_tests, distance, same-yes, both, not_both, distance-tsn, tsn, ChunkPayloadData}
+use Rattle.sctp_delivery.proofs.Names.{ChunkForwardTsnStream, ForwardTsn, data_of, last_of, is_on, message_read, InboundStream, NamedSsnTooFar}
+use Rattle.sctp_delivery.proofs.Names.{NamedStreamUnknown, TsnOpposite, Reception, forward_refusal, is_open, stream_of, is_ahead, names_too_far, skip_refusal}
+use Rattle.sctp_delivery.proofs.Names.{is_name_too_far, is_named_too_far, lowest_ssn, Name, ahead, is_named, is_pair_of, named_up_to, pairs_of, Flight}
+use Rattle.sctp_delivery.proofs.Names.{abandoned_in, WhileFewTsns, MayMake, is_due_named, reads_nothing_on, tsns_given, Session, at_start}
 use Rattle.sctp_util.specs.Serial.{distance16}
 use Rattle.sctp_delivery.specs.Refused.{NoneMadeIsRefused}
 use Rattle.sctp_delivery.proofs.KeptOrGone.{HeldWell, IsLate}
@@ -90,10 +90,7 @@ module _ (first n : ℕ) (few : n < 2 ^ 31) (gone : List ℕ) (s : Session) (h :
   a = spread.step.numbered.acked
 
   passable : IsPassable p n flight spread.step.numbered few t
-  passable = elim may [
-    | inl x ↦ passable-skip p n flight spread.step.numbered few x.0 t x.1.0
-    | inr x ↦ passable-end p n flight spread.step.numbered few t x.1.0 x.1.1
-  ]
+  passable = grind (arith, nat_tests, common_steps, passable-skip, passable-end)
 
   name : Name f.streams (named_up_to t flight)
   name = elim may [ inl x ↦ x.1.1 | inr x ↦ x.1.2 ]

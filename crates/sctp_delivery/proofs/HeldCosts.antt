@@ -1,21 +1,20 @@
 -- What a stream holds counts for: no less than its count says; and without the messages that are to be read.
-use Rattle.sctp_delivery.proofs.Names.{◌≡◌, ℕ, ◌+◌, ◌≤◌, Bool, true, false, not, List, [], ◌∷◌, ◌++◌, length, Option, Some, None, refl}
-use Rattle.sctp_delivery.proofs.Names.{ap, sym, subst, arith, if◌then◌else◌, is_some, list_all, sum_by, sum_by-cons, sum_by-inserted}
-use Rattle.sctp_delivery.proofs.Names.{common_steps, nat_tests, both, negated, bytes_of, change_where, insert_before, ChunkPayloadData, ChunkForwardTsnStream}
-use Rattle.sctp_delivery.proofs.Names.{ChunkSet, ForwardTsn, InboundStream, Reassembly, ReassemblyState, message_read, is_passed, after_ordered_push}
-use Rattle.sctp_delivery.proofs.Names.{rest_read, Pushes, PushesAs, with_queue, new_stream, stream_read, unassembled_forwarded, chunk_before}
-use Rattle.sctp_delivery.proofs.Names.{without_incomplete, after_forward_tsn, incomplete_forwarded, follow_forward_tsn, is_stale, Reception, cannot_complete, cost_of}
-use Rattle.sctp_delivery.proofs.Names.{Session, Call, RunsTo, ReceiverFollows, of_receiver, of_sender, ReceiverCall, New, Repeat}
+use Rattle.sctp_delivery.proofs.Names.{◌≡◌, ℕ, ◌+◌, ◌≤◌, Bool, true, false, not, List, [], ◌∷◌, ◌++◌, length, refl, sym, subst, arith, if◌then◌else◌, is_some}
+use Rattle.sctp_delivery.proofs.Names.{list_all, sum_by, sum_by-cons, sum_by-inserted, common_steps, nat_tests, both, negated, bytes_of, change_where}
+use Rattle.sctp_delivery.proofs.Names.{ChunkPayloadData, ChunkForwardTsnStream, ChunkSet, ForwardTsn, InboundStream, Reassembly, ReassemblyState, message_read}
+use Rattle.sctp_delivery.proofs.Names.{is_passed, after_ordered_push, rest_read, Pushes, new_stream, stream_read, unassembled_forwarded, without_incomplete}
+use Rattle.sctp_delivery.proofs.Names.{after_forward_tsn, incomplete_forwarded, follow_forward_tsn, is_stale, Reception, cannot_complete, cost_of, Session}
+use Rattle.sctp_delivery.proofs.Names.{Call, RunsTo, ReceiverFollows, of_receiver, of_sender, ReceiverCall, New, Repeat}
 use Rattle.std.specs.Prelude.{◌*◌}
 use Rattle.std.proofs.lemmas.List.Sums.{sum_by-le-sum_by}
 use Rattle.sctp_reassembly.specs.reassembly_queue.Counts.{set_chunks}
-use Rattle.sctp_reassembly.specs.reassembly_queue.ReassemblyQueue.{bytes_read, held_bytes, set_bytes}
+use Rattle.sctp_reassembly.specs.reassembly_queue.ReassemblyQueue.{held_bytes, set_bytes}
 use Rattle.sctp_reassembly.proofs.lemmas.reassembly_queue.ByteCounts.{bytes_with, dropped, skipped, whole_bytes}
 use Rattle.sctp_receiver.proofs.StreamCosts.{all-cost}
 use Rattle.sctp_receiver.proofs.Weights as weights
 use Rattle.sctp_receiver.proofs.Weights.{message_weight}
 use Rattle.sctp_receiver.specs.Credit.{cost_held_on, cost_of_chunks}
-use Rattle.sctp_receiver.specs.Drains.{due_from, due_on}
+use Rattle.sctp_receiver.specs.Drains.{due_from}
 use Rattle.sctp_receiver.specs.Inbound.{has_number, named_forwarded, ssn_forwarded}
 use Rattle.sctp_receiver.specs.Limits.{chunk_cost}
 use Rattle.sctp_delivery.specs.Ending.{left_on}
@@ -33,25 +32,10 @@ under-ordered x q h = grind (arith, nat_tests, bytes_with)
 
 under-pushed : (c : ChunkPayloadData) (complete : Bool) (old new : ReassemblyState) → Pushes c complete old new → old.bytes ≤ held_bytes old.held
     → new.bytes ≤ held_bytes new.held
-under-pushed c complete old new p h = by c.unordered p
-  where
-    by : (b : Bool) → PushesAs b c complete old new → new.bytes ≤ held_bytes new.held
-    by false e = subst (λ (q : ReassemblyState). q.bytes ≤ held_bytes q.held) (sym e.0) (under-ordered c old h)
-    by true e =
-        let all = whole_bytes (insert_before chunk_before c old.held.unassembled) old.held new.held complete e.0 in
-        let more = sum_by-inserted (λ (x : ChunkPayloadData). length x.user_data) chunk_before c old.held.unassembled in
-        let is = ap (λ (q : ReassemblyState). q.bytes) e.1 in
-        omega (arith, h, all, more, is)
+under-pushed c complete old new p h = grind (arith, nat_tests, common_steps, under-ordered, whole_bytes, sum_by-inserted)
 
 under-read : (l : InboundStream) → IsUnder l → IsUnder (stream_read l)
-under-read l h =
-    let out = weights.read (λ c. length c.user_data) l.queue.held in
-    let same = of (message_read l.queue.held) in
-    omega (arith, h, out, same)
-  where
-    of : (o : Option ChunkSet) → bytes_read o ≡ message_weight (λ c. length c.user_data) o
-    of None = refl
-    of (Some set) = refl
+under-read l h = grind (arith, nat_tests, common_steps, weights.read)
 
 under-named : (ns : List ChunkForwardTsnStream) (ls : List InboundStream) → Every IsUnder ls → Every IsUnder (named_forwarded ns ls)
 under-named [] ls e = e
@@ -78,11 +62,7 @@ under-after : (call : ReceiverCall) (old new : Session) → ReceiverFollows call
 under-after (incoming.opens stream) old new f e =
     subst (λ (r : Reception). Every IsUnder r.streams) (sym f.step.receiver.1)
     (every-joined IsUnder old.receiving.receiver.streams (new_stream stream old.receiving.receiver.max_message_size ∷ []) e (omega arith, tt))
-under-after (incoming.takes c (New complete)) old new f e =
-    let a = f.step.receiver in
-    subst (λ (r : Reception). Every IsUnder r.streams) (sym a.after)
-    (every-changed IsUnder (has_number c.stream_identifier) (with_queue a.queue) (λ l h u. under-pushed c complete a.stream.queue a.queue a.pushed
-    (every-found IsUnder (has_number c.stream_identifier) old.receiving.receiver.streams a.stream a.found e)) old.receiving.receiver.streams e)
+under-after (incoming.takes c (New complete)) old new f e = grind (arith, nat_tests, common_steps, every-changed, under-pushed, every-found)
 under-after (incoming.takes c Repeat) old new f e = subst (λ (r : Reception). Every IsUnder r.streams) (sym f.step.receiver) e
 under-after (incoming.follows g) old new f e =
     subst (λ (r : Reception). Every IsUnder r.streams) (sym f.step.receiver) (under-followed g old.receiving.receiver e)
@@ -111,11 +91,7 @@ set-prices (s ∷ ss) = grind (arith, common_steps, prices, sum_by-cons, set-pri
 
 -- it counts no more than it holds
 counts-less : (l : InboundStream) → IsUnder l → cost_of l ≤ cost_held_on l
-counts-less l u =
-    let os = set-prices l.queue.held.ordered in
-    let us = set-prices l.queue.held.unordered in
-    let cs = prices l.queue.held.unassembled in
-    omega (arith, u, os, us, cs)
+counts-less l u = grind (arith, nat_tests, common_steps, set-prices, prices)
 
 abbrev due_cost : Reassembly → ℕ
 due_cost q = sum_by (λ set. cost_of_chunks set.chunks) (q.unordered ++ due_from q.next_ssn q.ordered)
@@ -139,21 +115,10 @@ due-none next os us un e = grind (arith, nat_tests, is_some)
 
 -- a read leaves no more, and where nothing is to be read, all is left
 pub left-read : (l : InboundStream) → left_on (stream_read l) ≤ left_on l
-left-read l =
-    let q = l.queue.held in
-    let counted = (all-cost 0).read l in
-    let due : sum_by (λ set. cost_of_chunks set.chunks) (due_on (Some l))
-    ≡ message_weight price (message_read q) + sum_by (λ set. cost_of_chunks set.chunks) (due_on (Some (stream_read l))) =
-    due-first q.next_ssn q.ordered q.unordered q.unassembled in
-    let held' : message_weight price (message_read q) + cost_held_on (stream_read l) ≡ cost_held_on l = weights.read price q in
-    omega (arith, counted, due, held')
+left-read l = grind (arith, nat_tests, common_steps, all-cost, due-first, weights.read)
 
 left-unread : (l : InboundStream) → IsUnder l → is_some (message_read l.queue.held) ≡ false → left_on l ≡ cost_of l
-left-unread l u e =
-    let q = l.queue.held in
-    let due : sum_by (λ set. cost_of_chunks set.chunks) (due_on (Some l)) ≡ 0 = due-none q.next_ssn q.ordered q.unordered q.unassembled e in
-    let less = counts-less l u in
-    omega (arith, due, less)
+left-unread l u e = grind (arith, nat_tests, common_steps, due-none, counts-less)
 
 pub lefts-unread : (ls : List InboundStream) → Every IsUnder ls → list_all (λ l. not (is_some (message_read l.queue.held))) ls ≡ true
     → sum_by left_on ls ≡ sum_by cost_of ls

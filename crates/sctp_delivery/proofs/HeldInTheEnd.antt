@@ -1,9 +1,9 @@
 -- Where nothing is in flight, no message is partially sent and nothing is to be read, a receiver holds nothing.
-use Rattle.sctp_delivery.proofs.Names.{◌≡◌, ℕ, suc, ◌+◌, ◌^◌, ◌<◌, ◌≤◌, true, false, List, [], ◌∷◌, length, Option, Some, None, inl, inr, refl, ap, sym, subst}
-use Rattle.sctp_delivery.proofs.Names.{◌∙◌, arith, All, ◌⊎◌, ◌==◌, list_all, list_any, sum_by, cases_lt, nat_tests, at_or_before, or-left, or-split, same-is}
-use Rattle.sctp_delivery.proofs.Names.{nat_le, fails, same-yes, not_both, tsn, ChunkPayloadData, ChunkSet, Data, data_of, is_complete, Reassembly, message_read, InboundStream, Limits}
-use Rattle.sctp_delivery.proofs.Names.{Reception, stream_of, fragments_read, is_one_message, held_weight, set_weight, has_tsn, reads_nothing, was_taken, Call}
-use Rattle.sctp_delivery.proofs.Names.{RunsTo, Session, at_start}
+use Rattle.sctp_delivery.proofs.Names.{common_steps, ◌≡◌, ℕ, suc, ◌+◌, ◌^◌, ◌<◌, ◌≤◌, true, false, List, [], ◌∷◌, length, Option, Some, None, inl, inr, refl}
+use Rattle.sctp_delivery.proofs.Names.{ap, sym, subst, ◌∙◌, arith, All, ◌⊎◌, ◌==◌, list_all, list_any, sum_by, cases_lt, nat_tests, at_or_before, or-left}
+use Rattle.sctp_delivery.proofs.Names.{or-split, same-is, nat_le, fails, same-yes, not_both, tsn, ChunkPayloadData, ChunkSet, Data, data_of, is_complete}
+use Rattle.sctp_delivery.proofs.Names.{Reassembly, message_read, InboundStream, Limits, Reception, stream_of, fragments_read, is_one_message, held_weight}
+use Rattle.sctp_delivery.proofs.Names.{set_weight, has_tsn, reads_nothing, was_taken, Call, RunsTo, Session, at_start}
 use Rattle.sctp_delivery.proofs.Cases.{by-test}
 use Rattle.sctp_delivery.proofs.InTheEnd.{none-data, some-of, unread-of}
 use Rattle.sctp_delivery.proofs.UnwrappedHolds.{IsSome}
@@ -15,7 +15,7 @@ use Rattle.sctp_delivery.proofs.KeptOrGone.{IsPassedTo, IsPast, is_upto, upto-pl
 use Rattle.sctp_delivery.proofs.NotRefused.{begun-low, front-open, lowest-next}
 use Rattle.sctp_delivery.proofs.FragmentPlaces.{at_place, shown}
 use Rattle.sctp_delivery.proofs.MessagePlaces.{IsEntryAt, IsSpan, ends-own, entry-at, entry-of, next-of, span-of, misses-one, place-tsn}
-use Rattle.sctp_delivery.proofs.OrderedEntries.{AreJoined, IsOpen}
+use Rattle.sctp_delivery.proofs.OrderedEntries.{AreJoined}
 use Rattle.sctp_delivery.proofs.PassedMessages.{EndsMessage, is_gone}
 use Rattle.sctp_delivery.proofs.ReadOnce.{none-count, one}
 use Rattle.sctp_delivery.proofs.Sent.{Entry, IsLine, IsPart, Numbered, WasSent, fragment, part-itself, part-length, same-parts, terminal}
@@ -64,14 +64,7 @@ module _ (first size max most : ℕ) (limits : Option Limits) (cs : List Call) (
 
   -- the last message was sent whole, or cut short
   ends : 0 < n → EndsMessage sent
-  ends some = by sent long unbegun
-      k.unwrapped.spread.holds.held.stands.queued.open'
-    where
-      by : (xs : List Entry) → length xs ≡ n → s.sending.sender.flight.queue.pending.selected ≡ None → IsOpen xs s.sending.sender.flight.queue.pending.selected
-          → EndsMessage xs
-      by [] e none o = absurd (omega (arith, e, some))
-      by (terminal ∷ xs) e none o = tt
-      by (fragment d w after ∷ xs) e none o = subst (IsOpen (fragment d w after ∷ xs)) none o
+  ends some = grind (arith, nat_tests, common_steps, long)
 
   module _ (st : ℕ) where
     abbrev Fits : ℕ → List ChunkPayloadData → Type 0
@@ -174,11 +167,7 @@ module _ (first size max most : ℕ) (limits : Option Limits) (cs : List Call) (
             (λ c. let e = same.0 in not-open c (omega (arith, e)))
 
       none-ordered : q.ordered ≡ []
-      none-ordered = by q.ordered refl
-        where
-          by : (ss : List ChunkSet) → q.ordered ≡ ss → ss ≡ []
-          by [] e = refl
-          by (F ∷ rest) e = absurd (no-front F rest e)
+      none-ordered = grind (arith, nat_tests, common_steps, no-front)
 
       -- ## Nothing is unassembled: what stands past the place up to which FORWARD-TSNs went was taken
 

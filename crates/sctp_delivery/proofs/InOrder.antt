@@ -1,10 +1,9 @@
 -- What is read of an ordered stream is some of the writes to it, in their order.
-use Rattle.sctp_delivery.proofs.Names.{◌≡◌, ℕ, zero, suc, ◌+◌, ◌-◌, ◌<◌, ◌≤◌, Bool, true, false, not, List, [], ◌∷◌, length, map, inl, inr}
-use Rattle.sctp_delivery.proofs.Names.{refl, ap, sym, subst}
-use Rattle.sctp_delivery.proofs.Names.{◌∙◌, arith, All, AllPairs, ◌==◌, ◌&&◌, if◌then◌else◌, slice_index_or, filter, list_all, cases_lt, nat_tests, same-is}
-use Rattle.sctp_delivery.proofs.Names.{same-yes, both, Message, SenderCall, Write, written_after, writes, starts, sends, opens, sets_mode, Call, RunsTo}
-use Rattle.sctp_delivery.proofs.Names.{Session, at_start, of_receiver, of_sender, StandAt, IsWrite, Modes, Sending, at_first, modes_after, modes_from}
-use Rattle.sctp_delivery.proofs.Names.{starting, AfterEachRunOfFewTsns}
+use Rattle.sctp_delivery.proofs.Names.{common_steps, ◌≡◌, ℕ, zero, suc, ◌+◌, ◌-◌, ◌<◌, ◌≤◌, Bool, true, false, not, List, [], ◌∷◌, length, map, inl, inr, refl}
+use Rattle.sctp_delivery.proofs.Names.{ap, sym, subst, ◌∙◌, arith, All, AllPairs, ◌==◌, ◌&&◌, if◌then◌else◌, slice_index_or, filter, list_all, cases_lt}
+use Rattle.sctp_delivery.proofs.Names.{nat_tests, same-is, same-yes, both, Message, SenderCall, Write, written_after, Call, RunsTo, Session, at_start}
+use Rattle.sctp_delivery.proofs.Names.{of_receiver, of_sender, StandAt, IsWrite, Modes, Sending, at_first, modes_after, modes_from, starting}
+use Rattle.sctp_delivery.proofs.Names.{AfterEachRunOfFewTsns}
 use Rattle.std.specs.Prelude.{cond}
 use Rattle.sctp_delivery.specs.InOrder.{Are, AreAmong, AreReadInTurn, keeps_order, read_from, written_to}
 use Rattle.sctp_delivery.specs.Modes.{unknown, was_written_ordered}
@@ -37,22 +36,7 @@ ordered-at st (v ∷ vs) (x ∷ ws) (suc p) w lt o e = ordered-at st vs ws p w (
 
 after-call : (st : ℕ) (call : SenderCall) (m : Modes) (ws : List Write) → keeps_order st (of_sender call) ≡ true → IsOrdered st m ws
     → IsOrdered st (modes_after call m) (written_after call ws)
-after-call st (opens stream) m ws e o = record { stream = (let s = o.stream in grind (arith, nat_tests, s)); writes' = o.writes' }
-after-call st (sets_mode stream unordered reliability value) m ws e o =
-    record { stream = (let s = o.stream in grind (arith, nat_tests, s, same-is, same-yes)); writes' = o.writes' }
-after-call st (writes stream ppi []) m ws e o = o
-after-call st (writes stream ppi (b ∷ bs)) m ws e o = record {
-  stream = o.stream;
-  writes' = (
-    λ same.
-        let s : (m.of_streams stream).unordered ≡ false = ap (λ k. (m.of_streams k).unordered) same ∙ o.stream in
-        grind (arith, nat_tests, s),
-    o.writes',
-  );
-}
-after-call st (starts now) m ws e o = record { stream = o.stream; writes' = ordered-started st now m.of_writes ws o.writes' }
-after-call st (sends now) m ws e o = record { stream = o.stream; writes' = ordered-started st now m.of_writes ws o.writes' }
-after-call st call m ws e o = o
+after-call h0 h1 h2 h3 h4 h5 = grind (arith, nat_tests, common_steps, same-is, same-yes, ordered-started)
 
 ordered-run : (st : ℕ) (cs : List Call) (old new : Session) (m : Modes) → RunsTo old cs new → list_all (keeps_order st) cs ≡ true
     → IsOrdered st m old.written → IsOrdered st (modes_from m cs) new.written

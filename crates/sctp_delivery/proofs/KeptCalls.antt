@@ -1,15 +1,14 @@
 -- What a FORWARD-TSN takes out of a queue, weighed, and that what stays is in order.
 use Rattle.sctp_delivery.proofs.Names.{◌≡◌, ℕ, ◌+◌, ◌<◌, ◌≤◌, ◌^◌, Bool, true, false, not, List, [], ◌∷◌, refl, arith, ◌%◌, Option, Some, None, inl, inr, ap}
-use Rattle.sctp_delivery.proofs.Names.{sym, subst, ◌∙◌, ◌++◌, length, map, All, ◌⊎◌, ◌==◌, ◌&&◌, option_map, slice_index_or, filter, sum_by}
-use Rattle.sctp_delivery.proofs.Names.{list_any, list_all, sum_by-append, sum_by-cons, after_leading, at_or_before, and, fails, not_both}
-use Rattle.sctp_delivery.proofs.Names.{ChunkPayloadData, ChunkSet, Reassembly, ReassemblyState, held_after_ordered_skip, held_after_unordered_skip, is_passed}
-use Rattle.sctp_delivery.proofs.Names.{all_complete, held_weight, is_unmixed, set_weight, weight, fragments_of_sets, cases_lt, eq-eqb}
-use Rattle.sctp_delivery.proofs.Names.{or-split, same-is, or-left, same-yes, tsn, data_of, New, InboundStream, new_stream, number, stream_read, with_queue}
-use Rattle.sctp_delivery.proofs.Names.{skipped_each, ssns_of, Accepts, Reception, stream_of, follow_forward_tsn, is_stale, Stand, fragments_read}
-use Rattle.sctp_delivery.proofs.Names.{is_one_message, is_too_far_on, is_name_too_far, found-passes, is_ordered_on, has_tsn, is_on, ReceiverCall}
-use Rattle.sctp_delivery.proofs.Names.{ReceiverFollows, Session, list_any_at, nat_tests, common_steps, ChunkForwardTsnStream, ForwardTsn, is_complete}
-use Rattle.sctp_delivery.proofs.Names.{cannot_complete, names_closed, names_too_far, without_incomplete, is_pair_of, passes, was_taken, forward_tsn}
-use Rattle.sctp_delivery.proofs.Names.{nat_le, or-right}
+use Rattle.sctp_delivery.proofs.Names.{sym, subst, ◌∙◌, ◌++◌, length, map, All, ◌⊎◌, ◌==◌, ◌&&◌, option_map, slice_index_or, filter, sum_by, list_any, list_all}
+use Rattle.sctp_delivery.proofs.Names.{sum_by-append, sum_by-cons, after_leading, at_or_before, and, fails, not_both, ChunkPayloadData, ChunkSet, Reassembly}
+use Rattle.sctp_delivery.proofs.Names.{ReassemblyState, held_after_ordered_skip, held_after_unordered_skip, is_passed, all_complete, held_weight, is_unmixed}
+use Rattle.sctp_delivery.proofs.Names.{set_weight, weight, fragments_of_sets, cases_lt, eq-eqb, or-split, same-is, or-left, same-yes, tsn, data_of, New}
+use Rattle.sctp_delivery.proofs.Names.{InboundStream, new_stream, number, stream_read, with_queue, skipped_each, ssns_of, Accepts, Reception, stream_of}
+use Rattle.sctp_delivery.proofs.Names.{follow_forward_tsn, is_stale, Stand, fragments_read, is_one_message, is_too_far_on, is_name_too_far, found-passes}
+use Rattle.sctp_delivery.proofs.Names.{is_ordered_on, has_tsn, is_on, ReceiverCall, ReceiverFollows, Session, list_any_at, nat_tests, common_steps}
+use Rattle.sctp_delivery.proofs.Names.{ChunkForwardTsnStream, ForwardTsn, is_complete, cannot_complete, names_closed, names_too_far, without_incomplete}
+use Rattle.sctp_delivery.proofs.Names.{is_pair_of, passes, was_taken, forward_tsn, nat_le, or-right}
 use Rattle.sctp_reassembly.specs.reassembly_queue.ReassemblyQueue.{after_ordered_skip, after_unordered_skip}
 use Rattle.sctp_delivery.proofs.Cases.{at-if, by-test}
 use Rattle.sctp_delivery.proofs.Every.{Every, every-joined, every-of, every-passing, one-of, every-contained, every-at, every-of-all}
@@ -23,8 +22,8 @@ use Rattle.sctp_delivery.proofs.Kept.{sets-fresh, IsOther, IsSo, Puts, accepted-
 use Rattle.sctp_delivery.proofs.OrderedMessages.{not-far}
 use Rattle.sctp_delivery.proofs.ArrivedTsns.{IsArrived}
 use Rattle.sctp_delivery.proofs.SackLaws.{more-accepted}
-use Rattle.sctp_delivery.proofs.KeptOrGone.{IsPassedTo, IsPast, is_upto, known_past, upto-place}
-use Rattle.sctp_delivery.proofs.KeptOrGone.{IsComing, HeldWell, IsHeldWell, IsKeptBut, IsLate, pushed-well, read-well, IsPassedBy, at-in, place-in}
+use Rattle.sctp_delivery.proofs.KeptOrGone.{IsPassedTo, IsPast, is_upto, known_past, upto-place, IsComing, HeldWell, IsHeldWell, IsKeptBut, IsLate, pushed-well}
+use Rattle.sctp_delivery.proofs.KeptOrGone.{read-well, IsPassedBy, at-in, place-in}
 use Rattle.sctp_delivery.proofs.MessagePlaces.{IsWanted, entry-of, wanted-some, within, EndsAt, wanted-after, entry-at, fragment-upto, misses-one}
 use Rattle.sctp_delivery.proofs.OrderedEntries.{AreJoined}
 use Rattle.sctp_delivery.proofs.ReadOnce.{count-none, one}
@@ -151,12 +150,7 @@ module _ (first n : ℕ) (few : n < 2 ^ 31) (old new : Session) (ns : List Numbe
   )
 
   pub well-less : (L M : ℕ → Type 0) → ((y : ℕ) → y ≤ n + 1 → M y → L y) → (o : Option InboundStream) → Well L o → Well M o
-  well-less L M less None h = tt
-  well-less L M less (Some l) h = record {
-    current = current-less p n B (B a) (B n) L M l.queue.held less h.current;
-    tidy = h.tidy;
-    orderly = h.orderly;
-  }
+  well-less h0 h1 h2 h3 h4 = grind (arith, nat_tests, common_steps)
 
   -- what is so with what was to come stays so with what is to come then
   abbrev So : List ChunkPayloadData → Stand → Type 0
@@ -181,10 +175,7 @@ module _ (first n : ℕ) (few : n < 2 ^ 31) (old new : Session) (ns : List Numbe
   -- what is known by one place is known by a later one
   known-more : (call : ReceiverCall) → ReceiverFollows call old new → (j m : ℕ) → j ≤ m → (t : ℕ) → known_past first sent st j old.receiving t ≡ true
       → known_past first sent st m new.receiving t ≡ true
-  known-more call f j m le t e = elim (or-split (list_any (has_tsn t) old.receiving.accepted) (is_upto (base first) j t) e) [
-    | inl x ↦ or-left (list_any (has_tsn t) new.receiving.accepted) (is_upto (base first) m t) (more-accepted call old new f t x)
-    | inr x ↦ or-right (list_any (has_tsn t) new.receiving.accepted) (is_upto (base first) m t) (grind (arith, nat_tests, x, le))
-  ]
+  known-more call f j m le t e = grind (arith, nat_tests, common_steps, or-split, or-left, more-accepted, or-right)
 
   known-taken : (m t : ℕ) → was_taken t new ≡ true → known_past first sent st m new.receiving t ≡ true
   known-taken m t e = or-left (list_any (has_tsn t) new.receiving.accepted) (is_upto (base first) m t) e
@@ -215,12 +206,7 @@ module _ (first n : ℕ) (few : n < 2 ^ 31) (old new : Session) (ns : List Numbe
   -- where nothing changes
   pub still : (call : ReceiverCall) → ReceiverFollows call old new → new.receiving.accepted ≡ old.receiving.accepted
       → new.receiving.read ≡ old.receiving.read → new.receiving.receiver ≡ r → Keeps old.receiving → Keeps new.receiving
-  still call f e g same k =
-      after-so call f k (streams.still st (Well (Late old.receiving)) k.lost old new (before k) e g (ap (λ (q : Reception). q.streams) same))
-      (passed-still call f k (subst (λ (q : Reception). IsPast first sent st k.floor.floor (stream_of st q)) (sym same) k.floor.past)
-      (subst (λ (q : Reception). IsArrived p n (known_past first sent st k.floor.floor new.receiving) q.cumulative_tsn q.beyond) (sym same)
-      (more-arrived p n n (known_past first sent st k.floor.floor old.receiving) (known_past first sent st k.floor.floor new.receiving) r.cumulative_tsn
-      r.beyond (omega arith) (known-more call f k.floor.floor k.floor.floor (omega arith)) k.floor.arrived)))
+  still call f e g same k = grind (arith, nat_tests, common_steps, after-so, streams.still, before, passed-still, more-arrived, known-more)
 
   -- ## A stream is opened
 
@@ -747,8 +733,4 @@ module _ (first n : ℕ) (few : n < 2 ^ 31) (old new : Session) (ns : List Numbe
               }
 
     pub keeps-followed : Keeps new.receiving
-    keeps-followed = by-test (is_stale g r)
-        (λ e.
-        let same = stale-same p st n B E M few up g old.receiving new.receiving f.step.receiver e in
-        still (incoming.follows g) f f.step.accepted f.step.read same k)
-        followed
+    keeps-followed = grind (arith, nat_tests, common_steps, g, stale-same, up, still, incoming.follows, followed)

@@ -1,10 +1,9 @@
 -- What was taken on a stream is held or was read, but for fragments of messages that are gone: what holds of the stream after each call.
 use Rattle.sctp_delivery.proofs.Names.{◌≡◌, ℕ, ◌+◌, ◌%◌, ◌^◌, ◌<◌, ◌≤◌, Bool, true, false, List, [], ◌∷◌, length, Option, Some, None, refl, ap, sym, subst, ◌∙◌}
-use Rattle.sctp_delivery.proofs.Names.{◌-◌, ◌⊎◌, ◌||◌, distance, distance-tsn, nat_le}
-use Rattle.sctp_delivery.proofs.Names.{arith, ⊤, filter, list_any, sum_by, eq-eqb, or-left, sum_by-inserted, and, both, tsn, insert_before, ChunkPayloadData}
-use Rattle.sctp_delivery.proofs.Names.{ChunkSet, data_of, sets_with, BecomesComplete, Reassembly, ReassemblyState, rest_among, rest_read, InboundStream, Pushes}
-use Rattle.sctp_delivery.proofs.Names.{PushesAs, stream_of, Stand, fragments_read, all_complete, held_weight, is_orderly, pushed-number, is_unmixed, weight}
-use Rattle.sctp_delivery.proofs.Names.{chunk_before, has_tsn, is_on, passes, Made}
+use Rattle.sctp_delivery.proofs.Names.{◌-◌, ◌⊎◌, ◌||◌, distance, distance-tsn, nat_le, arith, ⊤, filter, list_any, sum_by, eq-eqb, or-left, sum_by-inserted}
+use Rattle.sctp_delivery.proofs.Names.{and, both, tsn, insert_before, ChunkPayloadData, ChunkSet, data_of, sets_with, BecomesComplete, Reassembly}
+use Rattle.sctp_delivery.proofs.Names.{ReassemblyState, rest_among, rest_read, InboundStream, Pushes, PushesAs, stream_of, Stand, fragments_read, all_complete}
+use Rattle.sctp_delivery.proofs.Names.{held_weight, is_orderly, pushed-number, is_unmixed, weight, chunk_before, has_tsn, is_on, passes, Made}
 use Rattle.sctp_reassembly.specs.reassembly_queue.ReassemblyQueue.{state_read}
 use Rattle.sctp_receiver.proofs.CompleteMessages.{pushed-complete, rest-complete}
 use Rattle.sctp_receiver.proofs.OneMessage.{pushed-unmixed, rest-unmixed}

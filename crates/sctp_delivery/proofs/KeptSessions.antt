@@ -2,12 +2,12 @@
 use Rattle.sctp_delivery.proofs.Names.{◌≡◌, ℕ, suc, ◌+◌, ◌<◌, ◌≤◌, ◌^◌, Bool, true, false, List, [], ◌∷◌, ◌++◌, length, Option, Some, inl, inr, refl, ap, sym}
 use Rattle.sctp_delivery.proofs.Names.{subst, ◌∙◌, arith, zero, ◌-◌, None, All, Contains, find, ◌==◌, ◌&&◌, ◌||◌, if◌then◌else◌, slice_index_or, ◌⊎◌, filter}
 use Rattle.sctp_delivery.proofs.Names.{list_all, list_any, sum_by, sum_by-append, sum_by-cons, AllPass-from_list_all, nat_tests, common_steps, or-split}
-use Rattle.sctp_delivery.proofs.Names.{same-is, both, fails, not_both, ChunkPayloadData, Data, data_of, ChunkSet, chunk_count, Pending, held_chunks, Limits}
-use Rattle.sctp_delivery.proofs.Names.{InboundStream, Reception, stream_of, held_weight, set_weight, Message, fragments_read, is_one_message, Stand, completes}
-use Rattle.sctp_delivery.proofs.Names.{is_complete, has_tsn, is_on, fragments_held, holds_nothing, is_all_acknowledged, Call, RunsTo, Session, at_start}
-use Rattle.sctp_delivery.proofs.Names.{ReceiverFollows, SenderFollows, of_receiver, of_sender, Unknown, EachOtherIsReadOnce, abandoned_by, abandoned_in}
-use Rattle.sctp_delivery.proofs.Names.{StandAt, fragments_of_all, are_apart, tsns_given, was_taken, passes, cases_lt, tsn, Made, SenderCall, forward_tsn}
-use Rattle.sctp_delivery.proofs.Names.{made_after, append-nil, distance, ReceiverCall}
+use Rattle.sctp_delivery.proofs.Names.{same-is, both, fails, not_both, ChunkPayloadData, Data, data_of, ChunkSet, Pending, held_chunks, Limits, InboundStream}
+use Rattle.sctp_delivery.proofs.Names.{Reception, stream_of, held_weight, set_weight, Message, fragments_read, is_one_message, Stand, completes, is_complete}
+use Rattle.sctp_delivery.proofs.Names.{has_tsn, is_on, fragments_held, holds_nothing, is_all_acknowledged, Call, RunsTo, Session, at_start, ReceiverFollows}
+use Rattle.sctp_delivery.proofs.Names.{SenderFollows, of_receiver, of_sender, Unknown, EachOtherIsReadOnce, abandoned_by, abandoned_in, StandAt}
+use Rattle.sctp_delivery.proofs.Names.{fragments_of_all, are_apart, tsns_given, was_taken, passes, cases_lt, tsn, Made, SenderCall, forward_tsn, made_after}
+use Rattle.sctp_delivery.proofs.Names.{append-nil, distance, ReceiverCall}
 use Rattle.std.proofs.Common.{append_assoc}
 use Rattle.sctp_reassembly.specs.reassembly_queue.Counts.{set_chunks}
 use Rattle.sctp_receiver.specs.Inbound.{has_number}
@@ -20,8 +20,7 @@ use Rattle.sctp_delivery.proofs.OnceWritten.{EachRead, places, apart, each-read,
 use Rattle.sctp_delivery.proofs.ReadOnce as read_once
 use Rattle.sctp_delivery.proofs.ReadOnce.{one}
 use Rattle.sctp_delivery.proofs.Senders.{AreSent}
-use Rattle.sctp_delivery.proofs.Sent.{Entry, IsLine, IsPart, Numbered, contains-more, fragment, part-length, part-line, same-parts, same-tsn, terminal}
-use Rattle.sctp_delivery.proofs.Sent.{WasSent}
+use Rattle.sctp_delivery.proofs.Sent.{Entry, IsLine, IsPart, Numbered, contains-more, fragment, part-length, part-line, same-parts, same-tsn, terminal, WasSent}
 use Rattle.sctp_delivery.proofs.AbandonedMessages.{flight_of, gone-left}
 use Rattle.sctp_delivery.proofs.AllBegun.{begins_in}
 use Rattle.sctp_delivery.proofs.Calls.{length-forgotten, numbered_after}
@@ -74,14 +73,7 @@ module _ (ws : List Numbered) (first : ℕ) (sent : List Entry) (few : length se
   -- what has the same TSN is of the same write
   pub same-write : (d e : Data) (w v : Numbered) (after rest : List ℕ) (xs ys : List Entry) → IsPart (fragment d w after ∷ xs) sent
       → IsPart (fragment e v rest ∷ ys) sent → d.tsn ≡ e.tsn → w ≡ v
-  same-write d e w v after rest xs ys p q same =
-      let a = part-line ws first sent (fragment d w after ∷ xs) p line in
-      let b = part-line ws first sent (fragment e v rest ∷ ys) q line in
-      let m = part-length sent (fragment d w after ∷ xs) p in
-      let n = part-length sent (fragment e v rest ∷ ys) q in
-      let long : length (fragment d w after ∷ xs) ≡ length (fragment e v rest ∷ ys) = omega (arith, m, n, same, few) in
-      let it : fragment d w after ∷ xs ≡ fragment e v rest ∷ ys = same-parts sent (fragment d w after ∷ xs) (fragment e v rest ∷ ys) p q long in
-      cc
+  same-write d e w v after rest xs ys p q same = grind (arith, nat_tests, common_steps, part-line, part-length, same-parts)
 
   -- the message of which a first fragment has the TSN is of its write
   module _ (d : Data) (w : Numbered) (after : List ℕ) (xs : List Entry) (p : IsPart (fragment d w after ∷ xs) sent)
@@ -147,15 +139,7 @@ pub record IsIdle (s : Session) : Type 0 where
   pub inflight : s.sending.sender.flight.queue.inflight.chunks ≡ []
 
 pub idle-of : (s : Session) → is_all_acknowledged s.sending.sender ≡ true → IsIdle s
-idle-of s e =
-    let q = s.sending.sender.flight.queue in
-    let b = both (chunk_count q.pending == 0) (length q.inflight.chunks == 0) e in
-    let none = same-is (chunk_count q.pending) 0 b.0 in
-    record {
-      ordered = none-of q.pending.ordered (omega (arith, none));
-      unordered = none-of q.pending.unordered (omega (arith, none));
-      inflight = none-of q.inflight.chunks (same-is (length q.inflight.chunks) 0 b.1);
-    }
+idle-of s e = grind (arith, nat_tests, common_steps, both, same-is, none-of)
 
 -- no more have the TSN than there are
 count-length : (t : ℕ) (cs : List ChunkPayloadData) → sum_by (one t) cs ≤ length cs
@@ -217,20 +201,7 @@ module _ (first size max most : ℕ) (limits : Option Limits) (cs : List Call) (
       → (lost : List ChunkPayloadData) → Every (IsPassedBy gone sent s.made) lost → sum_by (one d.tsn) lost ≡ 0
   none-lost d w after xs q off [] e = refl
   none-lost d w after xs q off (c ∷ lost) e =
-      let m = sum_by-cons (one d.tsn) c lost in
-      let ih = none-lost d w after xs q off lost e.1 in
-      let z : one d.tsn c ≡ 0 =
-      ap (λ b. if b then 1 else 0) (fails (has_tsn d.tsn c) (λ h. not_both (sym off ∙ ap (λ (v : Numbered). is_gone gone v.place) (same h) ∙ e.0.0.3))) in
-      omega (arith, m, ih, z)
-    where
-      short : length sent < 2 ^ 32
-      short = omega (arith, few)
-
-      same : has_tsn d.tsn c ≡ true → w ≡ e.0.0.1
-      same h =
-          let x = e.0.0.2 in
-          same-write ns first sent short i.holds.held.stands.queued.line d (data_of c) w e.0.0.1 after x.after xs x.entries q x.part
-          (sym (same-is c.tsn d.tsn h))
+      grind (arith, nat_tests, common_steps, sum_by-cons, not_both, same-write, same-is, none-lost d w after xs q off lost e.1)
 
   -- where all that was taken is held, was read, or is lost so, and of a message that is not gone nothing is held
   pub read-whole : (a : ℕ) → ((st : ℕ) → IsKeptBut first sent st (tsns_given (at_start first size max most limits) cs s run) a gone s.made s.receiving)
@@ -316,11 +287,7 @@ entry-later x sent y d w i = record { after = i.after; entries = i.entries; part
 -- an entry behind the first n, or one of these
 entry-back : (x : Entry) (sent : List Entry) (y : ℕ) (d : Data) (w : Numbered) → IsEntryAt (x ∷ sent) y d w
     → (y ≡ length sent + 1) ⊎ IsEntryAt sent y d w
-entry-back x sent y d w i = by i.part
-  where
-    by : IsPart (fragment d w i.after ∷ i.entries) (x ∷ sent) → (y ≡ length sent + 1) ⊎ IsEntryAt sent y d w
-    by (inl e) = let l = ap length e in let at = i.place in inl (omega (arith, l, at))
-    by (inr e) = inr (record { after = i.after; entries = i.entries; part = e; place = i.place })
+entry-back x sent y d w i = grind (arith, nat_tests, common_steps)
 
 module _ (ns : List Numbered) (first : ℕ) (sent more : List Entry) (line : IsLine ns first more) (joined : AreJoined more) (once : IsOnceMore sent more)
     (n m : ℕ) (long : length sent ≡ n) (longer : length more ≡ m) (few : m < 2 ^ 31) (st a b : ℕ) (s : Stand)
@@ -342,10 +309,7 @@ module _ (ns : List Numbered) (first : ℕ) (sent more : List Entry) (line : IsL
   New = IsLate first more st s.receiver.cumulative_tsn s.receiver.beyond
 
   sizes : (m ≡ n) ⊎ (m ≡ n + 1)
-  sizes = elim once [
-    | inl e ↦ let l = ap length e in inl (omega (arith, l, long, longer))
-    | inr e ↦ let l = ap length e.1 in inr (omega (arith, l, long, longer))
-  ]
+  sizes = grind (arith, nat_tests, common_steps)
 
   wider : n ≤ m
   wider = elim sizes [ inl e ↦ omega (arith, e) | inr e ↦ omega (arith, e) ]
@@ -440,12 +404,7 @@ module _ (ns : List Numbered) (first : ℕ) (sent more : List Entry) (line : IsL
       Fits Came low top ss
       → Every (IsWholeAt p n (λ k. begun_to st k sent) index) ss → Every (IsWholeAt p m (λ k. begun_to st k more) index) ss
   whole-more index low top [] r e = tt
-  whole-more index low top (x ∷ xs) r e = (
-    λ y le there under.
-        let w = rises-within r.0 0 x.chunks r.1.1 y le there in
-        e.0 y w there (omega (arith, same-to y w, under)),
-    whole-more index (r.0 + 1) top xs r.2 e.1,
-  )
+  whole-more index low top (x ∷ xs) r e = grind (arith, nat_tests, common_steps, rises-within, same-to, whole-more index (r.0 + 1) top xs r.2 e.1)
 
   well-more : (o : Option InboundStream)
       → holds.DueOn p st n (λ k. begun_to st k sent) (λ k. is_at st k sent) (λ c. WasSent sent (data_of c)) Came answered.k answered.reach o
@@ -473,15 +432,7 @@ module _ (ns : List Numbered) (first : ℕ) (sent more : List Entry) (line : IsL
 
   gone-more : (gone now : List ℕ) → ((k : ℕ) → is_gone gone k ≡ true → is_gone now k ≡ true) → (c : ChunkPayloadData) → IsGone gone sent c
       → IsGone now more c
-  gone-more gone now among c g = (
-    g.0,
-    g.1,
-    elim once [
-      | inl e ↦ subst (λ ys. IsEntryAt ys g.0 (data_of c) g.1) (sym e) g.2
-      | inr e ↦ subst (λ ys. IsEntryAt ys g.0 (data_of c) g.1) (sym e.1) (entry-later e.0 sent g.0 (data_of c) g.1 g.2)
-    ],
-    among g.1.place g.3,
-  )
+  gone-more gone now among c g = grind (arith, nat_tests, common_steps, entry-later)
 
   pub keeps-more : (gone now : List ℕ) (ms later : List Made) → ((k : ℕ) → is_gone gone k ≡ true → is_gone now k ≡ true)
       → ((t : ℕ) → list_any (passes t) ms ≡ true → list_any (passes t) later ≡ true)

@@ -14,9 +14,7 @@ use Rattle.sctp_delivery.proofs.Names.{common_steps, distance, Message, tsns_giv
 use Rattle.std.specs.Prelude.{drop}
 use Rattle.sctp_sender.proofs.SenderStreams.{made}
 use Rattle.sctp_stream.specs.Stream.{new_stream}
-use Rattle.sctp_delivery.specs.Modes.{all_starting, with_mode_of}
-use Rattle.sctp_delivery.specs.Modes.{AreSentAsWritten, IsUnorderedAt, AreReadAsWritten, unknown}
-use Rattle.sctp_delivery.specs.Modes.{was_written_ordered}
+use Rattle.sctp_delivery.specs.Modes.{all_starting, with_mode_of, AreSentAsWritten, IsUnorderedAt, AreReadAsWritten, unknown, was_written_ordered}
 use Rattle.sctp_delivery.specs.SenderCalls.{misses}
 use Rattle.sctp_delivery.proofs.Every.{Every, every-changed, every-found, every-joined, every-mapped}
 use Rattle.sctp_delivery.proofs.ModeQueues.{AreModed, HasModeOf, abandoned-moded, each-moded, expired-moded, fragments-new, marked-moded, message-moded}
@@ -105,11 +103,7 @@ opened-in s mode f (l ∷ ls) e h = by (l.stream_identifier == s) refl e (λ g. 
 set-in : (s : ℕ) (mode : Mode) (f : ℕ → Mode) (ls : List OutboundStream) → AreInModes f ls
     → AreInModes (λ r. if r == s then mode else f r) (change_where (has_number s) (with_mode mode.unordered mode.reliability mode.value) ls)
 set-in s mode f [] h = tt
-set-in s mode f (l ∷ ls) h = (by (l.stream_identifier == s) refl, set-in s mode f ls h.1)
-  where
-    by : (b : Bool) → (l.stream_identifier == s) ≡ b
-        → IsInModes (λ r. if r == s then mode else f r) (if b then with_mode mode.unordered mode.reliability mode.value l else l)
-    by b h2 = grind (arith, nat_tests, elsewhere)
+set-in s mode f (l ∷ ls) h = grind (arith, nat_tests, common_steps, elsewhere, set-in s mode f ls h.1)
 
 -- ## The sender
 
@@ -256,11 +250,7 @@ keeps-started : (now : ℕ) (ws : List Sending) → KeepsModes ws (map (starting
 keeps-started now ws n lt = grind (arith, nat_tests, length-map, numbered-started)
 
 pub keeps-after : (call : SenderCall) (m : Modes) → KeepsModes m.of_writes (modes_after call m).of_writes
-keeps-after (outgoing.writes stream ppi []) m = keeps-same m.of_writes
-keeps-after (outgoing.writes stream ppi (b ∷ bs)) m = keeps-more _ m.of_writes
-keeps-after (outgoing.starts now) m = keeps-started now m.of_writes
-keeps-after (outgoing.sends now) m = keeps-started now m.of_writes
-keeps-after call m = keeps-same m.of_writes
+keeps-after h0 h1 = grind (arith, nat_tests, common_steps, keeps-same, keeps-more, keeps-started)
 
 -- as many writes as the session has
 pub counts-after : (call : SenderCall) (m : Modes) (ns : List Numbered) → length m.of_writes ≡ length ns

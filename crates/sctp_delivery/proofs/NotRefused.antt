@@ -1,8 +1,9 @@
 -- A chunk in flight is not refused where nothing is to be read on its stream.
-use Rattle.sctp_delivery.proofs.Names.{◌≡◌, ℕ, ◌+◌, ◌%◌, ◌^◌, ◌<◌, ◌≤◌, Bool, true, false, not, List, [], ◌∷◌, length, Some, None, inl, inr, refl, ap, sym}
-use Rattle.sctp_delivery.proofs.Names.{subst, ◌∙◌, arith, ◌⊎◌, ◌==◌, ◌&&◌, if◌then◌else◌, nat_le, list_any, cases_lt, nat_tests, none-some, at_or_before}
-use Rattle.sctp_delivery.proofs.Names.{at_or_before16, or-left, or-split, and, both, not_both, tsn, at_or_before16-index, ChunkPayloadData, ChunkSet, data_of}
-use Rattle.sctp_delivery.proofs.Names.{has_tsn, is_complete, Reassembly, front_readable, is_readable, message_read, Reception, lowest_among, Session}
+use Rattle.sctp_delivery.proofs.Names.{common_steps, ◌≡◌, ℕ, ◌+◌, ◌%◌, ◌^◌, ◌<◌, ◌≤◌, Bool, true, false, not, List, [], ◌∷◌, length, Some, None, inl, inr, refl}
+use Rattle.sctp_delivery.proofs.Names.{ap, sym, subst, ◌∙◌, arith, ◌⊎◌, ◌==◌, ◌&&◌, if◌then◌else◌, nat_le, list_any, cases_lt, nat_tests, none-some}
+use Rattle.sctp_delivery.proofs.Names.{at_or_before, at_or_before16, or-left, or-split, and, both, not_both, tsn, at_or_before16-index, ChunkPayloadData}
+use Rattle.sctp_delivery.proofs.Names.{ChunkSet, data_of, has_tsn, is_complete, Reassembly, front_readable, is_readable, message_read, Reception, lowest_among}
+use Rattle.sctp_delivery.proofs.Names.{Session}
 use Rattle.sctp_util.specs.Serial.{distance16}
 use Rattle.sctp_delivery.proofs.Cases.{by-test}
 use Rattle.sctp_delivery.proofs.UnwrappedHolds.{IsCurrent, IsSome, IsWholeAt, whole-below, AreDue, Came, Fits, IsOf, at-in}
@@ -92,10 +93,7 @@ module _ (st first n : ℕ) (few : n < 2 ^ 31) (s : Session) (ns : List Numbered
 
   -- a chunk of an earlier message stands before the place, and not last
   inside : (m j : ℕ) (x : ChunkPayloadData) (o : Of j x) → j + 2 ≤ B m → o.before + 2 ≤ m
-  inside m j x o past = elim (cases_lt (o.before + 1) m) [
-    | inl lt ↦ omega (arith, lt)
-    | inr ge ↦ let le = up m (o.before + 1) ge in let b = o.begun in absurd (omega (arith, le, b, past))
-  ]
+  inside m j x o past = grind (arith, nat_tests, common_steps, up)
 
   -- ## A stream on which nothing is to be read
 
@@ -143,9 +141,6 @@ module _ (st first n : ℕ) (few : n < 2 ^ 31) (s : Session) (ns : List Numbered
       pub lowest-next : due.low ≡ due.index
       lowest-next = by held.ordered refl
         where
-          near' : due.index < due.low + 2 ^ 15
-          near' = due.near
-
           alike : held.next_ssn ≡ due.low % 2 ^ 16 → due.low ≡ due.index
           alike e = grind (arith, nat_tests)
 

@@ -1,13 +1,13 @@
 -- What chunks in flight say of how often they were sent, reported missing and marked.
-use Rattle.sctp_delivery.proofs.Names.{◌≡◌, ℕ, zero, suc, ◌+◌, ◌-◌, ◌%◌, ◌^◌, ◌<◌, ◌≤◌, Bool, true, false, List, [], ◌∷◌, length, take, drop, refl, ap, sym}
-use Rattle.sctp_delivery.proofs.Names.{subst, ◌∙◌, arith, Option, Some, None, Result, Ok, Err, if◌then◌else◌, ◌==◌, ◌||◌, find, option_map, IfOk, IsOk, min}
-use Rattle.sctp_delivery.proofs.Names.{eq-eqb, nat_tests, change_where, same-is, or-right, fails, not_both, both, ChunkPayloadData, is_outstanding}
-use Rattle.sctp_delivery.proofs.Names.{with_retransmit, as_abandoned, as_sent, Outbound, abandoned_of, all_started, expired_of, sent_next, sent_of}
-use Rattle.sctp_delivery.proofs.Names.{terminal_chunk, with_message, expiring_tail, message_of, following_tsn, tsns, has_tsn, can_miss, count_again, missed}
-use Rattle.sctp_delivery.proofs.Names.{sent_again, after_misses, all_marked, resent_at, IsRunFrom, PayloadProtocolIdentifier, Sack, list_to_pop, next_pending}
-use Rattle.sctp_delivery.proofs.Names.{OutboundStream, Flight, after_sack, can_resend, is_outstanding_in, message_to_abandon, abandoned_each, late_order}
-use Rattle.sctp_delivery.proofs.Names.{worn_order, fragments_with_mode, tsn, Limits, Transmission, started-inflight, tsns_given, SenderCall, Call, RunsTo}
-use Rattle.sctp_delivery.proofs.Names.{SenderFollows, Session, at_start, of_receiver, of_sender, SenderRefusal}
+use Rattle.sctp_delivery.proofs.Names.{common_steps, ◌≡◌, ℕ, zero, suc, ◌+◌, ◌-◌, ◌%◌, ◌^◌, ◌<◌, ◌≤◌, Bool, true, false, List, [], ◌∷◌, length, take, drop}
+use Rattle.sctp_delivery.proofs.Names.{refl, ap, sym, subst, ◌∙◌, arith, Option, Some, None, Result, Ok, Err, ◌==◌, find, option_map, IfOk, IsOk, min, eq-eqb}
+use Rattle.sctp_delivery.proofs.Names.{nat_tests, change_where, same-is, or-right, not_both, both, ChunkPayloadData, is_outstanding, with_retransmit}
+use Rattle.sctp_delivery.proofs.Names.{as_abandoned, as_sent, Outbound, abandoned_of, all_started, expired_of, sent_next, sent_of, terminal_chunk, with_message}
+use Rattle.sctp_delivery.proofs.Names.{expiring_tail, message_of, following_tsn, tsns, has_tsn, can_miss, count_again, missed, sent_again, after_misses}
+use Rattle.sctp_delivery.proofs.Names.{all_marked, resent_at, IsRunFrom, PayloadProtocolIdentifier, Sack, list_to_pop, next_pending, OutboundStream, Flight}
+use Rattle.sctp_delivery.proofs.Names.{after_sack, can_resend, is_outstanding_in, message_to_abandon, abandoned_each, late_order, worn_order}
+use Rattle.sctp_delivery.proofs.Names.{fragments_with_mode, tsn, Limits, Transmission, started-inflight, tsns_given, SenderCall, Call, RunsTo, SenderFollows}
+use Rattle.sctp_delivery.proofs.Names.{Session, at_start, of_receiver, of_sender, SenderRefusal}
 use Rattle.std.specs.Prelude.{not}
 use Rattle.sctp_util.specs.Serial.{distance}
 use Rattle.sctp_delivery.specs.Retransmission.{Event, IsNoted, is_among, marked_all, missing, sent, sent_more, with_sent, AfterEachSessionWithEvents, AreNoted}
@@ -40,11 +40,7 @@ module _ {A : Type 0} (P Q : A → Type 0) where
   pub every-to : (p : A → Bool) (f : A → A) → ((x : A) → p x ≡ true → P x → Q (f x)) → ((x : A) → p x ≡ false → P x → Q x) → (xs : List A)
       → Every P xs → Every Q (change_where p f xs)
   every-to p f change stay [] e = tt
-  every-to p f change stay (x ∷ xs) e = (by (p x) refl, every-to p f change stay xs e.1)
-    where
-      by : (b : Bool) → p x ≡ b → Q (if b then f x else x)
-      by true h = change x h e.0
-      by false h = stay x h e.0
+  every-to p f change stay (x ∷ xs) e = grind (arith, nat_tests, common_steps, every-to p f change stay xs e.1)
 
 -- ## A TSN is sent for the first time
 
@@ -118,11 +114,7 @@ module _ (first : ℕ) (small : first < 2 ^ 32) where
 
   pub rest-from : (j count : ℕ) (cs : List ChunkPayloadData) → j + length cs < 2 ^ 31 → IsRunFrom ((first + j) % 2 ^ 32) cs
       → Every (IsFrom first (j + count)) (drop count cs)
-  rest-from j count [] few run = none count
-    where
-      none : (n : ℕ) → Every (IsFrom first (j + count)) (drop n [])
-      none zero = tt
-      none (suc n) = tt
+  rest-from j count [] few run = grind (arith, nat_tests, common_steps)
   rest-from j zero (c ∷ cs) few run =
       let head : c.tsn ≡ (first + j) % 2 ^ 32 = cc in
       let tail : IsRunFrom (following_tsn ((first + j) % 2 ^ 32)) cs = cc in
@@ -147,10 +139,7 @@ among-all (c ∷ cs) = grind (arith, nat_tests, eq-eqb, every-of, or-right, amon
 -- one behind them is not
 pub among-none : (first count t : ℕ) (cs : List ChunkPayloadData) → count ≤ distance first t → Every (IsBelow first count) cs → is_among t (tsns cs) ≡ false
 among-none first count t [] past e = refl
-among-none first count t (c ∷ cs) past e =
-    let other : (t == c.tsn) ≡ false = fails (t == c.tsn)
-    (λ h. let is = ap (distance first) (same-is t c.tsn h) in let below = e.0 in omega (arith, is, below, past)) in
-    ap (λ b. b || is_among t (tsns cs)) other ∙ among-none first count t cs past e.1
+among-none first count t (c ∷ cs) past e = grind (arith, nat_tests, common_steps, same-is, among-none first count t cs past e.1)
 
 -- # What each call of a sender makes of what its chunks say of how often they were sent, reported missing and marked
 

@@ -1,8 +1,8 @@
 -- Each call leads from a session to one other alone.
-use Rattle.sctp_delivery.proofs.Names.{◌≡◌, ℕ, ◌+◌, ◌<◌, ◌≤◌, Bool, true, false, List, [], ◌∷◌, ◌++◌, take, drop, length, Some, None, inl, inr, refl, ap, sym}
-use Rattle.sctp_delivery.proofs.Names.{subst, ◌∙◌, arith, ◌⊎◌, cases_lt, nat_tests, some-same, not_both, ChunkPayloadData, BecomesComplete, Reassembly}
-use Rattle.sctp_delivery.proofs.Names.{ReassemblyState, set_of_run, New, Repeat, Pushes, Accepts, Reception, Stand, IsEarliestRun, IsRun, Ledger}
-use Rattle.sctp_delivery.proofs.Names.{ReceiverCall, Made, SenderCall, Write, takes_sack, ReceiverFollows, SenderFollows, Session, of_receiver, of_sender}
+use Rattle.sctp_delivery.proofs.Names.{common_steps, ◌≡◌, ℕ, ◌+◌, ◌<◌, ◌≤◌, Bool, true, false, List, [], ◌∷◌, ◌++◌, take, drop, length, Some, None, inl, inr}
+use Rattle.sctp_delivery.proofs.Names.{refl, ap, sym, subst, ◌∙◌, arith, ◌⊎◌, cases_lt, nat_tests, some-same, not_both, ChunkPayloadData, BecomesComplete}
+use Rattle.sctp_delivery.proofs.Names.{Reassembly, ReassemblyState, set_of_run, Pushes, Accepts, Reception, Stand, IsEarliestRun, IsRun, Ledger, ReceiverCall}
+use Rattle.sctp_delivery.proofs.Names.{Made, SenderCall, Write, takes_sack, ReceiverFollows, SenderFollows, Session, of_receiver, of_sender}
 use Rattle.sctp_delivery.specs.Ending.{ArrivalsAreDetermined, EachMakesOneStep, ReleasesAreDetermined}
 use Rattle.sctp_delivery.specs.SenderCalls as outgoing
 use Rattle.sctp_delivery.proofs.Writing.{accepted-stream}
@@ -105,8 +105,4 @@ steps-one (of_sender call) s t u f g = sending-one call s t u f g
 steps-one (of_receiver call) s t u f g = receiving-one call s t u f g
 
 pub arrivals-one : ArrivalsAreDetermined
-arrivals-one c (New x) (New y) s t u f g =
-    ap New (accepts-one c x y s.receiving.receiver t.receiving.receiver u.receiving.receiver f.step.receiver g.step.receiver).1
-arrivals-one c Repeat Repeat s t u f g = refl
-arrivals-one c (New x) Repeat s t u f g = grind (arith, nat_tests, not_both)
-arrivals-one c Repeat (New y) s t u f g = grind (arith, nat_tests, not_both)
+arrivals-one h0 h1 h2 h3 h4 h5 h6 h7 = grind (arith, nat_tests, common_steps, accepts-one, not_both)

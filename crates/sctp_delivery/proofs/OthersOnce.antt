@@ -1,8 +1,7 @@
 -- In the end each write is read exactly once, but for those whose messages were abandoned; in a reliable session none was.
 use Rattle.sctp_delivery.proofs.Names.{length, ap, arith, ◌≡◌, ◌<◌, true, subst, sym, ◌∙◌, All, both, stream_of, EachOtherIsReadOnce, abandoned_in}
 use Rattle.sctp_delivery.proofs.Names.{AfterEachReliableSession, holds_nothing, is_all_acknowledged, reads_nothing, WhileFewTsns, was_passed, at_start}
-use Rattle.sctp_delivery.specs.Abandoned.{AfterEachSessionOfMessages, AreOfWrites, IsEachOtherReadInTheEnd, IsHeldReadOrPassed}
-use Rattle.sctp_delivery.specs.Abandoned.{OnlyTheirsAreMarked}
+use Rattle.sctp_delivery.specs.Abandoned.{AfterEachSessionOfMessages, AreOfWrites, IsEachOtherReadInTheEnd, IsHeldReadOrPassed, OnlyTheirsAreMarked}
 use Rattle.sctp_delivery.specs.Complete.{IsAllReadInTheEnd, IsAllReadWhereSettled}
 use Rattle.sctp_delivery.proofs.AbandonedMessages.{IsMarkedGone}
 use Rattle.sctp_delivery.proofs.Calls.{length-forgotten}

@@ -1,9 +1,9 @@
 -- A caller of both hosts: from where they stand, what its calls lead to.
-use Rattle.sctp_delivery.proofs.Names.{◌≡◌, ℕ, ◌+◌, ◌^◌, ◌<◌, ◌≤◌, Bool, true, List, [], ◌∷◌, length, Option, Some, None, refl, ap, sym, subst}
+use Rattle.sctp_delivery.proofs.Names.{common_steps, ◌≡◌, ℕ, ◌+◌, ◌^◌, ◌<◌, ◌≤◌, Bool, true, List, [], ◌∷◌, length, Option, Some, None, refl, ap, sym, subst}
 use Rattle.sctp_delivery.proofs.Names.{◌∙◌, arith, ◌&&◌, ◌==◌, list_all, list_all-append, same-yes, Sack, ChunkPayloadData, Arrival, filter, nat_tests}
-use Rattle.sctp_delivery.proofs.Names.{PayloadProtocolIdentifier, Released, Reception, Transmission, SenderMakes, writes, sends, takes_sack}
-use Rattle.sctp_delivery.proofs.Names.{opens, Limits, next_chunk, Call, Session, of_receiver, of_sender, window, message_on, ChunkSet, Message, Write}
-use Rattle.sctp_delivery.proofs.Names.{written_after, ReceiverCall, SenderCall, Chunks, IfSome, option_map, All, map, take, ◌++◌, ap₂, slice_index_or}
+use Rattle.sctp_delivery.proofs.Names.{PayloadProtocolIdentifier, Released, Reception, Transmission, SenderMakes, writes, sends, takes_sack, opens, Limits}
+use Rattle.sctp_delivery.proofs.Names.{next_chunk, Call, Session, of_receiver, of_sender, window, message_on, ChunkSet, Message, Write, written_after}
+use Rattle.sctp_delivery.proofs.Names.{ReceiverCall, SenderCall, Chunks, IfSome, option_map, All, map, take, ◌++◌, ap₂, slice_index_or}
 use Rattle.std.specs.Prelude.{◌*◌, cond}
 use Rattle.std.proofs.lemmas.List.{map-append, take_more}
 use Rattle.std.proofs.lemmas.Nat.{mul-le}
@@ -27,41 +27,23 @@ module _ (stream : ℕ) where
   none-yet st = record { given = omega arith; written = refl; read = refl; ordered = refl }
 
   pub further : (m n : ℕ) (a b c : Stand) → GoesOn stream m a b → GoesOn stream n b c → GoesOn stream (m + n) a c
-  further m n a b c f g = record {
-    given = (let x = f.given in let y = g.given in omega (arith, x, y));
-    written = g.written ∙ f.written;
-    read = g.read ∙ f.read;
-    ordered = g.ordered ∙ f.ordered;
-  }
+  further m n a b c f g = grind (arith, nat_tests, common_steps)
 
   last : (x y : Bool) → y ≡ true → (x && (y && true)) ≡ x
   last x y e = grind (arith, nat_tests)
 
   order-kept : (call : Call) (a b : Stand) → Steps call a b → keeps_order stream call ≡ true
       → list_all (keeps_order stream) b.calls ≡ list_all (keeps_order stream) a.calls
-  order-kept call a b s k =
-      ap (list_all (keeps_order stream)) s.calls
-      ∙ (list_all-append (keeps_order stream) a.calls (call ∷ [])
-      ∙ last (list_all (keeps_order stream) a.calls) (keeps_order stream call) k)
+  order-kept call a b s k = grind (arith, nat_tests, common_steps, list_all-append, last)
 
   -- a call that writes nothing, and one that reads nothing
   by-sender : (call : SenderCall) (a b : Stand) → Steps (of_sender call) a b → keeps_order stream (of_sender call) ≡ true
       → written_after call a.session.written ≡ a.session.written → GoesOn stream 1 a b
-  by-sender call a b s k w = record {
-    given = s.given;
-    written = ap (λ (s : Session). s.written) s.step.after ∙ w;
-    read = ap (λ (s : Session). s.receiving.read) s.step.after;
-    ordered = order-kept (of_sender call) a b s k;
-  }
+  by-sender call a b s k w = grind (arith, nat_tests, common_steps, order-kept)
 
   by-receiver : (call : ReceiverCall) (a b : Stand) → Steps (of_receiver call) a b
       → messages_after (as_run call) a.session.receiving.receiver a.session.receiving.read ≡ a.session.receiving.read → GoesOn stream 0 a b
-  by-receiver call a b s r = record {
-    given = s.given;
-    written = ap (λ (s : Session). s.written) s.step.after;
-    read = s.step.step.read ∙ r;
-    ordered = order-kept (of_receiver call) a b s refl;
-  }
+  by-receiver call a b s r = grind (arith, nat_tests, common_steps, order-kept)
 
   -- one chunk is passed on
   pub passed : (now room : ℕ) (c : ChunkPayloadData) (arrival : Arrival) (k : Sack) (gone : List Released) (t u v : Transmission) (q r x : Reception)

@@ -10,8 +10,8 @@ use Rattle.std.proofs.Common.{◌⊎◌}
 use Rattle.std.specs.List.{find}
 use Rattle.sctp_delivery.specs.SenderCalls as outgoing
 use Rattle.sctp_delivery.proofs.Cases.{at-test, by-test}
-use Rattle.sctp_delivery.proofs.AbandonedMessages.{AreAmong, AreMarkedGone, cut-later, flight_of, gone-left, gone-right, marked-later, stays-cut}
-use Rattle.sctp_delivery.proofs.AbandonedMessages.{stays-marked, AreBegunOrGone, begun-later, stays-begun-or-gone, AreBelow, below-after, by-below}
+use Rattle.sctp_delivery.proofs.AbandonedMessages.{AreAmong, AreMarkedGone, cut-later, flight_of, gone-left, gone-right, marked-later, stays-cut, stays-marked}
+use Rattle.sctp_delivery.proofs.AbandonedMessages.{AreBegunOrGone, begun-later, stays-begun-or-gone, AreBelow, below-after, by-below}
 use Rattle.sctp_delivery.proofs.Calls.{numbered_after}
 use Rattle.sctp_delivery.proofs.Delivered.{next_tsn}
 use Rattle.sctp_delivery.proofs.Every.{Every, every-joined, every-of, every-taken, one-of, every-found, every-tested}
@@ -21,8 +21,7 @@ use Rattle.sctp_delivery.proofs.PassedMessages.{AreCutGone, ArePassing, AreTaken
 use Rattle.sctp_delivery.proofs.GivenTsns.{IsPassable, last-every, lead, passable-end, passable-skip, rest-run}
 use Rattle.sctp_delivery.proofs.Queues.{IsOnceMore}
 use Rattle.sctp_delivery.proofs.SackLaws.{more-accepted}
-use Rattle.sctp_delivery.proofs.Sent.{Entry, IsPart, Numbered, fragment, part-length, part-line, same-parts, terminal, IsLine, WasSent, part-itself}
-use Rattle.sctp_delivery.proofs.Sent.{tail-part}
+use Rattle.sctp_delivery.proofs.Sent.{Entry, IsPart, Numbered, fragment, part-length, part-line, same-parts, terminal, IsLine, WasSent, part-itself, tail-part}
 use Rattle.sctp_delivery.proofs.SpreadCalls.{IsSpread, Spreads}
 use Rattle.sctp_delivery.proofs.SpreadEntries.{IsFor, IsPlaced, begun_to, is_at, to-part}
 use Rattle.sctp_delivery.proofs.TsnPlaces.{at-or-before, base, same-place}

@@ -1,10 +1,10 @@
 -- Chunks in flight of a sender that keeps what is reported, beside those that it would have if no gap ack block were taken.
-use Rattle.sctp_delivery.proofs.Names.{◌≡◌, ℕ, zero, suc, ◌<◌, ◌+◌, ◌%◌, ◌^◌, Bool, true, false, not, List, [], ◌∷◌, ◌++◌, length, map, take, drop, refl, ap}
-use Rattle.sctp_delivery.proofs.Names.{ap₂, sym, subst, ◌∙◌, arith, Option, Some, None, option_map, if◌then◌else◌, ◌&&◌, ◌||◌, filter, find, change_where}
-use Rattle.sctp_delivery.proofs.Names.{insert_before, list_any, negated, both, not_both, some-same, length-map, ChunkPayloadData, Sack, as_abandoned}
-use Rattle.sctp_delivery.proofs.Names.{as_acknowledged, reports, reports_anew, chunk_before, tsns, following_tsn, comes_before}
-use Rattle.sctp_delivery.proofs.Names.{at_or_before, distance, last_of, is_in_blocks, IsRunFrom}
-use Rattle.sctp_sender.specs.Keeping.{back_each, back_of, keep, keep_each, kept_from, restored, restored_with, takes_back, tells_of, trimmed}
+use Rattle.sctp_delivery.proofs.Names.{nat_tests, common_steps, ◌≡◌, ℕ, zero, suc, ◌<◌, ◌+◌, ◌%◌, ◌^◌, Bool, true, false, List, [], ◌∷◌, ◌++◌, length, map}
+use Rattle.sctp_delivery.proofs.Names.{take, drop, refl, ap, ap₂, sym, ◌∙◌, arith, Option, Some, None, option_map, if◌then◌else◌, ◌||◌, filter, find}
+use Rattle.sctp_delivery.proofs.Names.{change_where, insert_before, list_any, negated, both, not_both, some-same, length-map, ChunkPayloadData, Sack}
+use Rattle.sctp_delivery.proofs.Names.{as_abandoned, as_acknowledged, reports_anew, chunk_before, tsns, following_tsn, comes_before, at_or_before, last_of}
+use Rattle.sctp_delivery.proofs.Names.{IsRunFrom}
+use Rattle.sctp_sender.specs.Keeping.{back_each, back_of, keep, keep_each, restored, restored_with, trimmed}
 use Rattle.sctp_sender.proofs.Flights.{behind}
 use Rattle.sctp_delivery.proofs.Cases.{at-if, at-test}
 use Rattle.sctp_delivery.proofs.Every.{Every}
@@ -25,22 +25,10 @@ pub record IsLike (k : Option (List ℕ)) (c d : ChunkPayloadData) : Type 0 wher
 
 -- a chunk that is not acknowledged is like itself, whatever is kept
 pub like-itself : (k : Option (List ℕ)) (c : ChunkPayloadData) → c.acked ≡ false → IsLike k c c
-like-itself k c e = record {
-  same = refl;
-  open' = e;
-  whole = λ _. refl;
-  kept = λ a. absurd (not_both (sym e ∙ a));
-  settled = λ a. absurd (not_both (sym e ∙ a));
-}
+like-itself k c e = grind (arith, nat_tests, common_steps, not_both)
 
 pub like-abandoned : (k : Option (List ℕ)) (c d : ChunkPayloadData) → IsLike k c d → IsLike k (as_abandoned c) (as_abandoned d)
-like-abandoned k c d i = record {
-  same = ap as_abandoned i.same;
-  open' = i.open';
-  whole = λ _. refl;
-  kept = λ a b. absurd (not_both (sym b));
-  settled = λ _. refl;
-}
+like-abandoned k c d i = grind (arith, nat_tests, common_steps, not_both)
 
 -- ## All chunks, place by place
 
@@ -82,11 +70,7 @@ module _ (R : Relation) where
   are-changed p q f g same h ks [] [] a = tt
   are-changed p q f g same h ks [] (d ∷ ds) a = absurd a
   are-changed p q f g same h ks (c ∷ cs) [] a = absurd a
-  are-changed p q f g same h ks (c ∷ cs) (d ∷ ds) a = (
-    subst (λ b. R (first_of ks) (if p c then f c else c) (if b then g d else d)) (sym (same (first_of ks) c d a.0))
-        (at-test (λ b. R (first_of ks) (if b then f c else c) (if b then g d else d)) (p c) (λ _. h (first_of ks) c d a.0) (λ _. a.0)),
-    are-changed p q f g same h (rest_of ks) cs ds a.1,
-  )
+  are-changed p q f g same h ks (c ∷ cs) (d ∷ ds) a = grind (arith, nat_tests, common_steps, are-changed p q f g same h (rest_of ks) cs ds a.1)
 
   -- where the others stay
   pub are-marked : (p : ChunkPayloadData → Bool) (f : ChunkPayloadData → ChunkPayloadData) → ((k : Option (List ℕ)) (c d : ChunkPayloadData) → R k c d
@@ -112,24 +96,14 @@ module _ (R : Relation) where
   are-left (suc n) ks [] [] a = tt
   are-left (suc n) ks [] (d ∷ ds) a = absurd a
   are-left (suc n) ks (c ∷ cs) [] a = absurd a
-  are-left (suc n) ks (c ∷ cs) (d ∷ ds) a = subst (λ js. Are R js (drop n cs) (drop n ds)) (rest n ks) (are-left n (rest_of ks) cs ds a.1)
-    where
-      rest : (n : ℕ) (ks : List (Option (List ℕ))) → drop n (rest_of ks) ≡ drop (suc n) ks
-      rest zero [] = refl
-      rest (suc n) [] = refl
-      rest n (k ∷ ks) = refl
+  are-left (suc n) ks (c ∷ cs) (d ∷ ds) a = grind (arith, nat_tests, common_steps, are-left n (rest_of ks) cs ds a.1)
 
   pub are-trimmed : (ks : List (Option (List ℕ))) (cs ds : List ChunkPayloadData) → Are R ks cs ds → Are R (trimmed ks) cs ds
   are-trimmed [] cs ds a = a
   are-trimmed (k ∷ ks) [] [] a = tt
   are-trimmed (k ∷ ks) [] (d ∷ ds) a = absurd a
   are-trimmed (k ∷ ks) (c ∷ cs) [] a = absurd a
-  are-trimmed (k ∷ ks) (c ∷ cs) (d ∷ ds) a = by k (trimmed ks) a.0 (are-trimmed ks cs ds a.1)
-    where
-      by : (k : Option (List ℕ)) (js : List (Option (List ℕ))) → R k c d → Are R js cs ds → Are R (kept_from k js) (c ∷ cs) (d ∷ ds)
-      by None [] i a = (i, a)
-      by None (j ∷ js) i a = (i, a)
-      by (Some bytes) js i a = (i, a)
+  are-trimmed (k ∷ ks) (c ∷ cs) (d ∷ ds) a = grind (arith, nat_tests, common_steps, are-trimmed ks cs ds a.1)
 
   -- where each of the others is so
   pub are-so : (S : Relation) (Q : ChunkPayloadData → Type 0) → ((k : Option (List ℕ)) (c d : ChunkPayloadData) → R k c d → Q d → S k c d)
@@ -206,11 +180,7 @@ take-plain n cs ds e = sym (one n cs) ∙ ap (take n) e ∙ one n ds
 -- what is blind to what SACKs change is the same of both
 pub blind-same : {B : Type 0} (g : Option ChunkPayloadData → B) → ((c : ChunkPayloadData) → g (Some (plain c)) ≡ g (Some c)) → (o q : Option ChunkPayloadData)
     → option_map plain o ≡ option_map plain q → g o ≡ g q
-blind-same g h o q e = sym (one o) ∙ ap g e ∙ one q
-  where
-    one : (o : Option ChunkPayloadData) → g (option_map plain o) ≡ g o
-    one None = refl
-    one (Some c) = h c
+blind-same g h o q e = grind (arith, nat_tests, common_steps)
 
 -- ## A chunk with the next TSN goes to the end
 
@@ -239,29 +209,11 @@ module _ (s k : Sack) (bare : IsBareSack s k) where
   IsLikeBehind j c d = at_or_before d.tsn s.cumulative_tsn_ack ≡ false → IsLike j c d
 
   pub silent : (d : ChunkPayloadData) → at_or_before d.tsn s.cumulative_tsn_ack ≡ false → reports_anew k d ≡ false
-  silent d e = ap (λ b. not d.acked && b)
-      (ap (λ t. at_or_before d.tsn t || is_in_blocks k.gap_ack_blocks (distance k.cumulative_tsn_ack d.tsn)) bare.same
-      ∙ ap (λ b. b || is_in_blocks k.gap_ack_blocks (distance k.cumulative_tsn_ack d.tsn)) e
-      ∙ ap (λ bs. is_in_blocks bs (distance k.cumulative_tsn_ack d.tsn)) bare.none) ∙ none (not d.acked)
-    where
-      none : (b : Bool) → (b && false) ≡ false
-      none true = refl
-      none false = refl
+  silent d e = grind (arith, nat_tests, common_steps)
 
   reported : (j : Option (List ℕ)) (c d : ChunkPayloadData) → IsLike j c d
       → IsLikeBehind (keep s c j) (if reports_anew s c then as_acknowledged c else c) (if reports_anew k d then as_acknowledged d else d)
-  reported j c d i = at-test (λ b. IsLikeBehind (keep s c j) (if reports_anew s c then as_acknowledged c else c) (if b then as_acknowledged d else d))
-      (reports_anew k d)
-      (λ e past. absurd (not_both (sym (silent d past) ∙ e)))
-      (λ _ past. at-test (λ b. IsLike (if b then Some c.user_data else j) (if b then as_acknowledged c else c) d) (reports_anew s c)
-      (λ e. record {
-        same = i.same;
-        open' = i.open';
-        whole = λ a. absurd (not_both (sym a));
-        kept = λ _ _ bytes is. sym (some-same is) ∙ i.whole (negated c.acked (both (not c.acked) (reports s c) e).0);
-        settled = λ _. refl;
-      })
-      (λ _. i))
+  reported j c d i = grind (arith, nat_tests, common_steps, not_both, silent, some-same, negated, both)
 
   pub are-reported : (ks : List (Option (List ℕ))) (cs ds : List ChunkPayloadData) → AreLike ks cs ds
       → Are IsLikeBehind (keep_each s cs ks) (change_where (reports_anew s) as_acknowledged cs) (change_where (reports_anew k) as_acknowledged ds)
@@ -275,24 +227,7 @@ module _ (s k : Sack) (bare : IsBareSack s k) where
 
 module _ (s : Sack) where
   back : (k : Option (List ℕ)) (c d : ChunkPayloadData) → IsLike k c d → IsLike k (restored_with (back_of s c k) c) d
-  back k c d i = at-test (λ b. IsLike k (restored_with (if b then k else None) c) d) (takes_back s c) (λ e. some k i (back-is e)) (λ _. i)
-    where
-      back-is : takes_back s c ≡ true → (c.acked ≡ true) × (c.abandoned ≡ false)
-      back-is e =
-          let a = both ((c.acked && not c.abandoned) && not (reports s c)) (tells_of s.gap_ack_blocks (distance s.cumulative_tsn_ack c.tsn)) e in
-          let b = both (c.acked && not c.abandoned) (not (reports s c)) a.0 in
-          let h = both c.acked (not c.abandoned) b.0 in
-          (h.0, negated c.abandoned h.1)
-
-      some : (k : Option (List ℕ)) → IsLike k c d → (c.acked ≡ true) × (c.abandoned ≡ false) → IsLike k (restored_with k c) d
-      some None i h = i
-      some (Some bytes) i h = record {
-        same = i.same;
-        open' = i.open';
-        whole = λ _. i.kept h.0 h.1 bytes refl;
-        kept = λ a. absurd (not_both a);
-        settled = λ a. absurd (not_both a);
-      }
+  back k c d i = grind (arith, nat_tests, common_steps, both, negated, not_both)
 
   pub are-back : (ks : List (Option (List ℕ))) (cs ds : List ChunkPayloadData) → AreLike ks cs ds → AreLike ks (restored (back_each s cs ks) cs) ds
   are-back [] cs ds a = a

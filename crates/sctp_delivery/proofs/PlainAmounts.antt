@@ -1,17 +1,15 @@
 -- Sessions of a sender that keeps what is reported: the amount of each open stream, and what is told of chunks.
-use Rattle.sctp_delivery.proofs.Names.{◌≡◌, ℕ, ◌<◌, ◌≤◌, ◌+◌, ◌-◌, ◌^◌, Bool, true, false, not, List, [], ◌∷◌, length, refl, ap, sym, subst, ◌∙◌, arith}
-use Rattle.sctp_delivery.proofs.Names.{zero, suc, ap₂, not_both, min, Option, Some, None, is_some, IfSome, if◌then◌else◌, ◌==◌, ◌&&◌, find, sum_by, sum_by-cons}
-use Rattle.sctp_delivery.proofs.Names.{both, negated, same-is, same-yes, change_where, Contains}
-use Rattle.sctp_delivery.proofs.Names.{ChunkPayloadData, Sack, OutboundStream, Limits, Transmission, Outbound, Session}
-use Rattle.sctp_delivery.proofs.Names.{Modes, at_first, modes_from, of_sender, of_receiver, data_chunk, bytes_written, distance, held_by_sender, total_bytes}
-use Rattle.sctp_delivery.proofs.Names.{with_inflight, has_number, data_of, Write, reports}
-use Rattle.sctp_delivery.proofs.Names.{bytes_for}
+use Rattle.sctp_delivery.proofs.Names.{nat_tests, common_steps, ◌≡◌, ℕ, ◌<◌, ◌≤◌, ◌+◌, ◌-◌, ◌^◌, Bool, true, false, not, List, [], ◌∷◌, length, refl, ap, sym}
+use Rattle.sctp_delivery.proofs.Names.{subst, ◌∙◌, arith, zero, suc, ap₂, not_both, min, Option, Some, None, is_some, IfSome, if◌then◌else◌, ◌==◌, ◌&&◌, find}
+use Rattle.sctp_delivery.proofs.Names.{sum_by-cons, both, negated, same-is, same-yes, change_where, Contains, ChunkPayloadData, Sack, OutboundStream, Limits}
+use Rattle.sctp_delivery.proofs.Names.{Transmission, Outbound, Session, Modes, at_first, modes_from, of_sender, of_receiver, data_chunk, bytes_written}
+use Rattle.sctp_delivery.proofs.Names.{distance, total_bytes, with_inflight, has_number, data_of, Write, bytes_for}
 use Rattle.sctp_outbound.specs.Marks.{as_taken_back}
 use Rattle.sctp_sender.specs.declared.sender.Reported.{Reported}
 use Rattle.sctp_sender.specs.declared.sender.Reported.TheVariants.{Drop, Keep}
 use Rattle.sctp_sender.specs.declared.sender.flight.kept.TakenBack.{TakenBack}
 use Rattle.sctp_sender.specs.Flight.{is_outdated}
-use Rattle.sctp_sender.specs.Keeping.{after_returns, answered_back, back_each, more_by, restored, takes_back as is_back, tells_of}
+use Rattle.sctp_sender.specs.Keeping.{after_returns, answered_back, back_each, more_by, restored, takes_back as is_back}
 use Rattle.sctp_sender.specs.Sender.{back_by, stream_of, taken_back_by}
 use Rattle.sctp_delivery.specs.Amounts.{AmountsEnd, EachIsTold, told_by, told_on, written_by, written_on}
 use Rattle.sctp_delivery.specs.Returns.{AfterEachWithReturnsOfFewTsns, AmountsAreLeftSo, CallOrReturn, EachReturnIsTold, IsOfMade, RunsWithReturns, TakesBack}
@@ -38,11 +36,7 @@ record Comes (ws : List Write) (cs ds : List ChunkPayloadData) (bs : List (Optio
   within : Every (λ (r : TakenBack). r.bytes ≤ weigh (only r.stream) ds) (answered_back bs cs)
 
 is-back-of : (sack : Sack) (c : ChunkPayloadData) → is_back sack c ≡ true → (c.acked ≡ true) × (c.abandoned ≡ false)
-is-back-of sack c e =
-    let a = both ((c.acked && not c.abandoned) && not (reports sack c)) (tells_of sack.gap_ack_blocks (distance sack.cumulative_tsn_ack c.tsn)) e in
-    let b = both (c.acked && not c.abandoned) (not (reports sack c)) a.0 in
-    let h = both c.acked (not c.abandoned) b.0 in
-    (h.0, negated c.abandoned h.1)
+is-back-of sack c e = grind (arith, nat_tests, common_steps, both, negated)
 
 module _ (ws : List Write) (sack : Sack) where
   comes : (ks : List (Option (List ℕ))) (cs ds : List ChunkPayloadData) → AreLike ks cs ds → Every (IsOf ws) cs → Comes ws cs ds (back_each sack cs ks)
@@ -142,9 +136,6 @@ module _ (st : ℕ) where
 
 module _ (first size max most : ℕ) (limits : Option Limits) (small : first < 2 ^ 32) (some : 0 < size) where
   module _ (s : Session) (n : ℕ) (gone : List ℕ) (m : Modes) (g : Goes first size max most limits s.sending.sender s n gone m) where
-    abbrev q : Outbound
-    q = s.sending.sender.flight.queue
-
     abbrev beside : List ChunkPayloadData
     beside = g.shadow.chunks
 
@@ -155,17 +146,7 @@ module _ (first size max most : ℕ) (limits : Option Limits) (small : first < 2
       t = s.sending.sender
 
       coming : Comes s.written s.sending.sender.flight.queue.inflight.chunks g.shadow.chunks (back_by sack s.sending.sender.flight s.sending.sender.kept)
-      coming = by t.kept g.shadow.like
-        where
-          cs : List ChunkPayloadData
-          cs = s.sending.sender.flight.queue.inflight.chunks
-
-          none : Comes s.written s.sending.sender.flight.queue.inflight.chunks g.shadow.chunks []
-          none = record { weighed = λ st. omega arith; all = k.all.inflight; within = tt }
-
-          by : (o : Option (List (Option (List ℕ)))) → AreLike (kept_of o) cs beside → Comes s.written cs beside (back_by sack s.sending.sender.flight o)
-          by None a = none
-          by (Some ks) a = at-if (Comes s.written cs beside) (is_outdated sack s.sending.sender.flight) (λ _. none) (λ _. comes s.written sack ks cs beside a k.all.inflight)
+      coming = grind (arith, nat_tests, common_steps, comes)
 
       -- each stream on which something comes back is open
       open-there : Every (λ (r : TakenBack). 0 < r.bytes → is_some (find (has_number r.stream) s.sending.sender.streams) ≡ true)
@@ -187,11 +168,7 @@ module _ (first size max most : ℕ) (limits : Option Limits) (small : first < 2
 
       -- what waits and is in flight then is no more than what was written
       few : bytes_written s < 2 ^ 64 → total_bytes w < 2 ^ 64
-      few short =
-          let all = accounted first size max most limits g.plays.calls g.other g.plays.run in
-          let there' : held_by_sender g.other.sending.sender ≡ total_bytes (with_inflight q beside) = ap held_by_sender g.shadow.sender in
-          let before : bytes_written g.other ≡ bytes_written s = ap (λ ws. sum_by (λ (y : Write). length y.bytes) ws) g.shadow.written in
-          back-few sack t beside g.shadow.like (omega (arith, all, there', before, short))
+      few short = grind (arith, nat_tests, common_steps, accounted, back-few)
 
       -- so the amount of each stream stays what it holds
       record Returned : Type 0 where
@@ -300,11 +277,7 @@ module _ (reported : Reported) (first size max most : ℕ) (limits : Option Limi
       by Keep = record { all = record { ordered = tt; unordered = tt; inflight = tt }; amounts = λ st. refl }
 
   held-first : (st : ℕ) → held (only st) (at_start_with reported first size max most limits).sending.sender.flight.queue ≡ 0
-  held-first st = by reported
-    where
-      by : (k : Reported) → held (only st) (at_start_with k first size max most limits).sending.sender.flight.queue ≡ 0
-      by Drop = refl
-      by Keep = refl
+  held-first st = grind (arith, nat_tests, common_steps)
 
   left-so : AmountsAreLeftSo calls s
   left-so st = by (stream_of st s.sending.sender) refl
@@ -345,25 +318,7 @@ returns-made : (s : Session) (sack : Sack) (ks : List (Option (List ℕ))) (cs d
 returns-made s sack [] cs ds a e = tt
 returns-made s sack (k ∷ ks) [] ds a e = tt
 returns-made s sack (k ∷ ks) (c ∷ cs) [] a e = absurd a
-returns-made s sack (k ∷ ks) (c ∷ cs) (d ∷ ds) a e =
-    at-test (λ b. Every (IsOfMade s) (answered_back ((if b then k else None) ∷ back_each sack cs ks) (c ∷ cs))) (is_back sack c)
-    (λ h. some k a.0 (is-back-of sack c h) (returns-made s sack ks cs ds a.1 e.1)) (λ _. returns-made s sack ks cs ds a.1 e.1)
-  where
-    some : (o : Option (List ℕ)) → IsLike o c d → (c.acked ≡ true) × (c.abandoned ≡ false) → Every (IsOfMade s) (answered_back (back_each sack cs ks) cs)
-        → Every (IsOfMade s) (answered_back (o ∷ back_each sack cs ks) (c ∷ cs))
-    some None i h rest = rest
-    some (Some bytes) i h rest = (
-      (
-        data_of d,
-        e.0 (ap (λ (x : ChunkPayloadData). x.abandoned) (sym i.same) ∙ h.1),
-        (
-          ap (λ (x : ChunkPayloadData). x.tsn) (sym i.same),
-          ap (λ (x : ChunkPayloadData). x.stream_identifier) (sym i.same),
-          ap length (sym (i.kept h.0 h.1 bytes refl)),
-        ),
-      ),
-      rest,
-    )
+returns-made s sack (k ∷ ks) (c ∷ cs) (d ∷ ds) a e = grind (arith, nat_tests, common_steps, is-back-of, returns-made s sack ks cs ds a.1 e.1)
 
 -- none of the others is acknowledged
 each-there : (s : Session) (ks : List (Option (List ℕ))) (cs ds : List ChunkPayloadData) → AreLike ks cs ds → Every (WasMade s.made) ds → Every (IsMade s) ds

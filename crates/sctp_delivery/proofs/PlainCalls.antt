@@ -1,33 +1,28 @@
 -- Each call of a sender that keeps what is reported, beside what it would do if no gap ack block were taken.
-use Rattle.sctp_delivery.proofs.Names.{◌≡◌, ℕ, ◌<◌, ◌≤◌, ◌+◌, ◌-◌, ◌^◌, Bool, true, false, not, List, [], ◌∷◌, ◌++◌, length, map, refl, ap, ap₂, sym, subst}
-use Rattle.sctp_delivery.proofs.Names.{◌∙◌, arith, append-nil, append_assoc, Option, Some, None, option_map, option_to_list, is_some, IfSome, find}
-use Rattle.sctp_delivery.proofs.Names.{change_where}
-use Rattle.sctp_delivery.proofs.Names.{sum_by-cons, sum_by-inserted, sum_by, both, negated, none-some, some-same, nat_tests, if◌then◌else◌}
+use Rattle.sctp_delivery.proofs.Names.{common_steps, ◌≡◌, ℕ, ◌<◌, ◌≤◌, ◌+◌, ◌-◌, ◌^◌, Bool, true, false, not, List, [], ◌∷◌, ◌++◌, length, map, refl, ap, ap₂}
+use Rattle.sctp_delivery.proofs.Names.{sym, subst, ◌∙◌, arith, append-nil, append_assoc, Option, Some, None, option_map, option_to_list, is_some, IfSome, find}
+use Rattle.sctp_delivery.proofs.Names.{change_where, sum_by-cons, sum_by-inserted, sum_by, both, negated, none-some, some-same, nat_tests, if◌then◌else◌}
 use Rattle.sctp_delivery.proofs.Names.{nat_lt, ◌||◌, ◌&&◌, ChunkPayloadData, Sack, Limits, OutboundStream, ExpiredMessage, AbandonedMessage, Released, as_sent}
-use Rattle.sctp_delivery.proofs.Names.{all_started, bytes_of, chunk_before, data_of, expiring_tail, has_tsn, is_outstanding, message_of, next_pending}
-use Rattle.sctp_delivery.proofs.Names.{sent_next, sent_of, total_bytes, with_inflight, with_message, with_retransmit, Outbound, Flight, after_abandonment}
-use Rattle.sctp_delivery.proofs.Names.{after_sack, is_outstanding_in, message_to_abandon, next_after_send, released_by, tsn}
-use Rattle.sctp_delivery.proofs.Names.{with_room, count_again, sent_again, missed, can_miss, has_number, less_by, with_low, with_mode, with_size, wrote}
-use Rattle.sctp_delivery.proofs.Names.{with_lows}
-use Rattle.sctp_delivery.proofs.Names.{after_releases, after_expiry, fragments_with_mode, Transmission, after_abandon, after_acked, after_expire, write_refusal}
-use Rattle.sctp_delivery.proofs.Names.{written_to, with_flight, held_by_sender, started-inflight, SenderFollows, Session, IsReported, bytes_written}
-use Rattle.sctp_delivery.proofs.Names.{abandoned_by, Modes, modes_after, SenderCall, SenderMakes, made_after, with_chunk, written_after, Made}
-use Rattle.sctp_delivery.proofs.Names.{Write}
-use Rattle.sctp_delivery.proofs.Names.{PayloadProtocolIdentifier, SenderRefusal, all_marked, after_misses, resent_at, following_tsn}
-use Rattle.sctp_delivery.proofs.Names.{abandoned_at, abandoned_each, abandoned_with, after_abandoning, after_leaving, is_late, is_worn, late_order, late_tsns}
-use Rattle.sctp_delivery.proofs.Names.{leaving_at, leaving_each, map-append, to_abandon, waits, worn_order, worn_tsns, ◌%◌}
-use Rattle.sctp_outbound.specs.outbound_queue.OutboundQueue.{has_tail}
+use Rattle.sctp_delivery.proofs.Names.{all_started, bytes_of, data_of, expiring_tail, has_tsn, is_outstanding, message_of, next_pending, sent_next, sent_of}
+use Rattle.sctp_delivery.proofs.Names.{total_bytes, with_inflight, with_message, with_retransmit, Outbound, Flight, after_abandonment, after_sack}
+use Rattle.sctp_delivery.proofs.Names.{is_outstanding_in, message_to_abandon, next_after_send, released_by, tsn, with_room, count_again, sent_again, missed}
+use Rattle.sctp_delivery.proofs.Names.{can_miss, has_number, less_by, with_low, with_mode, with_size, wrote, with_lows, after_releases, after_expiry}
+use Rattle.sctp_delivery.proofs.Names.{fragments_with_mode, Transmission, after_abandon, after_acked, after_expire, write_refusal, written_to, with_flight}
+use Rattle.sctp_delivery.proofs.Names.{held_by_sender, started-inflight, SenderFollows, Session, IsReported, bytes_written, abandoned_by, Modes, modes_after}
+use Rattle.sctp_delivery.proofs.Names.{SenderCall, SenderMakes, made_after, with_chunk, written_after, Made, Write, PayloadProtocolIdentifier, SenderRefusal}
+use Rattle.sctp_delivery.proofs.Names.{all_marked, after_misses, resent_at, following_tsn, abandoned_at, abandoned_each, abandoned_with, after_abandoning}
+use Rattle.sctp_delivery.proofs.Names.{after_leaving, is_late, is_worn, late_order, late_tsns, leaving_at, leaving_each, map-append, to_abandon, worn_order}
+use Rattle.sctp_delivery.proofs.Names.{worn_tsns, ◌%◌}
+use Rattle.sctp_outbound.specs.outbound_queue.OutboundQueue.{has_tail, sent_peeked}
 use Rattle.sctp_sender.specs.Late.{with_tail}
-use Rattle.sctp_sender.specs.Sender.{with_mode_on}
+use Rattle.sctp_sender.specs.Sender.{with_mode_on, is_open, open_stream, stream_of}
 use Rattle.sctp_sender.specs.declared.sender.refusal.SenderRefusal.TheVariants.{MessageTooLarge, NotInFlight, QueueFull, StreamUnknown, TsnsUsedUp}
 use Rattle.sctp_serial.specs.Window.{is_held}
 use Rattle.sctp_util.specs.Serial.{distance}
-use Rattle.sctp_outbound.specs.outbound_queue.OutboundQueue.{sent_peeked}
 use Rattle.sctp_outbound.specs.payload_queue.PayloadQueue as payload
 use Rattle.sctp_sender.specs.Abandonment.{abandon_refusal}
 use Rattle.sctp_sender.specs.Flight.{has_tail_at, may_send, with_queue}
 use Rattle.sctp_sender.specs.Keeping.{kept_after}
-use Rattle.sctp_sender.specs.Sender.{is_open, open_stream, stream_of}
 use Rattle.sctp_sender.specs.Settings.{with_fragment_size, with_low_on}
 use Rattle.sctp_sender.specs.Totals.{bytes_in}
 use Rattle.sctp_sender.proofs.Lows.{released-same}
@@ -41,9 +36,7 @@ use Rattle.sctp_delivery.proofs.Delivered.{next_tsn}
 use Rattle.sctp_delivery.proofs.Every.{Every, every-contained}
 use Rattle.sctp_delivery.proofs.GivenTsns.{IsNumbered}
 use Rattle.sctp_delivery.proofs.OneRead.{no-way}
-use Rattle.sctp_delivery.proofs.Plain.{AreLike, IsLike, are-changed, are-long, are-marked, are-part-marked, are-plain, blind-same, first_of}
-use Rattle.sctp_delivery.proofs.Plain.{found-plain}
-use Rattle.sctp_delivery.proofs.Plain.{plain, rest_of}
+use Rattle.sctp_delivery.proofs.Plain.{AreLike, IsLike, are-changed, are-long, are-marked, are-part-marked, are-plain, blind-same, found-plain, plain, rest_of}
 use Rattle.sctp_delivery.proofs.PlainFlights.{IsFresh, abandon-same, are-gone, are-sacked, are-sent, can-same, chunks_of, end-same, fewer-bytes, flight_with}
 use Rattle.sctp_delivery.proofs.PlainFlights.{gone-same, named-same, refusal-same, sack-same, send-same, next-same, settled-others, skip-same, started-same}
 use Rattle.sctp_delivery.proofs.PlainSessions.{Goes, IsThere, as_plain, calls-too, kept_of, small-next, stays-so, step-of}
@@ -71,22 +64,7 @@ pub in-place : (t : ℕ) (c : ChunkPayloadData) (ks : List (Option (List ℕ))) 
 in-place t c ks [] [] a e = absurd (none-some c e)
 in-place t c ks [] (y ∷ ys) a e = absurd a
 in-place t c ks (x ∷ xs) [] a e = absurd a
-in-place t c ks (x ∷ xs) (y ∷ ys) a e = by (has_tsn t x) refl e (in-place t c (rest_of ks) xs ys a.1)
-  where
-    same : has_tsn t y ≡ has_tsn t x
-    same = ap (has_tsn t) (sym a.0.same)
-
-    by : (b : Bool) → has_tsn t x ≡ b → (if b then Some x else find (has_tsn t) xs) ≡ Some c → (find (has_tsn t) xs ≡ Some c → IsInPlace c t ys)
-        → IsInPlace c t (y ∷ ys)
-    by true h i ih = record {
-      kept = first_of ks;
-      chunk = y;
-      found = ap (λ z. if z then Some y else find (has_tsn t) ys) (same ∙ h);
-      like = subst (λ z. IsLike (first_of ks) z y) (some-same i) a.0;
-    }
-    by false h i ih =
-        let r = ih i in
-        record { kept = r.kept; chunk = r.chunk; found = ap (λ z. if z then Some y else find (has_tsn t) ys) (same ∙ h) ∙ r.found; like = r.like }
+in-place t c ks (x ∷ xs) (y ∷ ys) a e = grind (arith, nat_tests, common_steps, some-same, in-place t c (rest_of ks) xs ys a.1)
 
 message-same : (cs : List ChunkPayloadData) (q : Outbound) (ds : List ChunkPayloadData)
     → with_message cs (with_inflight q ds) ≡ with_inflight (with_message cs q) ds
@@ -96,12 +74,7 @@ message-same (c ∷ cs) q ds = refl
 -- the same bytes leave what waits
 pub sent-bytes : (o : Option ChunkPayloadData) (q : Outbound) (ds : List ChunkPayloadData) (t now : ℕ)
     → total_bytes (sent_of o (with_inflight q ds) t now) + bytes_of q.inflight.chunks ≡ total_bytes (sent_of o q t now) + bytes_of ds
-sent-bytes None q ds t now = omega arith
-sent-bytes (Some c) q ds t now =
-    let size : ChunkPayloadData → ℕ = λ x. length x.user_data in
-    let a = sum_by-inserted size chunk_before (as_sent t now c) ds in
-    let b = sum_by-inserted size chunk_before (as_sent t now c) q.inflight.chunks in
-    omega (arith, a, b)
+sent-bytes h0 h1 h2 h3 h4 = grind (arith, nat_tests, common_steps, sum_by-inserted)
 
 -- the write is accepted there too, where its bytes fit
 abbrev refused_by : Bool → Bool → Bool → Bool → Option SenderRefusal
@@ -117,10 +90,7 @@ forgotten : (ks : List (Option (List ℕ))) (cs es : List ChunkPayloadData) → 
 forgotten ks [] [] a = tt
 forgotten ks [] (e ∷ es) a = absurd a
 forgotten ks (c ∷ cs) [] a = absurd a
-forgotten ks (c ∷ cs) (e ∷ es) a = (
-  record { same = a.0.same; open' = a.0.open'; whole = a.0.whole; kept = λ _ _ bytes is. absurd (none-some bytes is); settled = a.0.settled },
-  forgotten (rest_of ks) cs es a.1,
-)
+forgotten ks (c ∷ cs) (e ∷ es) a = grind (arith, nat_tests, common_steps, forgotten (rest_of ks) cs es a.1)
 
 pub kept-sacked : (sack : Sack) (f : Flight) (es : List ChunkPayloadData) (o : Option (List (Option (List ℕ))))
     → AreLike (kept_after sack f (kept_of o)) (chunks_of (after_sack sack f)) es
@@ -144,16 +114,10 @@ unfolding distance
 one-more t near = omega (arith, near)
 
 end-far : (o : Option ℕ) (f : Flight) → f.next_tsn < 2 ^ 32 → distance f.next_tsn (after_abandonment o f).next_tsn ≡ (if has_tail o f.queue then 1 else 0)
-end-far None f near = no-way f.next_tsn near
-end-far (Some k) f near =
-    at-test (λ b. distance f.next_tsn (if b then following_tsn f.next_tsn else f.next_tsn) ≡ (if b then 1 else 0)) (waits k f.queue.pending)
-    (λ _. one-more f.next_tsn near) (λ _. no-way f.next_tsn near)
+end-far h0 h1 h2 = grind (arith, nat_tests, common_steps, no-way, one-more)
 
 end-next : (o : Option ℕ) (f : Flight) → f.next_tsn < 2 ^ 32 → (after_abandonment o f).next_tsn ≡ (f.next_tsn + (if has_tail o f.queue then 1 else 0)) % 2 ^ 32
-end-next None f near = omega (arith, near)
-end-next (Some k) f near =
-    at-test (λ b. (if b then following_tsn f.next_tsn else f.next_tsn) ≡ (f.next_tsn + (if b then 1 else 0)) % 2 ^ 32) (waits k f.queue.pending)
-    (λ _. refl) (λ _. omega (arith, near))
+end-next h0 h1 h2 = grind (arith, nat_tests, common_steps)
 
 one-end : (b : Bool) → (if b then 1 else 0) ≤ 1
 one-end true = omega arith
@@ -176,10 +140,7 @@ far-along a b e near few is = omega (arith, near, few, is)
 
 -- what is told of a message is of the one that leaves
 told-one : (o : Option ChunkPayloadData) (bytes : ℕ) → map (λ (a : AbandonedMessage). a.number) (abandoned_with o bytes) ≡ option_to_list (to_abandon o)
-told-one None bytes = refl
-told-one (Some c) bytes = at-test (λ b. map (λ (a : AbandonedMessage). a.number)
-    (if b then [] else record { stream = c.stream_identifier; number = c.message_id; bytes = bytes; is_low = false } ∷ [])
-    ≡ option_to_list (if b then None else Some c.message_id)) c.abandoned (λ _. refl) (λ _. refl)
+told-one h0 h1 = grind (arith, nat_tests, common_steps)
 
 module _ (first size max most : ℕ) (limits : Option Limits) (small : first < 2 ^ 32) where
   module _ (t : Transmission) (s : Session) (n : ℕ) (gone : List ℕ) (m : Modes) (room : n < 2 ^ 31) (g : Goes first size max most limits t s n gone m) where
@@ -305,21 +266,7 @@ module _ (first size max most : ℕ) (limits : Option Limits) (small : first < 2
   restreamed : (t : Transmission) (ks : List OutboundStream) (s v : Session) (n : ℕ) (gone : List ℕ) (m : Modes) → AreAlike ks t.streams
       → v.receiving ≡ s.receiving → v.sacks ≡ s.sacks → v.made ≡ s.made → v.written ≡ s.written → Goes first size max most limits t s n gone m
       → Goes first size max most limits (record t { streams = ks }) v n gone m
-  restreamed t ks s v n gone m alike received reported made written g = record {
-    other = g.other;
-    shadow = record {
-      streams = g.shadow.streams;
-      chunks = g.shadow.chunks;
-      sender = g.shadow.sender;
-      alike = alike ∙ g.shadow.alike;
-      like = g.shadow.like;
-      receiving = g.shadow.receiving ∙ sym received;
-      made = g.shadow.made ∙ sym made;
-      written = g.shadow.written ∙ sym written;
-      sacks = subst (Every (IsThere g.other.sacks)) (sym reported) g.shadow.sacks;
-    };
-    plays = g.plays;
-  }
+  restreamed t ks s v n gone m alike received reported made written g = grind (arith, nat_tests, common_steps)
 
 module _ (first size max most : ℕ) (limits : Option Limits) (small : first < 2 ^ 32) (s v : Session) (n : ℕ) (gone : List ℕ) (m : Modes) (room : n < 2 ^ 31)
     (g : Goes first size max most limits s.sending.sender s n gone m) where
@@ -358,13 +305,7 @@ module _ (first size max most : ℕ) (limits : Option Limits) (small : first < 2
       → ((ms : List Made) → made_after c (as_plain s.sending.sender g.shadow.streams g.shadow.chunks) ms ≡ made_after call s.sending.sender ms)
       → ((ws : List Write) → written_after c ws ≡ written_after call ws) → modes_after c m ≡ modes_after call m
       → abandoned_by c (as_plain s.sending.sender g.shadow.streams g.shadow.chunks) ≡ abandoned_by call s.sending.sender → Result call
-  by-call call f u e c ls' ds' makes handed alike like made written modes left =
-      subst
-      (λ (y : Transmission). Goes first size max most limits y v (n + distance (next_tsn s) y.flight.next_tsn) (gone ++ abandoned_by call s.sending.sender)
-      (modes_after call m)) (sym e)
-      (calls-too first size max most limits s.sending.sender u s v n gone m g call (ap (λ (x : Session). x.receiving) f.after)
-      (ap (λ (x : Session). x.sacks) f.after)
-      (ap (λ (x : Session). x.made) f.after) (ap (λ (x : Session). x.written) f.after) c ls' ds' makes handed alike like made written modes left)
+  by-call call f u e c ls' ds' makes handed alike like made written modes left = grind (arith, nat_tests, common_steps, calls-too)
 
   by-none : (call : SenderCall) → SenderFollows call s v → (u : Transmission) → v.sending.sender ≡ u → AreAlike u.streams s.sending.sender.streams
       → AreLike (kept_of u.kept) u.flight.queue.inflight.chunks g.shadow.chunks

@@ -1,8 +1,8 @@
 -- Each session of a sender that keeps what is reported can end: the session beside it can, in which no gap ack block is taken.
-use Rattle.sctp_delivery.proofs.Names.{◌≡◌, ℕ, ◌<◌, ◌+◌, ◌^◌, Bool, true, false, not, List, [], ◌∷◌, length, refl, ap, ap₂, sym, subst, ◌∙◌, arith, Option}
-use Rattle.sctp_delivery.proofs.Names.{Some, None, inl, inr, min, nat_le, ◌==◌, ◌&&◌, ◌||◌, if◌then◌else◌, filter, list_any, sum_by, both, fails, not_both, or-left}
-use Rattle.sctp_delivery.proofs.Names.{or-split, sum_by-cons, same-is, ChunkPayloadData, Limits, Reception, Transmission, Stand, Session, has_tsn, filter_of, has_come}
-use Rattle.sctp_delivery.proofs.Names.{Write, at_start, bytes_written, chunks_left, chunks_waiting, EachOtherIsReadOnce}
+use Rattle.sctp_delivery.proofs.Names.{nat_tests, common_steps, ◌≡◌, ℕ, ◌<◌, ◌+◌, ◌^◌, Bool, true, false, not, List, [], ◌∷◌, length, refl, ap, ap₂, sym, subst}
+use Rattle.sctp_delivery.proofs.Names.{◌∙◌, arith, Option, Some, None, inl, inr, min, nat_le, ◌==◌, ◌&&◌, ◌||◌, filter, list_any, sum_by, both, not_both}
+use Rattle.sctp_delivery.proofs.Names.{or-left, or-split, sum_by-cons, same-is, ChunkPayloadData, Limits, Reception, Transmission, Stand, Session, has_tsn}
+use Rattle.sctp_delivery.proofs.Names.{filter_of, has_come, at_start, bytes_written, chunks_left, chunks_waiting, EachOtherIsReadOnce}
 use Rattle.std.specs.Prelude.{max}
 use Rattle.sctp_sender.specs.declared.sender.Reported.{Reported}
 use Rattle.sctp_receiver.specs.Credit.{cost_of_chunks}
@@ -10,15 +10,13 @@ use Rattle.sctp_delivery.specs.Ending.{each_within, has_window, is_to_come, left
 use Rattle.sctp_delivery.specs.ReturnEndings.{AfterEachWithReturnsAndTsnsLeft, EndsWhereTakenSo, EndsWithAllReadSo}
 use Rattle.sctp_delivery.specs.Returns.{CallOrReturn, RunsWithReturns, at_start_with, tsns_given_so}
 use Rattle.sctp_delivery.proofs.Besides.{IsBeside, IsCame}
-use Rattle.sctp_delivery.proofs.Cases.{at-test}
 use Rattle.sctp_delivery.proofs.EndDelivers.{due-to-come}
 use Rattle.sctp_delivery.proofs.EndSessions.{ends-beside}
-use Rattle.sctp_delivery.proofs.EndSteps.{RoomIn, price}
+use Rattle.sctp_delivery.proofs.EndSteps.{RoomIn}
 use Rattle.sctp_delivery.proofs.EndWindows.{grows-each, room-each}
 use Rattle.sctp_delivery.proofs.Every.{Every, every-of, every-of-all, one-of}
 use Rattle.sctp_delivery.proofs.NoneAbandoned.{each-of-others}
 use Rattle.sctp_delivery.proofs.Plain.{AreLike, are-long, rest_of}
-use Rattle.sctp_delivery.proofs.PlainFlights.{flight_with}
 use Rattle.sctp_delivery.proofs.PlainLaws.{acknowledged-came}
 use Rattle.sctp_delivery.proofs.PlainRuns.{goes, other, shadow}
 use Rattle.sctp_delivery.proofs.PlainSessions.{as_plain, kept_of, step-of}
@@ -35,28 +33,13 @@ same-to-come : (r : Reception) (ks : List (Option (List ℕ))) (cs ds : List Chu
 same-to-come r ks [] [] a e = refl
 same-to-come r ks [] (d ∷ ds) a e = absurd a
 same-to-come r ks (c ∷ cs) [] a e = absurd a
-same-to-come r ks (c ∷ cs) (d ∷ ds) a e =
-    let rest : cost_of_chunks (filter (is_to_come r) ds) ≡ cost_of_chunks (filter (is_to_come r) cs) = same-to-come r (rest_of ks) cs ds a.1 e.1 in
-    ap (λ b. cost_of_chunks (if b then d ∷ filter (is_to_come r) ds else filter (is_to_come r) ds)) (sym there)
-    ∙ at-test (λ b. cost_of_chunks (if b then d ∷ filter (is_to_come r) ds else filter (is_to_come r) ds)
-    ≡ cost_of_chunks (if b then c ∷ filter (is_to_come r) cs else filter (is_to_come r) cs)) (is_to_come r c)
-    (λ h. let bytes = ap (λ (xs : List ℕ). length xs) (a.0.whole (fails c.acked (λ k. not_both (sym (e.0 k) ∙ h)))) in
-    let x = sum_by-cons price d (filter (is_to_come r) ds) in
-    let y = sum_by-cons price c (filter (is_to_come r) cs) in
-    omega (arith, bytes, x, y, rest))
-    (λ _. rest)
-  where
-    there : is_to_come r c ≡ is_to_come r d
-    there = ap₂ (λ t g. not (g || has_come t (filter_of r))) (ap (λ (x : ChunkPayloadData). x.tsn) a.0.same) (ap (λ (x : ChunkPayloadData). x.abandoned) a.0.same)
+same-to-come r ks (c ∷ cs) (d ∷ ds) a e = grind (arith, nat_tests, common_steps, not_both, sum_by-cons, same-to-come r (rest_of ks) cs ds a.1 e.1)
 
 module _ (reported : Reported) (first size max' most : ℕ) (limits : Option Limits) (calls : List CallOrReturn) (s : Session)
     (run : RunsWithReturns (at_start_with reported first size max' most limits) calls s) (small : first < 2 ^ 32) (some : 0 < size)
     (few : tsns_given_so (at_start_with reported first size max' most limits) calls s run < 2 ^ 31) (short : bytes_written s < 2 ^ 64) where
   abbrev n : ℕ
   n = tsns_given_so (at_start_with reported first size max' most limits) calls s run
-
-  abbrev there : Session
-  there = other reported first size max' most limits calls s run small few short
 
   abbrev t : Transmission
   t = s.sending.sender
@@ -73,17 +56,7 @@ module _ (reported : Reported) (first size max' most : ℕ) (limits : Option Lim
       (λ k c lt a. acknowledged-came reported first size max' most limits calls s run small some few short k c lt (or-left _ _ a))
 
   pub is-beside : IsBeside (other reported first size max' most limits calls s run small few short) s
-  is-beside =
-      let x = shadow reported first size max' most limits calls s run small few short in
-      record {
-        flight = ap (λ (u : Transmission). u.flight) x.sender ∙ ap (flight_with t.flight) (sym chunks-are);
-        like = subst (AreLike (kept_of t.kept) cs) (sym chunks-are) x.like;
-        receiving = x.receiving;
-        made = x.made;
-        written = x.written;
-        came = subst (λ (r : Stand). Every (IsCame r.accepted) cs) (sym x.receiving) came;
-        short = let e = ap (λ ws. sum_by (λ (w : Write). length w.bytes) ws) x.written in omega (arith, e, short);
-      }
+  is-beside = grind (arith, nat_tests, common_steps, shadow, chunks-are, came)
 
   -- what is acknowledged is not to come
   settled : Every (λ c. c.acked ≡ true → is_to_come s.receiving.receiver c ≡ false) s.sending.sender.flight.queue.inflight.chunks

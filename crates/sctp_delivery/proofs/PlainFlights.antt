@@ -1,18 +1,13 @@
 -- What calls make of what is in flight, beside what they would make of it if no gap ack block were taken.
-use Rattle.sctp_delivery.proofs.Names.{◌≡◌, ℕ, ◌<◌, ◌≤◌, ◌+◌, ◌^◌, Bool, true, false, not, List, [], ◌∷◌, ◌++◌, length, map, drop, refl, ap, ap₂}
-use Rattle.sctp_delivery.proofs.Names.{sym, subst, ◌∙◌, arith, Option, Some, None, option_map, if◌then◌else◌, ◌==◌, ◌&&◌, nat_lt, nat_le, filter}
-use Rattle.sctp_delivery.proofs.Names.{find, change_where, insert_before, sum_by-cons, sum_by-inserted, negated, not_both, nat_tests}
-use Rattle.sctp_delivery.proofs.Names.{length-change_where, length-map, bytes_of}
+use Rattle.sctp_delivery.proofs.Names.{common_steps, ◌≡◌, ℕ, ◌<◌, ◌≤◌, ◌+◌, ◌^◌, true, false, not, List, [], ◌∷◌, ◌++◌, length, map, drop, refl, ap, ap₂, sym}
+use Rattle.sctp_delivery.proofs.Names.{subst, ◌∙◌, arith, Option, Some, None, option_map, if◌then◌else◌, ◌&&◌, nat_lt, nat_le, filter, find, change_where}
+use Rattle.sctp_delivery.proofs.Names.{insert_before, sum_by-cons, sum_by-inserted, negated, not_both, nat_tests, length-change_where, length-map, bytes_of}
 use Rattle.sctp_delivery.proofs.Names.{removed_le, ChunkPayloadData, Sack, as_abandoned, as_acknowledged, as_sent, is_of, terminal_chunk, with_terminal_chunk}
 use Rattle.sctp_delivery.proofs.Names.{chunk_before, tsns, following_tsn, has_tsn, is_on, comes_before, at_or_before, distance, last_of, ends, past, past-is}
 use Rattle.sctp_delivery.proofs.Names.{IsRunFrom, tsns_from, changed-run, tsn, Flight, after_abandonment, after_sack, is_outdated, message_to_abandon}
-use Rattle.sctp_delivery.proofs.Names.{to_abandon, take_sack}
-use Rattle.sctp_delivery.proofs.Names.{reports_anew, sack_refusal, Outbound, all_started, sent_next, sent_of, with_inflight}
-use Rattle.sctp_delivery.proofs.Names.{start_pending}
-use Rattle.sctp_delivery.proofs.Names.{total_bytes, last_removed, next_pending, SenderRefusal, send_refusal, is_ordered_on, past_number}
-use Rattle.sctp_delivery.proofs.Names.{begins_ordered}
-use Rattle.sctp_delivery.proofs.Names.{ahead, advanced_ack_point, can_skip_to, skip_end, is_end, ends_in, is_kept, is_named, last_end, named_up_to, Name}
-use Rattle.sctp_delivery.proofs.Names.{pairs_of}
+use Rattle.sctp_delivery.proofs.Names.{to_abandon, reports_anew, sack_refusal, Outbound, all_started, sent_next, sent_of, with_inflight, total_bytes}
+use Rattle.sctp_delivery.proofs.Names.{last_removed, next_pending, SenderRefusal, send_refusal, is_ordered_on, past_number, begins_ordered, ahead}
+use Rattle.sctp_delivery.proofs.Names.{advanced_ack_point, can_skip_to, skip_end, is_end, ends_in, is_kept, is_named, last_end, named_up_to, Name, pairs_of}
 use Rattle.sctp_delivery.proofs.Names.{ChunkForwardTsnStream, started-inflight}
 use Rattle.std.specs.Prelude.{unwrap_or}
 use Rattle.sctp_outbound.specs.payload_queue.PayloadQueue as payload
@@ -28,9 +23,8 @@ use Rattle.sctp_delivery.proofs.Cases.{at-if}
 use Rattle.sctp_delivery.proofs.Every.{Every, every-all, every-tested}
 use Rattle.sctp_delivery.proofs.GivenTsns.{IsNumbered}
 use Rattle.sctp_delivery.proofs.Plain.{Are, AreLike, rest_of, IsBareSack, IsLike, IsLikeBehind, are-changed, are-behind, are-left, are-long, are-plain}
-use Rattle.sctp_delivery.proofs.Plain.{are-reported, are-so}
-use Rattle.sctp_delivery.proofs.Plain.{are-trimmed, are-tsns, blind-same, found-plain, last-plain, like-abandoned, like-itself, passing-plain, plain, put-end}
-use Rattle.sctp_delivery.proofs.Plain.{take-plain}
+use Rattle.sctp_delivery.proofs.Plain.{are-reported, are-so, are-trimmed, are-tsns, blind-same, found-plain, last-plain, like-abandoned, like-itself}
+use Rattle.sctp_delivery.proofs.Plain.{passing-plain, plain, put-end, take-plain}
 use Rattle.sctp_delivery.proofs.QueueChunks.{peeked, removed}
 use Rattle.sctp_delivery.proofs.TsnPlaces.{tsn-small}
 use Rattle.sctp_delivery.proofs.ValidMarks.{IsUnmarked}
@@ -108,11 +102,7 @@ put-same (Some c) t q xs ys = refl
 
 pub gone-same : (o : Option ℕ) (f : Flight) (ds : List ChunkPayloadData)
     → after_abandonment o (flight_with f ds) ≡ flight_with (after_abandonment o f) (chunks_of (after_abandonment o (flight_with f ds)))
-gone-same None f ds = refl
-gone-same (Some m) f ds =
-    ap (λ w. let g : Flight = record (after_abandonment (Some m) f) { queue = record (after_abandonment (Some m) f).queue { inflight = w } } in g)
-    (put-same (last_removed m f.queue.pending) f.next_tsn f.queue.inflight (change_where (is_of m) as_abandoned f.queue.inflight.chunks)
-    (change_where (is_of m) as_abandoned ds))
+gone-same h0 h1 h2 = grind (arith, nat_tests, common_steps, put-same)
 
 -- no chunk that waits is acknowledged, or of an abandoned message
 pub record IsFresh (q : Outbound) : Type 0 where
@@ -185,12 +175,7 @@ fewer-bytes (Some m) f =
 -- ## Lifetimes start, and a chunk is sent
 
 pub started-same : (now : ℕ) (q : Outbound) (ds : List ChunkPayloadData) → all_started now (with_inflight q ds) ≡ with_inflight (all_started now q) ds
-started-same now q ds = at-if (λ z. z ≡ with_inflight (all_started now q) ds) (q.next_unstarted == q.next_message_id)
-    (λ e. ap (λ b. with_inflight (if b then q else later) ds) (sym e))
-    (λ e. ap (λ b. with_inflight (if b then q else later) ds) (sym e))
-  where
-    later : Outbound
-    later = record q { pending = start_pending q.next_unstarted now q.pending; next_unstarted = q.next_message_id }
+started-same now q ds = grind (arith, nat_tests, common_steps, e)
 
 sent-of-same : (o : Option ChunkPayloadData) (q : Outbound) (ds : List ChunkPayloadData) (t now : ℕ)
     → sent_of o (with_inflight q ds) t now ≡ with_inflight (sent_of o q t now) (sent_of o (with_inflight q ds) t now).inflight.chunks
@@ -234,14 +219,7 @@ module _ (s k : Sack) (f : Flight) (ds : List ChunkPayloadData) (bare : IsBareSa
   outdated-same = ap (λ t. comes_before t f.acked_tsn) bare.same
 
   pub sack-same : after_sack k (flight_with f ds) ≡ flight_with (after_sack s f) (chunks_of (after_sack k (flight_with f ds)))
-  sack-same = by (is_outdated k (flight_with f ds)) (is_outdated s f) outdated-same
-    where
-      by : (b c : Bool) → b ≡ c → (if b then flight_with f ds else take_sack k (flight_with f ds))
-          ≡ flight_with (if c then f else take_sack s f) (chunks_of (if b then flight_with f ds else take_sack k (flight_with f ds)))
-      by true true _ = refl
-      by false false _ = ap (λ t. let g : Flight = record (take_sack k (flight_with f ds)) { acked_tsn = t } in g) bare.same
-      by true false e = cc
-      by false true e = cc
+  sack-same = grind (arith, nat_tests, common_steps, outdated-same, e)
 
   -- it is taken where the other is
   pub refusal-same : length ds ≡ length f.queue.inflight.chunks → sack_refusal s f ≡ None → sack_refusal k (flight_with f ds) ≡ None
@@ -271,12 +249,7 @@ module _ (s k : Sack) (bare : IsBareSack s k) (p n : ℕ) (f : Flight) (ks : Lis
   -- those past the cumulative TSN are the last of them
   cut : is_outdated s f ≡ false → (xs : List ChunkPayloadData) → length xs ≡ length ds → tsns xs ≡ tsns ds
       → past s.cumulative_tsn_ack xs ≡ drop (count_acked s f) xs
-  cut current xs same same-tsns =
-      let total = h.total in
-      let small = tsn-small p h.acked in
-      let within = taken-within s f taken current in
-      past-is xs f.acked_tsn s.cumulative_tsn_ack (omega (arith, small, h.acked_is)) fits (omega (arith, total, few, same)) (omega (arith, within, same, long))
-      (same-tsns ∙ run ∙ ap (tsns_from first) (sym same))
+  cut current xs same same-tsns = grind (arith, nat_tests, common_steps, tsn-small, taken-within, past-is, long, run)
 
   current-sacked : is_outdated s f ≡ false → AreLike (trimmed (drop (count_acked s f) (keep_each s f.queue.inflight.chunks ks)))
       (past s.cumulative_tsn_ack cs') (past s.cumulative_tsn_ack ds')
@@ -300,15 +273,7 @@ module _ (s k : Sack) (bare : IsBareSack s k) (p n : ℕ) (f : Flight) (ks : Lis
       (are-reported s k bare ks f.queue.inflight.chunks ds a)))) behind)
 
   pub are-sacked : AreLike (kept_after s f ks) (chunks_of (after_sack s f)) (chunks_of (after_sack k (flight_with f ds)))
-  are-sacked = by (is_outdated k (flight_with f ds)) (is_outdated s f) refl (outdated-same s k f ds bare)
-    where
-      by : (b c : Bool) → is_outdated s f ≡ c → b ≡ c → AreLike (if c then ks else trimmed (drop (count_acked s f) (keep_each s f.queue.inflight.chunks ks)))
-          (chunks_of (if c then f else take_sack s f)) (chunks_of (if b then flight_with f ds else take_sack k (flight_with f ds)))
-      by true true _ _ = a
-      by false false current _ = subst (λ t. AreLike (trimmed (drop (count_acked s f) (keep_each s f.queue.inflight.chunks ks)))
-          (past s.cumulative_tsn_ack cs') (past t ds')) (sym bare.same) (current-sacked current)
-      by true false _ e = cc
-      by false true _ e = cc
+  are-sacked = grind (arith, nat_tests, common_steps, outdated-same, current-sacked, e)
 
 -- nothing that is acknowledged has bytes
 pub settled-others : (ks : List (Option (List ℕ))) (cs ds : List ChunkPayloadData) → AreLike ks cs ds → AreSettled ds

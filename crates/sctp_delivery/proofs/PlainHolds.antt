@@ -1,16 +1,16 @@
 -- A session of a sender that keeps what is reported holds what the session beside it does: what got TSNs, and how all that waits follows on.
-use Rattle.sctp_delivery.proofs.Names.{◌≡◌, ℕ, ◌<◌, ◌^◌, true, not, List, [], ◌∷◌, map, refl, ap, ap₂, sym, subst, ◌∙◌, if◌then◌else◌, ◌==◌, ◌&&◌, ◌||◌, Option}
-use Rattle.sctp_delivery.proofs.Names.{list_any, negated, both, ChunkPayloadData, OutboundStream, Limits, Transmission, Session, Modes, is_of, is_outstanding}
-use Rattle.sctp_delivery.proofs.Names.{data_of}
-use Rattle.sctp_delivery.proofs.AmountLaws.{AllMade, HasMade, made-in}
+use Rattle.sctp_delivery.proofs.Names.{arith, nat_tests, common_steps, ◌≡◌, ℕ, ◌<◌, ◌^◌, true, List, [], ◌∷◌, map, refl, ap, sym, subst, ◌∙◌, if◌then◌else◌}
+use Rattle.sctp_delivery.proofs.Names.{◌==◌, ◌||◌, Option, list_any, negated, both, ChunkPayloadData, OutboundStream, Limits, Transmission, Session, Modes}
+use Rattle.sctp_delivery.proofs.Names.{is_of, is_outstanding, data_of}
+use Rattle.sctp_delivery.proofs.AmountLaws.{HasMade, made-in}
 use Rattle.sctp_delivery.proofs.Every.{every-all}
 use Rattle.sctp_delivery.proofs.InFlight.{IsKnown, placed-alike}
 use Rattle.sctp_delivery.proofs.Numbers.{AreSized, IsSteady, all-open, is_there, number_of}
 use Rattle.sctp_delivery.proofs.Plain.{IsLike, any-plain, are-plain, paired}
 use Rattle.sctp_delivery.proofs.PlainSessions.{Goes, kept_of}
 use Rattle.sctp_delivery.proofs.PlainStreams.{AreAlike, bare}
-use Rattle.sctp_delivery.proofs.Senders.{AreSent, IsHeld, renumbered}
-use Rattle.sctp_delivery.proofs.Sent.{Entry, WasSent}
+use Rattle.sctp_delivery.proofs.Senders.{IsHeld, renumbered}
+use Rattle.sctp_delivery.proofs.Sent.{Entry}
 
 -- ## Streams that are alike
 
@@ -31,35 +31,17 @@ sized-alike (l ∷ ls) (m ∷ ms) e z =
     (subst (λ (x : OutboundStream). 0 < x.max_payload_size) (sym one) z.0, sized-alike ls ms rest z.1)
 
 steady-alike : (ls ms : List OutboundStream) → AreAlike ms ls → IsSteady ls ms
-steady-alike ls ms e = record {
-  numbers = λ s. sym (numbers-bare s ms) ∙ ap (number_of s) e ∙ numbers-bare s ls;
-  there = λ s h. sym (there-bare s ms) ∙ ap (is_there s) e ∙ there-bare s ls ∙ h;
-  sized = sized-alike ls ms e;
-}
+steady-alike ls ms e = grind (arith, nat_tests, common_steps, numbers-bare, there-bare, sized-alike)
 
 -- ## One session
 
 -- a chunk is outstanding only where the other one is, with the same wire fields
 pub outstanding-like : (k : Option (List ℕ)) (c d : ChunkPayloadData) → IsLike k c d → is_outstanding c ≡ true
     → (is_outstanding d ≡ true) × (data_of c ≡ data_of d)
-outstanding-like k c d i o =
-    let b = both (not c.acked) (not c.abandoned) o in (
-      ap₂ (λ x y. not x && not y) i.open' (ap (λ (x : ChunkPayloadData). x.abandoned) (sym i.same) ∙ negated c.abandoned b.1),
-      ap₂ (λ (x : ChunkPayloadData) bytes. data_of (record x { user_data = bytes })) i.same (i.whole (negated c.acked b.0)),
-    )
+outstanding-like k c d i o = grind (arith, nat_tests, common_steps, both, negated)
 
 known-like : (first : ℕ) (sent : List Entry) (k : Option (List ℕ)) (c d : ChunkPayloadData) → IsLike k c d → Unit {0} → IsKnown first sent d → IsKnown first sent c
-known-like first sent k c d i _ h = (
-  λ o. let x = outstanding-like k c d i o in subst (WasSent sent) (sym x.1) (h.0 x.0),
-  placed-alike first sent d c (record {
-    kind = ap (λ (x : ChunkPayloadData). x.unordered) i.same;
-    stream = ap (λ (x : ChunkPayloadData). x.stream_identifier) i.same;
-    number = ap (λ (x : ChunkPayloadData). x.stream_sequence_number) i.same;
-    tsn = ap (λ (x : ChunkPayloadData). x.tsn) i.same;
-    message = ap (λ (x : ChunkPayloadData). x.message_id) i.same;
-    ends = ap (λ (x : ChunkPayloadData). x.ending_fragment) i.same;
-  }) h.1,
-)
+known-like first sent k c d i h6 h = grind (arith, nat_tests, common_steps, outstanding-like, placed-alike)
 
 module _ (first size max most : ℕ) (limits : Option Limits) (small : first < 2 ^ 32) (some : 0 < size) (s : Session) (n : ℕ) (gone : List ℕ) (m : Modes)
     (g : Goes first size max most limits s.sending.sender s n gone m) where
@@ -104,14 +86,4 @@ module _ (first size max most : ℕ) (limits : Option Limits) (small : first < 2
 
   -- it has made what got TSNs, too
   pub has-made : HasMade first s
-  has-made = record {
-    numbered = there.numbered;
-    sent = there.sent;
-    holds = record {
-      held = held;
-      made = subst (AreSent there.sent) g.shadow.made there.holds.made;
-      writes = there.holds.writes ∙ g.shadow.written;
-      placed = there.holds.placed;
-    };
-    made = subst (AllMade there.sent) g.shadow.made there.made;
-  }
+  has-made = grind (arith, nat_tests, common_steps, held)

@@ -1,21 +1,17 @@
 -- Sessions of a sender that keeps what is reported: what is acknowledged came, and only what may expire does.
-use Rattle.sctp_delivery.proofs.Names.{◌≡◌, ℕ, ◌<◌, ◌+◌, ◌^◌, true, false, List, [], ◌∷◌, length, refl, ap, ap₂, sym, subst, ◌∙◌}
-use Rattle.sctp_delivery.proofs.Names.{arith}
-use Rattle.sctp_delivery.proofs.Names.{inl, inr, Option, Some, None, Contains, list_any, list_any_at, or-right, or-split, both, not_both, ◌||◌}
-use Rattle.sctp_delivery.proofs.Names.{ChunkPayloadData, Sack, Transmission, Session, SenderFollows, of_receiver, of_sender, is_reported}
-use Rattle.sctp_delivery.proofs.Names.{reports}
-use Rattle.sctp_delivery.proofs.Names.{OutboundStream, map, min, sum_by, ◌-◌}
-use Rattle.sctp_delivery.proofs.Names.{⊤, Limits, Modes, abandoned_by, at_start, bytes_written, tsn, tsns_from, tsns_given}
-use Rattle.sctp_delivery.proofs.Names.{takes_sack, was_taken, AcknowledgedCame, Flight, SenderCall}
-use Rattle.sctp_delivery.proofs.Names.{next_pending, all_started, at_or_before, is_in_blocks, distance, fragments_with_mode, modes_from, at_first}
-use Rattle.sctp_delivery.proofs.Names.{IsReported, as_sent, terminal_chunk}
+use Rattle.sctp_delivery.proofs.Names.{nat_tests, common_steps, ◌≡◌, ℕ, ◌<◌, ◌+◌, ◌^◌, true, false, List, [], ◌∷◌, length, refl, ap, ap₂, sym, subst, ◌∙◌}
+use Rattle.sctp_delivery.proofs.Names.{arith, inl, inr, Option, Some, None, Contains, list_any, list_any_at, or-right, or-split, both, not_both, ◌||◌}
+use Rattle.sctp_delivery.proofs.Names.{ChunkPayloadData, Sack, Transmission, Session, SenderFollows, of_receiver, of_sender, is_reported, reports}
+use Rattle.sctp_delivery.proofs.Names.{OutboundStream, map, ⊤, Limits, Modes, abandoned_by, bytes_written, tsn, tsns_from, takes_sack, was_taken}
+use Rattle.sctp_delivery.proofs.Names.{AcknowledgedCame, Flight, SenderCall, next_pending, all_started, at_or_before, is_in_blocks, distance}
+use Rattle.sctp_delivery.proofs.Names.{fragments_with_mode, modes_from, at_first, IsReported, as_sent, terminal_chunk}
 use Rattle.sctp_sender.specs.declared.sender.Reported.{Reported}
 use Rattle.sctp_sender.specs.declared.sender.Reported.TheVariants.{Drop, Keep}
 use Rattle.sctp_outbound.specs.Marks.{as_taken_back}
 use Rattle.sctp_sender.specs.Keeping.{restored}
 use Rattle.sctp_sender.specs.Sender.{back_by}
 use Rattle.sctp_delivery.specs.Expiries.{EachDueExpires, OnlyTheDueExpire, IsReason}
-use Rattle.sctp_delivery.specs.Modes.{Sending, deadline_of, numbered_in}
+use Rattle.sctp_delivery.specs.Modes.{Sending, numbered_in}
 use Rattle.sctp_delivery.specs.Returns.{AfterEachWithReturnsOfFewTsns, CallOrReturn, RunsWithReturns, at_start_with, makes, other_calls, takes_back}
 use Rattle.sctp_delivery.specs.Returns.{tsns_given_so}
 use Rattle.sctp_delivery.specs.SenderCalls as outgoing
@@ -30,7 +26,7 @@ use Rattle.sctp_delivery.proofs.QueueChunks.{started}
 use Rattle.sctp_delivery.proofs.SackLaws as sacks
 use Rattle.sctp_delivery.proofs.Stands.{more-reported}
 use Rattle.sctp_delivery.proofs.Writing.{accepted-stream}
-use Rattle.sctp_delivery.specs.Counters.{AreSums, HasSums, bytes_on, messages_on}
+use Rattle.sctp_delivery.specs.Counters.{AreSums, HasSums}
 use Rattle.sctp_delivery.proofs.CounterLaws as counters
 use Rattle.sctp_delivery.proofs.PlainStreams.{bare}
 use Rattle.sctp_delivery.proofs.ExpiryLaws.{each-reason, front-goes, late-are, tail-goes, worn-are}
@@ -159,15 +155,7 @@ acknowledged-came reported first size max most limits cs s run small some few sh
 
 -- a chunk is sent as the other one is
 flying-like : (ws : List Sending) (n : ℕ) (k : Option (List ℕ)) (c d : ChunkPayloadData) → IsLike k c d → IsFlying ws n d → IsFlying ws n c
-flying-like ws n k c d i j =
-    let e = i.same in
-    let message = ap (λ (x : ChunkPayloadData). x.message_id) e in (
-      has-mode-kept ws d c message (ap (λ (x : ChunkPayloadData). x.unordered) e) (ap (λ (x : ChunkPayloadData). x.payload_type) e)
-          (ap (λ (x : ChunkPayloadData). x.reliability) e) j.0,
-      λ o.
-          let h = j.1 (sym (ap (λ (x : ChunkPayloadData). x.abandoned) e) ∙ o) in
-          (subst (λ m. m < n) (sym message) h.0, ap (λ (x : ChunkPayloadData). x.deadline) e ∙ h.1 ∙ ap (λ m. deadline_of (numbered_in m ws)) (sym message)),
-    )
+flying-like ws n k c d i j = grind (arith, nat_tests, common_steps, has-mode-kept)
 
 -- what the other session says of its queues this one says too
 module _ (reported : Reported) (first size max most : ℕ) (limits : Option Limits) (calls : List CallOrReturn) (s : Session)
@@ -196,11 +184,7 @@ module _ (reported : Reported) (first size max most : ℕ) (limits : Option Limi
       }
 
   said : HasSaidOfFew first (tsns_given_so (at_start_with reported first size max most limits) calls s run) (modes_from at_first (other_calls calls)) Other
-  said =
-      let p = (goes reported first size max most limits calls s run small few short).plays in
-      subst (λ k. HasSaidOfFew first k (modes_from at_first (other_calls calls)) Other) p.given
-      (subst (λ m. HasSaidOfFew first (tsns_given (at_start first size max most limits) p.calls Other p.run) m Other) p.said
-      (said-of-few first size max most limits p.calls Other small some p.run (let e = p.given in omega (arith, e, few))))
+  said = grind (arith, nat_tests, common_steps, said-of-few)
 
   filled : AllWait IsFilled t.flight.queue.pending
   filled = let x = shadow reported first size max most limits calls s run small few short in
@@ -252,12 +236,7 @@ due-expires reported first size max most limits cs s run small some few short = 
 
 -- of a stream that is the same but for its amount
 sums-alike : (s : Session) (l k : OutboundStream) → bare k ≡ bare l → HasSums s l → HasSums s k
-sums-alike s l k e h = record {
-  messages = ap (λ (x : OutboundStream). x.stats.messages_sent) e ∙ h.messages
-      ∙ ap (λ (x : OutboundStream). min (sum_by (messages_on x.stream_identifier) s.written) (2 ^ 64 - 1)) (sym e);
-  bytes = ap (λ (x : OutboundStream). x.stats.bytes_sent) e ∙ h.bytes
-      ∙ ap (λ (x : OutboundStream). min (sum_by (bytes_on x.stream_identifier) s.written) (2 ^ 64 - 1)) (sym e);
-}
+sums-alike s l k e h = grind (arith, nat_tests, common_steps)
 
 each-sum : (s : Session) (ks ls : List OutboundStream) → map bare ks ≡ map bare ls → Every (HasSums s) ls → Every (HasSums s) ks
 each-sum s [] ls e h = tt

@@ -1,7 +1,7 @@
 -- A receiver that is read refuses nothing of what a sender that keeps what is reported still needs taken.
-use Rattle.sctp_delivery.proofs.Names.{◌≡◌, ℕ, zero, suc, ◌<◌, ◌^◌, List, [], ◌∷◌, length, ap, ap₂, sym, subst, ◌∙◌, arith, inl, inr}
-use Rattle.sctp_delivery.proofs.Names.{Option, Some, None, Contains, get_or, get_or_default, ChunkPayloadData, ForwardTsn, Limits, Transmission, Session}
-use Rattle.sctp_delivery.proofs.Names.{Call, RunsTo, at_start, data_of, tsns_given, bytes_written, IsInFlight, MayMake}
+use Rattle.sctp_delivery.proofs.Names.{◌≡◌, ℕ, zero, suc, ◌<◌, ◌^◌, List, [], ◌∷◌, length, ap, ap₂, sym, subst, ◌∙◌, arith, inl, inr, Option, Some, None}
+use Rattle.sctp_delivery.proofs.Names.{Contains, get_or, get_or_default, ChunkPayloadData, ForwardTsn, Limits, Transmission, Session, Call, RunsTo, at_start}
+use Rattle.sctp_delivery.proofs.Names.{data_of, tsns_given, bytes_written, IsInFlight, MayMake}
 use Rattle.sctp_sender.specs.declared.sender.Reported.{Reported}
 use Rattle.sctp_delivery.specs.Refused.{IsInFlightSo, NoneInFlightIsRefused, NoneInFlightIsRefusedSo, NoneIsRefusedWhereRead, NoneIsRefusedWhereReadSo}
 use Rattle.sctp_delivery.specs.Refused.{NoneMadeIsRefused}

@@ -1,13 +1,12 @@
 -- What a SACK takes back of what is in flight, beside what would be in flight if no gap ack block were taken.
-use Rattle.sctp_delivery.proofs.Names.{◌≡◌, ℕ, ◌<◌, ◌≤◌, ◌+◌, ◌^◌, Bool, true, not, List, [], ◌∷◌, length, ap, arith, Option, Some, None, is_some}
+use Rattle.sctp_delivery.proofs.Names.{common_steps, ◌≡◌, ℕ, ◌<◌, ◌≤◌, ◌+◌, ◌^◌, Bool, true, not, List, [], ◌∷◌, arith, Option, Some, None, is_some}
 use Rattle.sctp_delivery.proofs.Names.{if◌then◌else◌, ◌&&◌, nat_lt, nat_tests, sum_by-cons, ChunkPayloadData, Sack, Flight, Transmission, bytes_of, total_bytes}
 use Rattle.sctp_delivery.proofs.Names.{with_inflight, is_outdated, sack_refusal, SenderRefusal}
-use Rattle.sctp_sender.specs.Keeping.{answered_back, back_each, bytes_back, restored, with_restored}
+use Rattle.sctp_sender.specs.Keeping.{bytes_back, restored}
 use Rattle.sctp_sender.specs.Sender.{after_take_back, back_by, or_full, take_back_refusal, taken_back_by}
-use Rattle.sctp_sender.specs.Totals.{AreSettled}
 use Rattle.sctp_sender.proofs.Keepings.{answered-weight, back-bytes}
 use Rattle.sctp_sender.proofs.Placed.{back-length}
-use Rattle.sctp_delivery.proofs.Cases.{at-if, by-test}
+use Rattle.sctp_delivery.proofs.Cases.{at-if}
 use Rattle.sctp_delivery.proofs.Plain.{AreLike, are-back, rest_of}
 use Rattle.sctp_delivery.proofs.PlainFlights.{settled-kept}
 use Rattle.sctp_delivery.proofs.PlainSessions.{kept_of}
@@ -24,35 +23,12 @@ pub lighter : (ks : List (Option (List ℕ))) (cs ds : List ChunkPayloadData) �
 lighter ks [] [] a = omega arith
 lighter ks [] (d ∷ ds) a = absurd a
 lighter ks (c ∷ cs) [] a = absurd a
-lighter ks (c ∷ cs) (d ∷ ds) a =
-    let size : ChunkPayloadData → ℕ = λ x. length x.user_data in
-    let x = sum_by-cons size c cs in
-    let y = sum_by-cons size d ds in
-    let rest = lighter (rest_of ks) cs ds a.1 in
-    let one : length c.user_data ≤ length d.user_data =
-    by-test c.acked (λ e. let z = a.0.settled e in omega (arith, z)) (λ e. let z = ap (λ (bs : List ℕ). length bs) (a.0.whole e) in omega (arith, z)) in
-    omega (arith, x, y, rest, one)
+lighter ks (c ∷ cs) (d ∷ ds) a = grind (arith, nat_tests, common_steps, sum_by-cons, lighter (rest_of ks) cs ds a.1)
 
 -- what comes back is what is in flight more
 pub back-more : (sack : Sack) (t : Transmission) (ds : List ChunkPayloadData) → AreLike (kept_of t.kept) t.flight.queue.inflight.chunks ds
     → total_bytes (after_take_back sack t).flight.queue ≡ total_bytes t.flight.queue + bytes_back (taken_back_by sack t)
-back-more sack t ds a = by t.kept (settled-kept (kept_of t.kept) t.flight.queue.inflight.chunks ds a)
-  where
-    cs : List ChunkPayloadData
-    cs = t.flight.queue.inflight.chunks
-
-    by : (o : Option (List (Option (List ℕ)))) → AreSettled t.flight.queue.inflight.chunks
-        → total_bytes (with_restored (back_by sack t.flight o) t.flight).queue
-        ≡ total_bytes t.flight.queue + bytes_back (answered_back (back_by sack t.flight o) t.flight.queue.inflight.chunks)
-    by None k = omega arith
-    by (Some ks) k =
-        at-if (λ bs. total_bytes (with_restored bs t.flight).queue ≡ total_bytes t.flight.queue + bytes_back (answered_back bs t.flight.queue.inflight.chunks))
-        (is_outdated sack t.flight)
-        (λ _. omega arith)
-        (λ _. let a = back-bytes sack t.flight.queue.inflight.chunks ks k in
-        let b = answered-weight (back_each sack t.flight.queue.inflight.chunks ks) t.flight.queue.inflight.chunks
-        (back-length sack t.flight.queue.inflight.chunks ks) in
-        omega (arith, a, b))
+back-more sack t ds a = grind (arith, nat_tests, common_steps, settled-kept, back-bytes, answered-weight, back-length)
 
 fits-back : (a : Bool) (o : Option SenderRefusal) (b : Bool) → o ≡ None → b ≡ true → (if a then or_full o b else None) ≡ None
 fits-back a o b none fits = grind (arith, nat_tests)

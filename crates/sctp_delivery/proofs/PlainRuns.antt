@@ -1,17 +1,11 @@
 -- Sessions of a sender that keeps what is reported: beside each there is one in which no gap ack block is taken, with the same chunks.
-use Rattle.sctp_delivery.proofs.Names.{◌≡◌, AllPairs, ℕ, ◌<◌, ◌≤◌, ◌+◌, ◌^◌, true, List, [], ◌∷◌, ◌++◌, length, refl, ap, ap₂, sym, subst}
-use Rattle.sctp_delivery.proofs.Names.{◌∙◌, arith, append-nil, append_assoc, Option, Some, None, if◌then◌else◌, ◌==◌, ◌&&◌, nat_lt, list_all, list_any}
-use Rattle.sctp_delivery.proofs.Names.{list_any_at}
-use Rattle.sctp_delivery.proofs.Names.{All, Contains, sum_by, Sack, Limits, Transmission, Drop}
-use Rattle.sctp_delivery.proofs.Names.{total_bytes, with_inflight, is_outdated, sack_refusal, Session, RunsTo}
-use Rattle.sctp_delivery.proofs.Names.{at_start, bytes_written}
-use Rattle.sctp_delivery.proofs.Names.{of_receiver, of_sender, abandoned_in, tsns_given, Modes, at_first, modes_from}
-use Rattle.sctp_delivery.proofs.Names.{Write}
-use Rattle.sctp_delivery.proofs.Names.{chunk_count, is_exhausted, reads_nothing, reports_tsn, held_by_sender, StandAt, AreMade, AreMessages}
-use Rattle.sctp_delivery.proofs.Names.{Stand, Call, Data, data_chunk}
-use Rattle.sctp_delivery.proofs.Names.{EachOtherIsReadOnce, slice_index_or, ◌-◌}
-use Rattle.sctp_delivery.proofs.Names.{AreWrites, AreWritesOfTheirOwn, NoneIsReadTwice, AreReadInOrder, NoneIsRefused, NoneIsTakenTwice, EachSackTells}
-use Rattle.sctp_delivery.proofs.Names.{at_or_before}
+use Rattle.sctp_delivery.proofs.Names.{nat_tests, common_steps, ◌≡◌, AllPairs, ℕ, ◌<◌, ◌≤◌, ◌+◌, ◌^◌, true, List, [], ◌∷◌, ◌++◌, length, refl, ap, ap₂, sym}
+use Rattle.sctp_delivery.proofs.Names.{subst, ◌∙◌, arith, append_assoc, Option, Some, None, if◌then◌else◌, ◌==◌, ◌&&◌, nat_lt, list_all, list_any, list_any_at}
+use Rattle.sctp_delivery.proofs.Names.{All, Contains, sum_by, Sack, Limits, Transmission, Drop, total_bytes, with_inflight, is_outdated, sack_refusal, Session}
+use Rattle.sctp_delivery.proofs.Names.{RunsTo, at_start, bytes_written, of_receiver, of_sender, abandoned_in, tsns_given, Modes, at_first, modes_from, Write}
+use Rattle.sctp_delivery.proofs.Names.{chunk_count, is_exhausted, reads_nothing, reports_tsn, held_by_sender, StandAt, AreMade, AreMessages, Stand, Call, Data}
+use Rattle.sctp_delivery.proofs.Names.{data_chunk, EachOtherIsReadOnce, slice_index_or, ◌-◌, AreWrites, AreWritesOfTheirOwn, NoneIsReadTwice, AreReadInOrder}
+use Rattle.sctp_delivery.proofs.Names.{NoneIsRefused, NoneIsTakenTwice, EachSackTells, at_or_before}
 use Rattle.std.specs.Prelude.{◌≢◌}
 use Rattle.sctp_util.specs.Serial.{distance}
 use Rattle.sctp_sender.specs.declared.sender.Reported.{Reported}
@@ -21,7 +15,7 @@ use Rattle.sctp_sender.specs.declared.sender.refusal.SenderRefusal.TheVariants.{
 use Rattle.sctp_sender.specs.Flight.{count_acked, is_within}
 use Rattle.sctp_sender.specs.Keeping.{bytes_back}
 use Rattle.sctp_sender.specs.Totals.{bytes_in}
-use Rattle.sctp_sender.specs.Sender.{take_back_refusal, taken_back_by}
+use Rattle.sctp_sender.specs.Sender.{take_back_refusal}
 use Rattle.sctp_sender.specs.SenderRuns as sender_runs
 use Rattle.sctp_sender.proofs.Accounts as accounts
 use Rattle.sctp_delivery.specs.Abandoned.{IsEachOtherReadInTheEnd}
@@ -29,12 +23,13 @@ use Rattle.sctp_delivery.specs.Messages.{AreParts, AreSame, IsPart}
 use Rattle.sctp_delivery.specs.Modes.{AreReadAsWritten, AreSentAsWritten, IsUnorderedAt, was_written_ordered}
 use Rattle.sctp_delivery.specs.Order.{places_where}
 use Rattle.sctp_delivery.specs.Returns.{AfterEachWithReturns, AfterEachWithReturnsOfFewTsns, CallOrReturn, EachAckedIsTwoCalls, IsAccountedSo, NoneIsRefusedSo}
-use Rattle.sctp_delivery.specs.Returns.{FollowsOrReturns, RunsWithReturns, TakesBack, abandoned_so, after_return, at_start_with, makes, other_calls, takes_back, tsns_given_so}
+use Rattle.sctp_delivery.specs.Returns.{FollowsOrReturns, RunsWithReturns, TakesBack, abandoned_so, after_return, at_start_with, makes, other_calls, takes_back}
+use Rattle.sctp_delivery.specs.Returns.{tsns_given_so}
 use Rattle.sctp_delivery.specs.Sacks.{LeftCame, ReportWhatCame}
 use Rattle.sctp_delivery.specs.SenderCalls as outgoing
 use Rattle.sctp_delivery.proofs.Delivered as delivered
 use Rattle.sctp_delivery.proofs.Delivered.{next_tsn}
-use Rattle.sctp_delivery.proofs.Every.{Every, all-of-every, every-of, one-of}
+use Rattle.sctp_delivery.proofs.Every.{all-of-every, every-of, one-of}
 use Rattle.sctp_delivery.proofs.ModeSessions as modes
 use Rattle.sctp_delivery.proofs.OnceWritten as once_written
 use Rattle.sctp_delivery.proofs.OneRead.{no-way}
@@ -85,21 +80,13 @@ counted (takes_back sack back ∷ cs) old new r h =
     counted cs r.0 new r.1.1 (let e = ap bytes_written f.after in let w = f.step.written in omega (arith, e, w, h))
 
 pub accounted : AfterEachWithReturns (λ calls s. IsAccountedSo s)
-accounted reported tsn size max most limits cs s r =
-    let start = at_start_with reported tsn size max most limits in
-    let law = accounts.accounted tsn size max reported (sender_calls cs) s.sending (sender-runs cs start s r) in
-    let c = counted cs start s r refl in
-    omega (arith, law, c)
+accounted reported tsn size max most limits cs s r = grind (arith, nat_tests, common_steps, accounts.accounted, sender-runs, counted)
 
 -- ## Every call
 
 pub grows : (cs : List CallOrReturn) (old new : Session) → RunsWithReturns old cs new → bytes_written old ≤ bytes_written new
 grows [] old new r = let e = ap bytes_written r in omega (arith, e)
-grows (makes (of_sender call) ∷ cs) old new r =
-    let e = ap bytes_written r.1.0.after in
-    let m = written-more call old.written in
-    let rest = grows cs r.0 new r.1.1 in
-    omega (arith, e, m, rest)
+grows (makes (of_sender call) ∷ cs) old new r = grind (arith, nat_tests, common_steps, written-more, grows cs r.0 new r.1.1)
 grows (makes (of_receiver call) ∷ cs) old new r = let e = ap bytes_written r.1.0.after in let rest = grows cs r.0 new r.1.1 in omega (arith, e, rest)
 grows (takes_back sack back ∷ cs) old new r = let e = ap bytes_written r.1.0.after in let rest = grows cs r.0 new r.1.1 in omega (arith, e, rest)
 
@@ -126,34 +113,13 @@ modes-cons (takes_back sack back) cs m = refl
 module _ (first size max most : ℕ) (limits : Option Limits) (small : first < 2 ^ 32) where
   returns-goes : (sack : Sack) (back : List TakenBack) (s v : Session) (n : ℕ) (gone : List ℕ) (m : Modes) → TakesBack sack back s v
       → Goes first size max most limits s.sending.sender s n gone m → Goes first size max most limits v.sending.sender v n gone m
-  returns-goes sack back s v n gone m f g =
-      let t = s.sending.sender in
-      let x = g.shadow in
-      subst (λ (y : Transmission). Goes first size max most limits y v n gone m) (sym f.exact) (record {
-        other = g.other;
-        shadow = record {
-          streams = x.streams;
-          chunks = x.chunks;
-          sender = x.sender;
-          alike = returned-alike (taken_back_by sack t) t.streams ∙ x.alike;
-          like = back-like sack t.flight t.kept x.chunks x.like;
-          receiving = x.receiving ∙ sym (ap (λ (y : Session). y.receiving) f.after);
-          made = x.made ∙ sym (ap (λ (y : Session). y.made) f.after);
-          written = x.written ∙ sym (ap (λ (y : Session). y.written) f.after);
-          sacks = subst (Every (IsThere g.other.sacks)) (sym (ap (λ (y : Session). y.sacks) f.after)) x.sacks;
-        };
-        plays = g.plays;
-      })
+  returns-goes sack back s v n gone m f g = grind (arith, nat_tests, common_steps, returned-alike, back-like)
 
   -- no TSN is given out, and no message abandoned
   unmoved : (s v : Session) (n : ℕ) (gone : List ℕ) (m : Modes) → next_tsn v ≡ next_tsn s → n + distance (next_tsn s) (next_tsn v) < 2 ^ 31
       → Goes first size max most limits s.sending.sender s n gone m → Goes first size max most limits v.sending.sender v n gone m
       → Goes first size max most limits v.sending.sender v (n + distance (next_tsn s) (next_tsn v)) (gone ++ []) m
-  unmoved s v n gone m same few g h =
-      let near = small-next first size max most limits s.sending.sender s n gone m small (omega (arith, few)) g in
-      let none : distance (next_tsn s) (next_tsn v) ≡ 0 = ap (distance (next_tsn s)) same ∙ no-way (next_tsn s) near in
-      subst (λ k. Goes first size max most limits v.sending.sender v k (gone ++ []) m) {x = n} {y = n + distance (next_tsn s) (next_tsn v)} (omega (arith, none))
-      (subst (λ xs. Goes first size max most limits v.sending.sender v n xs m) (sym (append-nil gone)) h)
+  unmoved s v n gone m same few g h = grind (arith, nat_tests, common_steps, small-next, no-way)
 
   -- one call
   pub one-goes : (c : CallOrReturn) (s v : Session) (n : ℕ) (gone : List ℕ) (m : Modes) → FollowsOrReturns c s v
@@ -170,10 +136,7 @@ module _ (first size max most : ℕ) (limits : Option Limits) (small : first < 2
   all-go : (cs : List CallOrReturn) (s new : Session) (r : RunsWithReturns s cs new) (n : ℕ) (gone : List ℕ) (m : Modes) → n + tsns_given_so s cs new r < 2 ^ 31
       → bytes_written new < 2 ^ 64 → Goes first size max most limits s.sending.sender s n gone m
       → Goes first size max most limits new.sending.sender new (n + tsns_given_so s cs new r) (gone ++ abandoned_so s cs new r) (modes_from m (other_calls cs))
-  all-go [] s new r n gone m few short g =
-      subst (λ k. Goes first size max most limits new.sending.sender new k (gone ++ []) m) {x = n} {y = n + 0} (omega arith)
-      (subst (λ xs. Goes first size max most limits new.sending.sender new n xs m) (sym (append-nil gone))
-      (subst (λ (y : Session). Goes first size max most limits y.sending.sender y n gone m) (sym r) g))
+  all-go [] s new r n gone m few short g = grind (arith, nat_tests, common_steps)
   all-go (c ∷ cs) s new r n gone m few short g =
       let d = distance (next_tsn s) (next_tsn r.0) in
       let rest = tsns_given_so r.0 cs new r.1.1 in
@@ -226,19 +189,8 @@ module _ (reported : Reported) (first size max most : ℕ) (limits : Option Limi
   pub shadow : Shadows s.sending.sender s goes.other
   shadow = goes.shadow
 
-  pub calls-there : List Call
-  calls-there = goes.plays.calls
-
-  -- the other one, with what is the same
-  abbrev seen : Session
-  seen = record { sending = goes.other.sending; receiving = s.receiving; made = s.made; sacks = goes.other.sacks; written = s.written }
-
   as-seen : goes.other ≡ record { sending = goes.other.sending; receiving = s.receiving; made = s.made; sacks = goes.other.sacks; written = s.written }
-  as-seen =
-      let d = goes.other in
-      ap (λ r. let y : Session = record d { receiving = r } in y) goes.shadow.receiving
-      ∙ ap (λ ms. let y : Session = record d { receiving = s.receiving; made = ms } in y) goes.shadow.made
-      ∙ ap (λ ws. let y : Session = record d { receiving = s.receiving; made = s.made; written = ws } in y) goes.shadow.written
+  as-seen = grind (arith, nat_tests, common_steps)
 
   -- what is so of each session that gives out few TSNs
   pub so : (P : Session → Type 0) → ((cs : List Call) (r : RunsTo (at_start first size max most limits) cs goes.other)
@@ -252,25 +204,14 @@ module _ (reported : Reported) (first size max most : ℕ) (limits : Option Limi
       → P (modes_from at_first cs) (abandoned_in (at_start first size max most limits) cs goes.other r) goes.other)
       → P (modes_from at_first (other_calls calls)) (abandoned_so (at_start_with reported first size max most limits) calls s run)
       (record { sending = goes.other.sending; receiving = s.receiving; made = s.made; sacks = goes.other.sacks; written = s.written })
-  so-called P law =
-      let p = goes.plays in
-      subst (λ m. P m (abandoned_so (at_start_with reported first size max most limits) calls s run)
-      (record { sending = goes.other.sending; receiving = s.receiving; made = s.made; sacks = goes.other.sacks; written = s.written })) p.said
-      (subst (λ xs. P (modes_from at_first p.calls) xs
-      (record { sending = goes.other.sending; receiving = s.receiving; made = s.made; sacks = goes.other.sacks; written = s.written })) p.left
-      (subst (P (modes_from at_first p.calls) (abandoned_in (at_start first size max most limits) p.calls goes.other p.run)) as-seen
-      (law p.calls p.run (let e = p.given in omega (arith, e, few)))))
+  so-called P law = grind (arith, nat_tests, common_steps, as-seen)
 
   pub so-given : (P : ℕ → Session → Type 0) → ((cs : List Call) (r : RunsTo (at_start first size max most limits) cs goes.other)
       → tsns_given (at_start first size max most limits) cs goes.other r < 2 ^ 31
       → P (tsns_given (at_start first size max most limits) cs goes.other r) goes.other)
       → P (tsns_given_so (at_start_with reported first size max most limits) calls s run)
       (record { sending = goes.other.sending; receiving = s.receiving; made = s.made; sacks = goes.other.sacks; written = s.written })
-  so-given P law =
-      let p = goes.plays in
-      subst (λ k. P k (record { sending = goes.other.sending; receiving = s.receiving; made = s.made; sacks = goes.other.sacks; written = s.written })) p.given
-      (subst (P (tsns_given (at_start first size max most limits) p.calls goes.other p.run)) as-seen
-      (law p.calls p.run (let e = p.given in omega (arith, e, few))))
+  so-given P law = grind (arith, nat_tests, common_steps, as-seen)
 
   pub tells-so : EachSackTells s
   tells-so =

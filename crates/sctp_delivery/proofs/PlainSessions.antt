@@ -1,18 +1,9 @@
 -- A session of a sender that keeps what is reported, beside one in which no gap ack block is taken: both make the same chunks.
-use Rattle.sctp_delivery.proofs.Names.{◌≡◌, ℕ, ◌<◌, ◌+◌, ◌^◌, List, [], ◌∷◌, ◌++◌, map, refl, ap, sym}
-use Rattle.sctp_delivery.proofs.Names.{subst}
-use Rattle.sctp_delivery.proofs.Names.{◌∙◌, arith, append-nil, append_assoc, Option, Some, None}
-use Rattle.sctp_delivery.proofs.Names.{Contains}
-use Rattle.sctp_delivery.proofs.Names.{ChunkPayloadData, Sack, Limits, OutboundStream}
-use Rattle.sctp_delivery.proofs.Names.{data_of}
-use Rattle.sctp_delivery.proofs.Names.{distance}
-use Rattle.sctp_delivery.proofs.Names.{Transmission}
-use Rattle.sctp_delivery.proofs.Names.{Call, Follows, ReceiverFollows, RunsTo}
-use Rattle.sctp_delivery.proofs.Names.{Session}
-use Rattle.sctp_delivery.proofs.Names.{IsReported, at_start, of_receiver, of_sender, abandoned_by, abandoned_in, tsns_given, Modes, at_first}
-use Rattle.sctp_delivery.proofs.Names.{modes_after, modes_from, SenderCall, SenderMakes, ReceiverCall, made_after, written_after}
-use Rattle.sctp_delivery.proofs.Names.{reports_after}
-use Rattle.sctp_delivery.proofs.Names.{Made, Write}
+use Rattle.sctp_delivery.proofs.Names.{nat_tests, common_steps, ◌≡◌, ℕ, ◌<◌, ◌+◌, ◌^◌, List, [], ◌∷◌, ◌++◌, map, refl, ap, sym, subst, ◌∙◌, arith, append-nil}
+use Rattle.sctp_delivery.proofs.Names.{append_assoc, Option, Some, None, Contains, ChunkPayloadData, Sack, Limits, OutboundStream, distance, Transmission, Call}
+use Rattle.sctp_delivery.proofs.Names.{Follows, ReceiverFollows, RunsTo, Session, IsReported, at_start, of_receiver, of_sender, abandoned_by, abandoned_in}
+use Rattle.sctp_delivery.proofs.Names.{tsns_given, Modes, at_first, modes_after, modes_from, SenderCall, SenderMakes, ReceiverCall, made_after, written_after}
+use Rattle.sctp_delivery.proofs.Names.{reports_after, Made, Write}
 use Rattle.sctp_delivery.specs.Session.{IsSent}
 use Rattle.sctp_delivery.specs.SenderCalls as outgoing
 use Rattle.sctp_delivery.specs.ReceiverCalls as incoming
@@ -91,14 +82,7 @@ pub record Shadows (t : Transmission) (s d : Session) : Type 0 where
 
 -- what is handed to the receiver of the one is handed to that of the other
 pub sent-too : (call : ReceiverCall) (s d : Session) → d.made ≡ s.made → IsSent call s → IsSent call d
-sent-too (incoming.takes c arrival) s d e h = subst (λ ms. Contains ms (outgoing.data_chunk (data_of c))) (sym e) h
-sent-too (incoming.follows f) s d e h = subst (λ ms. Contains ms (outgoing.forward_tsn f)) (sym e) h
-sent-too (incoming.opens stream) s d e h = tt
-sent-too (incoming.reports credit) s d e h = tt
-sent-too (incoming.reports_within credit bytes) s d e h = tt
-sent-too (incoming.makes_sack credit bytes) s d e h = tt
-sent-too incoming.forgets s d e h = tt
-sent-too (incoming.reads stream) s d e h = tt
+sent-too h0 h1 h2 h3 h4 = grind (arith, nat_tests, common_steps)
 
 module _ (first size max most : ℕ) (limits : Option Limits) where
   -- it is one that gives out so many TSNs, abandons these messages and has these modes
@@ -194,33 +178,7 @@ module _ (first size max most : ℕ) (limits : Option Limits) where
         → as_plain u g.shadow.streams g.shadow.chunks ≡ as_plain t g.shadow.streams g.shadow.chunks → t.flight.next_tsn < 2 ^ 32
         → ((ms : List Made) → made_after call t ms ≡ ms) → ((ws : List Write) → written_after call ws ≡ ws) → modes_after call m ≡ m
         → abandoned_by call t ≡ [] → After
-    stays-so alike like same near same-made same-written same-modes same-gone =
-        let x = g.shadow in
-        let d = g.other in
-        let p = g.plays in
-        let next : u.flight.next_tsn ≡ t.flight.next_tsn = ap (λ (y : Transmission). y.flight.next_tsn) same in
-        let none : distance t.flight.next_tsn u.flight.next_tsn ≡ 0 = ap (distance t.flight.next_tsn) next ∙ no-way t.flight.next_tsn near in
-        record {
-          other = d;
-          shadow = record {
-            streams = x.streams;
-            chunks = x.chunks;
-            sender = x.sender ∙ sym same;
-            alike = alike ∙ x.alike;
-            like = like;
-            receiving = x.receiving ∙ sym received;
-            made = x.made ∙ sym (same-made s.made) ∙ sym made;
-            written = x.written ∙ sym (same-written s.written) ∙ sym wrote;
-            sacks = subst (Every (IsThere d.sacks)) (sym reported) x.sacks;
-          };
-          plays = record {
-            calls = p.calls;
-            run = p.run;
-            given = p.given ∙ (let z : n ≡ n + distance t.flight.next_tsn u.flight.next_tsn = omega (arith, none) in z);
-            left = p.left ∙ sym (ap (λ xs. gone ++ xs) same-gone ∙ append-nil gone);
-            said = p.said ∙ sym same-modes;
-          };
-        }
+    stays-so alike like same near same-made same-written same-modes same-gone = grind (arith, nat_tests, common_steps, no-way)
 
   -- ## A call of the receiver
 
@@ -238,14 +196,7 @@ module _ (first size max most : ℕ) (limits : Option Limits) where
 
   there-after : (call : ReceiverCall) (r : _) (ks ss : List Sack) → Every (IsThere ks) ss
       → Every (IsThere (reports_after call r (sack_within 0 0 r ∷ ks))) (reports_after call r ss)
-  there-after (incoming.reports credit) r ks ss h = there-new _ (sack_within 0 0 r) ks ss (record { same = refl; none = refl }) h
-  there-after (incoming.reports_within credit bytes) r ks ss h = there-new _ (sack_within 0 0 r) ks ss (record { same = refl; none = refl }) h
-  there-after (incoming.makes_sack credit bytes) r ks ss h = there-new _ (sack_within 0 0 r) ks ss (record { same = refl; none = refl }) h
-  there-after (incoming.takes c arrival) r ks ss h = there-more (sack_within 0 0 r) ks ss h
-  there-after (incoming.follows f) r ks ss h = there-more (sack_within 0 0 r) ks ss h
-  there-after (incoming.opens stream) r ks ss h = there-more (sack_within 0 0 r) ks ss h
-  there-after incoming.forgets r ks ss h = there-more (sack_within 0 0 r) ks ss h
-  there-after (incoming.reads stream) r ks ss h = there-more (sack_within 0 0 r) ks ss h
+  there-after h0 h1 h2 h3 h4 = grind (arith, nat_tests, common_steps, there-new, there-more)
 
   -- the receiver makes the same, and before it a SACK without blocks
   pub receives-too : (call : ReceiverCall) (s v : Session) (n : ℕ) (gone : List ℕ) (m : Modes) → first < 2 ^ 32 → n < 2 ^ 31

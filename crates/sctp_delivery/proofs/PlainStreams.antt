@@ -1,7 +1,8 @@
 -- The streams of two senders that are alike but for how many bytes wait and are in flight.
-use Rattle.sctp_delivery.proofs.Names.{◌≡◌, ℕ, Bool, true, false, List, [], ◌∷◌, ◌++◌, map, refl, ap, ap₂, sym, ◌∙◌, Option, Some, None, option_map, is_some}
-use Rattle.sctp_delivery.proofs.Names.{if◌then◌else◌, find, change_where, OutboundStream, PayloadProtocolIdentifier, AbandonedMessage, Released}
-use Rattle.sctp_delivery.proofs.Names.{has_number, less_by, after_releases, after_leaving, after_expiry, wrote, with_size, with_low, with_mode}
+use Rattle.sctp_delivery.proofs.Names.{arith, nat_tests, common_steps, ◌≡◌, ℕ, Bool, true, false, List, [], ◌∷◌, ◌++◌, map, refl, ap, ap₂, sym, ◌∙◌, Option}
+use Rattle.sctp_delivery.proofs.Names.{Some, None, option_map, is_some, if◌then◌else◌, find, change_where, OutboundStream, PayloadProtocolIdentifier}
+use Rattle.sctp_delivery.proofs.Names.{AbandonedMessage, Released, has_number, less_by, after_releases, after_leaving, after_expiry, wrote, with_size, with_low}
+use Rattle.sctp_delivery.proofs.Names.{with_mode}
 use Rattle.sctp_sender.specs.declared.sender.flight.kept.TakenBack.{TakenBack}
 use Rattle.sctp_sender.specs.Keeping.{after_returns, more_by}
 use Rattle.sctp_delivery.proofs.Cases.{at-if, at-test}
@@ -74,11 +75,7 @@ both-sized size ls ms e = one ls ∙ ap (map (with_size size)) e ∙ sym (one ms
     one (l ∷ ls) = ap (λ xs. with_size size (bare l) ∷ xs) (one ls)
 
 pub both-opened : (l : OutboundStream) (ls ms : List OutboundStream) → AreAlike ls ms → AreAlike (ls ++ l ∷ []) (ms ++ l ∷ [])
-both-opened l ls ms e = one ls ∙ ap (λ xs. xs ++ bare l ∷ []) e ∙ sym (one ms)
-  where
-    one : (ls : List OutboundStream) → map bare (ls ++ l ∷ []) ≡ map bare ls ++ bare l ∷ []
-    one [] = refl
-    one (x ∷ xs) = ap (λ ys. bare x ∷ ys) (one xs)
+both-opened l ls ms e = grind (arith, nat_tests, common_steps)
 
 -- ## Which streams are open
 
@@ -97,13 +94,3 @@ open-alike s ls ms e = sym (one (find (has_number s) ls)) ∙ ap is_some (found-
     one : (o : Option OutboundStream) → is_some (option_map bare o) ≡ is_some o
     one None = refl
     one (Some l) = refl
-
--- the stream that is open there too
-pub there-too : (s : ℕ) (ls ms : List OutboundStream) → AreAlike ls ms → (l : OutboundStream) → find (has_number s) ls ≡ Some l
-    → (m : OutboundStream) × (find (has_number s) ms ≡ Some m) × (bare l ≡ bare m)
-there-too s ls ms e l is = by (find (has_number s) ms) refl (ap (option_map bare) (sym is) ∙ found-alike s ls ms e)
-  where
-    by : (o : Option OutboundStream) → find (has_number s) ms ≡ o → Some (bare l) ≡ option_map bare o
-        → (m : OutboundStream) × (find (has_number s) ms ≡ Some m) × (bare l ≡ bare m)
-    by None i h = cc
-    by (Some m) i h = (m, i, cc)

@@ -1,12 +1,12 @@
 -- Each chunk that comes makes something of its stream's queue: of fragments there is a run that ends earliest, or there is none.
-use Rattle.sctp_delivery.proofs.Names.{◌≡◌, ℕ, zero, suc, ◌+◌, ◌-◌, ◌%◌, ◌^◌, ◌<◌, ◌≤◌, Bool, true, false, List, [], ◌∷◌, ◌++◌, length, get_or, take, drop, inl}
-use Rattle.sctp_delivery.proofs.Names.{inr, refl, ap, sym, subst, ◌∙◌, arith, ◌⊎◌, ◌==◌, ◌||◌, if◌then◌else◌, cases_lt, nat_tests, get_or_default}
+use Rattle.sctp_delivery.proofs.Names.{common_steps, ◌≡◌, ℕ, zero, suc, ◌+◌, ◌-◌, ◌%◌, ◌^◌, ◌<◌, ◌≤◌, Bool, true, false, List, [], ◌∷◌, ◌++◌, length, get_or}
+use Rattle.sctp_delivery.proofs.Names.{take, drop, inl, inr, refl, ap, sym, subst, ◌∙◌, arith, ◌⊎◌, ◌==◌, if◌then◌else◌, cases_lt, nat_tests, get_or_default}
 use Rattle.sctp_delivery.proofs.Names.{insert_before, not_both, ChunkPayloadData, Reassembly, ReassemblyState, set_of_run, chunk_before, is_on, HasNoRun}
-use Rattle.sctp_delivery.proofs.Names.{IsEarliestRun, IsRun, filter, list_any, same-is, ChunkForwardTsnStream, last_of, Name, is_pair_of, pairs_of}
+use Rattle.sctp_delivery.proofs.Names.{IsEarliestRun, IsRun, filter, list_any, same-is, ChunkForwardTsnStream, last_of, Name}
 use Rattle.std.specs.Prelude.{max}
 use Rattle.sctp_reassembly.specs.reassembly_queue.ReassemblyQueue.{PushesUnordered, count_up}
 use Rattle.sctp_sender.specs.Abandonment.{pair_of}
-use Rattle.sctp_delivery.proofs.Cases.{at-test, by-test}
+use Rattle.sctp_delivery.proofs.Cases.{by-test}
 
 -- ## Searching
 
@@ -63,10 +63,7 @@ each-below P decide n = by (first-below (λ k. P k → ⊥) (λ k. refuted (deci
     by (inr none) = inl (λ k lt. elim (decide k) [ inl h ↦ h | inr h ↦ absurd (none k lt h) ])
 
 either : (b c : Bool) → Decided (b ≡ c)
-either true true = inl refl
-either true false = inr (λ e. not_both (sym e))
-either false true = inr (λ e. not_both e)
-either false false = inl refl
+either h0 h1 = grind (arith, nat_tests, common_steps, not_both)
 
 equal : (a b : ℕ) → Decided (a ≡ b)
 equal a b = by-test (a == b) (λ e. inl (grind (arith, nat_tests, e))) (λ e. inr (grind (arith, nat_tests, e)))
@@ -89,13 +86,7 @@ module _ (xs : List ChunkPayloadData) (x : ChunkPayloadData) where
   Inner f k = f ≤ k → ((at (k + 1)).beginning_fragment ≡ false) × ((at (k + 1)).tsn ≡ ((at k).tsn + 1) % 2 ^ 32)
 
   inner : (f k : ℕ) → Decided (Inner f k)
-  inner f k = elim (cases_lt k f) [
-    | inl lt ↦ inl (λ le. absurd (omega (arith, lt, le)))
-    | inr ge ↦ elim (pair (either (at (k + 1)).beginning_fragment false) (equal (at (k + 1)).tsn (((at k).tsn + 1) % 2 ^ 32))) [
-      | inl h ↦ inl (λ le. h)
-      | inr none ↦ inr (λ h. none (h ge))
-    ]
-  ]
+  inner f k = grind (arith, nat_tests, common_steps, pair, either, equal)
 
   -- what a run is, asked at its places
   abbrev Parts : ℕ → ℕ → Type 0
@@ -130,16 +121,7 @@ module _ (xs : List ChunkPayloadData) (x : ChunkPayloadData) where
     }
 
     parts-of-run : IsRun xs f (e - f) → Parts f e
-    parts-of-run r = (
-      (
-        r.begins x,
-        let same : e - 1 ≡ f + (e - f) - 1 = omega (arith, lt) in ap (λ j. (at j).ending_fragment) same ∙ r.ends x,
-      ),
-      λ k less from. (
-        r.no_other (k + 1) x (omega (arith, from)) (omega (arith, from, less, lt)),
-        r.rising k x from (omega (arith, from, less, lt)),
-      ),
-    )
+    parts-of-run r = grind (arith, nat_tests, common_steps)
 
   -- a run from there that ends there
   abbrev RunOf : ℕ → ℕ → Type 0
@@ -234,36 +216,14 @@ names (c ∷ cs) = if list_any (is_on c.stream_identifier) cs then names cs else
 
 none-on : (s : ℕ) (cs : List ChunkPayloadData) → list_any (is_on s) cs ≡ false → filter (is_on s) cs ≡ []
 none-on s [] e = refl
-none-on s (c ∷ cs) e = at-test (λ b. (b || list_any (is_on s) cs) ≡ false → (if b then c ∷ filter (is_on s) cs else filter (is_on s) cs) ≡ [])
-    (is_on s c)
-    (λ e f. absurd (not_both (sym f)))
-    (λ e f. (none-on s cs) f) e
+none-on s (c ∷ cs) e = grind (arith, nat_tests, common_steps, not_both, none-on s cs)
 
 -- one in front of some changes nothing
 last-same : (s : ℕ) (c : ChunkPayloadData) (cs : List ChunkPayloadData) → list_any (is_on s) cs ≡ true
     → last_of (c ∷ filter (is_on s) cs) ≡ last_of (filter (is_on s) cs)
 last-same s c [] e = absurd (not_both e)
-last-same s c (d ∷ ds) e = at-test (λ b. (b || list_any (is_on s) ds) ≡ true → last_of
-    (c ∷ (if b then d ∷ filter (is_on s) ds else filter (is_on s) ds)) ≡ last_of (if b then d ∷ filter (is_on s) ds else filter (is_on s) ds))
-    (is_on s d)
-    (λ e f. refl)
-    (λ e f. (last-same s c ds) f) e
+last-same s c (d ∷ ds) e = grind (arith, nat_tests, common_steps, last-same s c ds)
 
 pub named : (cs : List ChunkPayloadData) → Name (names cs) cs
 named [] s = refl
-named (c ∷ cs) s = by (list_any (is_on c.stream_identifier) cs) (is_on s c) refl refl (named cs s)
-  where
-    by : (b k : Bool) → list_any (is_on c.stream_identifier) cs ≡ b → is_on s c ≡ k
-        → filter (is_pair_of s) (names cs) ≡ pairs_of (last_of (filter (is_on s) cs))
-        → filter (is_pair_of s) (if b then names cs else pair_of c ∷ names cs)
-        ≡ pairs_of (last_of (if k then c ∷ filter (is_on s) cs else filter (is_on s) cs))
-    by true true e on ih =
-        ih ∙ ap pairs_of (sym (last-same s c cs (ap (λ t. list_any (is_on t) cs) (sym (same-is c.stream_identifier s on)) ∙ e)))
-    by true false e on ih = ih
-    by false true e on ih =
-        let none : filter (is_on s) cs ≡ [] = none-on s cs (ap (λ t. list_any (is_on t) cs) (sym (same-is c.stream_identifier s on)) ∙ e) in
-        ap (λ k. if k then pair_of c ∷ filter (is_pair_of s) (names cs) else filter (is_pair_of s) (names cs)) on
-        ∙ ap (λ ps. pair_of c ∷ ps) (ih ∙ ap (λ ds. pairs_of (last_of ds)) none)
-        ∙ ap (λ ds. pairs_of (last_of (c ∷ ds))) (sym none)
-    by false false e on ih =
-        ap (λ k. if k then pair_of c ∷ filter (is_pair_of s) (names cs) else filter (is_pair_of s) (names cs)) on ∙ ih
+named (c ∷ cs) s = grind (arith, nat_tests, common_steps, last-same, same-is, none-on, named cs s)

@@ -1,27 +1,24 @@
 -- How long messages may be: in each session what the sender and the streams of the receiver were given stays, and no write is longer.
 use Rattle.sctp_delivery.proofs.Names.{◌≡◌, ℕ, ◌+◌, ◌%◌, ◌^◌, ◌<◌, ◌≤◌, Bool, true, false, not, List, [], ◌∷◌, Option, Some, None, inl, inr, refl, ap, sym}
-use Rattle.sctp_delivery.proofs.Names.{subst, ◌∙◌, arith, length, ◌==◌, ◌&&◌, ◌||◌, Contains, if◌then◌else◌, nat_le, nat_lt, list_any, list_all, option_or}
-use Rattle.sctp_delivery.proofs.Names.{cases_lt, nat_tests, none-some, common_steps, distance16, or-left, or-split, same-is, same-yes, and-none, or-right}
-use Rattle.sctp_delivery.proofs.Names.{some-same, and, not_both, both, tsn, ChunkPayloadData, ChunkSet, Data, data_of, has_tsn, bytes_of, chunk_before}
-use Rattle.sctp_delivery.proofs.Names.{message_read, Reassembly, ReassemblyState, New, Repeat, InboundStream, TsnOpposite, Limits, Reception, arrival_refusal}
-use Rattle.sctp_delivery.proofs.Names.{filter_of, follow_forward_tsn, is_stale, new_refusal, stream_of, is_open, without_incomplete, incomplete_forwarded}
-use Rattle.sctp_delivery.proofs.Names.{is_ssn_too_far, is_too_far_on, lowest_ssn, has_come, is_opposite, reports, is_ordered_on, held_weight, abandoned_in}
-use Rattle.sctp_delivery.proofs.Names.{ReceiverCall, AfterEachUnlimitedSession, IsInFlight, is_takable, is_reported, tsns_given, was_taken, Call}
-use Rattle.sctp_delivery.proofs.Names.{ReceiverFollows, RunsTo, Session, at_start, of_receiver, of_sender, SenderFollows, sum_by-inserted, insert_before}
-use Rattle.sctp_delivery.proofs.Names.{size_after, size_before, Pushes, new_stream, ssns_of, stream_forwarded, stream_read, unassembled_forwarded, with_queue}
-use Rattle.sctp_delivery.proofs.Names.{Write, SenderCall, written_after, reads_nothing, Transmission}
+use Rattle.sctp_delivery.proofs.Names.{subst, ◌∙◌, arith, length, ◌==◌, ◌&&◌, ◌||◌, Contains, if◌then◌else◌, nat_le, list_any, list_all, option_or, cases_lt}
+use Rattle.sctp_delivery.proofs.Names.{nat_tests, none-some, common_steps, distance16, or-left, or-split, same-is, same-yes, and-none, or-right, some-same, and}
+use Rattle.sctp_delivery.proofs.Names.{not_both, both, tsn, ChunkPayloadData, ChunkSet, Data, data_of, has_tsn, bytes_of, chunk_before, message_read}
+use Rattle.sctp_delivery.proofs.Names.{Reassembly, ReassemblyState, New, Repeat, InboundStream, TsnOpposite, Limits, Reception, arrival_refusal, filter_of}
+use Rattle.sctp_delivery.proofs.Names.{follow_forward_tsn, is_stale, new_refusal, stream_of, is_open, without_incomplete, incomplete_forwarded, is_ssn_too_far}
+use Rattle.sctp_delivery.proofs.Names.{is_too_far_on, lowest_ssn, has_come, is_opposite, reports, is_ordered_on, held_weight, abandoned_in, ReceiverCall}
+use Rattle.sctp_delivery.proofs.Names.{AfterEachUnlimitedSession, IsInFlight, is_takable, is_reported, tsns_given, was_taken, Call, ReceiverFollows, RunsTo}
+use Rattle.sctp_delivery.proofs.Names.{Session, at_start, of_receiver, of_sender, SenderFollows, sum_by-inserted, insert_before, size_after, size_before}
+use Rattle.sctp_delivery.proofs.Names.{Pushes, ssns_of, stream_forwarded, unassembled_forwarded, Write, SenderCall, written_after, reads_nothing, Transmission}
 use Rattle.std.specs.Prelude.{is_some, not}
 use Rattle.std.specs.List.{find}
-use Rattle.sctp_receiver.specs.declared.receiver.refusal.ReceiverRefusal.TheVariants.{SsnTooFar, MessageTooLarge}
-use Rattle.sctp_receiver.specs.Limits.{refusal_by}
-use Rattle.sctp_receiver.specs.Receiver.{message_of}
-use Rattle.sctp_receiver.specs.Receiver.{stream_refusal}
+use Rattle.sctp_receiver.specs.declared.receiver.refusal.ReceiverRefusal.TheVariants.{SsnTooFar}
+use Rattle.sctp_receiver.specs.Receiver.{message_of, stream_refusal}
 use Rattle.sctp_delivery.specs.ReceiverCalls as incoming
 use Rattle.sctp_delivery.specs.Refused.{NoneInFlightIsRefused, is_due_on, IsCopy, NoneIsRefusedWhereRead}
 use Rattle.sctp_delivery.proofs.Cases.{at-if, at-test, by-test}
 use Rattle.sctp_delivery.proofs.Delivered.{found-sent}
 use Rattle.sctp_delivery.proofs.EntryLengths.{unassembled-fits, set-fits, part-fits}
-use Rattle.sctp_delivery.proofs.Every.{Every, every-contained, every-of-all, one-of, every-found}
+use Rattle.sctp_delivery.proofs.Every.{Every, every-contained, every-of-all, one-of, every-found, every-changed, every-joined, every-mapped}
 use Rattle.sctp_delivery.proofs.UnwrappedHolds.{IsCurrent, AreDue, Came, DueOn, IsOf, rises-put, Fits}
 use Rattle.sctp_delivery.proofs.KeptSessions.{complete-messages, HasKept, kept-in}
 use Rattle.sctp_delivery.proofs.InFlight.{IsKnown}
@@ -32,7 +29,6 @@ use Rattle.sctp_delivery.proofs.MessagePlaces.{entry-at}
 use Rattle.sctp_delivery.proofs.NotRefused.{begun-low, near-distance, same-index}
 use Rattle.sctp_delivery.proofs.GivenTsns.{flight-given}
 use Rattle.sctp_delivery.proofs.ReadOnce.{one}
-use Rattle.sctp_delivery.proofs.Every.{every-changed, every-joined, every-mapped}
 use Rattle.sctp_delivery.proofs.SackLaws as sacks
 use Rattle.sctp_delivery.proofs.SackSteps.{known}
 use Rattle.sctp_delivery.proofs.Sent.{Entry, WasSent, fragment, part-line}
@@ -47,12 +43,9 @@ use Rattle.sctp_delivery.proofs.UnassembledGone.{was-unassembled}
 use Rattle.sctp_delivery.proofs.UnwrappedSessions as sessions
 use Rattle.sctp_reassembly.specs.reassembly_queue.Fragments.{chunks_of_ssn}
 use Rattle.sctp_reassembly.specs.reassembly_queue.Sizes.{projected_size}
-use Rattle.sctp_receiver.specs.Inbound.{has_number}
 use Rattle.sctp_delivery.proofs.Calls.{contains-forgotten, forget}
 use Rattle.sctp_delivery.proofs.UnwrappedReads.{AreSets, IsDue}
 use Rattle.sctp_receiver.proofs.Forwarded.{followed-mapped, skipped-size}
-use Rattle.sctp_sender.specs.declared.sender.refusal.SenderRefusal.TheVariants.{MessageTooLarge as TooLargeToSend, QueueFull, StreamUnknown}
-use Rattle.sctp_sender.specs.Sender.{is_full, is_open as is_open_to_send}
 use Rattle.sctp_delivery.specs.SenderCalls as outgoing
 use Rattle.sctp_delivery.proofs.Writing.{accepted-stream}
 use Rattle.sctp_delivery.proofs.InTheEnd.{nothing}
@@ -89,17 +82,7 @@ AreWithin max ws = Every (λ w. length w.bytes ≤ max) ws
 
 written-within : (call : SenderCall) (t : Transmission) (ws : List Write) → outgoing.IsAccepted call t → AreWithin t.max_message_size ws
     → AreWithin t.max_message_size (written_after call ws)
-written-within (outgoing.writes stream ppi []) t ws a h = h
-written-within (outgoing.writes stream ppi (b ∷ bs)) t ws a h =
-    (by (is_open_to_send stream t) (nat_lt t.max_message_size (length (b ∷ bs))) refl a, h)
-  where
-    by : (o c : Bool) → nat_lt t.max_message_size (length (b ∷ bs)) ≡ c
-        → (if not o then Some StreamUnknown else (if c then Some TooLargeToSend else (if is_full (length (b ∷ bs)) t then Some QueueFull else None))) ≡ None
-        → length (b ∷ bs) ≤ t.max_message_size
-    by false c e f = absurd (none-some StreamUnknown (sym f))
-    by true true e f = absurd (none-some TooLargeToSend (sym f))
-    by true false e f = grind (arith, nat_tests, e)
-written-within call t ws a h = h
+written-within h0 h1 h2 h3 h4 = grind (arith, nat_tests, common_steps)
 
 -- ## The receiver
 
@@ -117,20 +100,9 @@ module _ (most : ℕ) where
 
   sized-after : (call : ReceiverCall) (old new : Session) → ReceiverFollows call old new → AreSized most old.receiving.receiver
       → AreSized most new.receiving.receiver
-  sized-after (incoming.opens stream) old new f s = subst (AreSized most) (sym f.step.receiver.1) (record {
-    own = s.own;
-    each = every-joined P old.receiving.receiver.streams (new_stream stream old.receiving.receiver.max_message_size ∷ []) s.each (s.own, tt);
-  })
+  sized-after (incoming.opens stream) old new f s = grind (arith, nat_tests, common_steps, every-joined)
   sized-after (incoming.takes c Repeat) old new f s = subst (AreSized most) (sym f.step.receiver) (record { own = s.own; each = s.each })
-  sized-after (incoming.takes c (New answered)) old new f s =
-      let r = old.receiving.receiver in
-      let acc = f.step.receiver in
-      let size : acc.queue.max_message_size ≡ most = pushed-size c answered acc.stream.queue acc.queue acc.pushed
-      ∙ every-found P (has_number c.stream_identifier) r.streams acc.stream acc.found s.each in
-      subst (AreSized most) (sym acc.after) (record {
-        own = s.own;
-        each = every-changed P (has_number c.stream_identifier) (with_queue acc.queue) (λ l h p. size) r.streams s.each;
-      })
+  sized-after (incoming.takes c (New answered)) old new f s = grind (arith, nat_tests, common_steps, pushed-size, every-found, every-changed)
   sized-after (incoming.follows g) old new f s = subst (AreSized most) (sym f.step.receiver)
       (at-test (λ b. AreSized most (if b then old.receiving.receiver else without_incomplete g.new_cumulative_tsn
       (if b then old.receiving.receiver else follow_forward_tsn g old.receiving.receiver))) (is_stale g old.receiving.receiver)
@@ -142,13 +114,7 @@ module _ (most : ℕ) where
             (every-mapped P P (λ l. unassembled_forwarded g.new_cumulative_tsn (stream_forwarded g.streams l))
             (λ l p. skipped-size (ssns_of l.queue.si g.streams) l.queue ∙ p) old.receiving.receiver.streams s.each));
       }))
-    where
-      r : Reception
-      r = old.receiving.receiver
-  sized-after (incoming.reads stream) old new f s = subst (AreSized most) (sym f.step.receiver) (record {
-    own = s.own;
-    each = every-changed P (has_number stream) stream_read (λ l h p. p) old.receiving.receiver.streams s.each;
-  })
+  sized-after (incoming.reads stream) old new f s = grind (arith, nat_tests, common_steps, every-changed)
   sized-after call old new f s = subst (AreSized most) (sym f.step.receiver) (record { own = s.own; each = s.each })
 
 -- ## Every session
@@ -159,13 +125,7 @@ pub record AreFit (max most : ℕ) (s : Session) : Type 0 where
   pub streams : AreSized most s.receiving.receiver
 
 sender-fit : (max most : ℕ) (call : SenderCall) (old new : Session) → SenderFollows call old new → AreFit max most old → AreFit max most new
-sender-fit max most call old new f h = record {
-  sender = max-after call old new f ∙ h.sender;
-  writes = subst (AreWithin max) (sym (ap (λ (s : Session). s.written) f.after))
-      (subst (λ k. AreWithin k (written_after call old.written)) h.sender (written-within call old.sending.sender old.written f.accepted
-      (subst (λ k. AreWithin k old.written) (sym h.sender) h.writes)));
-  streams = subst (AreSized most) (sym (ap (λ (s : Session). s.receiving.receiver) f.after)) h.streams;
-}
+sender-fit max most call old new f h = grind (arith, nat_tests, common_steps, max-after, written-within)
 
 receiver-fit : (max most : ℕ) (call : ReceiverCall) (old new : Session) → ReceiverFollows call old new → AreFit max most old → AreFit max most new
 receiver-fit max most call old new f h = record {
@@ -191,11 +151,7 @@ fit-session tsn size max most limits cs s r =
 -- they stay as they are
 limits-after : (call : ReceiverCall) (old new : Session) → ReceiverFollows call old new
     → new.receiving.receiver.limits ≡ old.receiving.receiver.limits
-limits-after (incoming.opens stream) old new f = ap (λ (r : Reception). r.limits) f.step.receiver.1
-limits-after (incoming.takes c Repeat) old new f = ap (λ (r : Reception). r.limits) f.step.receiver
-limits-after (incoming.takes c (New answered)) old new f = ap (λ (r : Reception). r.limits) f.step.receiver.after
-limits-after (incoming.follows g) old new f = grind (arith, nat_tests)
-limits-after call old new f = ap (λ (r : Reception). r.limits) f.step.receiver
+limits-after h0 h1 h2 h3 = grind (arith, nat_tests, common_steps)
 
 pub limits-same : (cs : List Call) (old new : Session) → RunsTo old cs new → new.receiving.receiver.limits ≡ old.receiving.receiver.limits
 limits-same [] old new r = ap (λ (s : Session). s.receiving.receiver.limits) r
@@ -394,16 +350,7 @@ module _ (first n : ℕ) (few : n < 2 ^ 31) (gone : List ℕ) (s : Session) (h :
 
     -- the stream takes it
     takes : stream_refusal x (Some l) ≡ None
-    takes =
-        let size : l.queue.max_message_size ≡ r.max_message_size =
-        every-found (λ (y : InboundStream). y.queue.max_message_size ≡ r.max_message_size) (has_number x.stream_identifier) r.streams l there sized in
-        let small : nat_lt l.queue.max_message_size (projected_size x l.queue.held.ordered l.queue.held.unassembled) ≡ false =
-        not-less (projected_size x l.queue.held.ordered l.queue.held.unassembled) l.queue.max_message_size (omega (arith, projected, size, enough)) in
-        ap (λ b. if b then Some MessageTooLarge else None)
-        (ap (λ b. (x.stream_identifier == l.queue.si) && b) small ∙ and-none (x.stream_identifier == l.queue.si))
-      where
-        not-less : (k m : ℕ) → k ≤ m → nat_lt m k ≡ false
-        not-less k m le = grind (arith, nat_tests, le)
+    takes = grind (arith, nat_tests, common_steps, every-found, projected, and-none)
 
   -- ## The law
 
@@ -469,10 +416,7 @@ none-with-room tsn size max most limits cs s small some run few enough x f t roo
     enough f.chunk x f.sent f.kept f.same t room
 
 pub none-in-flight : AfterEachUnlimitedSession NoneInFlightIsRefused
-none-in-flight tsn size max most cs s small some run few enough x f t =
-    none-with-room tsn size max most None cs s small some run few enough x f t
-    (ap (λ o. refusal_by o x.tsn (filter_of s.receiving.receiver) s.receiving.receiver.streams)
-    (limits-same cs (at_start tsn size max most None) s run))
+none-in-flight tsn size max most cs s small some run few enough x f t = grind (arith, nat_tests, common_steps, none-with-room, limits-same)
 
 -- ## Where nothing is to be read
 
@@ -483,13 +427,7 @@ found-all q p (x ∷ xs) l h e = at-test (λ b. (if b then Some x else find p xs
     (λ e f. (found-all q p xs l (both (q x) (list_all q xs) h).1) f) e
 
 takable-where-read : (x : ChunkPayloadData) (r : Reception) → reads_nothing r ≡ true → is_open x.stream_identifier r ≡ true → is_takable x r ≡ true
-takable-where-read x r none open' =
-    and (is_open x.stream_identifier r) (is_due_on x r) open'
-    (or-right x.unordered (not (is_some (message_of (stream_of x.stream_identifier r)))) (by (stream_of x.stream_identifier r) refl))
-  where
-    by : (o : Option InboundStream) → stream_of x.stream_identifier r ≡ o → not (is_some (message_of o)) ≡ true
-    by None e = refl
-    by (Some l) e = found-all (λ y. not (is_some (message_read y.queue.held))) (has_number x.stream_identifier) r.streams l none e
+takable-where-read x r none open' = grind (arith, nat_tests, common_steps, and, or-right, found-all)
 
 pub none-where-read : AfterEachUnlimitedSession NoneIsRefusedWhereRead
 none-where-read tsn size max most cs s small some run few enough none x f open' =

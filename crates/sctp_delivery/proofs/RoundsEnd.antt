@@ -1,7 +1,7 @@
 -- What is lost is sent again, what is abandoned is passed, a SACK leaves fewer: rounds, one after another, empty the sender.
-use Rattle.sctp_delivery.proofs.Names.{◌≡◌, ℕ, true, ◌∷◌, refl, ap, Result, Ok, Err, arith, ◌+◌, ◌^◌, ◌<◌, Bool, false, length, get_or, Some, sym, ◌∙◌, ◌≤◌}
-use Rattle.sctp_delivery.proofs.Names.{List, [], take, None, inl, inr, subst, zero, suc, ◌-◌, ◌&&◌, ◌||◌, find, if◌then◌else◌, nat_le, option_map, All, ◌==◌}
-use Rattle.sctp_delivery.proofs.Names.{nat_tests, not_both, and, Sack, ReceiverRefusal, Reception, max_sack_entries, sack_entries, sack_of_entries}
+use Rattle.sctp_delivery.proofs.Names.{common_steps, ◌≡◌, ℕ, true, ◌∷◌, refl, ap, Result, Ok, Err, arith, ◌+◌, ◌^◌, ◌<◌, Bool, false, length, get_or, Some, sym}
+use Rattle.sctp_delivery.proofs.Names.{◌∙◌, ◌≤◌, List, [], take, None, inl, inr, subst, zero, suc, ◌-◌, ◌&&◌, ◌||◌, find, if◌then◌else◌, nat_le, option_map}
+use Rattle.sctp_delivery.proofs.Names.{All, ◌==◌, nat_tests, not_both, and, Sack, ReceiverRefusal, Reception, max_sack_entries, sack_entries, sack_of_entries}
 use Rattle.sctp_delivery.proofs.Names.{is_reliable_at_receiver, is_all_acknowledged, reads_nothing, ReceiverCall, is_reporting, ReceiverFollows, Session}
 use Rattle.sctp_delivery.proofs.Names.{at_start, Call, RunsTo, of_receiver, of_sender, or-left, or-right, ChunkPayloadData, tsn, distance-tsn, is_outstanding}
 use Rattle.sctp_delivery.proofs.Names.{has_tsn, following_tsn, can_resend, is_outstanding_in, Flight, after_sack, is_outdated, take_sack, tsn-at, IsRunFrom}
@@ -14,9 +14,8 @@ use Rattle.std.specs.Prelude.{OnOk, not}
 use Rattle.sctp_delivery.specs.ReceiverCalls as incoming
 use Rattle.sctp_delivery.specs.ReceiverCalls.{ReceiverMakes}
 use Rattle.sctp_sender.proofs.Runs.{found-at}
-use Rattle.sctp_delivery.specs.Rounds.{EachCanGoOn, EachAnswerLeavesFewer, LeavesFewer, SkipsToPoint}
-use Rattle.sctp_delivery.specs.Rounds.{AfterEachFitSessionOfFewTsns, EachRoundTakesOne, RoundsEnd}
-use Rattle.sctp_delivery.specs.Rounds.{AfterEachFitReliableSession, AllIsReadAfterRounds, AreReliable, tsns_in_rounds}
+use Rattle.sctp_delivery.specs.Rounds.{EachCanGoOn, EachAnswerLeavesFewer, LeavesFewer, SkipsToPoint, AfterEachFitSessionOfFewTsns, EachRoundTakesOne}
+use Rattle.sctp_delivery.specs.Rounds.{RoundsEnd, AfterEachFitReliableSession, AllIsReadAfterRounds, AreReliable, tsns_in_rounds}
 use Rattle.sctp_delivery.proofs.SackLaws.{IsInStep, acknowledged-came, in-step}
 use Rattle.sctp_delivery.proofs.TsnPlaces.{base, tsn-small, at-or-before, before, next-place, same-place}
 use Rattle.sctp_sender.specs.Resending.{next_within}
@@ -268,11 +267,7 @@ module _ (first n : ℕ) (s t : Session) (few : n < 2 ^ 31) (i : IsReached first
   count-left = let total = numbered.total in let e = ap (λ (x : Flight). length x.queue.inflight.chunks) taken-sack in omega (arith, total, e, there)
 
   fewer : 0 < length (in_flight s) → length (in_flight t) < length (in_flight s)
-  fewer lt =
-      let on = rises-past (in_flight s) refl lt in
-      let total = step.numbered.total in
-      let l = count-left in
-      omega (arith, on, total, l)
+  fewer lt = grind (arith, nat_tests, common_steps, rises-past, count-left)
 
   -- what is so of a chunk that is kept stays so
   stays : (P : Bool → ℕ → Type 0) → Every (λ (x : ChunkPayloadData). P x.abandoned x.tsn) (in_flight s)

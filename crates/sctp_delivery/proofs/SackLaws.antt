@@ -11,8 +11,7 @@ use Rattle.sctp_delivery.proofs.Names.{sent_next, sent_of, terminal_chunk, with_
 use Rattle.sctp_delivery.proofs.Names.{can_miss, missed, Transmission, started-inflight, tsn-at}
 use Rattle.std.specs.Prelude.{not}
 use Rattle.sctp_util.specs.Serial.{distance, at_or_before}
-use Rattle.sctp_delivery.specs.Sacks.{LeftCame}
-use Rattle.sctp_delivery.specs.Sacks.{ReleasedCame, ReportWhatCame}
+use Rattle.sctp_delivery.specs.Sacks.{LeftCame, ReleasedCame, ReportWhatCame}
 use Rattle.sctp_delivery.proofs.Every.{Every, all-of-every, every-mapped, every-of, one-of, every-changed, every-contained, every-inserted, every-joined}
 use Rattle.sctp_delivery.proofs.Every.{every-left, every-of-all, every-passing, every-taken, every-both, every-tested}
 use Rattle.sctp_delivery.proofs.GivenTsns.{IsNumbered, taken-numbered, flight-given, raises-abandoned}

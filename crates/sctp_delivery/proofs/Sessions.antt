@@ -3,8 +3,8 @@ use Rattle.sctp_delivery.proofs.Names.{◌≡◌, ℕ, ◌+◌, Bool, true, fals
 use Rattle.sctp_delivery.proofs.Names.{if◌then◌else◌, All, Contains, slice_index_or, list_all, list_any, sum_by, filter, list_any_at, sum_by-cons}
 use Rattle.sctp_delivery.proofs.Names.{sum_by-append, AllPass-from_list_all, nat_tests, same-yes, or-right, and, both, not_both, ChunkPayloadData, Data}
 use Rattle.sctp_delivery.proofs.Names.{data_of, New, Repeat, Limits, Message, fragments_read, Transmission, taken_back_by, written_by, Drop, is_on}
-use Rattle.sctp_delivery.proofs.Names.{ReceiverCall, Made, SenderCall, Write, data_chunk, forward_tsn, forwards, forwards_within, made_after, resends}
-use Rattle.sctp_delivery.proofs.Names.{sends, writes, written_after, AreMade, AreMessages, Call, IsAccounted, ReceiverFollows, RunsTo, SenderFollows, Session}
+use Rattle.sctp_delivery.proofs.Names.{ReceiverCall, Made, SenderCall, Write, data_chunk, forward_tsn, forwards, forwards_within, made_after, resends, sends}
+use Rattle.sctp_delivery.proofs.Names.{writes, written_after, AreMade, AreMessages, Call, IsAccounted, ReceiverFollows, RunsTo, SenderFollows, Session}
 use Rattle.sctp_delivery.proofs.Names.{at_start, bytes_written, of_receiver, of_sender}
 use Rattle.std.specs.Prelude.{not}
 use Rattle.std.proofs.lemmas.List.Folds.{Any-from_list_any}

@@ -1,10 +1,9 @@
 -- Two hosts stand in a session, and each call leads to the next.
-use Rattle.sctp_delivery.proofs.Names.{◌≡◌, ℕ, ◌+◌, ◌%◌, ◌^◌, ◌≤◌, List, [], ◌∷◌, ◌++◌, length, suc, inl, inr, refl, ap, sym, subst, ◌∙◌, arith, Option}
-use Rattle.sctp_delivery.proofs.Names.{Some, None, nat_tests, Contains, Sack, ChunkPayloadData, Reception, Transmission, ReceiverCall, reports_after}
+use Rattle.sctp_delivery.proofs.Names.{common_steps, ◌≡◌, ℕ, ◌+◌, ◌%◌, ◌^◌, ◌≤◌, List, [], ◌∷◌, ◌++◌, length, suc, inl, inr, refl, ap, sym, subst, ◌∙◌, arith}
+use Rattle.sctp_delivery.proofs.Names.{Option, Some, None, nat_tests, Contains, Sack, ChunkPayloadData, Reception, Transmission, ReceiverCall, reports_after}
 use Rattle.sctp_delivery.proofs.Names.{SenderCall, Made, made_after, next_chunk, with_chunk, written_after, SenderMakes, Call, RunsTo, ReceiverFollows}
-use Rattle.sctp_delivery.proofs.Names.{SenderFollows, Session, at_start, of_receiver, of_sender, IsReported, takes_sack, writes, expires}
-use Rattle.sctp_delivery.proofs.Names.{expires_tail, abandons, expires_late, expires_rexmit, sends}
-use Rattle.sctp_delivery.proofs.Names.{data_chunk, data_of}
+use Rattle.sctp_delivery.proofs.Names.{SenderFollows, Session, at_start, of_receiver, of_sender, IsReported, takes_sack, writes, expires, expires_tail}
+use Rattle.sctp_delivery.proofs.Names.{abandons, expires_late, expires_rexmit, sends, data_chunk, data_of}
 use Rattle.sctp_util.specs.Serial.{distance}
 use Rattle.sctp_receiver.specs.Receiver.{sack_within}
 use Rattle.sctp_receiver.specs.ReceiverRuns as receiver_runs
@@ -38,14 +37,7 @@ sender_after call s new = record s {
 
 pub sender-follows : (call : SenderCall) (s : Session) (new : Transmission) → SenderMakes call s.sending.sender new → IsReported call s
     → SenderFollows call s (sender_after call s new)
-sender-follows call s new m h = record {
-  handed = h;
-  step = record { sender = m.0; written = refl; released = refl; taken_back = refl };
-  exact = m.1.0;
-  accepted = m.1.1.0;
-  answered = m.1.1.1;
-  after = refl;
-}
+sender-follows call s new m h = grind (arith, nat_tests, common_steps)
 
 abbrev pub receiver_after : ReceiverCall → Session → Reception → Session
 receiver_after call s new = record s {
@@ -228,15 +220,9 @@ keeps-nothing t r st at =
 -- the chunk that a sending answers
 pub sent-made : (now : ℕ) (c : ChunkPayloadData) (t : Transmission) (a b : Stand) → Steps (of_sender (sends now)) a b → a.session.sending.sender ≡ t
     → Some c ≡ next_chunk now t → Contains b.session.made (data_chunk (data_of c))
-sent-made now c t a b s at next =
-    subst (λ ms. Contains ms (data_chunk (data_of c)))
-    (sym (ap (λ (s : Session). s.made) s.step.after
-    ∙ (ap (λ y. with_chunk (next_chunk now y) a.session.made) at ∙ ap (λ o. with_chunk o a.session.made) (sym next)))) (0, omega arith, refl)
+sent-made now c t a b s at next = grind (arith, nat_tests, common_steps)
 
 -- the SACK that the receiver makes
 pub sack-made : (credit room : ℕ) (k : Sack) (r : Reception) (a b : Stand) → Steps (of_receiver (incoming.reports_within credit room)) a b
     → a.session.receiving.receiver ≡ r → k ≡ sack_within credit room r → Contains b.session.sacks k
-sack-made credit room k r a b s at is =
-    subst (λ ks. Contains ks k)
-    (sym (ap (λ (s : Session). s.sacks) s.step.after ∙ ap (λ z. z ∷ a.session.sacks) (ap (λ y. sack_within credit room y) at ∙ sym is)))
-    (0, omega arith, refl)
+sack-made credit room k r a b s at is = grind (arith, nat_tests, common_steps)

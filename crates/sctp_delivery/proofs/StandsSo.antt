@@ -1,11 +1,11 @@
 -- Two hosts of which the sender keeps what is reported stand in a session, and each call leads to the next.
-use Rattle.sctp_delivery.proofs.Names.{◌≡◌, ◌+◌, ◌≤◌, ◌<◌, ◌^◌, List, [], ◌∷◌, ◌++◌, refl, ap, sym, subst, ◌∙◌, arith, Contains}
-use Rattle.sctp_delivery.proofs.Names.{Sack, Session, SenderCall, SenderFollows, SenderMakes, of_sender, of_receiver, takes_sack}
+use Rattle.sctp_delivery.proofs.Names.{◌≡◌, ◌+◌, ◌≤◌, ◌<◌, ◌^◌, List, [], ◌∷◌, ◌++◌, refl, ap, sym, subst, ◌∙◌, arith, Contains, Sack, Session, SenderCall}
+use Rattle.sctp_delivery.proofs.Names.{SenderFollows, SenderMakes, of_sender, of_receiver, takes_sack, bytes_written, distance}
 use Rattle.sctp_delivery.specs.ReceiverCalls.{ReceiverMakes}
 use Rattle.sctp_delivery.specs.SenderCalls.{TakesBackAndSack}
-use Rattle.sctp_delivery.proofs.Names.{bytes_written, distance}
 use Rattle.sctp_delivery.specs.Returns.{CallOrReturn, FollowsOrReturns, RunsWithReturns, after_return, at_start_with, makes, takes_back, tsns_given_so}
-use Rattle.sctp_delivery.specs.Stand.{EachAckedStepsSo, EachReceiverCallStepsSo, EachSenderCallStepsSo, EachTwoBeginSo, StandSo, StepsSo, given_so, most_given_so}
+use Rattle.sctp_delivery.specs.Stand.{EachAckedStepsSo, EachReceiverCallStepsSo, EachSenderCallStepsSo, EachTwoBeginSo, StandSo, StepsSo, given_so}
+use Rattle.sctp_delivery.specs.Stand.{most_given_so}
 use Rattle.sctp_delivery.proofs.Delivered.{next_tsn, sender-step}
 use Rattle.sctp_delivery.proofs.OneRead.{no-way}
 use Rattle.sctp_delivery.proofs.PlainHolds.{has-made}

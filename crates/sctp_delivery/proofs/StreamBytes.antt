@@ -1,13 +1,12 @@
 -- The bytes of some streams that wait and are in flight, and the buffered amount of a stream: what each change of a sender makes of them.
-use Rattle.sctp_delivery.proofs.Names.{◌≡◌, ℕ, ◌+◌, ◌-◌, ◌<◌, Bool, true, false, not, List, [], ◌∷◌, ◌++◌, length, map, take, drop, Option, Some, None, refl, ap}
-use Rattle.sctp_delivery.proofs.Names.{sym, ◌∙◌, arith, if◌then◌else◌, ◌==◌, ◌&&◌, ◌||◌, find, filter, sum_by, take-append-drop, sum_by-append, sum_by-cons}
-use Rattle.sctp_delivery.proofs.Names.{is_some, none-some, nat_tests, common_steps, change_where, same-is, some-same, sum_by-inserted, not_both, ChunkPayloadData, Sack}
-use Rattle.sctp_delivery.proofs.Names.{Selected, as_abandoned, as_acknowledged, is_of, is_outstanding, Outbound, abandon_chunks, all_started, as_sent}
-use Rattle.sctp_delivery.proofs.Names.{expired_of, sent_of, total_bytes, with_message, with_message_id, past, Pending, chunk_to_pop_from, closed_up}
-use Rattle.sctp_delivery.proofs.Names.{is_to_start, list_to_pop, next_pending, one_lower, rest_from, start_pending, with_deadline, without, without_message}
-use Rattle.sctp_delivery.proofs.Names.{IsSendable, made, sendable-sent, bytes_of, chunk_before, is_on, Released, AbandonedMessage, released_of, reports_anew}
-use Rattle.sctp_delivery.proofs.Names.{after_leaving, after_releases, has_number, less_by, with_lows, with_message_lows, OutboundStream, bytes_for}
-use Rattle.sctp_delivery.proofs.Names.{bytes_of_chunks, bytes_of_messages}
+use Rattle.sctp_delivery.proofs.Names.{◌≡◌, ℕ, ◌+◌, ◌-◌, ◌<◌, Bool, true, false, not, List, [], ◌∷◌, ◌++◌, length, map, take, drop, Option, Some, None, refl}
+use Rattle.sctp_delivery.proofs.Names.{ap, sym, ◌∙◌, arith, if◌then◌else◌, ◌==◌, ◌&&◌, ◌||◌, find, filter, sum_by, take-append-drop, sum_by-append, sum_by-cons}
+use Rattle.sctp_delivery.proofs.Names.{is_some, none-some, nat_tests, common_steps, change_where, same-is, some-same, sum_by-inserted, not_both}
+use Rattle.sctp_delivery.proofs.Names.{ChunkPayloadData, Sack, Selected, as_abandoned, as_acknowledged, is_of, is_outstanding, Outbound, abandon_chunks}
+use Rattle.sctp_delivery.proofs.Names.{all_started, as_sent, expired_of, sent_of, total_bytes, with_message, with_message_id, past, Pending, chunk_to_pop_from}
+use Rattle.sctp_delivery.proofs.Names.{list_to_pop, next_pending, rest_from, without_message, IsSendable, made, sendable-sent, bytes_of, chunk_before, Released}
+use Rattle.sctp_delivery.proofs.Names.{AbandonedMessage, released_of, reports_anew, after_leaving, after_releases, has_number, less_by, with_lows}
+use Rattle.sctp_delivery.proofs.Names.{with_message_lows, OutboundStream, bytes_for, bytes_of_chunks, bytes_of_messages}
 use Rattle.sctp_util.proofs.Edits.{change_where-map}
 use Rattle.sctp_sender.specs.Thresholds.{falls_on}
 use Rattle.sctp_delivery.proofs.Every.{Every, every-of, every-all}
@@ -99,45 +98,17 @@ module _ (on : ℕ → Bool) where
   abandoned m tsn q o = grind (arith, nat_tests, left-of, marked-of, sum_by-inserted, zero-if)
 
   pub expired : (c : ChunkPayloadData) (q : Outbound) → IsOff c.message_id q → held on (expired_of (Some c) q) ≡ held on q
-  expired c q o = by c.unordered
-    where
-      a : weigh on (without_message c.message_id q.pending.ordered) ≡ weigh on q.pending.ordered
-      a = left-of c.message_id q.pending.ordered o.ordered
-
-      b : weigh on (without_message c.message_id q.pending.unordered) ≡ weigh on q.pending.unordered
-      b = left-of c.message_id q.pending.unordered o.unordered
-
-      lower : weigh on (change_where (is_on c.stream_identifier) one_lower (without_message c.message_id q.pending.ordered))
-          ≡ weigh on (without_message c.message_id q.pending.ordered)
-      lower = changed (is_on c.stream_identifier) one_lower (λ d. refl) (without_message c.message_id q.pending.ordered)
-
-      by : (k : Bool) → held on (record q {
-        pending = if k then without c.message_id q.pending else closed_up c.stream_identifier (without c.message_id q.pending);
-      }) ≡ held on q
-      by true = omega (arith, a, b)
-      by false = omega (arith, a, b, lower)
+  expired c q o = grind (arith, nat_tests, common_steps, left-of, changed)
 
   -- ## Chunks are sent
 
   pub started : (now : ℕ) (q : Outbound) → held on (all_started now q) ≡ held on q
-  started now q = by (q.next_unstarted == q.next_message_id)
-    where
-      by : (b : Bool)
-          → held on (if b then q else record q { pending = start_pending q.next_unstarted now q.pending; next_unstarted = q.next_message_id }) ≡ held on q
-      by true = refl
-      by false =
-          let a = changed (is_to_start q.next_unstarted) (with_deadline now) (λ _. refl) q.pending.ordered in
-          let b = changed (is_to_start q.next_unstarted) (with_deadline now) (λ _. refl) q.pending.unordered in
-          omega (arith, a, b)
+  started now q = grind (arith, nat_tests, common_steps, changed)
 
   popped : (k : Option Bool) (os us : List ChunkPayloadData) (sel : Option Selected) (ro ru : ℕ) (c : ChunkPayloadData)
       → chunk_to_pop_from k (made os us sel ro ru) ≡ Some c
       → waiting on (rest_from k (made os us sel ro ru)) + size on c ≡ waiting on (made os us sel ro ru)
-  popped None os us sel ro ru c h = absurd (none-some c h)
-  popped (Some true) os [] sel ro ru c h = absurd (none-some c h)
-  popped (Some true) os (u ∷ us) sel ro ru c h = let same : u ≡ c = some-same h in omega (arith, sum_by-cons (size on) u us, ap (size on) same)
-  popped (Some false) [] us sel ro ru c h = absurd (none-some c h)
-  popped (Some false) (o ∷ os) us sel ro ru c h = let same : o ≡ c = some-same h in omega (arith, sum_by-cons (size on) o os, ap (size on) same)
+  popped h0 h1 h2 h3 h4 h5 h6 h7 = grind (arith, nat_tests, common_steps, some-same, sum_by-cons)
 
   pub sent : (tsn now : ℕ) (q : Outbound) → IsSendable q.pending q.inflight.chunks q.next_message_id → (o : Option ChunkPayloadData)
       → next_pending q.pending ≡ o → held on (sent_of o q tsn now) ≡ held on q

@@ -5,8 +5,8 @@ use Rattle.sctp_delivery.proofs.Names.{insert_before, at_or_before, comes_before
 use Rattle.sctp_delivery.proofs.Names.{not_both, both, tsn, distance-tsn, distance-tsn_back, ChunkPayloadData, ForwardTsn, data_of, New, Repeat, Reception}
 use Rattle.sctp_delivery.proofs.Names.{filter_of, follow_forward_tsn, is_stale, max_sack_entries, sack_entries, sack_of_entries, after_forward_tsn}
 use Rattle.sctp_delivery.proofs.Names.{without_incomplete, has_come, is_opposite, with_tsn, has_tsn, following_tsn, ReceiverCall, reports_after, are_apart}
-use Rattle.sctp_delivery.proofs.Names.{passes, was_taken, EachSackTells, NextSackTells, reports_tsn, data_chunk, forward_tsn, Made, ReceiverFollows}
-use Rattle.sctp_delivery.proofs.Names.{Session, list_any_at, cases_lt, common_steps, runs_of, put_before_runs, Sack, is_in_blocks, is_offset}
+use Rattle.sctp_delivery.proofs.Names.{passes, was_taken, EachSackTells, NextSackTells, reports_tsn, data_chunk, forward_tsn, Made, ReceiverFollows, Session}
+use Rattle.sctp_delivery.proofs.Names.{list_any_at, cases_lt, common_steps, runs_of, put_before_runs, Sack, is_in_blocks, is_offset}
 use Rattle.std.specs.Prelude.{not}
 use Rattle.sctp_receiver.specs.TsnFilter.{gap_ack_blocks, offsets}
 use Rattle.sctp_delivery.specs.ReceiverCalls as incoming

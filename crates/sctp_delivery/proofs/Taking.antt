@@ -1,9 +1,9 @@
 -- A SACK can be made and taken.
-use Rattle.sctp_delivery.proofs.Names.{◌≡◌, ℕ, ◌+◌, ◌^◌, ◌<◌, Bool, true, List, [], ◌∷◌, refl, arith, suc, length, ap, sym, subst, Result, Ok, Err, not_both}
-use Rattle.sctp_delivery.proofs.Names.{ChunkPayloadData, Sack, total_bytes, Reception, max_sack_entries, sack_entries, sack_of_entries, Released, after_sack}
-use Rattle.sctp_delivery.proofs.Names.{released_by, after_acked, with_lows, ReceiverCall, is_reporting, CanBeAnswered, IsAnswered, AfterEachSessionOfFewTsns}
-use Rattle.sctp_delivery.proofs.Names.{tsns_given, takes_sack, data_chunk, ReceiverFollows, SenderFollows, Session, at_start, IfOk, All, Contains, data_of}
-use Rattle.sctp_delivery.proofs.Names.{Arrival, ReceiverRefusal, accepted_after}
+use Rattle.sctp_delivery.proofs.Names.{nat_tests, common_steps, ◌≡◌, ℕ, ◌+◌, ◌^◌, ◌<◌, Bool, true, List, [], ◌∷◌, refl, arith, suc, length, ap, sym, Result, Ok}
+use Rattle.sctp_delivery.proofs.Names.{Err, not_both, ChunkPayloadData, Sack, total_bytes, Reception, max_sack_entries, sack_entries, sack_of_entries, Released}
+use Rattle.sctp_delivery.proofs.Names.{after_sack, released_by, after_acked, with_lows, ReceiverCall, is_reporting, CanBeAnswered, IsAnswered}
+use Rattle.sctp_delivery.proofs.Names.{AfterEachSessionOfFewTsns, tsns_given, takes_sack, data_chunk, ReceiverFollows, SenderFollows, Session, at_start, IfOk}
+use Rattle.sctp_delivery.proofs.Names.{All, Contains, data_of, Arrival, ReceiverRefusal, accepted_after}
 use Rattle.sctp_receiver.specs.Receiver.{after_sack_within, without_duplicates, TakesEach}
 use Rattle.sctp_sender.specs.Totals.{AreSettled, bytes_in}
 use Rattle.sctp_sender.proofs.Lows.{released-same}
@@ -152,7 +152,4 @@ module _ {V : Type 0} (items : V → List Arrival) (cs : List ChunkPayloadData) 
   pub each-goes-on : (a : Result V ReceiverRefusal) → IfOk a (λ v. TakesEach cs (items v) old new)
       → IfOk a (λ v. (s : Session) → s.receiving.receiver ≡ old → All (λ c. Contains s.made (data_chunk (data_of c))) cs
       → GoesOnTo (takes_each cs (items v)) s new)
-  each-goes-on (Ok v) t = λ s same made.
-      goes-on cs (items v) s new (every-of-all (IsMadeIn s) cs made)
-      (subst (λ r. ReceiverMakesEach (takes_each cs (items v)) r new) (sym same) (one-by-one cs (items v) old new t))
-  each-goes-on (Err e) t = tt
+  each-goes-on h0 h1 = grind (arith, nat_tests, common_steps, goes-on, every-of-all, one-by-one)

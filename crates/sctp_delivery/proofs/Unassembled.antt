@@ -1,7 +1,7 @@
 -- What is unassembled in a queue: what a FORWARD-TSN takes in front, weighed, and that what stays is in order; and after the other calls.
 use Rattle.sctp_delivery.proofs.Names.{◌≡◌, ℕ, ◌+◌, ◌<◌, ◌≤◌, ◌^◌, Bool, true, false, not, List, [], ◌∷◌, refl, sym, subst, ◌∙◌, arith, Option, Some, None}
-use Rattle.sctp_delivery.proofs.Names.{if◌then◌else◌, nat_le, take, drop, sum_by, sum_by-cons, after_leading, insert_before, at_or_before, comes_before16}
-use Rattle.sctp_delivery.proofs.Names.{and, both, nat_tests, tsn, ChunkPayloadData, ChunkSet, Reassembly, ReassemblyState, BecomesComplete, HasNoRun, Pushes}
+use Rattle.sctp_delivery.proofs.Names.{if◌then◌else◌, nat_le, take, drop, sum_by, sum_by-cons, after_leading, insert_before, at_or_before, comes_before16, and}
+use Rattle.sctp_delivery.proofs.Names.{both, nat_tests, tsn, ChunkPayloadData, ChunkSet, Reassembly, ReassemblyState, BecomesComplete, HasNoRun, Pushes}
 use Rattle.sctp_delivery.proofs.Names.{PushesAs, all_complete, chunk_before, front_readable, held_after_ordered_skip, held_after_unordered_skip, is_orderly}
 use Rattle.sctp_delivery.proofs.Names.{is_passed, is_unmixed, rest_among, rest_read, sets_with}
 use Rattle.sctp_reassembly.specs.reassembly_queue.ReassemblyQueue.{after_read, after_ordered_skip, after_unordered_skip}

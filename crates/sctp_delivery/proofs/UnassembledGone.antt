@@ -11,7 +11,8 @@ use Rattle.sctp_delivery.proofs.Every.{Every, every-of, every-both, every-pair}
 use Rattle.sctp_delivery.proofs.PassingCalls.{IsGone, taken-or-gone}
 use Rattle.sctp_delivery.proofs.Kept as kept
 use Rattle.sctp_delivery.proofs.KeptOrGone.{HeldWell, IsHeldWell, IsKeptBut, IsLate, IsPassedBy}
-use Rattle.sctp_delivery.proofs.MessagePlaces.{EndsAt, IsEntryAt, cut-part, next-of, same-entry, within, entry-at, entry-of, place-tsn, IsSpan, shown-at, span-of}
+use Rattle.sctp_delivery.proofs.MessagePlaces.{EndsAt, IsEntryAt, cut-part, next-of, same-entry, within, entry-at, entry-of, place-tsn, IsSpan, shown-at}
+use Rattle.sctp_delivery.proofs.MessagePlaces.{span-of}
 use Rattle.sctp_delivery.proofs.OrderedEntries.{AreJoined}
 use Rattle.sctp_delivery.proofs.PassedMessages.{AreCutGone, AreTakenOrGone, EndsMessage, is_gone}
 use Rattle.sctp_delivery.proofs.FragmentPlaces.{Shows, at_place, shown}

@@ -11,8 +11,7 @@ use Rattle.sctp_delivery.proofs.Names.{held_after_incomplete_skip, Pushes, Pushe
 use Rattle.std.specs.Prelude.{is_some}
 use Rattle.sctp_util.specs.Serial.{distance16}
 use Rattle.sctp_reassembly.specs.reassembly_queue.Fragments.{with_chunk}
-use Rattle.sctp_reassembly.specs.reassembly_queue.ReassemblyQueue.{TakesRun}
-use Rattle.sctp_reassembly.specs.reassembly_queue.ReassemblyQueue.{message_among}
+use Rattle.sctp_reassembly.specs.reassembly_queue.ReassemblyQueue.{TakesRun, message_among}
 use Rattle.sctp_reassembly.specs.reassembly_queue.Skips.{ssn_past_sets}
 use Rattle.sctp_delivery.proofs.Cases.{at-if, at-test, by-test}
 use Rattle.sctp_delivery.proofs.Every.{Every, every-inserted, every-joined, every-left, every-taken}

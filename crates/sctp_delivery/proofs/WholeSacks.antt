@@ -1,6 +1,5 @@
 -- A SACK that a sender takes, by which something may come back first.
-use Rattle.sctp_delivery.proofs.Names.{◌≡◌, Result, Ok, Err, refl, ap, ◌∙◌, arith, IfOk, Sack, SenderRefusal, released_by, Transmission, after_acked}
-use Rattle.sctp_delivery.proofs.Names.{with_lows}
+use Rattle.sctp_delivery.proofs.Names.{◌≡◌, Result, Ok, Err, refl, ap, ◌∙◌, arith, IfOk, Sack, SenderRefusal, released_by, Transmission, after_acked, with_lows}
 use Rattle.sctp_sender.specs.Sender.{back_by}
 use Rattle.sctp_delivery.specs.SenderCalls.{TakesBackAndSack}
 use Rattle.sctp_sender.specs.declared.sender.Acked.{Acked}
