@@ -5,10 +5,10 @@
 
 PROGRAM is crates/sctpdump/out/sctpdump unless told otherwise: `rt ci` leaves it there, and `rt run` in crates/sctpdump makes it. The frames hold one
 datagram behind the headers that the RFCs named below give, or none; with --tshark, tshark has to find the datagram in the same ones, between the same
-addresses. The lines of JSON of each capture have to be what docs/sctpdump.schema.json says. Two large captures have to be shown within bounds. The
+addresses. A capture that is cut between two records has to print in each view what it prints as a whole. The lines of JSON of each capture have to be what docs/sctpdump.schema.json says. Two large captures have to be shown within bounds. The
 records that are chosen with -w have to be in the capture that is written, whose blocks are read here; with --tshark, tshark has to read it, too. The
 runs are those of dump_tests/runs.txt: a line '$ sctpdump ..', run in crates/sctpdump/data and examples, and the lines that it prints.
-The last line is 'N passed, M failed'; the status is 0 where nothing failed.
+A summary has to be printed where an interrupt that the shell ignores came before the end. The last line is 'N passed, M failed'; the status is 0 where nothing failed.
 """
 import ipaddress
 import json
@@ -16,10 +16,12 @@ import os
 import re
 import shlex
 import shutil
+import signal
 import struct
 import subprocess
 import sys
 import tempfile
+import time
 
 import check_dump
 
@@ -251,6 +253,23 @@ def json_tests(program):
     return counts
 
 
+def ends_uninterrupted(program):
+    """Whether a summary is printed where its input ends behind an interrupt, which the shell had ignored."""
+    with open(f"{ROOT}/examples/usrsctp-abort.hex", "rb") as lines:
+        capture = lines.read()
+    words = ["sh", "-c", 'trap "" INT; exec "$0" --summary', program]
+    ran = subprocess.Popen(words, stdin=subprocess.PIPE, stdout=subprocess.PIPE)
+    ran.stdin.write(capture[:len(capture) // 2])
+    ran.stdin.flush()
+    time.sleep(0.5)
+    ran.send_signal(signal.SIGINT)
+    told, _ = ran.communicate(capture[len(capture) // 2:])
+    wanted = subprocess.run([program, "--summary"], input=capture, capture_output=True).stdout
+    if told != wanted:
+        print(f"--summary behind an interrupt: {told}, not {wanted}")
+    return told == wanted
+
+
 def tells_version(program):
     """Whether `--version` says the version of include/sctpr.h."""
     with open(f"{ROOT}/include/sctpr.h", encoding="utf-8") as header:
@@ -361,6 +380,46 @@ def save_tests(program, has_tshark):
     return counts
 
 
+# Every view of packets, each with its words.
+VIEWS = ([], ["-V"], ["--json"], ["--relative"], ["--summary"], ["--flow"], ["--messages"], ["--acks"], ["--channels"], ["--svg", "-"], ["-w", "-"])
+
+# Captures that are cut between two records: text with a datagram on a line, and a classic capture.
+SPLIT = ("aiortc-channels.hex", "aiortc-partial.hex", "usrsctp-partial.log", "loss.log", "interleaved.hex", "reopened.hex", "merged.hex", "frames.pcap")
+
+
+def halves(content, is_text):
+    """Returns two captures of which one has the first half of the records, and the other one the rest."""
+    if is_text:
+        lines = content.splitlines(keepends=True)
+        return b"".join(lines[:len(lines) // 2]), b"".join(lines[len(lines) // 2:])
+    order = "<" if content[:1] in (b"\xd4", b"\x4d") else ">"
+    head, starts, at = content[:24], [], 24
+    while at + 16 <= len(content):
+        starts.append(at)
+        at += 16 + struct.unpack_from(order + "I", content, at + 8)[0]
+    middle = starts[len(starts) // 2]
+    return content[:middle], head + content[middle:]
+
+
+def seam_tests(program):
+    """Returns how many captures print the same in each view where they are given as two files, and how many do not."""
+    counts = [0, 0]
+    with tempfile.TemporaryDirectory() as room:
+        for name in SPLIT:
+            path = next(it for it in (f"{ROOT}/{folder}/{name}" for folder in ("crates/sctpdump/data", "examples")) if os.path.isfile(it))
+            with open(path, "rb") as capture:
+                parts = halves(capture.read(), not name.endswith(".pcap"))
+            for at, part in enumerate(parts):
+                with open(f"{room}/{at}", "wb") as out:
+                    out.write(part)
+            for view in VIEWS:
+                whole, seam = (subprocess.run([program, *view, *files], capture_output=True).stdout for files in ([path], [f"{room}/0", f"{room}/1"]))
+                if whole != seam:
+                    print(f"{name}: {' '.join(view)} prints another text of its halves")
+                counts[whole != seam] += 1
+    return counts
+
+
 def bound_tests(program):
     """Returns how many views of large captures keep their bounds, and how many do not: 300,000 associations take each view four seconds of processor
     time at most, and a picture of 300 SACKs with 16,000 gap ack blocks each has 5 MB at most."""
@@ -393,11 +452,10 @@ def main(words):
     words = [word for word in words if word != "--tshark"]
     program = os.path.abspath(words[0] if words else f"{ROOT}/crates/sctpdump/out/sctpdump")
     runs = run_tests(program, f"{ROOT}/dump_tests/runs.txt")
-    passed, failed = (sum(counts) for counts in zip(frame_tests(program, has_tshark), runs, save_tests(program, has_tshark), json_tests(program), bound_tests(program)))
-    if tells_version(program):
-        passed += 1
-    else:
-        failed += 1
+    passed, failed = (sum(counts) for counts in zip(frame_tests(program, has_tshark), runs, save_tests(program, has_tshark), json_tests(program), seam_tests(program), bound_tests(program)))
+    for is_right in (tells_version(program), ends_uninterrupted(program)):
+        passed += is_right
+        failed += not is_right
     print(f"{passed} passed, {failed} failed")
     return 1 if failed else 0
 

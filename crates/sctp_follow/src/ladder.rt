@@ -20,6 +20,7 @@ use sctp_show::text::{Options, put_tail};
 use sctp_show::time::{Clock, put_clock};
 use std::alloc::{AllocError, Global};
 use std::net::IpAddr;
+use unicode_width::{UnicodeWidthChar, UnicodeWidthStr};
 
 /// How many columns the words of a rung have at most.
 const WORDS: usize = 74;
@@ -66,22 +67,22 @@ fn put_right(text: &mut String, words: &str, width: usize) -> Result<(), AllocEr
     text.push_str(words)
 }
 
-/// A text in so many columns at most: where it is longer, its last two are dots.
+/// A text in so many columns of a terminal at most: where it is longer, its last two are dots.
 fn fitted(alloc: Global, words: &str) -> Result<String, AllocError> {
     let mut text = String::new(alloc);
+    if words.width() <= WORDS {
+        text.push_str(words)?;
+        return Ok(text);
+    }
     let mut columns = 0usize;
-    let is_long = words.chars().count() > WORDS;
-    let room = if is_long { WORDS - 2 } else { WORDS };
     for c in words.chars() {
-        if columns >= room {
+        columns = columns.saturating_add(c.width().unwrap_or(0));
+        if columns > WORDS - 2 {
             break;
         }
         text.push(c)?;
-        columns += 1;
     }
-    if is_long {
-        text.push_str("..")?;
-    }
+    text.push_str("..")?;
     Ok(text)
 }
 
@@ -106,7 +107,7 @@ fn put_words(
     words: &str,
 ) -> Result<(), AllocError> {
     let words = fitted(alloc, words)?;
-    let count = (WORDS + 1).saturating_sub(words.chars().count());
+    let count = (WORDS + 1).saturating_sub(words.as_str().width());
     let all = if rung == Rung::Below { BLANKS } else { DASHES };
     let fill = all.get(..count).unwrap_or("");
     let mut line = String::new(alloc);

@@ -1,6 +1,8 @@
 //! What the packets of an input are summed up to.
 
-ghost use Rattle.std.specs.Prelude.{◌≡◌, ◌≤◌, IfOk};
+ghost use Rattle.std.specs.Prelude.{◌≡◌, ◌≤◌, ℕ, List, IfOk, OnOk};
+ghost use Rattle.std.specs.Io.KnownBytes.{Appends};
+ghost use Rattle.sctp_show.specs.Run.{none};
 
 use crate::flow::Extent;
 use crate::packet::Packet;
@@ -35,13 +37,14 @@ pub trait Take {
     /// Whether the checksums of packets are to be computed for it.
     fn tests_checksums(&self) -> bool;
 
-    /// What is written at the end of an input of which so much was read. Refuses only for memory.
+    /// What is written at the end of the inputs, of which so much was read. Refuses only for memory.
     fn end(&mut self, alloc: Global, counts: Counts) -> Result<String, AllocError>;
 }
 
-/// What is known of an input before a record.
+/// What is known before a record of an input, and of the inputs before it, as of one capture.
 #[derive(Drop)]
 pub struct Past {
+    pub counts: Counts,
     zero_tags: ZeroTags,
     /// The first time that a record had.
     start: Option<Time>,
@@ -61,8 +64,11 @@ pub struct Look {
 
 impl Past {
     /// Nothing came yet.
-    pub fn new(alloc: Global) -> Self {
+    pub fn new(alloc: Global) -> Self
+        ensures { result.counts ≡ none }
+    {
         Past {
+            counts: Counts::none(),
             zero_tags: ZeroTags::new(alloc),
             start: None,
         }
@@ -76,7 +82,9 @@ impl Past {
         options: &Options,
         record: &Record,
         tests_checksums: bool,
-    ) -> Result<Option<Look>, AllocError> {
+    ) -> Result<Option<Look>, AllocError>
+        ensures { self.new.counts ≡ self.old.counts }
+    {
         self.start = self.start.or(record.time);
         let Ok(frame) = &record.frame else {
             return Ok(None);
@@ -99,7 +107,9 @@ impl Past {
         record: &Record,
         datagram: Datagram<'_>,
         tests: bool,
-    ) -> Result<Look, AllocError> {
+    ) -> Result<Look, AllocError>
+        ensures { self.new.counts ≡ self.old.counts }
+    {
         let (missing, ends) = (datagram.missing, datagram.ends);
         let sum = if tests {
             sum_for(options.sum, missing)
@@ -130,20 +140,20 @@ impl Past {
 fn take_record<T: Take, W: Write>(
     alloc: Global,
     options: &Options,
-    number: u64,
     record: &Record,
     past: &mut Past,
     taker: &mut T,
     output: &mut W,
 ) -> Result<u64, RunFault>
-    ensures { IfOk result (λ shown. shown ≤ 1) }
+    ensures few { IfOk result (λ shown. shown ≤ 1) }
+    ensures counts { past.new.counts ≡ past.old.counts }
 {
     taker.see_time(&record.time);
     let Some(look) = past.look(alloc, options, record, taker.tests_checksums())? else {
         return Ok(0);
     };
     let packet = Packet {
-        number,
+        number: past.counts.records.saturating_add(1),
         seen: &look.seen,
         ends: look.ends,
         time: record.time,
@@ -157,64 +167,49 @@ fn take_record<T: Take, W: Write>(
 }
 
 /// Reads each record of an input, has its packet taken, and writes what is written of it, until as many as are to be shown at most have
-/// what is asked for. What was written is sent off before more of the input is waited for.
-fn take_each<R: Read + Drop, T: Take, W: Write>(
+/// what is asked for. Records are counted on from those of the inputs before. What was written is sent off before more of the input is waited
+/// for. An input of a kind that is known, but not read, is refused.
+pub fn take_each<R: Read + Drop, T: Take, W: Write>(
     alloc: Global,
     options: &Options,
     input: R,
+    past: &mut Past,
     taker: &mut T,
     output: &mut W,
-) -> Result<Counts, RunFault>
-    ensures { IfOk result (λ counts. counts.shown ≤ options.now.limit) }
+) -> Result<(), RunFault>
+    ensures { past.old.counts.shown ≤ options.now.limit
+        → OnOk result (past.new.counts.shown ≤ options.now.limit) }
 {
     let mut window = Window::new(alloc, input)?;
     let format = open_input(&mut window)?;
     let mut section = Section::new(alloc);
-    let mut past = Past::new(alloc);
-    let mut counts = Counts {
-        records: 0,
-        unread: 0,
-        shown: 0,
-    };
     'pieces: for _piece in 0..u64::MAX {
-        if counts.shown >= options.limit {
-            return Ok(counts);
+        if past.counts.shown >= options.limit {
+            return Ok(());
         }
         send_off(output, holds_piece(format, &section, window.held()))?;
         match next_piece(alloc, &mut window, &mut section, format)? {
             Taken::Record(record) => {
-                counts.records += 1;
-                counts.unread += unread_of(&record);
-                counts.shown += take_record(
-                    alloc,
-                    options,
-                    counts.records,
-                    &record,
-                    &mut past,
-                    taker,
-                    output,
-                )?;
+                let shown = take_record(alloc, options, &record, past, taker, output)?;
+                past.counts = past.counts.with(unread_of(&record), shown)?;
             }
             Taken::Nothing => {}
-            Taken::End => return Ok(counts),
+            Taken::End => return Ok(()),
         }
     }
     Err(RunFault::Input(None))
 }
 
-/// Has the packets of an input taken, as `take_each` does, and writes what is written at the end. Answers how many records were read, how many
-/// have no frame, and how many packets are shown. An input of a kind that is known, but not read, is refused.
-pub fn summarize<R: Read + Drop, T: Take, W: Write>(
+/// Writes what is written at the end of the inputs.
+pub fn end_all<T: Take, W: Write>(
     alloc: Global,
-    options: &Options,
-    input: R,
+    past: &Past,
     taker: &mut T,
     output: &mut W,
-) -> Result<Counts, RunFault>
-    ensures { IfOk result (λ counts. counts.shown ≤ options.now.limit) }
+) -> Result<(), RunFault>
+    ensures { OnOk result ((ending : List ℕ)
+        × Appends (W.contents output.old) (W.contents output.new) ending) }
 {
-    let counts = take_each(alloc, options, input, taker, output)?;
-    let text = taker.end(alloc, counts)?;
-    write_text(output, &text)?;
-    Ok(counts)
+    let text = taker.end(alloc, past.counts)?;
+    write_text(output, &text)
 }

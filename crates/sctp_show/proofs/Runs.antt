@@ -2,11 +2,12 @@
 use Rattle.std.proofs.Common.{◌≡◌, ℕ, ◌+◌, ◌<◌, List, [], ◌∷◌, ◌++◌, length, Some, None, IfSome, ◌⊎◌, inl, inr, refl, ap, sym, subst, ◌∙◌, arith}
 use Rattle.std.specs.Prelude.{Option, IsSomeAnd, option_to_list}
 use Rattle.std.specs.List.{concat}
-use Rattle.std.specs.Io.KnownBytes.{Keeps, Appends}
+use Rattle.std.specs.Io.KnownBytes.{Keeps}
 use Rattle.std.proofs.KnownBytes.{Appends-trans, Appends-nil, Appends-kept}
 use Rattle.std.proofs.lemmas.List.{append-nil, length-append}
 use Rattle.std.proofs.lemmas.List.Folds.{concat-append}
 use Rattle.std.proofs.lemmas.Grind.{flat_map-append}
+use Rattle.sctp_show.specs.declared.run.Counts.{Counts}
 use Rattle.sctp_show.specs.declared.text.Options.{Options}
 use Rattle.sctp_capture.specs.declared.record.Record.{Record}
 use Rattle.sctp_capture.specs.declared.input.Format.{Format}
@@ -26,17 +27,11 @@ pub record Walked (format : Format) (begun : Known) (bytes : List ℕ) (k : Know
 abbrev pub HasRead : Format → Known → Option (List ℕ) → Known → Option (List ℕ) → List Record → Type 0
 HasRead format begun first k left records = IfSome first (λ xs. IsSomeAnd left (λ ys. Walked format begun xs k ys records))
 
--- and their texts
-abbrev pub HasPrinted : Options → Option (List ℕ) → Option (List ℕ) → List Record → ℕ → Type 0
-HasPrinted o old new records shown = (texts : List (List ℕ)) × AreTexts o 1 records texts × (shown ≡ shown_in texts) × Appends old new (concat texts)
-
 pub record SoFar (o : Options) (format : Format) (begun : Known) (first : Option (List ℕ)) (k : Known) (left old new : Option (List ℕ))
-    (count unread shown : ℕ) : Type 0 where
+    (before after : Counts) : Type 0 where
   pub records : List Record
-  pub counted : length records ≡ count
-  pub missed : unread_in records ≡ unread
   pub read : HasRead format begun first k left records
-  pub printed : HasPrinted o old new records shown
+  pub printed : Prints o records before after old new
 
 pieces_none : (format : Format) (k : Known) (bytes : List ℕ) → Pieces format k bytes [] k bytes
 unfolding Pieces
@@ -57,8 +52,14 @@ pub read_none : (format : Format) (k : Known) (a : Option (List ℕ)) → HasRea
 read_none format k None = tt
 read_none format k (Some xs) = record { pieces = []; walk = pieces_none format k xs; are = refl }
 
-pub so_far_none : (o : Options) (format : Format) (k : Known) (a old : Option (List ℕ)) → SoFar o format k a k a old old 0 0 0
-so_far_none o format k a old = record { records = []; counted = refl; missed = refl; read = read_none format k a; printed = ([], tt, refl, Appends-nil old) }
+pub so_far_none : (o : Options) (format : Format) (k : Known) (a old : Option (List ℕ)) (c : Counts) → SoFar o format k a k a old old c c
+so_far_none o format k a old c =
+    let zero : (n : ℕ) → n ≡ n + 0 = λ n. omega arith in
+    record {
+      records = [];
+      read = read_none format k a;
+      printed = ([], tt, zero c.records, zero c.unread, zero c.shown, Appends-nil old);
+    }
 
 records_next : (pieces : List Piece) (p : Piece) → records_of (pieces ++ p ∷ []) ≡ records_of pieces ++ option_to_list p.found
 records_next pieces p =
@@ -97,61 +98,51 @@ shown_next : (texts : List (List ℕ)) (t : List ℕ) → shown_in (texts ++ t �
 shown_next [] t = omega arith
 shown_next (u ∷ us) t = let rest = shown_next us t in omega (arith, rest)
 
-printed_next : (o : Options) (old mid new : Option (List ℕ)) (records : List Record) (r : Record) (n shown more : ℕ) → n ≡ 1 + length records
-    → HasPrinted o old mid records shown → PrintsRecord o n r more mid new → HasPrinted o old new (records ++ r ∷ []) (shown + more)
-printed_next o old mid new records r n shown more e printed next =
-    let texts : List (List ℕ) = printed.0 in
-    let t : List ℕ = next.0 in
-    let joined : concat (texts ++ t ∷ []) ≡ concat texts ++ t = concat-append texts (t ∷ []) ∙ ap (λ l. concat texts ++ l) (append-nil t) in
-    let was : shown ≡ shown_in texts = printed.2 in
-    let one : more ≡ shown_by t = next.2 in
-    let count : shown + more ≡ shown_in (texts ++ t ∷ []) = rw (was, one) (sym (shown_next texts t)) in (
-      texts ++ t ∷ [],
-      texts_next o 1 records texts r t printed.1 (rw e at next.1),
-      count,
-      rw joined (Appends-trans old mid new (concat texts) t printed.3 next.3),
-    )
-
 unread_next : (records : List Record) (r : Record) → unread_in (records ++ r ∷ []) ≡ unread_in records + unread_by r
 unread_next [] r = omega arith
 unread_next (q ∷ qs) r = let rest = unread_next qs r in omega (arith, rest)
 
+printed_next : (o : Options) (old mid new : Option (List ℕ)) (records : List Record) (r : Record) (before now after : Counts)
+    → Prints o records before now old mid → PrintsRecord o r now after mid new → Prints o (records ++ r ∷ []) before after old new
+printed_next o old mid new records r before now after printed next =
+    let texts : List (List ℕ) = printed.0 in
+    let t : List ℕ = next.0 in
+    let joined : concat (texts ++ t ∷ []) ≡ concat texts ++ t = concat-append texts (t ∷ []) ∙ ap (λ l. concat texts ++ l) (append-nil t) in
+    let longer : length (records ++ r ∷ []) ≡ length records + 1 = length-append records (r ∷ []) in
+    let place : now.records + 1 ≡ (before.records + 1) + length records = omega (arith, printed.2) in (
+      texts ++ t ∷ [],
+      texts_next o (before.records + 1) records texts r t printed.1 (rw place at next.1),
+      omega (arith, printed.2, next.2, longer),
+      omega (arith, printed.3, next.3, unread_next records r),
+      omega (arith, printed.4, next.4, shown_next texts t),
+      rw joined (Appends-trans old mid new (concat texts) t printed.5 next.5),
+    )
+
 -- what was printed is sent off
-pub so_far_sent : (o : Options) (format : Format) (begun k : Known) (a b old mid new : Option (List ℕ)) (count unread shown : ℕ)
-    → SoFar o format begun a k b old mid count unread shown → Keeps mid new → SoFar o format begun a k b old new count unread shown
-so_far_sent o format begun k a b old mid new count unread shown so kept =
-    let texts : List (List ℕ) = so.printed.0 in
-    record {
-      records = so.records;
-      counted = so.counted;
-      missed = so.missed;
-      read = so.read;
-      printed = (texts, so.printed.1, so.printed.2, Appends-kept old mid new (concat texts) so.printed.3 kept);
-    }
+pub so_far_sent : (o : Options) (format : Format) (begun k : Known) (a b old mid new : Option (List ℕ)) (before after : Counts)
+    → SoFar o format begun a k b old mid before after → Keeps mid new → SoFar o format begun a k b old new before after
+so_far_sent o format begun k a b old mid new before after so kept =
+    let p = so.printed in
+    record { records = so.records; read = so.read; printed = (p.0, p.1, p.2, p.3, p.4, Appends-kept old mid new (concat p.0) p.5 kept) }
 
 -- one record more is read and printed
-pub so_far_record : (o : Options) (format : Format) (begun k after : Known) (a b c old mid new : Option (List ℕ)) (count unread shown more : ℕ) (r : Record)
-    → SoFar o format begun a k b old mid count unread shown → IfSome b (λ xs. IsTaken format k xs (Some r) after c) → PrintsRecord o (count + 1) r more mid new
-    → SoFar o format begun a after c old new (count + 1) (unread + unread_by r) (shown + more)
-so_far_record o format begun k after a b c old mid new count unread shown more r so next prints =
-    let number : count + 1 ≡ 1 + length so.records = omega (arith, so.counted) in
-    let longer : length (so.records ++ r ∷ []) ≡ count + 1 = length-append so.records (r ∷ []) ∙ omega (arith, so.counted) in
-    record {
-      records = so.records ++ r ∷ [];
-      counted = longer;
-      missed = unread_next so.records r ∙ ap (λ n. n + unread_by r) so.missed;
-      read = read_next format begun k after a b c so.records (Some r) so.read next;
-      printed = printed_next o old mid new so.records r (count + 1) shown more number so.printed prints;
-    }
+pub so_far_record : (o : Options) (format : Format) (begun k known : Known) (a b c old mid new : Option (List ℕ)) (before now after : Counts) (r : Record)
+    → SoFar o format begun a k b old mid before now → IfSome b (λ xs. IsTaken format k xs (Some r) known c) → PrintsRecord o r now after mid new
+    → SoFar o format begun a known c old new before after
+so_far_record o format begun k known a b c old mid new before now after r so next prints = record {
+  records = so.records ++ r ∷ [];
+  read = read_next format begun k known a b c so.records (Some r) so.read next;
+  printed = printed_next o old mid new so.records r before now after so.printed prints;
+}
 
 -- one piece more is read, which is no record
-pub so_far_nothing : (o : Options) (format : Format) (begun k after : Known) (a b c old new : Option (List ℕ)) (count unread shown : ℕ)
-    → SoFar o format begun a k b old new count unread shown → IfSome b (λ xs. IsTaken format k xs None after c)
-    → SoFar o format begun a after c old new count unread shown
-so_far_nothing o format begun k after a b c old new count unread shown so next =
+pub so_far_nothing : (o : Options) (format : Format) (begun k known : Known) (a b c old new : Option (List ℕ)) (before after : Counts)
+    → SoFar o format begun a k b old new before after → IfSome b (λ xs. IsTaken format k xs None known c)
+    → SoFar o format begun a known c old new before after
+so_far_nothing o format begun k known a b c old new before after so next =
     let same : so.records ++ [] ≡ so.records = append-nil so.records in
-    let read : HasRead format begun a after c (so.records ++ []) = read_next format begun k after a b c so.records None so.read next in
-    record { records = so.records; counted = so.counted; missed = so.missed; read = rw same at read; printed = so.printed }
+    let read : HasRead format begun a known c (so.records ++ []) = read_next format begun k known a b c so.records None so.read next in
+    record { records = so.records; read = rw same at read; printed = so.printed }
 
 -- what is opened is the input
 pub opened_input : (format : Format) (z a b : Option (List ℕ)) → Keeps z a → IfSome a (λ xs. IsOpened format xs b) → IfSome z (λ bytes. IsOpened format bytes b)
@@ -191,14 +182,9 @@ all_read format begun k (Some bytes) (Some xs) (Some ys) records stopped is_begu
 }
 
 -- what a run did that ended here
-pub so_far_all : (o : Options) (format : Format) (begun k : Known) (z a b old mid new : Option (List ℕ)) (count unread shown : ℕ) (ending : List ℕ)
-    (stopped : Type 0) → IsBegun begun → IfSome z (λ bytes. IsOpened format bytes a) → SoFar o format begun a k b old mid count unread shown
-    → IfSome b (λ xs. IsEnd k xs ⊎ stopped) → Appends mid new ending → (records : List Record) × (count ≡ length records) × (unread ≡ unread_in records)
-    × IfSome z (λ bytes. IsInput stopped bytes records) × Prints o records shown old new
-so_far_all o format begun k z a b old mid new count unread shown ending stopped is_begun opened so next ends = (
-  so.records,
-  sym so.counted,
-  sym so.missed,
-  all_read format begun k z a b so.records stopped is_begun opened so.read next,
-  (so.printed.0, ending, so.printed.1, so.printed.2, Appends-trans old mid new (concat so.printed.0) ending so.printed.3 ends),
-)
+pub so_far_all : (o : Options) (format : Format) (begun k : Known) (z a b old new : Option (List ℕ)) (before after : Counts) (stopped : Type 0)
+    → IsBegun begun → IfSome z (λ bytes. IsOpened format bytes a) → SoFar o format begun a k b old new before after
+    → IfSome b (λ xs. IsEnd k xs ⊎ stopped)
+    → (records : List Record) × IfSome z (λ bytes. IsInput stopped bytes records) × Prints o records before after old new
+so_far_all o format begun k z a b old new before after stopped is_begun opened so next =
+    (so.records, all_read format begun k z a b so.records stopped is_begun opened so.read next, so.printed)

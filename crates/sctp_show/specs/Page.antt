@@ -1,12 +1,17 @@
 -- What is printed of one fact, as text or as JSON.
-use Rattle.std.specs.Prelude.{ℕ, ◌++◌, List, map, length, codes, decimal, Bool, true, false, ◌==◌, ◌||◌, ltb, if◌then◌else◌}
+use Rattle.std.specs.Prelude.{ℕ, ◌++◌, List, [], ◌∷◌, flat_map, length, codes, decimal, Bool, true, false, ◌==◌, ◌||◌, ltb, if◌then◌else◌}
 use Rattle.hex.specs.Hex.{encode_lower}
 use Rattle.sctp_show.specs.declared.page.Form.{Form}
 use Rattle.sctp_show.specs.declared.page.Form.TheVariants.{Text, Json}
 
--- a byte as it may stand between the quotes of JSON: printable ASCII but for the quote and the backslash, or a question mark
+-- printable ASCII as it is, and a question mark in the place of any other byte
 abbrev pub plain : ℕ → ℕ
-plain byte = if ltb byte 32 || ltb 126 byte || byte == 34 || byte == 92 then 63 else byte
+plain byte = if ltb byte 32 || ltb 126 byte then 63 else byte
+
+-- a byte as it may stand between the quotes of JSON: a quote and a backslash behind a backslash
+abbrev pub escaped : ℕ → List ℕ
+escaped byte =
+    if byte == 34 then 92 ∷ 34 ∷ [] else if byte == 92 then 92 ∷ 92 ∷ [] else plain byte ∷ []
 
 -- a fact whose value stands as it is, behind what JSON begins it with
 unfoldable pub led_text : Form → List ℕ → List ℕ → List ℕ → List ℕ → List ℕ
@@ -40,4 +45,4 @@ unfoldable pub words_text : Form → List ℕ → List ℕ → List ℕ → List
 words_text Text label key words =
     codes "        " ++ (label ++ (codes ": " ++ (words ++ codes "\n")))
 words_text Json label key words =
-    codes ",\"" ++ (key ++ (codes "\":\"" ++ (map plain words ++ codes "\"")))
+    codes ",\"" ++ (key ++ (codes "\":\"" ++ (flat_map escaped words ++ codes "\"")))

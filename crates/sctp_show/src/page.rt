@@ -1,8 +1,8 @@
 //! What is printed of a record, fact by fact, as text or as JSON.
 
-ghost use Rattle.std.specs.Prelude.{◌≡◌, ◌<◌, ◌++◌, map, flat_map, OnOk};
+ghost use Rattle.std.specs.Prelude.{◌≡◌, ◌<◌, ◌++◌, flat_map, OnOk};
 ghost use Rattle.std.specs.String.{string_bytes};
-ghost use Rattle.sctp_show.specs.Page.{plain, led_text, number_text, row_text, truth_text, bytes_text, words_text};
+ghost use Rattle.sctp_show.specs.Page.{plain, escaped, led_text, number_text, row_text, truth_text, bytes_text, words_text};
 
 use itoa::Buffer;
 use std::alloc::{AllocError, Global};
@@ -24,24 +24,37 @@ pub struct Page {
     pub text: String,
 }
 
-/// A byte that may stand between the quotes of JSON as it is: printable ASCII, but no quote and no
-/// backslash. Any other byte stands as a question mark.
+/// A byte that is printable ASCII, or a question mark in its place.
 fn plain_byte(byte: u8) -> u8
     ensures is { result ≡ plain byte }
     ensures ascii { result < 128 }
 {
-    if byte < 32 || byte > 126 || byte == b'"' || byte == b'\\' {
+    if byte < 32 || byte > 126 {
         return b'?';
     }
     byte
 }
 
-/// Appends a text as it may stand between the quotes of JSON.
-fn push_plain(text: &mut String, words: &str) -> Result<(), AllocError>
-    ensures { OnOk result (string_bytes text.new ≡ string_bytes text.old ++ map plain words.now) }
+/// Appends a byte of ASCII as it may stand between the quotes of JSON (RFC 8259 7).
+fn push_escaped(text: &mut String, byte: u8) -> Result<(), AllocError>
+    ensures { OnOk result (string_bytes text.new ≡ string_bytes text.old ++ escaped byte) }
+{
+    if byte == b'"' {
+        return text.push_str("\\\"");
+    }
+    if byte == b'\\' {
+        return text.push_str("\\\\");
+    }
+    text.push(char::from(plain_byte(byte)))
+}
+
+/// Appends words of ASCII as they may stand between the quotes of JSON.
+fn push_words(text: &mut String, words: &str) -> Result<(), AllocError>
+    ensures { OnOk result (string_bytes text.new
+        ≡ string_bytes text.old ++ flat_map escaped words.now) }
 {
     for byte in words.as_bytes() {
-        text.push(char::from(plain_byte(*byte)))?;
+        push_escaped(text, *byte)?;
     }
     Ok(())
 }
@@ -217,7 +230,7 @@ impl Page {
         }
     }
 
-    /// A fact that is words.
+    /// A fact that is words of ASCII.
     #[tactic(auto, unfolding(crate::specs::Page::words_text))]
     pub fn words(&mut self, label: &str, key: &str, words: &str) -> Result<(), AllocError>
         ensures form { self.new.form ≡ self.old.form }
@@ -228,7 +241,7 @@ impl Page {
             Form::Text => put_all(&mut self.text, &["        ", label, ": ", words, "\n"]),
             Form::Json => {
                 put_all(&mut self.text, &[",\"", key, "\":\""])?;
-                push_plain(&mut self.text, words)?;
+                push_words(&mut self.text, words)?;
                 self.text.push_str("\"")
             }
         }

@@ -1,10 +1,10 @@
-//! A run: the records of an input, each printed.
+//! A run: the records of inputs, each printed.
 
-ghost use Rattle.std.specs.Prelude.{◌≡◌, ◌≤◌, ℕ, List, Option, length, IfOk, OnOk, IfSome};
+ghost use Rattle.std.specs.Prelude.{◌≡◌, ◌≤◌, ◌+◌, ℕ, List, Option, IfOk, OnOk, IfSome};
 ghost use Rattle.std.specs.Io.KnownBytes.{Appends, Keeps, prepend_known};
 ghost use Rattle.sctp_capture.specs.Blocks.{known_of};
-ghost use Rattle.sctp_capture.specs.Input.{IsInput, unread_in};
-ghost use Rattle.sctp_show.specs.Run.{PrintsRecord, Prints};
+ghost use Rattle.sctp_capture.specs.Input.{IsInput};
+ghost use Rattle.sctp_show.specs.Run.{none, PrintsRecord, Prints};
 
 use crate::follow::Follow;
 use crate::summary::Summary;
@@ -69,107 +69,137 @@ pub fn write_text<W: Write>(output: &mut W, text: &str) -> Result<(), RunFault>
     }
 }
 
-/// Prints a record, if it is to be shown. Answers how many were, 0 or 1.
-fn print_record<F: Follow, W: Write>(
-    alloc: Global,
-    options: &Options,
-    number: u64,
-    record: Record,
-    follower: &mut F,
-    summary: &mut Summary,
-    output: &mut W,
-) -> Result<u64, RunFault>
-    ensures few { IfOk result (λ shown. shown ≤ 1) }
-    ensures prints { IfOk result (λ shown. PrintsRecord options.now number «record» shown
-        (W.contents output.old) (W.contents output.new)) }
+/// A count that grows. There is none past `u64::MAX`.
+fn added(count: u64, more: u64) -> Result<u64, RunFault>
+    ensures { IfOk result (λ sum. sum ≡ count + more) }
 {
-    let text = record_text(alloc, options, number, &record, follower, summary)?;
-    write_text(output, &text)?;
-    if text.is_empty() {
-        return Ok(0);
+    match count.checked_add(more) {
+        Some(sum) => Ok(sum),
+        None => Err(RunFault::Input(None)),
     }
-    Ok(1)
 }
 
-/// How many records of an input were read.
+/// How many records were read of the inputs so far.
 #[derive(Clone, Copy, Debug, PartialEq, Eq)]
 pub struct Counts {
     pub records: u64,
-    /// The records that have no frame: what the input says there is no record, or is cut off.
+    /// The records that have no frame: what an input says there is no record, or is cut off.
     pub unread: u64,
     /// The records of which something is shown.
     pub shown: u64,
 }
 
-/// Writes the line that sums up.
-fn finish<W: Write>(
-    alloc: Global,
-    options: &Options,
-    records: u64,
-    summary: &Summary,
-    output: &mut W,
-) -> Result<(), RunFault>
-    ensures { OnOk result ((ending : List ℕ)
-        × Appends (W.contents output.old) (W.contents output.new) ending) }
-{
-    let text = summary.text(alloc, options.form, records)?;
-    write_text(output, &text)?;
-    Ok(())
+impl Counts {
+    /// No record was read.
+    pub fn none() -> Self
+        ensures { result ≡ none }
+    {
+        Counts {
+            records: 0,
+            unread: 0,
+            shown: 0,
+        }
+    }
+
+    /// One record more, of which so many have no frame, and so many are shown. Refuses what a count cannot be.
+    pub fn with(self, unread: u64, shown: u64) -> Result<Self, RunFault>
+        ensures records { IfOk result (λ after. after.records ≡ self.records + 1) }
+        ensures unread { IfOk result (λ after. after.unread ≡ self.unread + unread) }
+        ensures shown { IfOk result (λ after. after.shown ≡ self.shown + shown) }
+    {
+        Ok(Counts {
+            records: added(self.records, 1)?,
+            unread: added(self.unread, unread)?,
+            shown: added(self.shown, shown)?,
+        })
+    }
 }
 
-/// Prints each record of an input in order that has what is asked for, and a line that sums them up. Ends early where as many are shown as
-/// are to be shown at most. Answers how many records were read, how many of them have no frame, and how many are shown.
+/// What is known of the inputs that were read, one after the other, as of one capture.
+#[derive(Drop)]
+pub struct Course {
+    pub counts: Counts,
+    summary: Summary,
+}
+
+impl Course {
+    /// Nothing was read. Refuses only for memory.
+    pub fn new(alloc: Global) -> Result<Self, AllocError>
+        ensures { IfOk result (λ course. course.counts ≡ none) }
+    {
+        Ok(Course {
+            counts: Counts::none(),
+            summary: Summary::new(alloc)?,
+        })
+    }
+
+    /// Prints a record, if it is to be shown, and counts it.
+    fn print<F: Follow, W: Write>(
+        &mut self,
+        alloc: Global,
+        options: &Options,
+        record: Record,
+        follower: &mut F,
+        output: &mut W,
+    ) -> Result<(), RunFault>
+        ensures prints { OnOk result (PrintsRecord options.now «record» self.old.counts
+            self.new.counts (W.contents output.old) (W.contents output.new)) }
+        ensures few { OnOk result (self.new.counts.shown ≤ self.old.counts.shown + 1) }
+    {
+        let number = added(self.counts.records, 1)?;
+        let text = record_text(alloc, options, number, &record, follower, &mut self.summary)?;
+        write_text(output, &text)?;
+        let shown = if text.is_empty() { 0 } else { 1 };
+        self.counts = self.counts.with(unread_of(&record), shown)?;
+        Ok(())
+    }
+
+    /// Writes the line that sums up.
+    pub fn finish<W: Write>(
+        &self,
+        alloc: Global,
+        options: &Options,
+        output: &mut W,
+    ) -> Result<(), RunFault>
+        ensures { OnOk result ((ending : List ℕ)
+            × Appends (W.contents output.old) (W.contents output.new) ending) }
+    {
+        let text = self.summary.text(alloc, options.form, self.counts.records)?;
+        write_text(output, &text)
+    }
+}
+
+/// Prints each record of an input in order that has what is asked for, until as many are shown as are to be shown at most. Its records are
+/// counted on from those of the inputs before it, and printed with these numbers.
 /// Each packet is noted by the follower before it is printed. What was printed is sent off before more of the input is waited for. An input of a kind that is known, but not read, is refused.
 pub fn run<R: Read + Drop, F: Follow, W: Write>(
     alloc: Global,
     options: &Options,
     input: R,
+    course: &mut Course,
     follower: &mut F,
     output: &mut W,
-) -> Result<Counts, RunFault>
-    ensures prints { IfOk result (λ counts. (records : List Record) × (counts.records ≡ length records)
-        × (counts.unread ≡ unread_in records)
+) -> Result<(), RunFault>
+    ensures prints { OnOk result ((records : List Record)
         × IfSome (R.remaining input)
-        (λ bytes. IsInput (options.now.limit ≤ counts.shown) bytes records)
-        × Prints options.now records counts.shown
+        (λ bytes. IsInput (options.now.limit ≤ course.new.counts.shown) bytes records)
+        × Prints options.now records course.old.counts course.new.counts
         (W.contents output.old) (W.contents output.new)) }
-    ensures limit { IfOk result (λ counts. counts.shown ≤ options.now.limit) }
+    ensures limit { course.old.counts.shown ≤ options.now.limit
+        → OnOk result (course.new.counts.shown ≤ options.now.limit) }
 {
     let mut window = Window::new(alloc, input)?;
     let format = open_input(&mut window)?;
     let mut section = Section::new(alloc);
-    let mut summary = Summary::new(alloc)?;
-    let (mut records, mut unread, mut shown) = (0u64, 0u64, 0u64);
     'pieces: for _turn in 0..u64::MAX {
-        let counts = Counts {
-            records,
-            unread,
-            shown,
-        };
-        if shown >= options.limit {
-            finish(alloc, options, records, &summary, output)?;
-            return Ok(counts);
+        if course.counts.shown >= options.limit {
+            return Ok(());
         }
         send_off(output, holds_piece(format, &section, window.held()))?;
         match next_piece(alloc, &mut window, &mut section, format)? {
-            Taken::Record(record) => {
-                records += 1;
-                unread += unread_of(&record);
-                shown += print_record(
-                    alloc,
-                    options,
-                    records,
-                    record,
-                    follower,
-                    &mut summary,
-                    output,
-                )?;
-            }
+            Taken::Record(record) => course.print(alloc, options, record, follower, output)?,
             Taken::Nothing => {}
-            Taken::End => {
-                finish(alloc, options, records, &summary, output)?;
-                return Ok(counts);
-            }
+            Taken::End => return Ok(()),
         }
     }
     Err(RunFault::Input(None))

@@ -15,7 +15,7 @@ use crate::cut::with_cut;
 use crate::filter::{is_left_over, is_refused};
 use crate::follow::{Bases, Follow, Known, bases_for};
 use crate::mark::{mark_of, put_marked};
-use crate::page::{Form, Page, put_all, put_quoted};
+use crate::page::{Form, Page, put_all};
 use crate::rules::rule_of_rest;
 use crate::scene::scene_of;
 use crate::summary::Summary;
@@ -478,18 +478,6 @@ fn frame_text<F: Follow>(
         Ok(datagram) => packet_text(alloc, options, number, record, &datagram, follower, summary),
         Err(fault) => fault_line(alloc, options, number, fault, summary),
     }
-}
-
-/// The line above the records of a file, where there are several.
-pub fn heading(alloc: Global, form: Form, name: &str) -> Result<String, AllocError> {
-    if form == Form::Text {
-        return format!(in alloc; "==> {name} <==\n");
-    }
-    let mut text = String::new(alloc);
-    text.push_str("{\"file\":")?;
-    put_quoted(&mut text, name.as_bytes())?;
-    text.push_str("}\n")?;
-    Ok(text)
 }
 
 /// The text of a record, if it is to be shown.

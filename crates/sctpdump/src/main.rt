@@ -5,20 +5,22 @@ mod ack_text;
 mod acks;
 mod channel_text;
 mod channels;
+mod course;
 mod messages;
 mod pending;
 mod reading;
 mod save;
 mod text;
+mod tsn_reset;
 mod way;
 
 use crate::acks::Acks;
 use crate::channels::Channels;
+use crate::course::{Course, Kept, Printed, Viewed};
 use crate::messages::Messages;
-use crate::save::{Saved, save};
 use clap::{Arg, ArgAction, ArgMatches, Command};
 use sctp_follow::ladder::{Ladders, Style};
-use sctp_follow::summarize::summarize;
+use sctp_follow::summarize::Take;
 use sctp_follow::sums::Sums;
 use sctp_follow::svg::Pictures;
 use sctp_follow::track::Tracker;
@@ -26,12 +28,12 @@ use sctp_show::checksum::Sum;
 use sctp_show::choice::Choice;
 use sctp_show::follow::Alone;
 use sctp_show::page::Form;
-use sctp_show::run::{Counts, RunFault, run};
-use sctp_show::text::{Options, heading};
+use sctp_show::run::{Counts, RunFault};
+use sctp_show::text::Options;
 use sctp_show::time::Clock;
 use std::alloc::{AllocError, Global};
 use std::fmt::Display;
-use std::io::{self, BufWriter, ErrorKind, IsTerminal, Read, Write};
+use std::io::{self, BufWriter, ErrorKind, IsTerminal, Write};
 use std::process::ExitCode;
 use std::{env, fs};
 
@@ -59,7 +61,7 @@ const TIME_WORDS: &str = "-t is r, e or ad";
 
 const NUMBER_WORDS: &str = "the port is a number up to 65535, and the count a number";
 
-const PICTURE_WORDS: &str = "--svg has one input, and its FILE is - or ends in .svg";
+const PICTURE_WORDS: &str = "the FILE of --svg is - or ends in .svg";
 
 const FILTER_HELP: &str =
     "Show only packets with one of these: port, tag, type, stream, tsn (also FROM-TO), ppid; addr, src, dst (also ADDRESS/BITS); time=FROM-TO in seconds since the first record; `refused`, `refused=checksum`; with ` or `, ` and ` between them, or `not ` before one";
@@ -106,12 +108,15 @@ const COUNT_HELP: &str = "End after COUNT records are shown";
 const PORT_HELP: &str = "The UDP port of SCTP in UDP, in place of 9899";
 
 const FILE_HELP: &str =
-    "Captures (pcap, pcapng), lines of hex text, or dumps; - or none for standard input";
+    "Captures (pcap, pcapng), lines of hex text, or dumps, which are read as one capture; - or none for standard input";
 
 const READ_HELP: &str = "Read FILE, before those that stand alone";
 
 /// What a message calls the standard input.
 const STANDARD_INPUT: &str = "standard input";
+
+/// What a message calls the standard output.
+const STANDARD_OUTPUT: &str = "standard output";
 
 /// Writes a line to standard error: why the input of this name, or the output, could not be dealt with. Answers that it could not.
 fn report<D: Display + Drop>(rt: &HostRuntime, name: &str, why: D) -> anyhow::Result<bool> {
@@ -138,27 +143,33 @@ fn system_error(code: Option<i32>) -> io::Error {
     }
 }
 
-/// Says that the output failed. Where its reader has gone, as `head` does, that is no failure.
-fn report_output(rt: &HostRuntime, error: io::Error) -> anyhow::Result<bool> {
+/// Says that the output of this name failed. Where its reader has gone, as `head` does, that is no failure.
+fn report_output(rt: &HostRuntime, sink: &str, error: io::Error) -> anyhow::Result<bool> {
     if error.kind() == ErrorKind::BrokenPipe {
         return Ok(true);
     }
-    report_error(rt, "standard output", error)
+    report_error(rt, sink, error)
 }
 
-/// Says why a run ended early.
+/// Says why a run ended early: why the input of this name, or the output, could not be dealt with.
 fn report_fault(rt: &HostRuntime, name: &str, fault: RunFault) -> anyhow::Result<bool> {
     match fault {
         RunFault::Input(code) => report_error(rt, name, system_error(code)),
-        RunFault::Output(code) => report_output(rt, system_error(code)),
+        RunFault::Output(code) => report_output(rt, name, system_error(code)),
         RunFault::Memory => report(rt, name, "out of memory"),
         RunFault::Other(kind) => report(rt, name, kind),
     }
 }
 
-/// Says how many records could not be read, if any.
-fn report_counts(rt: &HostRuntime, name: &str, counts: Counts) -> anyhow::Result<bool> {
-    let (records, unread) = (counts.records, counts.unread);
+/// Says how many records of an input could not be read, if any: by what was read before it, and with it.
+fn report_counts(
+    rt: &HostRuntime,
+    name: &str,
+    before: Counts,
+    after: Counts,
+) -> anyhow::Result<bool> {
+    let unread = after.unread.saturating_sub(before.unread);
+    let records = after.records.saturating_sub(before.records);
     if unread == 0 {
         return Ok(true);
     }
@@ -166,78 +177,7 @@ fn report_counts(rt: &HostRuntime, name: &str, counts: Counts) -> anyhow::Result
     Ok(false)
 }
 
-/// Prints what an input is summed up to.
-fn run_summary<R: Read + Drop, W: Write>(
-    alloc: Global,
-    options: &Options,
-    input: R,
-    output: &mut W,
-) -> Result<Counts, RunFault> {
-    let mut sums = Sums::new(alloc, options.form, options.clock);
-    summarize(alloc, options, input, &mut sums, output)
-}
-
-/// Prints the ladders of an input.
-fn run_ladders<R: Read + Drop, W: Write>(
-    alloc: Global,
-    task: &Task<'_>,
-    input: R,
-    output: &mut W,
-) -> Result<Counts, RunFault> {
-    let style = Style {
-        clock: task.options.clock,
-        is_relative: task.is_relative,
-        is_colored: task.options.is_colored,
-    };
-    let mut ladders = Ladders::new(alloc, style);
-    summarize(alloc, &task.options, input, &mut ladders, output)
-}
-
-/// Prints the messages of an input.
-fn run_messages<R: Read + Drop, W: Write>(
-    alloc: Global,
-    task: &Task<'_>,
-    input: R,
-    output: &mut W,
-) -> Result<Counts, RunFault> {
-    let mut messages = Messages::new(alloc, task.style());
-    summarize(alloc, &task.options, input, &mut messages, output)
-}
-
-/// Prints what acknowledged the chunks of an input.
-fn run_acks<R: Read + Drop, W: Write>(
-    alloc: Global,
-    task: &Task<'_>,
-    input: R,
-    output: &mut W,
-) -> Result<Counts, RunFault> {
-    let mut acks = Acks::new(alloc, task.style());
-    summarize(alloc, &task.options, input, &mut acks, output)
-}
-
-/// Prints the data channels of an input.
-fn run_channels<R: Read + Drop, W: Write>(
-    alloc: Global,
-    task: &Task<'_>,
-    input: R,
-    output: &mut W,
-) -> Result<Counts, RunFault> {
-    let mut channels = Channels::new(alloc, task.style());
-    summarize(alloc, &task.options, input, &mut channels, output)
-}
-
-/// Draws the associations of an input.
-fn run_pictures<R: Read + Drop, W: Write>(
-    alloc: Global,
-    options: &Options,
-    input: R,
-    output: &mut W,
-) -> Result<Counts, RunFault> {
-    let mut pictures = Pictures::new(alloc);
-    summarize(alloc, options, input, &mut pictures, output)
-}
-
-/// What is printed of an input.
+/// What is printed of the inputs.
 #[derive(Clone, Copy, PartialEq, Eq)]
 enum View {
     Records,
@@ -255,7 +195,7 @@ enum View {
     Pictures,
 }
 
-/// How an input is printed.
+/// How the inputs are printed.
 #[derive(Drop)]
 struct Task<'a> {
     options: Options,
@@ -277,195 +217,171 @@ impl<'a> Task<'a> {
             is_relative: self.is_relative,
         }
     }
-}
 
-/// Prints the records of an input. The packets before one are kept in mind only where its line depends on them.
-fn run_records<R: Read + Drop, W: Write>(
-    alloc: Global,
-    task: &Task<'_>,
-    input: R,
-    output: &mut W,
-) -> Result<Counts, RunFault> {
-    if task.is_relative || task.options.is_colored {
-        let mut tracker = Tracker::new(alloc, task.is_relative);
-        return run(alloc, &task.options, input, &mut tracker, output);
+    /// How ladders are printed.
+    fn ladder_style(&self) -> Style {
+        Style {
+            clock: self.options.clock,
+            is_relative: self.is_relative,
+            is_colored: self.options.is_colored,
+        }
     }
-    run(alloc, &task.options, input, &mut Alone::new(alloc), output)
 }
 
-/// Writes the picture of an input to a file, once all of it is read.
-fn run_picture<R: Read + Drop>(
+/// Reads a file, or the standard input.
+fn read_file<W: Write, C: Course<W>>(
+    rt: &HostRuntime,
+    options: &Options,
+    file: &str,
+    course: &mut C,
+    output: &mut W,
+) -> Result<(), RunFault> {
+    if file == "-" {
+        return course.read(rt.alloc(), options, rt.reader(), output);
+    }
+    match fs::open(rt, file) {
+        Ok(input) => course.read(rt.alloc(), options, input, output),
+        Err(error) => Err(RunFault::Input(error.raw_os_error())),
+    }
+}
+
+/// Reads the files one after the other, until as many records are shown as are to be shown at most, or the output fails, and says which could
+/// not be read. Answers whether all were.
+fn read_each<W: Write, C: Course<W>>(
+    rt: &HostRuntime,
+    options: &Options,
+    files: &[&str],
+    course: &mut C,
+    output: &mut W,
+) -> anyhow::Result<Result<bool, RunFault>> {
+    let mut is_all = true;
+    for file in files {
+        let before = course.counts();
+        if before.shown >= options.limit {
+            return Ok(Ok(is_all));
+        }
+        let name = if *file == "-" { STANDARD_INPUT } else { *file };
+        match read_file(rt, options, file, course, output) {
+            Ok(()) => {}
+            Err(RunFault::Output(code)) => return Ok(Err(RunFault::Output(code))),
+            Err(fault) => is_all = report_fault(rt, name, fault)? && is_all,
+        }
+        is_all = report_counts(rt, name, before, course.counts())? && is_all;
+    }
+    Ok(Ok(is_all))
+}
+
+/// Reads the files, and writes what is written at their end, unless nothing of them could be read.
+fn read_all<W: Write, C: Course<W>>(
+    rt: &HostRuntime,
+    options: &Options,
+    files: &[&str],
+    mut course: C,
+    output: &mut W,
+) -> anyhow::Result<Result<bool, RunFault>>
+where
+    C: Drop,
+{
+    let is_all = match read_each(rt, options, files, &mut course, output)? {
+        Ok(is_all) => is_all,
+        Err(fault) => return Ok(Err(fault)),
+    };
+    if !is_all && course.counts().records == 0 {
+        return Ok(Ok(false));
+    }
+    match course.end(rt.alloc(), options, output) {
+        Ok(()) => Ok(Ok(is_all)),
+        Err(fault) => Ok(Err(fault)),
+    }
+}
+
+/// Prints the records of the files. The packets before one are kept in mind only where its line depends on them.
+fn print_records<W: Write>(
     rt: &HostRuntime,
     task: &Task<'_>,
-    name: &str,
-    input: R,
+    files: &[&str],
+    output: &mut W,
+) -> anyhow::Result<Result<bool, RunFault>> {
+    let (alloc, options) = (rt.alloc(), &task.options);
+    if task.is_relative || options.is_colored {
+        let tracker = Tracker::new(alloc, task.is_relative);
+        return read_all(rt, options, files, Printed::new(alloc, tracker)?, output);
+    }
+    let alone = Alone::new(alloc);
+    read_all(rt, options, files, Printed::new(alloc, alone)?, output)
+}
+
+/// Prints what the packets of the files amount to.
+fn print_view<W: Write, T: Take + Drop>(
+    rt: &HostRuntime,
+    options: &Options,
+    files: &[&str],
+    taker: T,
+    output: &mut W,
+) -> anyhow::Result<Result<bool, RunFault>> {
+    read_all(rt, options, files, Viewed::new(rt.alloc(), taker), output)
+}
+
+/// Prints what is asked for of the files.
+fn print_files<W: Write>(
+    rt: &HostRuntime,
+    task: &Task<'_>,
+    files: &[&str],
+    output: &mut W,
+) -> anyhow::Result<Result<bool, RunFault>> {
+    let (alloc, options, style) = (rt.alloc(), &task.options, task.style());
+    if task.saved.is_some() {
+        return read_all(rt, options, files, Kept::new(alloc)?, output);
+    }
+    match task.view {
+        View::Records => print_records(rt, task, files, output),
+        View::Summary => {
+            let sums = Sums::new(alloc, options.form, options.clock);
+            print_view(rt, options, files, sums, output)
+        }
+        View::Ladders => {
+            let ladders = Ladders::new(alloc, task.ladder_style());
+            print_view(rt, options, files, ladders, output)
+        }
+        View::Messages => print_view(rt, options, files, Messages::new(alloc, style), output),
+        View::Acks => print_view(rt, options, files, Acks::new(alloc, style), output),
+        View::Channels => print_view(rt, options, files, Channels::new(alloc, style), output),
+        View::Pictures => print_view(rt, options, files, Pictures::new(alloc), output),
+    }
+}
+
+/// Writes the picture of the files to a file, once all of them are read.
+fn run_picture(
+    rt: &HostRuntime,
+    task: &Task<'_>,
+    files: &[&str],
     picture: &str,
 ) -> anyhow::Result<bool> {
     let mut drawn = Vec::new(rt.alloc());
-    let counts = match run_pictures(rt.alloc(), &task.options, input, &mut drawn) {
-        Ok(counts) => counts,
-        Err(fault) => return report_fault(rt, name, fault),
+    let is_all = match print_files(rt, task, files, &mut drawn)? {
+        Ok(is_all) => is_all,
+        Err(fault) => return report_fault(rt, picture, fault),
     };
     match fs::write(rt, picture, drawn.as_slice()) {
-        Ok(()) => report_counts(rt, name, counts),
+        Ok(()) => Ok(is_all),
         Err(error) => report_error(rt, picture, error),
     }
 }
 
-/// Prints an input, and says what went wrong. Answers whether all of it was read.
-fn run_on<R: Read + Drop>(
+/// Prints the files to the output of this name. Answers whether all were read, and all was written.
+fn run_on<W: Write + Drop>(
     rt: &HostRuntime,
     task: &Task<'_>,
-    name: &str,
-    input: R,
-) -> anyhow::Result<bool> {
-    if let Some(picture) = task.picture
-        && picture != "-"
-    {
-        return run_picture(rt, task, name, input, picture);
-    }
-    let mut output = BufWriter::with_capacity(rt.alloc(), AT_ONCE, io::writer(rt))?;
-    let result = match task.view {
-        View::Records => run_records(rt.alloc(), task, input, &mut output),
-        View::Summary => run_summary(rt.alloc(), &task.options, input, &mut output),
-        View::Ladders => run_ladders(rt.alloc(), task, input, &mut output),
-        View::Messages => run_messages(rt.alloc(), task, input, &mut output),
-        View::Acks => run_acks(rt.alloc(), task, input, &mut output),
-        View::Channels => run_channels(rt.alloc(), task, input, &mut output),
-        View::Pictures => run_pictures(rt.alloc(), &task.options, input, &mut output),
-    };
-    match (result, output.flush()) {
-        (Err(fault), _) => report_fault(rt, name, fault),
-        (Ok(_), Err(error)) => report_output(rt, error),
-        (Ok(counts), Ok(())) => report_counts(rt, name, counts),
-    }
-}
-
-fn run_file(rt: &HostRuntime, task: &Task<'_>, file: &str) -> anyhow::Result<bool> {
-    if file == "-" {
-        return run_on(rt, task, STANDARD_INPUT, rt.reader());
-    }
-    match fs::open(rt, file) {
-        Ok(input) => run_on(rt, task, file, input),
-        Err(error) => report_error(rt, file, error),
-    }
-}
-
-/// Prints each file under its name.
-fn run_each(rt: &HostRuntime, task: &Task<'_>, files: &[&str]) -> anyhow::Result<bool> {
-    let mut is_all = true;
-    for file in files {
-        let heading = heading(rt.alloc(), task.options.form, file)?;
-        if let Err(error) = io::writer(rt).write_all(heading.as_bytes()) {
-            return report_output(rt, error);
-        }
-        is_all = run_file(rt, task, file)? && is_all;
-    }
-    Ok(is_all)
-}
-
-/// Says why a run that writes records to a file ended early.
-fn report_save(rt: &HostRuntime, path: &str, name: &str, fault: RunFault) -> anyhow::Result<bool> {
-    match fault {
-        RunFault::Output(code) if path != "-" => report_error(rt, path, system_error(code)),
-        _ => report_fault(rt, name, fault),
-    }
-}
-
-/// Writes the chosen records of an input.
-fn save_input<R: Read + Drop, W: Write>(
-    rt: &HostRuntime,
-    task: &Task<'_>,
-    path: &str,
-    name: &str,
-    input: R,
-    saved: &mut Saved,
-    output: &mut W,
-) -> anyhow::Result<bool> {
-    match save(rt.alloc(), &task.options, input, saved, output) {
-        Ok(counts) => report_counts(rt, name, counts),
-        Err(fault) => {
-            saved.is_broken = matches!(fault, RunFault::Output(_));
-            report_save(rt, path, name, fault)
-        }
-    }
-}
-
-/// Writes the chosen records of a file.
-fn save_file<W: Write>(
-    rt: &HostRuntime,
-    task: &Task<'_>,
-    path: &str,
-    file: &str,
-    saved: &mut Saved,
-    output: &mut W,
-) -> anyhow::Result<bool> {
-    if file == "-" {
-        return save_input(rt, task, path, STANDARD_INPUT, rt.reader(), saved, output);
-    }
-    match fs::open(rt, file) {
-        Ok(input) => save_input(rt, task, path, file, input, saved, output),
-        Err(error) => report_error(rt, file, error),
-    }
-}
-
-/// Writes the chosen records of each file, until writing fails.
-fn save_all<W: Write>(
-    rt: &HostRuntime,
-    task: &Task<'_>,
-    path: &str,
     files: &[&str],
-    saved: &mut Saved,
-    output: &mut W,
-) -> anyhow::Result<bool> {
-    let mut is_all = true;
-    for file in files {
-        is_all = save_file(rt, task, path, file, saved, output)? && is_all;
-        if saved.is_broken {
-            return Ok(is_all);
-        }
-    }
-    Ok(is_all)
-}
-
-/// Writes the chosen records of each file as one capture.
-fn save_each<W: Write + Drop>(
-    rt: &HostRuntime,
-    task: &Task<'_>,
-    path: &str,
-    files: &[&str],
+    sink: &str,
     writer: W,
 ) -> anyhow::Result<bool> {
     let mut output = BufWriter::with_capacity(rt.alloc(), AT_ONCE, writer)?;
-    let mut saved = Saved::new(rt.alloc())?;
-    if let Err(fault) = saved.send(&mut output) {
-        return report_save(rt, path, path, fault);
-    }
-    let is_all = save_all(rt, task, path, files, &mut saved, &mut output)?;
-    if saved.is_broken {
-        return Ok(is_all);
-    }
-    match output.flush() {
-        Ok(()) => Ok(is_all),
-        Err(error) if path == "-" => report_output(rt, error),
-        Err(error) => report_error(rt, path, error),
-    }
-}
-
-/// Writes the chosen records of the files, or of the standard input, where there is none, to a file, or to the standard output.
-fn save_files(
-    rt: &HostRuntime,
-    task: &Task<'_>,
-    path: &str,
-    files: &[&str],
-) -> anyhow::Result<bool> {
-    let files: &[&str] = if files.is_empty() { &["-"] } else { files };
-    if path == "-" {
-        return save_each(rt, task, path, files, io::writer(rt));
-    }
-    match fs::create(rt, path) {
-        Ok(file) => save_each(rt, task, path, files, file),
-        Err(error) => report_error(rt, path, error),
+    let result = print_files(rt, task, files, &mut output)?;
+    match (result, output.flush()) {
+        (Err(fault), _) => report_fault(rt, sink, fault),
+        (Ok(_), Err(error)) => report_output(rt, sink, error),
+        (Ok(is_all), Ok(())) => Ok(is_all),
     }
 }
 
@@ -650,11 +566,11 @@ fn view_in(matches: &ArgMatches<'_>) -> Option<View> {
     }
 }
 
-/// Whether a picture may be written to this file, of so many inputs: it has one input, and overwrites no capture by mistake.
-fn is_picture(picture: Option<&str>, inputs: usize) -> bool {
+/// Whether a picture may be written to this file: it overwrites no capture by mistake.
+fn is_picture(picture: Option<&str>) -> bool {
     match picture {
         None => true,
-        Some(name) => inputs <= 1 && (name == "-" || name.ends_with(".svg")),
+        Some(name) => name == "-" || name.ends_with(".svg"),
     }
 }
 
@@ -700,18 +616,19 @@ fn options_in(
     })
 }
 
-/// Prints the files of the command line, each under its name where there are more than one.
-fn run_files(rt: &HostRuntime, task: &Task<'_>, files: &[&str]) -> anyhow::Result<ExitCode> {
-    let is_all = match (task.saved, files) {
-        (Some(path), _) => save_files(rt, task, path, files)?,
-        (None, []) => run_file(rt, task, "-")?,
-        (None, [file]) => run_file(rt, task, file)?,
-        (None, _) => run_each(rt, task, files)?,
-    };
-    if is_all {
-        return Ok(ExitCode::SUCCESS);
+/// Prints the files of the command line, or the standard input, where there are none.
+fn run_files(rt: &HostRuntime, task: &Task<'_>, files: &[&str]) -> anyhow::Result<bool> {
+    let files: &[&str] = if files.is_empty() { &["-"] } else { files };
+    match (task.saved, task.picture) {
+        (None | Some("-"), None | Some("-")) => {
+            run_on(rt, task, files, STANDARD_OUTPUT, io::writer(rt))
+        }
+        (Some(path), _) => match fs::create(rt, path) {
+            Ok(file) => run_on(rt, task, files, path, file),
+            Err(error) => report_error(rt, path, error),
+        },
+        (None, Some(picture)) => run_picture(rt, task, files, picture),
     }
-    Ok(ExitCode::FAILURE)
 }
 
 /// Says why the command line cannot be followed.
@@ -745,20 +662,18 @@ fn task_in<'a>(
     let Some(view) = view_in(matches) else {
         return refuse(rt, VIEW_WORDS);
     };
-    let picture = matches.get_str("svg");
-    if !is_picture(picture, files.len()) {
+    if !is_picture(matches.get_str("svg")) {
         return refuse(rt, PICTURE_WORDS);
     }
-    let saved = matches.get_str("write");
-    if !is_saved(saved, view, &options, files) {
+    if !is_saved(matches.get_str("write"), view, &options, files) {
         return refuse(rt, WRITE_WORDS);
     }
     Ok(Some(Task {
         options,
         view,
         is_relative: matches.get_flag("relative"),
-        picture,
-        saved,
+        picture: matches.get_str("svg"),
+        saved: matches.get_str("write"),
     }))
 }
 
@@ -777,8 +692,11 @@ fn main(rt: HostRuntime) -> anyhow::Result<ExitCode> {
         }
     };
     let files = files_in(alloc, &matches)?;
-    match task_in(&rt, &matches, &files)? {
-        Some(task) => run_files(&rt, &task, &files),
-        None => Ok(ExitCode::from(2)),
+    let Some(task) = task_in(&rt, &matches, &files)? else {
+        return Ok(ExitCode::from(2));
+    };
+    if run_files(&rt, &task, &files)? {
+        return Ok(ExitCode::SUCCESS);
     }
+    Ok(ExitCode::FAILURE)
 }

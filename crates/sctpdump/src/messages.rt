@@ -5,6 +5,7 @@ use crate::text::{
     Moment, Style, put_dropped, put_held, put_missed, put_name, put_read, put_unread,
     put_wrong_checksum,
 };
+use crate::tsn_reset::{TsnReset, tsn_reset_in};
 use crate::way::{Outcome, WayReader};
 use sctp_capture::record::Time;
 use sctp_chunks::chunk::chunk_kind::ChunkKind;
@@ -29,6 +30,8 @@ struct Side {
     reader: Option<WayReader>,
     /// The SACKs of the other way that acknowledge what was not captured so far.
     acknowledged: Acknowledged,
+    /// The number of the last reset of TSNs that a response of this way said was made.
+    reset: Option<u32>,
 }
 
 /// What is read of both ways of an association.
@@ -85,6 +88,7 @@ impl Side {
         Side {
             reader: None,
             acknowledged: Acknowledged::new(alloc),
+            reset: None,
         }
     }
 
@@ -162,6 +166,15 @@ impl Pair {
             Way::Forth => &mut self.forth,
             Way::Back => &mut self.back,
         }
+    }
+
+    /// Begins the TSNs and numbers of both ways anew, as a response of this way says.
+    fn begin_anew(&mut self, alloc: Global, way: Way, reset: TsnReset) {
+        let own = self.side(way);
+        own.reset = Some(reset.number);
+        own.reader = Some(WayReader::new(alloc, reset.sender_next, true));
+        let other = WayReader::new(alloc, reset.receiver_next, true);
+        self.side(way.other()).reader = Some(other);
     }
 }
 
@@ -385,6 +398,52 @@ impl Messages {
         }
     }
 
+    /// Appends what is held of both ways of an association, where this is shown.
+    fn put_left(
+        &mut self,
+        alloc: Global,
+        text: &mut String,
+        at: usize,
+        is_shown: bool,
+    ) -> Result<(), AllocError> {
+        let mut left = String::new(alloc);
+        if let Some(pair) = self.pairs.get(at) {
+            self.put_pair(alloc, &mut left, at.saturating_add(1), pair)?;
+        }
+        if left.is_empty() || !is_shown {
+            return Ok(());
+        }
+        self.put_name_once(text, at)?;
+        text.push_str(&left)
+    }
+
+    /// Begins the TSNs and numbers of both ways anew where a response of this way says that it was done, once (RFC 6525 5.2.4). SACKs of TSNs
+    /// before are waited for no longer, and what is held of messages will not be complete.
+    fn reset_tsns(
+        &mut self,
+        alloc: Global,
+        text: &mut String,
+        at: usize,
+        way: Way,
+        reset: TsnReset,
+        is_shown: bool,
+    ) -> Result<(), AllocError> {
+        let is_new = match self.pairs.get_mut(at) {
+            Some(pair) => pair.side(way).reset != Some(reset.number),
+            None => false,
+        };
+        if !is_new {
+            return Ok(());
+        }
+        self.settle(alloc, text, at, Way::Forth, u64::MAX)?;
+        self.settle(alloc, text, at, Way::Back, u64::MAX)?;
+        self.put_left(alloc, text, at, is_shown)?;
+        if let Some(pair) = self.pairs.get_mut(at) {
+            pair.begin_anew(alloc, way, reset);
+        }
+        Ok(())
+    }
+
     /// Takes a chunk of a packet that goes this way.
     fn take_chunk(
         &mut self,
@@ -401,6 +460,9 @@ impl Messages {
         }
         if let Some(sack) = refused_sack(alloc, item)? {
             return self.take_report(at, way, packet, sack.cumulative_tsn_ack, is_shown);
+        }
+        if let Some(reset) = tsn_reset_in(item.bytes.as_slice()) {
+            self.reset_tsns(alloc, text, at, way, reset, is_shown)?;
         }
         let arrived = Arrived {
             number: packet.number,

@@ -10,7 +10,7 @@ use sctp_capture::record::{MAX_RECORD, Record};
 use sctp_capture::window::Window;
 use sctp_capture::write::{put_interface, put_packet, put_section};
 use sctp_follow::summarize::Past;
-use sctp_show::run::{Counts, RunFault, send_off};
+use sctp_show::run::{RunFault, send_off};
 use sctp_show::text::Options;
 use std::alloc::{AllocError, Global};
 use std::io::{Read, Write};
@@ -25,8 +25,6 @@ pub struct Saved {
     blocks: Vec<u8>,
     /// The link types of its interfaces, in order.
     link_types: Vec<u32>,
-    /// Whether writing failed, so that nothing more is written.
-    pub is_broken: bool,
 }
 
 impl Saved {
@@ -39,7 +37,6 @@ impl Saved {
         Ok(Saved {
             blocks,
             link_types: Vec::new(alloc),
-            is_broken: false,
         })
     }
 
@@ -92,7 +89,8 @@ fn save_record<W: Write>(
     saved: &mut Saved,
     output: &mut W,
 ) -> Result<u64, RunFault>
-    ensures { IfOk result (λ shown. shown ≤ 1) }
+    ensures few { IfOk result (λ shown. shown ≤ 1) }
+    ensures counts { past.new.counts ≡ past.old.counts }
 {
     let look = past.look(alloc, options, record, false)?;
     match (look, &record.frame) {
@@ -105,40 +103,34 @@ fn save_record<W: Write>(
     }
 }
 
-/// Writes each record of an input whose packet has what is asked for, until as many are written as are to be shown at most. What was written
-/// is sent off before more of the input is waited for. Answers how many records were read, how many have no frame, and how many are written.
+/// Writes each record of an input whose packet has what is asked for, until as many are written as are to be shown at most. Records are counted
+/// on from those of the inputs before. What was written is sent off before more of the input is waited for.
 pub fn save<R: Read + Drop, W: Write>(
     alloc: Global,
     options: &Options,
     input: R,
+    past: &mut Past,
     saved: &mut Saved,
     output: &mut W,
-) -> Result<Counts, RunFault>
-    ensures { IfOk result (λ counts. counts.shown ≤ options.now.limit) }
+) -> Result<(), RunFault>
+    ensures { past.old.counts.shown ≤ options.now.limit
+        → OnOk result (past.new.counts.shown ≤ options.now.limit) }
 {
     let mut window = Window::new(alloc, input)?;
     let format = open_input(&mut window)?;
     let mut section = Section::new(alloc);
-    let mut past = Past::new(alloc);
-    let (mut records, mut unread, mut shown) = (0u64, 0u64, 0u64);
     'pieces: for _turn in 0..u64::MAX {
-        let counts = Counts {
-            records,
-            unread,
-            shown,
-        };
-        if shown >= options.limit {
-            return Ok(counts);
+        if past.counts.shown >= options.limit {
+            return Ok(());
         }
         send_off(output, holds_piece(format, &section, window.held()))?;
         match next_piece(alloc, &mut window, &mut section, format)? {
             Taken::Record(record) => {
-                records += 1;
-                unread += unread_of(&record);
-                shown += save_record(alloc, options, &mut past, &record, saved, output)?;
+                let shown = save_record(alloc, options, past, &record, saved, output)?;
+                past.counts = past.counts.with(unread_of(&record), shown)?;
             }
             Taken::Nothing => {}
-            Taken::End => return Ok(counts),
+            Taken::End => return Ok(()),
         }
     }
     Err(RunFault::Input(None))

@@ -6,11 +6,8 @@ use Rattle.sctp_show.proofs.run.run.Given as goal
 
 abbrev pub invariant-pieces : goal.invariant-pieces
 invariant-pieces g l = record {
-  counted : l.records ≤ l._turn;
-  fewer : l.unread ≤ l.records;
-  few : l.shown ≤ l.records;
-  limited : l.shown ≤ l.options.limit;
+  limited : l.initial.course.counts.shown ≤ l.options.limit → l.course.counts.shown ≤ l.options.limit;
   so_far : SoFar l.options l.format (known_of l.initial.section) (prepend_known l.initial.window.held.items (g.R.Read.remaining l.initial.window.reader))
       (known_of l.section) (prepend_known l.window.held.items (g.R.Read.remaining l.window.reader)) (g.W.Write.contents l.fn.output)
-      (g.W.Write.contents l.output) l.records l.unread l.shown;
+      (g.W.Write.contents l.output) l.fn.course.counts l.course.counts;
 }

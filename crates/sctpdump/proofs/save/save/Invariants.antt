@@ -3,8 +3,5 @@ use Rattle.sctpdump.proofs.save.save.Given as goal
 
 abbrev pub invariant-pieces : goal.invariant-pieces
 invariant-pieces g l = record {
-  counted : l.records ≤ l._turn;
-  fewer : l.unread ≤ l.records;
-  few : l.shown ≤ l.records;
-  limited : l.shown ≤ l.options.limit;
+  limited : l.initial.past.counts.shown ≤ l.options.limit → l.past.counts.shown ≤ l.options.limit;
 }
