@@ -1,3 +1,4 @@
+pub mod Carried
 pub mod Causes
 pub mod Datagram
 pub mod Fault
