@@ -22,7 +22,8 @@ GIVES_ONE = {"get", "get_mut", "front", "back", "first", "last", "pop", "pop_fro
              "find", "iter_next"}
 MAKES = {"new", "with_capacity", "default", "from", "from_static", "copy_from_slice", "from_slice"}
 # the proved callers that CALLING pages show: they stand beside tests, and are none
-SHOWN = {"crates/link_tests/src/callers.rt", "crates/packet_tests/src/packets.rt", "crates/packet_tests/src/parameters.rt",
+SHOWN = {"crates/link_tests/src/callers.rt", "crates/packet_tests/src/channels.rt", "crates/packet_tests/src/cookies.rt",
+         "crates/packet_tests/src/packets.rt", "crates/packet_tests/src/parameters.rt",
          "crates/transfer_tests/src/queues/calls.rt", "crates/transfer_tests/src/queues/receive.rt", "crates/transfer_tests/src/receiving.rt",
          "crates/transfer_tests/src/sending.rt"}
 WRAPS = ("Option", "Result", "Box", "Vec", "VecDeque", "Rc", "Arc")

@@ -43,7 +43,7 @@ CALLERS = {
                                               "sctp_association/association held_bytes"},
     "sctp_c::sctpr_sender_open": {"sctp_c/callers first_chunk"},
     "crc32c::Crc::update": {"bench/packet sum", "crc32c/lib crc32c", "sctp_packets/checksum checksum", "sctp_show/checksum checksum",
-                            "crc32c/tests datagrams", "crc32c/tests pieces"},
+                            "packet_tests/sum_tests has_its_sum", "packet_tests/sum_tests in_two"},
 }
 TRAITS = {
     "sctp_chunks::ChunkHeartbeat::value_length": "sctp_chunks/src/chunk.rt",

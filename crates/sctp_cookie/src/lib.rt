@@ -4,8 +4,6 @@
 
 pub mod cookie;
 pub mod mac;
-#[cfg(test)]
-mod tests;
 
 pub use cookie::{is_stale, open, seal};
 pub use mac::{HmacSha256, Mac};

@@ -4,8 +4,6 @@
 pub mod fault;
 pub mod message;
 pub mod side;
-#[cfg(test)]
-mod tests;
 
 pub use fault::Fault;
 pub use message::{Message, Open};
