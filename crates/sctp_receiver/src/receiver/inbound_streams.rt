@@ -29,7 +29,7 @@ use sctp_reassembly::reassembly_queue::ReassemblyQueue;
 use sctp_reassembly::reassembly_queue::undo::PushUndo;
 use sctp_serial::turns::Turns;
 use sctp_stream::stream::DataChannelStats;
-use sctp_stream::stream_numbers::{StreamNumbers, put};
+use sctp_stream::stream_numbers::{StreamNumbers, make_place, put};
 use sctp_util::error::Error;
 use std::alloc::Global;
 use std::marker::Model;
@@ -233,7 +233,7 @@ impl InboundStreams {
         ensures memory { IfErr result (λ e. e ≡ OutOfMemory) }
     {
         let opened = InboundStream::new(alloc, stream, max_message_size);
-        if self.items.reserve(1).is_err() || self.visits.reserve().is_err() {
+        if make_place(&mut self.items).is_err() || self.visits.reserve().is_err() {
             return Err(ReceiverRefusal::OutOfMemory);
         }
         make_room(&mut self.noted, self.items.len())?;

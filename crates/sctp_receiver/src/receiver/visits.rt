@@ -4,7 +4,7 @@ ghost use Rattle.std.specs.Prelude.{◌≡◌, ◌==◌, ◌<◌, ◌≤◌, ◌
 ghost use Rattle.sctp_util.specs.declared.error.Error.TheVariants.{ErrOutOfMemory};
 ghost use Rattle.sctp_receiver.specs.Visited.{AreInverse, is_visited, swapped};
 
-use sctp_stream::stream_numbers::put;
+use sctp_stream::stream_numbers::{make_place, put};
 use sctp_util::error::Result;
 use std::alloc::Global;
 use std::marker::Model;
@@ -59,8 +59,8 @@ impl Visits {
         ensures room { OnOk result (0 < self.new.room) }
         ensures memory { IsOkUnless result ErrOutOfMemory }
     {
-        self.order.reserve(1)?;
-        self.spots.reserve(1)?;
+        make_place(&mut self.order)?;
+        make_place(&mut self.spots)?;
         Ok(())
     }
 

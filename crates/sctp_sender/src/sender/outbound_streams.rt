@@ -18,7 +18,7 @@ use sctp_data::chunk::chunk_payload_data::{
     ChunkPayloadData, PayloadProtocolIdentifier, ReliabilityType,
 };
 use sctp_stream::outbound_stream::OutboundStream;
-use sctp_stream::stream_numbers::{StreamNumbers, put};
+use sctp_stream::stream_numbers::{StreamNumbers, make_place, put};
 use sctp_util::error::Result;
 use std::alloc::Global;
 use std::marker::Model;
@@ -90,7 +90,7 @@ impl OutboundStreams {
         ensures memory { IfErr result (λ e. e ≡ OutOfMemory) }
     {
         let opened = OutboundStream::new(stream, fragment_size);
-        if self.items.reserve(1).is_err() {
+        if make_place(&mut self.items).is_err() {
             return Err(SenderRefusal::OutOfMemory);
         }
         self.numbers.push(stream)?;

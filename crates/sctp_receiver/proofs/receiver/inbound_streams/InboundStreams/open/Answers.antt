@@ -11,8 +11,8 @@ pub invariant_of-self-2 : goal.invariant_of-self-2
 invariant_of-self-2 c =
     let ls = c.self.inside.items.items in
     let l = new_stream c.args.stream c.args.max_message_size in
-    let items : c.put.new.items.items ≡ ls ++ l ∷ [] = c.put.ensures.items ∙ ap₂ (λ xs x. xs ++ x ∷ []) c.reserve.ensures.items c.new-opened.ensures in
-    let rest = c.reserve-else-is_err.ensures.rest in
+    let items : c.put.new.items.items ≡ ls ++ l ∷ [] = c.put.ensures.items ∙ ap₂ (λ xs x. xs ++ x ∷ []) c.make_place.ensures.items c.new-opened.ensures in
+    let rest = c.reserve.ensures.rest in
     record {
       numbers = c.in_ok-push.ensures.ok ∙ ap (λ ns. ns ++ c.args.stream ∷ []) c.self.invariant.numbers ∙ sym (map-append number ls (l ∷ []))
           ∙ ap numbers_of (sym items);
@@ -21,12 +21,12 @@ invariant_of-self-2 c =
           (c.push-2.ensures.places ∙ ap (λ (v : VisitOrder). length v.spots + 1) rest)
           (λ p. c.push-2.ensures.visited p ∙ ap (is_visited p) rest) refl);
       places =
-          let many : c.len.result ≡ length c.reserve.new.self.items = search rules in
+          let many : c.len.result ≡ length c.make_place.new.items.items = search rules in
           omega (
             arith,
             c.in_ok-make_room.ensures.ok,
             many,
-            ap length c.reserve.ensures.items,
+            ap length c.make_place.ensures.items,
             ap length c.in_ok-push.ensures.ok,
             length-append c.self.inside.numbers (c.args.stream ∷ []),
             ap length c.self.invariant.numbers,
