@@ -1,4 +1,5 @@
 pub mod Alone
+pub mod Carried
 pub mod InPlace
 pub mod Strict
 pub mod Walk

@@ -22,7 +22,7 @@ ack-read true = refl
 ack-read false = refl
 
 -- the types of chunks that are read
-read-type : (w : Wire) → is_read_type (type_of w) ≡ true
+pub read-type : (w : Wire) → is_read_type (type_of w) ≡ true
 read-type (data_chunk d) = refl
 read-type (init_chunk i) = ack-read i.is_ack
 read-type (sack_chunk s) = refl

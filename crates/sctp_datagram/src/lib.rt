@@ -4,6 +4,7 @@
 pub mod causes;
 pub mod datagram;
 pub mod in_place;
+pub mod laws;
 pub mod params;
 
 pub use causes::CausePlace;
