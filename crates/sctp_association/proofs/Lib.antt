@@ -13,3 +13,4 @@ pub mod Putting
 pub mod Others
 pub mod Making
 pub mod Sessions
+pub mod Delivered

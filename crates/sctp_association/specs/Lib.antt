@@ -2,6 +2,7 @@ pub mod Acks
 pub mod Calls
 pub mod Cookies
 pub mod Counts
+pub mod Delivered
 pub mod Drafts
 pub mod Events
 pub mod Failing

@@ -1,5 +1,6 @@
 //! What holds of every association: laws, each the contract of a function that does nothing.
 
+ghost use Rattle.sctp_association.specs.Delivered.{EachCarriesOnly};
 ghost use Rattle.sctp_association.specs.Held.{CostsLittle, HoldsFewChunks, KeepsFewTsns, NotesFewDuplicates, OfEach, OpensFewStreams};
 ghost use Rattle.sctp_association.specs.Sessions.{EachIsSent};
 
@@ -19,4 +20,10 @@ pub fn what_is_held_is_bounded()
 /// packet of which each DATA chunk and FORWARD-TSN was made in that session.
 pub fn what_is_sent_was_made()
     ensures { EachIsSent }
+{}
+
+/// Whatever bytes a datagram of `poll_transmit` has: each DATA chunk and FORWARD-TSN that it carries was made by the sender that wrote it, each
+/// SACK by the receiver, and a SHUTDOWN acknowledges as such a SACK. So whoever reads the datagram in place reads nothing else of these kinds.
+pub fn what_comes_was_made()
+    ensures { EachCarriesOnly }
 {}
