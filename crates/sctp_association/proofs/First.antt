@@ -1,9 +1,12 @@
 -- The first chunk of a datagram begins behind the header.
-use Rattle.std.proofs.Common.{◌≡◌, ◌⊎◌, ℕ, List, [], ◌∷◌, ◌++◌, drop, true, ap, subst, sym, ◌∙◌, inl, inr}
+use Rattle.std.proofs.Common.{◌≡◌, ◌⊎◌, ℕ, Bool, true, false, List, [], ◌∷◌, ◌++◌, drop, length, ap, refl, subst, sym, ◌∙◌, inl, inr}
+use Rattle.std.proofs.lemmas.Bool.{eqb-false, eqb-true}
+use Rattle.std.specs.Prelude.{◌==◌}
 use Rattle.sctp_association.specs.Cookies.{cookie_in, IsAlive}
-use Rattle.sctp_association.specs.Tags.{BeginsByCookie, FirstIs, FirstIsAlive, first_type}
+use Rattle.sctp_association.specs.Tags.{AdmitsFirst, BeginsByCookie, FirstIs, FirstIsAlive, first_type, is_admitted}
 use Rattle.sctp_datagram.specs.declared.datagram.ChunkPlace.{ChunkPlace}
 use Rattle.sctp_datagram.specs.Places.{IsThere, Passes, TellsAll, place_at}
+use Rattle.sctp_handshake.specs.declared.machine.Machine.{Machine}
 use Rattle.sctp_util.specs.Field.{u32_at}
 use Rattle.sctp_datagram.specs.Types.{is_stopping}
 use Rattle.sctp_chunks.specs.Framing.{type_at}
@@ -38,3 +41,22 @@ begins d rows key now life t f = record {
   where
     place : f.first ≡ place_at d 12
     place = first_place d (f.first ∷ f.rest) (rw (sym f.are) t)
+
+-- ## Whose datagram it is not
+
+-- the first chunk may not stand there, or is a COOKIE-ECHO
+module _ (d : List ℕ) (rows rest : List ChunkPlace) (first : ChunkPlace) (key : List ℕ) (m : Machine) (are : rows ≡ first ∷ rest) (X : Type 0)
+    (cookie : first.typ ≡ 10 → X) (other : AdmitsFirst d rows key m → ⊥) where
+  by-type : (b : Bool) → (first.typ == 10) ≡ b → is_admitted first (u32_at d 4) (length rows) m ≡ true → X
+  by-type true e admitted = cookie (eqb-true first.typ 10 e)
+  by-type false e admitted =
+      absurd (other (record { first = first; rest = rest; are = are; admitted = admitted; cookie = λ is. absurd (eqb-false first.typ 10 e is) }))
+
+  by-tag : (b : Bool) → is_admitted first (u32_at d 4) (length rows) m ≡ b → (is_admitted first (u32_at d 4) (length rows) m ≡ false → X) → X
+  by-tag true e refused = by-type (first.typ == 10) refl e
+  by-tag false e refused = refused e
+
+  pub unless_admitted : (tag count : ℕ) → tag ≡ u32_at d 4 → count ≡ length rows → (is_admitted first tag count m ≡ false → X) → X
+  unless_admitted tag count t n refused =
+      let so = subst (λ k. is_admitted first (u32_at d 4) k m ≡ false → X) n (subst (λ k. is_admitted first k count m ≡ false → X) t refused) in
+      by-tag (is_admitted first (u32_at d 4) (length rows) m) refl so

@@ -14,3 +14,8 @@ pub mod Others
 pub mod Making
 pub mod Sessions
 pub mod Delivered
+pub mod Arriving
+pub mod Arrived
+pub mod Begun
+pub mod Carrying
+pub mod Cut

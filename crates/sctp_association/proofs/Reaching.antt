@@ -82,7 +82,7 @@ pub closed : (n s : ℕ) (old new : Reception) → new ≡ close_stream s old �
 closed n s old new made = leads n (closes s) old new tt tt made (ap limits-in made)
 
 -- a chunk that is not refused for its number is refused for nothing else
-not-too-far : (c : ChunkPayloadData) (r : Reception) → arrival_refusal c r ≡ None → data_refusal c r ≡ None
+pub not-too-far : (c : ChunkPayloadData) (r : Reception) → arrival_refusal c r ≡ None → data_refusal c r ≡ None
 not-too-far c r e = by (not (has_come c.tsn (filter_of r)) && is_too_far_on c (stream_of c.stream_identifier r)) e
   where
     by : (b : Bool) → (if b then Some SsnTooFar else data_refusal c r) ≡ None → data_refusal c r ≡ None
@@ -125,7 +125,7 @@ pub reported : (n : ℕ) (old new : Reception) → new ≡ without_duplicates ol
 reported n old new made = leads n reports old new tt tt made (ap limits-in made)
 
 -- a FORWARD-TSN that is refused for no name is refused for its TSN alone
-not-named-too-far : (f : ForwardTsn) (r : Reception) → past_closed_refusal f r ≡ None → forward_refusal f r ≡ None
+pub not-named-too-far : (f : ForwardTsn) (r : Reception) → past_closed_refusal f r ≡ None → forward_refusal f r ≡ None
 not-named-too-far f r e = by (names_too_far f r) e
   where
     by : (b : Bool) → (if b then Some NamedSsnTooFar else forward_refusal f r) ≡ None → forward_refusal f r ≡ None

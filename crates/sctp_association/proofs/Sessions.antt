@@ -70,7 +70,7 @@ follows c s mid m = record {
   after = refl;
 }
 
-goes : (cs : List SenderCall) (ms : List Made) (s : Session) (new : Transmission) → Runs SendsBy made_by cs ms s.sending.sender new → GoesOn ms s new
+pub goes : (cs : List SenderCall) (ms : List Made) (s : Session) (new : Transmission) → Runs SendsBy made_by cs ms s.sending.sender new → GoesOn ms s new
 goes [] ms s new r = record { calls = []; ended = s; run = refl; sender = sym r.1; more = ap (λ l. l ++ s.made) (sym r.0) }
 goes (c ∷ cs) ms s new r =
     let t = next c r.mid s in

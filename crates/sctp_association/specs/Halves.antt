@@ -5,6 +5,7 @@ use Rattle.std.specs.Option.{option_map}
 use Rattle.sctp_association.specs.declared.association.Association.{Association}
 use Rattle.sctp_association.specs.declared.fault.Fault.{Fault}
 use Rattle.sctp_association.specs.declared.inbound.Inbound.{Inbound}
+use Rattle.sctp_association.specs.Arrivals.{Halves, halves}
 use Rattle.sctp_association.specs.Packets.{Adds, IsOf, Sides, sides}
 use Rattle.sctp_chunks.specs.Wire.{Wire}
 use Rattle.sctp_receiver.specs.Receiver.{Reception}
@@ -14,6 +15,9 @@ receiver_of i = option_map (λ i. i.receiver) i
 
 abbrev pub sides_of : Association → Sides
 sides_of a = sides a.outbound.sender (receiver_of a.inbound) a.draft.bytes
+
+abbrev pub halves_of : Association → Halves
+halves_of a = halves a.outbound.sender (receiver_of a.inbound)
 
 -- neither half changes
 pub record HalvesAlike (old new : Association) : Type 0 where

@@ -1,4 +1,5 @@
 pub mod Acks
+pub mod Arrivals
 pub mod Calls
 pub mod Cookies
 pub mod Counts

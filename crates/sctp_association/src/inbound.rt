@@ -1,13 +1,17 @@
 //! What comes of the peer's messages, and when it is acknowledged (RFC 9260 6.2, 6.5; RFC 3758 3.6).
 
 ghost use Rattle.std.specs.Prelude.{◌≡◌, ◌==◌, ◌<◌, ◌≤◌, ℕ, Ok, IfOk, IsOk, OnOk, Some, length, option_map, true, false};
+ghost use Rattle.sctp_association.specs.Arrivals.{AsksFor, IsOpening, IsReset, Received};
 ghost use Rattle.sctp_association.specs.Packets.{PutsIn};
 ghost use Rattle.sctp_association.specs.Reached.{IsLimited, most_user_data};
 ghost use Rattle.sctp_association.specs.StreamSet.{is_in};
+ghost use Rattle.sctp_chunks.specs.Wire.{data_chunk, forward_tsn_chunk};
+ghost use Rattle.sctp_data.specs.ForwardTsn.{forward_tsn_of};
+ghost use Rattle.sctp_data.specs.PayloadData.{data_of};
 ghost use Rattle.sctp_params.specs.declared.param.param_reconfig_response.ReconfigResult.TheVariants.{SuccessPerformed};
 ghost use Rattle.sctp_reassembly.specs.reassembly_queue.ReassemblyQueue.{at_start};
 ghost use Rattle.sctp_receiver.specs.declared.receiver.refusal.ReceiverRefusal.TheVariants.{MessageTooLarge};
-ghost use Rattle.sctp_receiver.specs.Receiver.{message_on};
+ghost use Rattle.sctp_receiver.specs.Receiver.{at_first, message_on};
 ghost use Rattle.sctp_util.specs.Serial.{comes_before};
 
 use crate::draft::Draft;
@@ -72,6 +76,8 @@ impl Inbound {
     pub(crate) fn new(alloc: Global, config: &InboundConfig) -> Inbound
         ensures limits { (result.receiver.limits ≡ Some config.now.limits)
             × (result.streams ≡ config.now.streams) }
+        ensures receiver { result.receiver ≡ at_first
+            config.now.first_tsn config.now.max_message_size (Some config.now.limits) }
     {
         let _window = config.limits.window;
         Inbound {
@@ -98,6 +104,9 @@ impl Inbound {
         now: u64,
     ) -> Result<Followed, Fault>
         requires short { length chunk.now.user_data ≤ most_user_data }
+        // Whatever it answers, the receiver is called for this chunk alone.
+        ensures received { Received (AsksFor (data_chunk (data_of chunk.now)))
+            self.old.receiver self.new.receiver }
         ensures limits { (self.new.receiver.limits ≡ self.old.receiver.limits)
             × (self.new.streams ≡ self.old.streams) }
     {
@@ -138,6 +147,7 @@ impl Inbound {
 
     /// The datagram has ended: every second one with DATA is acknowledged (RFC 9260 6.2).
     pub(crate) fn datagram_ended(&mut self, now: u64)
+        ensures receiver { self.new.receiver ≡ self.old.receiver }
         ensures limits { (self.new.receiver.limits ≡ self.old.receiver.limits)
             × (self.new.streams ≡ self.old.streams) }
     {
@@ -150,6 +160,7 @@ impl Inbound {
     // Opens a stream, if it is one of those that were agreed, and not open, and the peer's messages on it were not too long.
     #[tactic(auto, using(crate::proofs::Reaching::opened))]
     fn open(&mut self, stream: u16, events: &mut Events) -> Result<(), Fault>
+        ensures received { Received (IsOpening stream) self.old.receiver self.new.receiver }
         ensures limits { (self.new.receiver.limits ≡ self.old.receiver.limits)
             × (self.new.streams ≡ self.old.streams) }
         ensures shut { is_in stream self.old.discarded ≡ true → self.new ≡ self.old }
@@ -166,7 +177,7 @@ impl Inbound {
     }
 
     // Does what is advised at a refusal. The SACK of what is dropped says that there is no room for it (RFC 9260 6.2).
-    #[tactic(auto, using(crate::proofs::Reaching::dropped, crate::proofs::Reaching::dropped_limits, crate::proofs::Reaching::closed))]
+    #[tactic(auto, using(crate::proofs::Reaching::dropped, crate::proofs::Reaching::dropped_limits, crate::proofs::Reaching::closed, crate::proofs::Arriving::received_same, crate::proofs::Arriving::received_discarded, crate::proofs::Arriving::received_gone))]
     #[inline(never)]
     fn follow(
         &mut self,
@@ -175,6 +186,8 @@ impl Inbound {
         events: &mut Events,
         now: u64,
     ) -> Result<Followed, Fault>
+        ensures received { Received (AsksFor (data_chunk (data_of chunk.now)))
+            self.old.receiver self.new.receiver }
         // Where a message is too long its stream opens no more, and that is told.
         ensures shut { refusal ≡ MessageTooLarge → OnOk result
             (chunk.now.stream_identifier < length self.old.discarded
@@ -211,13 +224,16 @@ impl Inbound {
 
     /// Takes a FORWARD-TSN, which is acknowledged at once (RFC 3758 3.6). As chunks of streams that are not open are dropped, so are
     /// names of these. One that names too far ahead comes again, while something can be read.
-    #[tactic(auto, using(crate::proofs::Reaching::skip_led, crate::proofs::Reaching::skipped_limits))]
+    #[tactic(auto, using(crate::proofs::Reaching::skip_led, crate::proofs::Reaching::skipped_limits, crate::proofs::Arriving::received_skip))]
     pub(crate) fn take_skip(
         &mut self,
         skip: &ChunkForwardTsn,
         events: &mut Events,
         now: u64,
     ) -> Result<Followed, Fault>
+        // Whatever it answers, the receiver is called for this chunk alone.
+        ensures received { Received (AsksFor (forward_tsn_chunk (forward_tsn_of skip.now)))
+            self.old.receiver self.new.receiver }
         ensures limits { (self.new.receiver.limits ≡ self.old.receiver.limits)
             × (self.new.streams ≡ self.old.streams) }
     {
@@ -269,7 +285,7 @@ impl Inbound {
     /// Resets a stream, as the peer asked (RFC 6525 5.2.2): it may open again. While a TSN up to its last one is missing that is in progress:
     /// a chunk of the old use may still come, also on a stream that is not open. It is told of a stream that the request names, or on
     /// which something came.
-    #[tactic(auto, using(crate::proofs::Reaching::was_reset))]
+    #[tactic(auto, using(crate::proofs::Reaching::was_reset, crate::proofs::Arriving::received_same, crate::proofs::Arriving::received_reset))]
     pub(crate) fn reset(
         &mut self,
         stream: u16,
@@ -277,6 +293,8 @@ impl Inbound {
         is_named: bool,
         events: &mut Events,
     ) -> Result<ReconfigResult, Fault>
+        ensures received { Received (IsReset stream last_tsn)
+            self.old.receiver self.new.receiver }
         ensures limits { (self.new.receiver.limits ≡ self.old.receiver.limits)
             × (self.new.streams ≡ self.old.streams) }
         ensures performed { result ≡ Ok SuccessPerformed → is_in stream self.new.discarded ≡ false }

@@ -1,6 +1,6 @@
 //! What holds of every association: laws, each the contract of a function that does nothing.
 
-ghost use Rattle.sctp_association.specs.Delivered.{EachCarriesOnly};
+ghost use Rattle.sctp_association.specs.Delivered.{EachBringsOnly, EachCarriesOnly, EachComes};
 ghost use Rattle.sctp_association.specs.Held.{CostsLittle, HoldsFewChunks, KeepsFewTsns, NotesFewDuplicates, OfEach, OpensFewStreams};
 ghost use Rattle.sctp_association.specs.Sessions.{EachIsSent};
 
@@ -22,8 +22,14 @@ pub fn what_is_sent_was_made()
     ensures { EachIsSent }
 {}
 
+// Wanted for delivery over datagrams, and not said yet: that the calls which a datagram brings are calls of these sessions. Those accept less than
+// what is not refused (`ReceiverCalls.IsAccepted`). They have no stream closed for a message that was too long, no reset, no association that begins
+// anew, no SACK without its gap ack blocks, and no SHUTDOWN. Nor is it said which calls an application makes between.
 /// Whatever bytes a datagram of `poll_transmit` has: each DATA chunk and FORWARD-TSN that it carries was made by the sender that wrote it, each
-/// SACK by the receiver, and a SHUTDOWN acknowledges as such a SACK. So whoever reads the datagram in place reads nothing else of these kinds.
+/// SACK by the receiver, and a SHUTDOWN acknowledges as such a SACK. So each call that it brings (`Arrives`) is for one of these, in whatever
+/// sessions of `sctp_delivery` these halves stand.
 pub fn what_comes_was_made()
-    ensures { EachCarriesOnly }
+    ensures carried { EachCarriesOnly }
+    ensures brought { EachBringsOnly }
+    ensures sessions { EachComes }
 {}

@@ -1,7 +1,8 @@
 //! What is sent, and when (RFC 9260 6.1, 6.3, 7.2; RFC 3758 3.5; RFC 7496 3.1).
 
-ghost use Rattle.std.specs.Prelude.{◌≡◌, ◌<◌, ◌≤◌, ◌==◌, [], not, true, false, None, Some, OnOk, OnErr, IfOk, IfErr, IsOk, length};
+ghost use Rattle.std.specs.Prelude.{◌≡◌, ℕ, ◌<◌, ◌≤◌, ◌==◌, [], not, true, false, None, Some, OnOk, OnErr, IfOk, IfErr, IsOk, length};
 ghost use Rattle.sctp_association.specs.declared.fault.Fault.TheVariants.{OutOfMemory};
+ghost use Rattle.sctp_association.specs.Arrivals.{new_sender};
 ghost use Rattle.sctp_association.specs.Counts.{IsCountedAlike};
 ghost use Rattle.sctp_association.specs.Runs.{Sends};
 ghost use Rattle.sctp_association.specs.Waiting.{IsRefusal, closed_where, fault_of, opened, waiting_fault};
@@ -106,7 +107,10 @@ fn fault_of(refusal: SenderRefusal) -> Fault
 
 impl Outbound {
     /// Nothing is written. It takes no memory.
-    pub(crate) fn new(alloc: Global, config: OutboundConfig) -> Outbound {
+    pub(crate) fn new(alloc: Global, config: OutboundConfig) -> Outbound
+        ensures sender { (size : ℕ) × (result.sender
+            ≡ new_sender config.first_tsn size config.max_message_size) }
+    {
         let congestion = Congestion::new(config.mtu, 0);
         Outbound {
             sender: Sender::new(

@@ -1,7 +1,10 @@
 //! What comes in a datagram (RFC 9260 5, 6, 8.5, 9).
 
-ghost use Rattle.std.specs.Prelude.{◌≡◌, ◌≤◌, Ok, IfOk, OnErr, true, false, drop, length};
+ghost use Rattle.std.specs.Prelude.{◌≡◌, ◌≤◌, Ok, IfOk, IfSome, OnErr, true, false, drop, length};
+ghost use Rattle.std.specs.List.{AllByRecursion};
+ghost use Rattle.sctp_association.specs.Arrivals.{Arrives, BeginsBy};
 ghost use Rattle.sctp_association.specs.Cookies.{IsAlive, IsSealed, cookie_in};
+ghost use Rattle.sctp_association.specs.Halves.{HalvesAlike, halves_of};
 ghost use Rattle.sctp_association.specs.Reached.{most_user_data};
 ghost use Rattle.sctp_association.specs.Steps.{is_taken};
 ghost use Rattle.sctp_association.specs.Tags.{AdmitsFirst, BeginsByCookie, FirstIs, FirstIsAlive, IsFor, first_type, is_admitted};
@@ -9,7 +12,10 @@ ghost use Rattle.sctp_association.specs.declared.association.Reason.{Reason};
 ghost use Rattle.sctp_association.specs.declared.association.Reason.TheVariants.{Tag};
 ghost use Rattle.sctp_association.specs.declared.association.Taken.TheVariants.{Accepted, Dropped};
 ghost use Rattle.sctp_association.specs.declared.association.arrivals.Step.TheVariants as step;
-ghost use Rattle.sctp_datagram.specs.Places.{IsPlace};
+ghost use Rattle.sctp_chunks.specs.Wire.{ReadsChunk, data_chunk};
+ghost use Rattle.sctp_data.specs.PayloadData.{data_of};
+ghost use Rattle.sctp_datagram.specs.Carried.{IsChunkOf};
+ghost use Rattle.sctp_datagram.specs.Places.{IsPlace, TellsAll, place_at};
 ghost use Rattle.sctp_handshake.specs.Answers.{silent};
 ghost use Rattle.sctp_handshake.specs.declared.state.State.TheVariants.{Closed};
 
@@ -57,7 +63,9 @@ pub(super) fn bytes_of(datagram: &Bytes, chunk: ChunkPlace) -> &[u8]
 fn read_data(datagram: &Bytes, chunk: ChunkPlace) -> Result<ChunkPayloadData, Fault>
     requires place { IsPlace datagram.now chunk }
     requires typ { chunk.typ ≡ 0 }
-    ensures { IfOk result (λ c. length c.user_data ≤ most_user_data) }
+    ensures short { IfOk result (λ c. length c.user_data ≤ most_user_data) }
+    ensures found { IfOk result
+        (λ c. ReadsChunk (drop chunk.at datagram.now) (data_chunk (data_of c))) }
 {
     // Its length is a u16.
     read_u16(bytes_of(datagram, chunk), 2);
@@ -73,6 +81,8 @@ impl Association {
     /// datagram counts, of COOKIE-ECHO one that stands first; others are passed over.
     pub fn handle_datagram(&mut self, datagram: &Bytes, now: u64) -> Result<Taken, Fault>
         ensures dropped { (r : Reason) → result ≡ Ok (Dropped r) → self.new ≡ self.old }
+        // Whatever it answers: the receiver and the sender are called for chunks that the datagram carries, and for nothing else.
+        ensures came { Arrives datagram.now (halves_of self.old) (halves_of self.new) }
         // Whose packet it is not is not accepted, and changes nothing (RFC 9260 8.5, 5.1.5).
         ensures accepted { result ≡ Ok Accepted
             → IsFor datagram.now self.old.key self.old.machine }
@@ -137,6 +147,8 @@ impl Association {
     // Takes the chunks of a datagram in their order, up to one that ends it or cannot be read.
     fn take_chunks(&mut self, datagram: &Bytes, chunks: Datagram, now: u64) -> Result<Taken, Fault>
         requires whole { chunks.bytes ≡ datagram.now }
+        requires all { TellsAll place_at datagram.now chunks.left }
+        ensures came { Arrives datagram.now (halves_of self.old) (halves_of self.new) }
         ensures dropped { (r : Reason) → result ≡ Ok (Dropped r) → self.new ≡ self.old }
         ensures accepted { result ≡ Ok Accepted
             → AdmitsFirst datagram.now chunks.entry.left self.old.key self.old.machine }
@@ -160,12 +172,20 @@ impl Association {
             Step::Next => {}
         }
         let taken = self.take_others(datagram, chunks, first.typ, now);
-        if let Some(inbound) = &mut self.inbound {
-            inbound.datagram_ended(now);
-        }
+        self.datagram_ended(now);
         taken?;
         self.settle(now);
         Ok(Taken::Accepted)
+    }
+
+    // The datagram has ended: what came in it may be acknowledged.
+    fn datagram_ended(&mut self, now: u64)
+        ensures halves { HalvesAlike self.old self.new }
+        ensures machine { self.new.machine ≡ self.old.machine }
+    {
+        if let Some(inbound) = &mut self.inbound {
+            inbound.datagram_ended(now);
+        }
     }
 
     // Takes the first chunk. One that is not expected is passed over, where others stand behind it (RFC 9260 5.2.5): so a COOKIE ACK that comes
@@ -179,6 +199,8 @@ impl Association {
         now: u64,
     ) -> Result<Step, Fault>
         requires place { IsPlace datagram.now chunk }
+        requires own { IsChunkOf datagram.now chunk }
+        ensures came { Arrives datagram.now (halves_of self.old) (halves_of self.new) }
         ensures refused { (r : Reason) → result ≡ Ok (step.Refused r) → self.new ≡ self.old }
         ensures foreign { is_admitted chunk tag count self.old.machine ≡ false
             → result ≡ Ok (step.Refused Tag) }
@@ -212,6 +234,8 @@ impl Association {
         now: u64,
     ) -> Result<(), Fault>
         requires whole { chunks.bytes ≡ datagram.now }
+        requires own { AllByRecursion (IsChunkOf datagram.now) chunks.left }
+        ensures came { Arrives datagram.now (halves_of self.old) (halves_of self.new) }
     {
         let mut chunks = chunks;
         let tag = chunks.header().verification_tag;
@@ -262,6 +286,8 @@ impl Association {
         now: u64,
     ) -> Result<Step, Fault>
         requires place { IsPlace datagram.now chunk }
+        requires own { IsChunkOf datagram.now chunk }
+        ensures came { Arrives datagram.now (halves_of self.old) (halves_of self.new) }
         ensures refused { (r : Reason) → result ≡ Ok (step.Refused r) → self.new ≡ self.old }
         ensures foreign { is_admitted chunk tag count self.old.machine ≡ false
             → result ≡ Ok (step.Refused Tag) }
@@ -299,6 +325,8 @@ impl Association {
     fn take_data(&mut self, datagram: &Bytes, chunk: ChunkPlace, now: u64) -> Result<Step, Fault>
         requires place { IsPlace datagram.now chunk }
         requires typ { chunk.typ ≡ 0 }
+        requires own { IsChunkOf datagram.now chunk }
+        ensures came { Arrives datagram.now (halves_of self.old) (halves_of self.new) }
         ensures refused { (r : Reason) → result ≡ Ok (step.Refused r) → self.new ≡ self.old }
     {
         if !self.machine.state().takes_data() {
@@ -311,17 +339,27 @@ impl Association {
         let followed = inbound.take_data(&data, &mut self.events, now)?;
         let before = self.machine.state();
         let answer = self.machine.packet_arrived(true);
-        if answer.reply.is_some() {
-            // T2-shutdown begins again (RFC 9260 9.2).
-            self.run_control(now);
-        }
+        self.run_again(answer, now);
         self.follow(before, answer, 0, now);
         Ok(self.end_by(followed))
+    }
+
+    // T2-shutdown begins again, where DATA is answered by a SHUTDOWN (RFC 9260 9.2).
+    fn run_again(&mut self, answer: Answer, now: u64)
+        ensures machine { self.new.machine ≡ self.old.machine }
+        ensures halves { HalvesAlike self.old self.new }
+    {
+        if answer.reply.is_some() {
+            self.run_control(now);
+        }
     }
 
     // Takes a FORWARD-TSN.
     #[inline(never)]
     fn take_skip(&mut self, datagram: &Bytes, chunk: ChunkPlace, now: u64) -> Result<Step, Fault>
+        requires place { IsPlace datagram.now chunk }
+        requires own { IsChunkOf datagram.now chunk }
+        ensures came { Arrives datagram.now (halves_of self.old) (halves_of self.new) }
         ensures refused { (r : Reason) → result ≡ Ok (step.Refused r) → self.new ≡ self.old }
     {
         if !self.machine.state().takes_data() {
@@ -341,6 +379,7 @@ impl Association {
     #[inline(always)]
     fn end_by(&mut self, followed: Followed) -> Step
         ensures never { (r : Reason) → result ≡ step.Refused r → ⊥ }
+        ensures halves { HalvesAlike self.old self.new }
     {
         let kind = match followed {
             Followed::Done => return Step::Next,
@@ -354,6 +393,8 @@ impl Association {
 
     // Takes a SACK, where SACKs are taken in this state (RFC 9260 6).
     fn take_sack(&mut self, datagram: &Bytes, chunk: ChunkPlace, now: u64) -> Result<Step, Fault>
+        requires own { IsChunkOf datagram.now chunk }
+        ensures came { Arrives datagram.now (halves_of self.old) (halves_of self.new) }
         ensures refused { (r : Reason) → result ≡ Ok (step.Refused r) → self.new ≡ self.old }
     {
         if !self.machine.state().takes_sacks() {
@@ -377,11 +418,11 @@ impl Association {
     }
 
     // Reads a chunk of a kind; None where it is none.
-    fn read_chunk<C: Chunk>(
-        &self,
-        datagram: &Bytes,
-        chunk: ChunkPlace,
-    ) -> Result<Option<C>, Fault> {
+    fn read_chunk<C: Chunk>(&self, datagram: &Bytes, chunk: ChunkPlace) -> Result<Option<C>, Fault>
+        requires place { IsPlace datagram.now chunk }
+        ensures { IfOk result (λ read. IfSome read
+            (λ c. ReadsChunk (drop chunk.at datagram.now) (C.wire c))) }
+    {
         let end = chunk.at.saturating_add(chunk.length);
         if end > datagram.len() || chunk.at > end {
             return Ok(None);
@@ -397,6 +438,9 @@ impl Association {
     // Takes a chunk of a peer that is no user data.
     #[inline(never)]
     fn take_control(&mut self, datagram: &Bytes, chunk: ChunkPlace, now: u64) -> Result<Step, Fault>
+        requires place { IsPlace datagram.now chunk }
+        requires own { IsChunkOf datagram.now chunk }
+        ensures came { Arrives datagram.now (halves_of self.old) (halves_of self.new) }
         ensures refused { (r : Reason) → result ≡ Ok (step.Refused r) → self.new ≡ self.old }
     {
         match chunk.typ {
@@ -437,6 +481,7 @@ impl Association {
     fn take_answer(&mut self, before: State, answer: Answer, tag: u32, now: u64) -> Step
         ensures refused { (r : Reason) → result ≡ step.Refused r
             → (answer ≡ silent) × (self.new ≡ self.old) }
+        ensures begun { BeginsBy answer.told (halves_of self.old) (halves_of self.new) }
     {
         if answer.reply.is_none() && answer.told.is_none() {
             return Step::Refused(Reason::Unexpected);
@@ -448,6 +493,7 @@ impl Association {
     // An ABORT came (RFC 9260 9.1).
     fn take_abort(&mut self) -> Step
         ensures refused { (r : Reason) → result ≡ step.Refused r → self.new ≡ self.old }
+        ensures halves { HalvesAlike self.old self.new }
     {
         let answer = self.machine.abort();
         if answer.told.is_none() {
@@ -464,6 +510,9 @@ impl Association {
         chunk: ChunkPlace,
         now: u64,
     ) -> Result<Step, Fault>
+        requires place { IsPlace datagram.now chunk }
+        requires own { IsChunkOf datagram.now chunk }
+        ensures came { Arrives datagram.now (halves_of self.old) (halves_of self.new) }
         ensures refused { (r : Reason) → result ≡ Ok (step.Refused r) → self.new ≡ self.old }
     {
         let Some(shutdown) = self.read_chunk::<ChunkShutdown>(datagram, chunk)? else {
@@ -487,7 +536,9 @@ impl Association {
 
     // A HEARTBEAT came: its information goes back (RFC 9260 8.3).
     fn take_heartbeat(&mut self, datagram: &Bytes, chunk: ChunkPlace) -> Result<Step, Fault>
+        requires place { IsPlace datagram.now chunk }
         ensures refused { (r : Reason) → result ≡ Ok (step.Refused r) → self.new ≡ self.old }
+        ensures halves { HalvesAlike self.old self.new }
     {
         // Who asks answers from COOKIE-ECHOED on, who is asked once the association stands (RFC 9260 8.3).
         if self.machine.peer().is_none() {
@@ -511,30 +562,43 @@ impl Association {
         chunk: ChunkPlace,
         now: u64,
     ) -> Result<Step, Fault>
+        requires place { IsPlace datagram.now chunk }
         ensures refused { (r : Reason) → result ≡ Ok (step.Refused r) → self.new ≡ self.old }
+        ensures halves { HalvesAlike self.old self.new }
     {
         let Some(ack) = self.read_chunk::<ChunkHeartbeatAck>(datagram, chunk)? else {
             return Ok(Step::Refused(Reason::NoPacket));
         };
-        let Some(heartbeat) = &mut self.heartbeat else {
+        if self.heartbeat.is_none() {
             return Ok(Step::Refused(Reason::Unexpected));
-        };
+        }
         for param in ack.params {
             if let ParamKind::HeartbeatInfo(info) = param {
                 let Some(nonce) = info.heartbeat_information.first_chunk::<8>() else {
                     continue;
                 };
-                if let Some(trip) = heartbeat.answered(now, u64::from_be_bytes(*nonce)) {
-                    self.outbound.trip_measured(trip);
-                }
+                self.heartbeat_answered(u64::from_be_bytes(*nonce), now);
             }
         }
         Ok(Step::Next)
     }
 
+    // The peer answers a HEARTBEAT: one that waits for this nonce tells a round trip.
+    fn heartbeat_answered(&mut self, nonce: u64, now: u64)
+        ensures halves { HalvesAlike self.old self.new }
+    {
+        let Some(heartbeat) = &mut self.heartbeat else {
+            return;
+        };
+        if let Some(trip) = heartbeat.answered(now, nonce) {
+            self.outbound.trip_measured(trip);
+        }
+    }
+
     // An ERROR came: its first cause is told; a stale cookie begins the handshake again (RFC 9260 5.2.6, 3.3.10).
     fn take_error(&mut self, datagram: &Bytes, chunk: ChunkPlace, now: u64) -> Step
         ensures refused { (r : Reason) → result ≡ step.Refused r → self.new ≡ self.old }
+        ensures halves { HalvesAlike self.old self.new }
     {
         let end = chunk.at.saturating_add(chunk.length);
         if end > datagram.len() || chunk.at.saturating_add(8) > end {

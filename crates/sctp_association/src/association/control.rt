@@ -1,8 +1,9 @@
 //! What the state machine is answered and tells.
 
 ghost use Rattle.std.specs.Prelude.{◌≡◌, ◌+◌, ◌≤◌, true, None, Some};
+ghost use Rattle.sctp_association.specs.Arrivals.{Begins, BeginsBy};
 ghost use Rattle.sctp_association.specs.Failing.{IsGuarded};
-ghost use Rattle.sctp_association.specs.Halves.{HalvesAlike};
+ghost use Rattle.sctp_association.specs.Halves.{HalvesAlike, halves_of};
 
 use super::{Association, outbound_config};
 use crate::due::{Alone, AloneKind};
@@ -36,6 +37,7 @@ impl Association {
     pub(super) fn follow(&mut self, before: State, answer: Answer, tag: u32, now: u64)
         ensures machine { self.new.machine ≡ self.old.machine }
         ensures quiet { answer.told ≡ None → HalvesAlike self.old self.new }
+        ensures begun { BeginsBy answer.told (halves_of self.old) (halves_of self.new) }
     {
         let is_silent = answer.reply.is_none() && answer.told.is_none();
         if !is_silent || self.machine.state() != before {
@@ -48,6 +50,7 @@ impl Association {
     fn follow_answer(&mut self, before: State, answer: Answer, tag: u32, now: u64)
         ensures machine { self.new.machine ≡ self.old.machine }
         ensures quiet { answer.told ≡ None → HalvesAlike self.old self.new }
+        ensures begun { BeginsBy answer.told (halves_of self.old) (halves_of self.new) }
     {
         let state = self.machine.state();
         if state != before {
@@ -130,7 +133,8 @@ impl Association {
 
     // What the application is told.
     fn tell(&mut self, told: Told, now: u64)
-        ensures { self.new.machine ≡ self.old.machine }
+        ensures machine { self.new.machine ≡ self.old.machine }
+        ensures begun { BeginsBy (Some told) (halves_of self.old) (halves_of self.new) }
     {
         match told {
             Told::Connected => {
@@ -153,7 +157,8 @@ impl Association {
 
     // The association stands, by what both sides offered.
     fn begin(&mut self, now: u64)
-        ensures { self.new.machine ≡ self.old.machine }
+        ensures machine { self.new.machine ≡ self.old.machine }
+        ensures begun { Begins (halves_of self.old) (halves_of self.new) }
     {
         let (Some(peer), Some(agreed)) = (self.machine.peer(), self.machine.agreed()) else {
             return;
@@ -207,6 +212,7 @@ impl Association {
     pub(super) fn end_with(&mut self, kind: AloneKind)
         ensures over { self.new.is_over ≡ true }
         ensures outbound { self.new.outbound ≡ self.old.outbound }
+        ensures halves { HalvesAlike self.old self.new }
     {
         if let Some(peer) = self.machine.peer() {
             self.owe_farewell(peer.tag, kind);

@@ -1,11 +1,14 @@
 //! INIT, INIT ACK and the cookie (RFC 9260 5).
 
 ghost use Rattle.std.specs.Prelude.{◌≡◌, ◌≢◌, Ok, IfOk, OnErr, true};
+ghost use Rattle.sctp_association.specs.Arrivals.{Arrives};
 ghost use Rattle.sctp_association.specs.Cookies.{IsAlive, IsSealed, cookie_in};
+ghost use Rattle.sctp_association.specs.Halves.{HalvesAlike, halves_of};
 ghost use Rattle.sctp_association.specs.Reports.{EndsWithoutCookie};
 ghost use Rattle.sctp_association.specs.Steps.{is_taken};
 ghost use Rattle.sctp_association.specs.declared.association.Reason.{Reason};
 ghost use Rattle.sctp_association.specs.declared.association.arrivals.Step.TheVariants as step;
+ghost use Rattle.sctp_datagram.specs.Carried.{IsChunkOf};
 ghost use Rattle.sctp_handshake.specs.declared.state.State.TheVariants.{Closed, CookieWait};
 ghost use Rattle.sctp_handshake.specs.InitValues.{init_in};
 
@@ -61,6 +64,7 @@ impl Association {
     ) -> Result<Step, Fault>
         ensures refused { (r : Reason) → result ≡ Ok (step.Refused r) → self.new ≡ self.old }
         ensures err { OnErr result (self.new ≡ self.old) }
+        ensures halves { HalvesAlike self.old self.new }
     {
         let Ok(value) = init_value(bytes_of(datagram, chunk)) else {
             return Ok(Step::Refused(Reason::NoPacket));
@@ -82,12 +86,18 @@ impl Association {
             return Ok(Step::Refused(Reason::Unexpected));
         }
         self.cookie = Some(cookie);
-        if let Some(raw) = reported {
-            // Cause 8: unrecognized parameters (RFC 9260 3.3.10.8).
-            self.due.report = Some(Report { code: 8, raw });
-        }
+        self.note_params(reported);
         self.follow(before, answer, offer.tag, now);
         Ok(Step::Next)
+    }
+
+    // Notes the parameters of an INIT ACK of which its sender is told: cause 8 (RFC 9260 3.3.10.8).
+    fn note_params(&mut self, reported: Option<Bytes>)
+        ensures rest { self.new ≡ record self.old { due = self.new.due } }
+    {
+        if let Some(raw) = reported {
+            self.due.report = Some(Report { code: 8, raw });
+        }
     }
 
     // An INIT ACK has no State Cookie: what was begun ends by an ABORT with its tag (RFC 9260 5.1, 3.3.10.2).
@@ -99,6 +109,7 @@ impl Association {
             (λ said. said.offer.tag ≢ 0 → result ≡ step.Stop) }
         ensures never { result ≡ step.Next → ⊥ }
         ensures refused { (r : Reason) → result ≡ step.Refused r → self.new ≡ self.old }
+        ensures halves { HalvesAlike self.old self.new }
     {
         let Ok(said) = Said::read_init(value) else {
             return Step::Refused(Reason::NoPacket);
@@ -125,6 +136,9 @@ impl Association {
         tag: u32,
         now: u64,
     ) -> Result<Step, Fault>
+        requires own { IsChunkOf datagram.now chunk }
+        requires typ { chunk.typ ≡ 10 }
+        ensures came { Arrives datagram.now (halves_of self.old) (halves_of self.new) }
         ensures refused { (r : Reason) → result ≡ Ok (step.Refused r) → self.new ≡ self.old }
         ensures err { OnErr result (self.new ≡ self.old) }
         ensures sealed { IfOk result (λ s. is_taken s ≡ true

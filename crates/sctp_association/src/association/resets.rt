@@ -1,11 +1,16 @@
 //! Streams that are reset (RFC 6525; RFC 8831 6.7).
 
-ghost use Rattle.std.specs.Prelude.{◌≡◌, true, false, Ok, Err, IfErr, IsOk, OnOk, OnErr};
+ghost use Rattle.std.specs.Prelude.{◌≡◌, true, false, Ok, Err, IfErr, IsOk, OnOk, OnErr, drop};
+ghost use Rattle.sctp_association.specs.Arrivals.{HearsBy, Arrives, Does, Follows, IsReset, IsResetAt, IsRestart, ParamAsks, ParamAsksIn, ReceivedIn};
 ghost use Rattle.sctp_association.specs.Calls.{is_resettable};
-ghost use Rattle.sctp_association.specs.Halves.{PutsOthers};
+ghost use Rattle.sctp_association.specs.Halves.{HalvesAlike, PutsOthers, halves_of, receiver_of};
 ghost use Rattle.sctp_association.specs.declared.fault.Fault.TheVariants.{NoSuchStream, OutOfMemory};
 ghost use Rattle.sctp_association.specs.declared.association.Reason.{Reason};
 ghost use Rattle.sctp_association.specs.declared.association.arrivals.Step.TheVariants as step;
+ghost use Rattle.sctp_datagram.specs.Carried.{IsChunkOf};
+ghost use Rattle.sctp_datagram.specs.Places.{IsPlace};
+ghost use Rattle.sctp_params.specs.Param.{outgoing_reset_request};
+ghost use Rattle.sctp_params.specs.ResetRequest.{reset_request_of};
 ghost use Rattle.sctp_reset.specs.Own.{after_ask};
 
 use super::arrivals::Step;
@@ -190,6 +195,10 @@ impl Association {
         chunk: ChunkPlace,
         now: u64,
     ) -> Result<Step, Fault>
+        requires place { IsPlace datagram.now chunk }
+        requires own { IsChunkOf datagram.now chunk }
+        requires typ { chunk.typ ≡ 130 }
+        ensures came { Arrives datagram.now (halves_of self.old) (halves_of self.new) }
         ensures refused { (r : Reason) → result ≡ Ok (step.Refused r) → self.new ≡ self.old }
     {
         if !self.machine.state().takes_data() && !self.machine.state().takes_sacks() {
@@ -221,7 +230,10 @@ impl Association {
     }
 
     // Takes a parameter.
-    fn take_param(&mut self, raw: &Bytes, at: usize, typ: u16, now: u64) -> Result<(), Fault> {
+    fn take_param(&mut self, raw: &Bytes, at: usize, typ: u16, now: u64) -> Result<(), Fault>
+        ensures came { Follows (ParamAsksIn (drop at raw.now)) Does
+            (halves_of self.old) (halves_of self.new) }
+    {
         match typ {
             13 | 16 => {}
             14 | 15 | 17 | 18 => return Ok(self.deny(raw, at)),
@@ -241,7 +253,9 @@ impl Association {
     }
 
     // Denies a request that is not performed here (RFC 6525 4.2, 4.3, 4.5, 4.6).
-    fn deny(&mut self, raw: &Bytes, at: usize) {
+    fn deny(&mut self, raw: &Bytes, at: usize)
+        ensures halves { HalvesAlike self.old self.new }
+    {
         let Some(peer) = &mut self.peer_requests else {
             return;
         };
@@ -256,7 +270,10 @@ impl Association {
     }
 
     // Takes a request of the peer (RFC 6525 5.2.2): one that comes again has the same answer as before.
-    fn take_request(&mut self, request: &ParamOutgoingResetRequest) -> Result<(), Fault> {
+    fn take_request(&mut self, request: &ParamOutgoingResetRequest) -> Result<(), Fault>
+        ensures came { Follows (ParamAsks (outgoing_reset_request (reset_request_of request.now)))
+            Does (halves_of self.old) (halves_of self.new) }
+    {
         let Some(peer) = &mut self.peer_requests else {
             return Ok(());
         };
@@ -273,7 +290,10 @@ impl Association {
     }
 
     // Resets the streams that a request lists, or all where it lists none (RFC 6525 4.1).
-    fn perform(&mut self, request: &ParamOutgoingResetRequest) -> Result<ReconfigResult, Fault> {
+    fn perform(&mut self, request: &ParamOutgoingResetRequest) -> Result<ReconfigResult, Fault>
+        ensures came { Follows (ParamAsks (outgoing_reset_request (reset_request_of request.now)))
+            Does (halves_of self.old) (halves_of self.new) }
+    {
         if request.stream_identifiers.is_empty() {
             return self.perform_all(request.sender_last_tsn);
         }
@@ -289,7 +309,11 @@ impl Association {
     }
 
     // Resets all open streams.
-    fn perform_all(&mut self, last_tsn: u32) -> Result<ReconfigResult, Fault> {
+    fn perform_all(&mut self, last_tsn: u32) -> Result<ReconfigResult, Fault>
+        ensures outbound { self.new.outbound ≡ self.old.outbound }
+        ensures received { ReceivedIn (IsResetAt last_tsn)
+            (receiver_of self.old.inbound) (receiver_of self.new.inbound) }
+    {
         let streams = match self.machine.agreed() {
             Some(agreed) => agreed.inbound_streams,
             None => 0,
@@ -308,7 +332,11 @@ impl Association {
         stream: u16,
         last_tsn: u32,
         is_named: bool,
-    ) -> Result<ReconfigResult, Fault> {
+    ) -> Result<ReconfigResult, Fault>
+        ensures outbound { self.new.outbound ≡ self.old.outbound }
+        ensures received { ReceivedIn (IsReset stream last_tsn)
+            (receiver_of self.old.inbound) (receiver_of self.new.inbound) }
+    {
         match &mut self.inbound {
             Some(inbound) => inbound.reset(stream, last_tsn, is_named, &mut self.events),
             None => Ok(ReconfigResult::ErrorWrongSsn),
@@ -316,7 +344,11 @@ impl Association {
     }
 
     // Takes the response to the request that is under way (RFC 6525 5.2.7): the streams begin at SSN 0 again.
-    fn take_response(&mut self, response: &ParamReconfigResponse, now: u64) -> Result<(), Fault> {
+    fn take_response(&mut self, response: &ParamReconfigResponse, now: u64) -> Result<(), Fault>
+        ensures hearing { HearsBy IsRestart
+            self.old.outbound.sender self.new.outbound.sender }
+        ensures inbound { self.new.inbound ≡ self.old.inbound }
+    {
         let rto = self.outbound.rto.get();
         let number = response.reconfig_response_sequence_number;
         match self.requests.response(number, response.result, now, rto) {

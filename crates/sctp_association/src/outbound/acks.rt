@@ -1,9 +1,12 @@
 //! What a SACK acknowledges (RFC 9260 6.2.1, 6.3, 7.2).
 
-ghost use Rattle.std.specs.Prelude.{◌≡◌, ◌-◌, Ok, OnErr};
+ghost use Rattle.std.specs.Prelude.{◌≡◌, ◌⊎◌, ◌-◌, Ok, OnErr};
 ghost use Rattle.sctp_association.specs.Acks.{without_blocks};
+ghost use Rattle.sctp_association.specs.Arrivals.{AsksToHear, HearsBy, IsCount, without_gaps};
 ghost use Rattle.sctp_association.specs.Counts.{IsCountedAlike};
 ghost use Rattle.sctp_association.specs.declared.outbound.acks.SackTaken.TheVariants.{Taken, Forged};
+ghost use Rattle.sctp_chunks.specs.Wire.{sack_chunk, shutdown_chunk};
+ghost use Rattle.sctp_data.specs.SelectiveAck.{sack_of};
 ghost use Rattle.sctp_sender.specs.Sender.{after_acked};
 ghost use Rattle.sctp_stream.specs.Stats.{count_up};
 ghost use Rattle.sctp_util.specs.Serial.{distance};
@@ -63,6 +66,7 @@ fn note_low(low: &mut StreamSet, released: &[Released]) {
 impl Outbound {
     /// Takes the cumulative TSN of a SHUTDOWN, which leaves the window as it is (RFC 9260 9.2). It tells of no gaps, so what SACKs reported past
     /// its TSN stays acknowledged (3.3.8). Refuses only for memory, and nothing has changed then, nor where it claims what can't be.
+    #[tactic(auto, using(crate::proofs::Arriving::acknowledged_as, crate::proofs::Arriving::acknowledged_then, crate::proofs::Arriving::acknowledged_same))]
     pub(crate) fn take_shutdown(
         &mut self,
         alloc: Global,
@@ -70,6 +74,8 @@ impl Outbound {
         low: &mut StreamSet,
         now: u64,
     ) -> Result<SackTaken, Fault>
+        ensures hearing { HearsBy (AsksToHear (shutdown_chunk tsn))
+            self.old.sender self.new.sender }
         ensures acked { result ≡ Ok Taken
             → self.new.sender ≡ after_acked (without_blocks tsn) self.old.sender }
         ensures back { self.new.came_back ≡ self.old.came_back }
@@ -106,6 +112,9 @@ impl Outbound {
         low: &mut StreamSet,
         now: u64,
     ) -> Result<SackTaken, Fault>
+        // Whatever it answers, the sender is called for this SACK alone.
+        ensures hearing { HearsBy (AsksToHear (sack_chunk (sack_of sack.old)))
+            self.old.sender self.new.sender }
         ensures counts { IsCountedAlike self.old self.new }
         ensures forged { result ≡ Ok Forged → self.new ≡ self.old }
         ensures err { OnErr result (self.new ≡ self.old) }
@@ -114,9 +123,7 @@ impl Outbound {
         if sna32lt(sack.cumulative_tsn_ack, before) {
             return Ok(SackTaken::Taken);
         }
-        if self.came_back >= self.most_in_flight {
-            sack.gap_ack_blocks.clear();
-        }
+        self.pass_over_blocks(sack);
         let flight = self.flight();
         let released = match self.sender.acked(sack) {
             Ok(acked) => {
@@ -133,6 +140,16 @@ impl Outbound {
         self.count_missing(sack, &released, has_advanced);
         self.run_timer(now);
         Ok(SackTaken::Taken)
+    }
+
+    // Passes over the gap ack blocks of a SACK, where too much came back.
+    fn pass_over_blocks(&self, sack: &mut ChunkSelectiveAck)
+        ensures { (sack_of sack.new ≡ sack_of sack.old)
+            ⊎ (sack_of sack.new ≡ without_gaps (sack_of sack.old)) }
+    {
+        if self.came_back >= self.most_in_flight {
+            sack.gap_ack_blocks.clear();
+        }
     }
 
     // Counts what a SACK took back, against what the cumulative TSN passed.
@@ -199,7 +216,9 @@ impl Outbound {
 
     // Counts what is missing before the highest TSN that is acknowledged now; in fast recovery, where the cumulative TSN moved,
     // before the highest that the SACK reports (RFC 9260 7.2.4).
+    #[tactic(auto, using(crate::proofs::Arriving::acknowledged_same, crate::proofs::Arriving::acknowledged_count))]
     fn count_missing(&mut self, sack: &ChunkSelectiveAck, released: &[Released], has_advanced: bool)
+        ensures hearing { HearsBy IsCount self.old.sender self.new.sender }
         ensures rest { self.new ≡ record self.old {
           sender = self.new.sender;
           congestion = self.new.congestion;

@@ -1,5 +1,9 @@
-use Rattle.sctp_association.proofs.Delivered.{carries-only}
+use Rattle.sctp_association.proofs.Delivered.{brings-only, carries-only, each-comes}
 use Rattle.sctp_association.proofs.laws.what_comes_was_made.Goals as goal
 
 pub returns : goal.returns
-returns c = carries-only
+returns c = record {
+  carried = carries-only;
+  brought = brings-only;
+  sessions = each-comes;
+}

@@ -1,4 +1,6 @@
-use Rattle.std.proofs.Common.{refl, rules}
+use Rattle.std.proofs.Common.{ap, refl, rules}
+use Rattle.sctp_association.proofs.Arrived.{came_same}
+use Rattle.sctp_association.specs.Halves.{halves_of}
 use Rattle.sctp_association.proofs.First.{begins, first_is}
 use Rattle.sctp_association.proofs.association.Association.handle_datagram.Goals as goal
 use Rattle.sctp_datagram.specs.Places.{TellsAll, place_at}
@@ -17,8 +19,21 @@ returns-clause-begun c closed stands =
 pub returns-in-Err : goal.returns-in-Err
 returns-in-Err c = record {
   dropped = λ r e. refl;
+  came = came_same _ _ _ refl;
   accepted = λ e. cc;
   foreign = λ other. refl;
   init = λ begun. refl;
   begun = λ closed stands. absurd (stands closed);
 }
+
+pub returns-in-Err-ErrOutOfMemory-clause-came : goal.returns-in-Err-ErrOutOfMemory-clause-came
+returns-in-Err-ErrOutOfMemory-clause-came c = came_same _ _ _ refl
+
+pub returns-in-Err-ErrChecksumMismatch-clause-came : goal.returns-in-Err-ErrChecksumMismatch-clause-came
+returns-in-Err-ErrChecksumMismatch-clause-came c = came_same _ _ _ refl
+
+pub returns-then-header-self-clause-came : goal.returns-then-header-self-clause-came
+returns-then-header-self-clause-came c = came_same _ _ _ refl
+
+pub returns-then-self-2-clause-came : goal.returns-then-self-2-clause-came
+returns-then-self-2-clause-came c = came_same _ _ _ (ap halves_of c.take_after_end.ensures.rest)

@@ -1,9 +1,32 @@
-use Rattle.std.proofs.Common.{rules, ◌≡◌, ap, sym, ◌∙◌}
+use Rattle.std.proofs.Common.{rules, ◌≡◌, ap, refl, sym, ◌∙◌}
 use Rattle.std.specs.Prelude.{Some}
+use Rattle.sctp_association.proofs.Arrived.{came_same}
+use Rattle.sctp_association.proofs.Begun.{cookie_came}
 use Rattle.sctp_association.proofs.Kept.{same_machine}
 use Rattle.sctp_association.proofs.Stale.{stale_keeps}
 use Rattle.sctp_association.proofs.association.Association.take_cookie.Goals as goal
 use Rattle.sctp_handshake.specs.declared.answer.Reply.TheVariants as reply
+
+pub returns-then-chunk-raw-clause-came : goal.returns-then-chunk-raw-clause-came
+returns-then-chunk-raw-clause-came c = came_same _ _ _ refl
+
+pub returns-in_default-clause-came : goal.returns-in_default-clause-came
+returns-in_default-clause-came c = came_same _ _ _ refl
+
+pub returns-in_default-read-clause-came : goal.returns-in_default-read-clause-came
+returns-in_default-read-clause-came c = came_same _ _ _ refl
+
+pub returns-then-ticket-tag-clause-came : goal.returns-then-ticket-tag-clause-came
+returns-then-ticket-tag-clause-came c = came_same _ _ _ refl
+
+pub returns-then-is_none-2-clause-came : goal.returns-then-is_none-2-clause-came
+returns-then-is_none-2-clause-came c = came_same _ _ _ refl
+
+pub returns-in-Some-StaleCookie-clause-came : goal.returns-in-Some-StaleCookie-clause-came
+returns-in-Some-StaleCookie-clause-came c = cookie_came _ _ c.requires.own _ _ c.cookie_echo-answer.result c.follow.ensures.begun c.requires.typ
+
+pub returns-in_default-reply-2-clause-came : goal.returns-in_default-reply-2-clause-came
+returns-in_default-reply-2-clause-came c = cookie_came _ _ c.requires.own _ _ c.cookie_echo-answer.result c.follow.ensures.begun c.requires.typ
 
 -- what is answered by a stale cookie changed nothing
 pub returns-in-Some-StaleCookie-clause-stale : goal.returns-in-Some-StaleCookie-clause-stale
@@ -17,3 +40,13 @@ pub returns-then-is_none-2-clause-refused : goal.returns-then-is_none-2-clause-r
 returns-then-is_none-2-clause-refused c =
     let same : c.cookie_echo-answer.new.self ≡ c.args.self.now.machine = search rules in
     λ _ _. same_machine _ _ _ same
+
+pub returns-in_default-reply : goal.returns-in_default-reply
+returns-in_default-reply c = record {
+  came = cookie_came _ _ c.requires.own _ _ c.cookie_echo-answer.result c.follow.ensures.begun c.requires.typ;
+  refused = search rules;
+  err = search rules;
+  sealed = search rules;
+  alive = search rules;
+  stale = search rules;
+}

@@ -1,0 +1,12 @@
+use Rattle.std.proofs.Common.{refl, rules, ◌≡◌}
+use Rattle.std.specs.Prelude.{None}
+use Rattle.sctp_association.proofs.Begun.{begun_none}
+use Rattle.sctp_association.proofs.association.Association.follow.Goals as goal
+
+pub returns-then-not-is_silent-clause-begun : goal.returns-then-not-is_silent-clause-begun
+returns-then-not-is_silent-clause-begun c = c.follow_answer.ensures.begun
+
+pub returns-else-ne-clause-begun : goal.returns-else-ne-clause-begun
+returns-else-ne-clause-begun c =
+    let none : c.args.answer.told ≡ None = search rules in
+    begun_none _ _ _ none refl

@@ -1,0 +1,32 @@
+use Rattle.std.proofs.Common.{refl, sym}
+use Rattle.sctp_association.proofs.Arrived.{came_alike, came_same, came_then, receiver_came}
+use Rattle.sctp_association.proofs.Begun.{quiet_arrived}
+use Rattle.sctp_association.proofs.Kept.{same_machine}
+use Rattle.sctp_association.proofs.association.Association.take_data.Goals as goal
+
+pub returns-then-not-takes_data-clause-came : goal.returns-then-not-takes_data-clause-came
+returns-then-not-takes_data-clause-came c = came_same _ _ _ refl
+
+pub returns-in_err-data-clause-came : goal.returns-in_err-data-clause-came
+returns-in_err-data-clause-came c = came_same _ _ _ refl
+
+pub returns-in_default-clause-came : goal.returns-in_default-clause-came
+returns-in_default-clause-came c = came_same _ _ _ refl
+
+pub returns-in_err-followed-clause-came : goal.returns-in_err-followed-clause-came
+returns-in_err-followed-clause-came c =
+    receiver_came _ _ c.requires.own _ c.in_ok-data.ensures.found _ _ _ _ c.take_data.new.self c.in-Some.is refl c.take_data.ensures.received
+
+pub returns-clause-came : goal.returns-clause-came
+returns-clause-came c =
+    came_then _ _ _ _ (
+    receiver_came _ _ c.requires.own _ c.in_ok-data.ensures.found _ _ _ _ c.take_data.new.self c.in-Some.is refl c.take_data.ensures.received
+    ) (
+    came_then _ _ _ _ (came_alike _ _ _ c.run_again.ensures.halves) (
+    came_then _ _ _ _ (came_same _ _ _ (quiet_arrived _ _ _ _ c.follow.ensures.begun c.packet_arrived-answer.ensures.answer))
+    (came_alike _ _ _ c.end_by.ensures.halves)
+    )
+    )
+
+pub returns-in_default-clause-refused : goal.returns-in_default-clause-refused
+returns-in_default-clause-refused c = λ r e. same_machine c.args.self.now c.args.self.now.machine _ refl

@@ -1,0 +1,26 @@
+use Rattle.std.proofs.Common.{refl, ◌∙◌}
+use Rattle.sctp_association.proofs.Arriving.{acknowledged_restart_by, acknowledged_same, acknowledged_then}
+use Rattle.sctp_association.proofs.association.Association.take_response.Goals as goal
+
+pub loop-stream-init : goal.loop-stream-init
+loop-stream-init c = (acknowledged_same _ _ _ refl, refl)
+
+pub loop-stream-preserved : goal.loop-stream-preserved
+loop-stream-preserved c = (
+  acknowledged_then _ _ _ _ c.loop-stream.invariant.0
+      (acknowledged_restart_by _ _ _ c.reset.result c.reset.ensures.ok c.reset.ensures.accepted c.reset.ensures.err),
+  c.loop-stream.invariant.1,
+)
+
+pub returns-in-Err : goal.returns-in-Err
+returns-in-Err c = record {
+  hearing = acknowledged_then _ _ _ _ c.loop-stream.invariant.0
+      (acknowledged_restart_by _ _ _ c.reset.result c.reset.ensures.ok c.reset.ensures.accepted c.reset.ensures.err);
+  inbound = c.loop-stream.invariant.1;
+}
+
+pub returns-after-loop-stream-clause-hearing : goal.returns-after-loop-stream-clause-hearing
+returns-after-loop-stream-clause-hearing c = c.loop-stream.invariant.0
+
+pub returns-in-Wait-clause-hearing : goal.returns-in-Wait-clause-hearing
+returns-in-Wait-clause-hearing c = acknowledged_same _ _ _ refl

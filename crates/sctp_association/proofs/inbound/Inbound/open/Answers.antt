@@ -1,0 +1,18 @@
+use Rattle.std.proofs.Common.{refl}
+use Rattle.sctp_association.proofs.Arriving.{received_opened, received_same}
+use Rattle.sctp_association.proofs.inbound.Inbound.open.Goals as goal
+
+pub returns-then-stream-self-clause-received : goal.returns-then-stream-self-clause-received
+returns-then-stream-self-clause-received c = received_same _ _ _ refl
+
+pub returns-in_err-reserve_inbound-clause-received : goal.returns-in_err-reserve_inbound-clause-received
+returns-in_err-reserve_inbound-clause-received c = received_same _ _ _ refl
+
+pub returns-in_err-reserve-clause-received : goal.returns-in_err-reserve-clause-received
+returns-in_err-reserve-clause-received c = received_same _ _ _ refl
+
+pub returns-in_err-open-clause-received : goal.returns-in_err-open-clause-received
+returns-in_err-open-clause-received c = received_same _ _ _ c.in_err-open.ensures.err
+
+pub returns-clause-received : goal.returns-clause-received
+returns-clause-received c = received_opened _ _ _ (c.in_ok-open.ensures.accepted refl) c.in_ok-open.ensures.ok
