@@ -63,7 +63,7 @@ received_then P r s t f g = follows_then P Receives r s t f g
 
 pub received_opened : (stream : ℕ) (r s : Reception) → is_open stream r ≡ false → s ≡ open_stream stream r → Received (IsOpening stream) r s
 received_opened stream r s shut e =
-    follows_one (IsOpening stream) Receives (opens stream) r s refl (record { unrefused = tt; makes = (shut, e) })
+    follows_one (IsOpening stream) Receives (opens stream) r s refl (record { unrefused = tt; accepted = tt; makes = (shut, e) })
 
 opening-asked : (c : ChunkPayloadData) (call : Call) → IsOpening c.stream_identifier call → AsksFor (data_chunk (data_of c)) call
 opening-asked c (opens stream) e = e
@@ -77,6 +77,7 @@ module _ (c : ChunkPayloadData) (r s : Reception) where
   received_data (Ok a) fits t =
       follows_one (AsksFor (data_chunk (data_of c))) Receives (takes c a) r s refl (record {
         unrefused = record { fits = fits; accepted = not-too-far c r (t.accepted refl); answer = t.answer };
+        accepted = (t.accepted refl, t.answer);
         makes = t.ok;
       })
   received_data (Err e) fits t = received_same (AsksFor (data_chunk (data_of c))) r s t.err
@@ -84,17 +85,18 @@ module _ (c : ChunkPayloadData) (r s : Reception) where
   pub received_discarded : c.tsn < 2 ^ 32 → discard_refusal c.tsn r ≡ None → s ≡ after_discard c.tsn r
       → Received (AsksFor (data_chunk (data_of c))) r s
   received_discarded fits accepted e =
-      follows_one (AsksFor (data_chunk (data_of c))) Receives (discards c.tsn) r s refl (record { unrefused = (fits, accepted); makes = e })
+      follows_one (AsksFor (data_chunk (data_of c))) Receives (discards c.tsn) r s refl (record { unrefused = (fits, accepted); accepted = tt; makes = e })
 
   pub received_closed : s ≡ close_stream c.stream_identifier r → Received (AsksFor (data_chunk (data_of c))) r s
   received_closed e =
-      follows_one (AsksFor (data_chunk (data_of c))) Receives (closes c.stream_identifier) r s refl (record { unrefused = tt; makes = e })
+      follows_one (AsksFor (data_chunk (data_of c))) Receives (closes c.stream_identifier) r s refl (record { unrefused = tt; accepted = tt; makes = e })
 
 pub received_skip : (f : ForwardTsn) (r s : Reception) (a : Result Forwarded ReceiverRefusal) → f.new_cumulative_tsn < 2 ^ 32
     → Skips past_closed_refusal f r s a → Received (AsksFor (forward_tsn_chunk f)) r s
 received_skip f r s (Ok a) fits t =
     follows_one (AsksFor (forward_tsn_chunk f)) Receives (forwards f) r s refl (record {
       unrefused = (fits, not-named-too-far f r (t.accepted refl));
+      accepted = t.accepted refl;
       makes = t.ok;
     })
 received_skip f r s (Err e) fits t = received_same (AsksFor (forward_tsn_chunk f)) r s t.err
@@ -102,7 +104,7 @@ received_skip f r s (Err e) fits t = received_same (AsksFor (forward_tsn_chunk f
 pub received_reset : (stream last : ℕ) (r s : Reception) → reset_refusal stream last r ≡ None → s ≡ reset_stream stream last r
     → Received (IsReset stream last) r s
 received_reset stream last r s accepted e =
-    follows_one (IsReset stream last) Receives (resets stream last) r s (refl, refl) (record { unrefused = accepted; makes = e })
+    follows_one (IsReset stream last) Receives (resets stream last) r s (refl, refl) (record { unrefused = accepted; accepted = tt; makes = e })
 
 -- ## Of the sender
 

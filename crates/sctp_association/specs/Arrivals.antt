@@ -11,8 +11,9 @@ use Rattle.sctp_handshake.specs.declared.answer.Told.{Told}
 use Rattle.sctp_handshake.specs.declared.answer.Told.TheVariants.{Connected, Restarted, ShutdownBegun, Closed, Failed}
 use Rattle.sctp_params.specs.Param.{Parameter, outgoing_reset_request, reconfig_response}
 use Rattle.sctp_params.specs.ParamKind.{ReadsParam}
-use Rattle.sctp_receiver.specs.Receiver.{Reception, at_first}
+use Rattle.sctp_receiver.specs.Receiver.{Reception, arrival_of, arrival_refusal, at_first, is_answered_complete}
 use Rattle.sctp_receiver.specs.ReceiverRuns.{Call, IsUnrefused, Makes, closes, discards, forwards, opens, resets, takes}
+use Rattle.sctp_receiver.specs.Skips.{past_closed_refusal}
 use Rattle.sctp_receiver.specs.declared.receiver.limits.Limits.{Limits}
 use Rattle.sctp_sender.specs.Sender.{Transmission, with_nothing, with_reported}
 use Rattle.sctp_sender.specs.Settings.{reset_on, reset_refusal}
@@ -41,9 +42,17 @@ pub record Follows {C T : Type 0} (Asked : C → Type 0) (Does : C → T → T �
 
 -- ## Calls of the receiver
 
+-- DATA is refused for no number, and FORWARD-TSN for no name, beside what refuses a call else: so it is in a session (`sctp_delivery`)
+abbrev pub IsTaken : Call → Reception → Type 0
+IsTaken (takes c arrival) r =
+    (arrival_refusal c r ≡ None) × (arrival ≡ arrival_of c.tsn (is_answered_complete arrival) r)
+IsTaken (forwards f) r = past_closed_refusal f r ≡ None
+IsTaken _ r = ⊤
+
 -- the call is not refused
 pub record Receives (call : Call) (old new : Reception) : Type 0 where
   pub unrefused : IsUnrefused call old
+  pub accepted : IsTaken call old
   pub makes : Makes call old new
 
 abbrev pub Received : (Call → Type 0) → Reception → Reception → Type 0
