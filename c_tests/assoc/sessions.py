@@ -2,7 +2,7 @@
 
 Everything is drawn from a seed: the network, limits, messages of every mode both ways, resets, who connects, reads late, and shuts down. In some sessions
 one host begins again, as after a crash. Each message that is read must have been written on its stream, none is read twice, ordered ones come in order,
-each reliable one comes, and both hosts end by the shutdown. After a minute nothing more is lost.
+each reliable one comes, and both hosts end by the shutdown, when nothing is held. After a minute nothing more is lost.
 """
 import heapq
 import random
@@ -68,6 +68,8 @@ class Session:
                      "rto_max": draw.choice([2, 60]) * SECOND if self.is_alike else 60 * SECOND, "retrans": 30, "init_retrans": 30}
         self.hosts = [Host(command, streams) for command in commands]
         self.is_slow, messages = draw.random() < 0.4, draw.choice([5, 40, 150])
+        # busy, or longer between two messages than an RTO
+        self.pauses = draw.choice([[1000, 20_000, 100_000]] * 2 + [[2 * SECOND]])
         for i, host in enumerate(self.hosts):
             host.left, host.resets = messages if i == 0 or draw.random() < 0.7 else 0, draw.choice([0, 0, 3]) if self.is_alike else 0
             self.begin(i)
@@ -125,11 +127,11 @@ class Session:
                 host.read[stream].append(answer[0].split()[3])
 
     def write(self, i):
-        """Writes a message, in another mode now and then."""
+        """Writes a message: the first one of a stream in any mode, later ones in another now and then."""
         host, draw, stream = self.hosts[i], self.random, self.random.randrange(self.keys["streams"])
         if stream in host.resetting:
             return
-        if draw.random() < 0.1:
+        if draw.random() < (0.1 if host.wrote[stream] else 0.5):
             host.modes[stream] = draw.choice(["ordered", "unordered"]), draw.choice(RELIABILITIES)
             self.say(i, "mode {} {} {}".format(stream, *host.modes[stream]))
         size = draw.choice([1, 10, 100, draw.randrange(1, self.most)])
@@ -175,7 +177,7 @@ class Session:
         if what[0] == "act":
             self.act(i)
             if not host.closed or host.ready:
-                self.push(self.now + (self.random.choice([1000, 20_000, 100_000]) if host.left or host.ready else SECOND // 5), what)
+                self.push(self.now + (self.random.choice(self.pauses) if host.left or host.ready else SECOND // 5), what)
         elif what[0] == "restart":
             self.restart(i)
         elif what[0] == "in":
@@ -203,6 +205,9 @@ class Session:
         for i, host in enumerate(self.hosts):
             if host.closed != "shutdown":
                 raise Wrong(f"host {i} did not end by the shutdown: {host.closed}")
+            held = host.ask("stats")[0].split()[-1] if self.is_alike else "0"
+            if held != "0":
+                raise Wrong(f"host {i} holds {held} bytes, and nothing can be read")
             for stream, wrote in enumerate(host.wrote):
                 check_stream(f"host {1 - i}, stream {stream}", wrote, self.hosts[1 - i].read[stream], self.stale[i])
 

@@ -1,5 +1,5 @@
 -- What comes was made.
-use Rattle.std.proofs.Common.{◌≡◌, ◌++◌, ℕ, List, [], ◌∷◌, true, Option, Some, None, refl, ap, sym, subst, ◌∙◌, append_assoc}
+use Rattle.std.proofs.Common.{◌≡◌, ◌++◌, ℕ, List, [], ◌∷◌, true, Option, Some, None, refl, ap, sym, subst, ◌∙◌, append_assoc, inl, inr}
 use Rattle.std.proofs.lemmas.Bool.{false≢true}
 use Rattle.std.proofs.lemmas.List.Elements.{All-contains, All-from_recursion, Contains-append_left}
 use Rattle.std.specs.Prelude.{Contains}
@@ -60,10 +60,11 @@ module _ (ms : List Made) (sacks : List Sack) where
   -- a call that a chunk asks for
   asked : (w : Wire) (call : Call) → IsOf ms sacks w → AsksFor w call → IsForMade ms call
   asked (data_chunk d) (takes c arrival) of is = subst (λ (e : Data). Contains ms (made.data_chunk e)) (sym is) of
-  asked (data_chunk d) (opens stream) of is = record { chunk = d; own = of; is = is }
+  asked (data_chunk d) (opens stream) of is = inl (record { chunk = d; own = of; is = is })
   asked (data_chunk d) (closes stream) of is = record { chunk = d; own = of; is = is }
   asked (data_chunk d) (discards tsn) of is = record { chunk = d; own = of; is = is }
   asked (forward_tsn_chunk f) (forwards g) of is = subst (λ (e : ForwardTsn). Contains ms (made.forward_tsn e)) (sym is) of
+  asked (forward_tsn_chunk f) (opens stream) of is = inr (record { skip = f; own = of; named = is })
   asked _ _ of is = absurd is
 
   by-chunk : (w : Wire) (a : Arrival) → IsOf ms sacks w → Asks w a → IsFor ms sacks a
@@ -84,7 +85,7 @@ module _ (ms : List Made) (sacks : List Sack) where
   by-type typ _ is = absurd is
 
   module _ (datagram : List ℕ) (only : CarriesOnly ms sacks datagram) where
-    of-call : (a : Arrival) → IsBrought datagram a → IsFor ms sacks a
+    pub of-call : (a : Arrival) → IsBrought datagram a → IsFor ms sacks a
     of-call a (by_chunk w c is) = by-chunk w a (only w c) is
     of-call a (by_param p c is) = by-param p a is
     of-call a (by_type typ c is) = by-type typ a is
@@ -129,7 +130,7 @@ follows forgets s mid m =
     record { handed = tt; step = record { receiver = m.1.0; accepted = refl; read = refl }; accepted = m.1.1; after = refl }
 follows _ s mid m = absurd (false≢true m.0)
 
-reports-more : (c : ReceiverCall) (r : Reception) (ss : List Sack) → is_acking c ≡ true → reports_after c r ss ≡ reported_by c r ++ ss
+pub reports-more : (c : ReceiverCall) (r : Reception) (ss : List Sack) → is_acking c ≡ true → reports_after c r ss ≡ reported_by c r ++ ss
 reports-more (makes_sack credit bytes) r ss e = refl
 reports-more forgets r ss e = refl
 reports-more _ r ss e = absurd (false≢true e)

@@ -19,3 +19,4 @@ pub mod Arrived
 pub mod Begun
 pub mod Carrying
 pub mod Cut
+pub mod Named

@@ -17,7 +17,7 @@ undone s t shut =
     ap (λ ss. let y : Transmission = record t { streams = ss } in y)
     (taken-back (has_number s) t.streams (new_stream s t.fragment_size) (same-yes s) (none-of (find (has_number s) t.streams) shut))
 
-found-last : {X : Type 0} (p : X → Bool) (xs : List X) (y : X) → p y ≡ true → is_some (find p (xs ++ y ∷ [])) ≡ true
+pub found-last : {X : Type 0} (p : X → Bool) (xs : List X) (y : X) → p y ≡ true → is_some (find p (xs ++ y ∷ [])) ≡ true
 found-last p [] y h = ap (λ b. is_some (if b then Some y else None)) h
 found-last p (x ∷ xs) y h = by (p x) (found-last p xs y h)
   where

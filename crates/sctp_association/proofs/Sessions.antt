@@ -22,7 +22,7 @@ with_more : (o : Option ChunkPayloadData) (ms : List Made) → with_chunk o ms �
 with_more None ms = refl
 with_more (Some c) ms = refl
 
-made_more : (c : SenderCall) (t : Transmission) (ms : List Made) → is_sending c ≡ true → made_after c t ms ≡ made_by c t ++ ms
+pub made_more : (c : SenderCall) (t : Transmission) (ms : List Made) → is_sending c ≡ true → made_after c t ms ≡ made_by c t ++ ms
 made_more (sends now) t ms e = with_more (next_chunk now t) ms
 made_more (resends tsn now c) t ms e = refl
 made_more (forwards_within bytes f) t ms e = refl
@@ -34,7 +34,7 @@ made_more (expires_rexmit gone) t ms e = refl
 made_more _ t ms e = absurd (false≢true e)
 
 -- no SACK is taken
-none_taken : (c : SenderCall) (s : Session) → is_sending c ≡ true → IsReported c s
+pub none_taken : (c : SenderCall) (s : Session) → is_sending c ≡ true → IsReported c s
 none_taken (sends now) s e = tt
 none_taken (resends tsn now c) s e = tt
 none_taken (forwards_within bytes f) s e = tt

@@ -2,6 +2,8 @@
 use Rattle.std.specs.Prelude.{◌≡◌, ◌⊎◌, ⊤, ℕ, List, [], ◌∷◌, Contains, drop, take, Option, Some, None}
 use Rattle.sctp_association.specs.Acks.{without_blocks}
 use Rattle.sctp_chunks.specs.Wire.{Wire, data_chunk, forward_tsn_chunk, sack_chunk, shutdown_chunk}
+use Rattle.sctp_data.specs.declared.chunk.chunk_forward_tsn.ChunkForwardTsnStream.{ChunkForwardTsnStream}
+use Rattle.sctp_data.specs.ForwardTsn.{ForwardTsn}
 use Rattle.sctp_data.specs.PayloadData.{data_of}
 use Rattle.sctp_data.specs.SelectiveAck.{Sack}
 use Rattle.sctp_datagram.specs.Carried.{Carries, IsChunkOf}
@@ -119,13 +121,21 @@ Does (renews tsn size max) old new =
 
 -- ## What asks for a call
 
--- DATA asks that it is taken, that its stream is opened or closed, and that its TSN alone is noted; FORWARD-TSN that it is followed
+-- the stream is one that a FORWARD-TSN names
+pub record IsNamed (f : ForwardTsn) (stream : ℕ) : Type 0 where
+  pub named : ChunkForwardTsnStream
+  pub own : Contains f.streams named
+  pub is : named.identifier ≡ stream
+
+-- DATA asks that it is taken, that its stream is opened or closed, and that its TSN alone is noted; FORWARD-TSN that it is followed, and that
+-- streams that it names are opened
 abbrev pub AsksFor : Wire → Call → Type 0
 AsksFor (data_chunk d) (takes c arrival) = data_of c ≡ d
 AsksFor (data_chunk d) (opens stream) = stream ≡ d.stream_identifier
 AsksFor (data_chunk d) (closes stream) = stream ≡ d.stream_identifier
 AsksFor (data_chunk d) (discards tsn) = tsn ≡ d.tsn
 AsksFor (forward_tsn_chunk f) (forwards g) = g ≡ f
+AsksFor (forward_tsn_chunk f) (opens stream) = IsNamed f stream
 AsksFor _ _ = ⊥
 
 abbrev pub without_gaps : Sack → Sack
@@ -205,6 +215,10 @@ IsResetAt last _ = ⊥
 abbrev pub IsOpening : (stream : ℕ) → Call → Type 0
 IsOpening stream (opens s) = s ≡ stream
 IsOpening stream _ = ⊥
+
+abbrev pub IsOpeningNamed : ForwardTsn → Call → Type 0
+IsOpeningNamed f (opens stream) = IsNamed f stream
+IsOpeningNamed f _ = ⊥
 
 abbrev pub IsRestart : Hearing → Type 0
 IsRestart (restarts stream) = ⊤

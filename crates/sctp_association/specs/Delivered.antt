@@ -1,10 +1,11 @@
 -- What comes was made: what a datagram carries that the peer wrote, and so each call that it brings, is of what the peer's halves made.
 use Rattle.std.specs.Prelude.{◌≡◌, ◌⊎◌, ⊤, true, List, ◌++◌, ℕ, Contains, Some, map}
 use Rattle.std.specs.List.{AllByRecursion}
-use Rattle.sctp_association.specs.Arrivals.{Arrival, Arrives, Halves, acks, begins, counts, hears, passes, receives, renews, restarts, without_gaps}
+use Rattle.sctp_association.specs.Arrivals.{Arrival, Arrives, Halves, IsNamed, acks, begins, counts, hears, passes, receives, renews, restarts, without_gaps}
 use Rattle.sctp_association.specs.Packets.{IsAcked, IsOf, IsWritten, Sides, Transmits}
 use Rattle.sctp_association.specs.Sessions.{GoesOn}
 use Rattle.sctp_chunks.specs.Wire.{Wire}
+use Rattle.sctp_data.specs.ForwardTsn.{ForwardTsn}
 use Rattle.sctp_data.specs.PayloadData.{Data, data_of}
 use Rattle.sctp_data.specs.SelectiveAck.{Sack}
 use Rattle.sctp_datagram.specs.Carried.{Carries}
@@ -37,11 +38,17 @@ pub record WasMade (P : Data → Type 0) (ms : List Made) : Type 0 where
   pub own : Contains ms (made.data_chunk chunk)
   pub is : P chunk
 
+-- a FORWARD-TSN was made that names the stream
+pub record WasSkipped (stream : ℕ) (ms : List Made) : Type 0 where
+  pub skip : ForwardTsn
+  pub own : Contains ms (made.forward_tsn skip)
+  pub named : IsNamed skip stream
+
 -- the receiver's call is for a chunk that was made. Of a request to reset streams nothing is said
 abbrev pub IsForMade : List Made → Call → Type 0
 IsForMade ms (takes c arrival) = Contains ms (made.data_chunk (data_of c))
 IsForMade ms (forwards f) = Contains ms (made.forward_tsn f)
-IsForMade ms (opens stream) = WasMade (λ d. stream ≡ d.stream_identifier) ms
+IsForMade ms (opens stream) = WasMade (λ d. stream ≡ d.stream_identifier) ms ⊎ WasSkipped stream ms
 IsForMade ms (closes stream) = WasMade (λ d. stream ≡ d.stream_identifier) ms
 IsForMade ms (discards tsn) = WasMade (λ d. tsn ≡ d.tsn) ms
 IsForMade ms (resets stream last) = ⊤

@@ -17,6 +17,7 @@ pub mod Reports
 pub mod Rooms
 pub mod Runs
 pub mod Sending
+pub mod Served
 pub mod Sessions
 pub mod Steps
 pub mod Still

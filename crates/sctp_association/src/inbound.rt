@@ -1,7 +1,7 @@
 //! What comes of the peer's messages, and when it is acknowledged (RFC 9260 6.2, 6.5; RFC 3758 3.6).
 
 ghost use Rattle.std.specs.Prelude.{◌≡◌, ◌==◌, ◌<◌, ◌≤◌, ℕ, Ok, IfOk, IsOk, OnOk, Some, length, option_map, true, false};
-ghost use Rattle.sctp_association.specs.Arrivals.{AsksFor, IsOpening, IsReset, Received};
+ghost use Rattle.sctp_association.specs.Arrivals.{AsksFor, IsOpening, IsOpeningNamed, IsReset, Received};
 ghost use Rattle.sctp_association.specs.Packets.{PutsIn};
 ghost use Rattle.sctp_association.specs.Reached.{IsLimited, most_user_data};
 ghost use Rattle.sctp_association.specs.StreamSet.{is_in};
@@ -11,7 +11,7 @@ ghost use Rattle.sctp_data.specs.PayloadData.{data_of};
 ghost use Rattle.sctp_params.specs.declared.param.param_reconfig_response.ReconfigResult.TheVariants.{SuccessPerformed};
 ghost use Rattle.sctp_reassembly.specs.reassembly_queue.ReassemblyQueue.{at_start};
 ghost use Rattle.sctp_receiver.specs.declared.receiver.refusal.ReceiverRefusal.TheVariants.{MessageTooLarge};
-ghost use Rattle.sctp_receiver.specs.Receiver.{at_first, message_on};
+ghost use Rattle.sctp_receiver.specs.Receiver.{at_first, is_open, message_on};
 ghost use Rattle.sctp_util.specs.Serial.{comes_before};
 
 use crate::draft::Draft;
@@ -70,6 +70,7 @@ pub(crate) struct Inbound {
 
 impl Inbound {
     ghost use Rattle.sctp_association.specs.Reads.{IsReadOff};
+    ghost use Rattle.sctp_association.specs.Served.{AreServed, IsServed};
 
     /// Nothing came. It takes no memory.
     #[tactic(auto, using(crate::proofs::Reaching::begun))]
@@ -165,6 +166,10 @@ impl Inbound {
             × (self.new.streams ≡ self.old.streams) }
         ensures shut { is_in stream self.old.discarded ≡ true → self.new ≡ self.old }
         ensures same { (n : ℕ) → is_in n self.new.discarded ≡ is_in n self.old.discarded }
+        ensures served { IsOk result → IsServed stream self.new }
+        ensures still { (n : ℕ) → is_open n self.old.receiver ≡ true
+            → is_open n self.new.receiver ≡ true }
+        ensures place { self.new.receiver.cumulative_tsn ≡ self.old.receiver.cumulative_tsn }
     {
         let is_open = self.receiver.stats(stream).is_some();
         if stream >= self.streams || is_open || self.discarded.contains(stream) {
@@ -222,8 +227,28 @@ impl Inbound {
         Ok(Followed::Done)
     }
 
-    /// Takes a FORWARD-TSN, which is acknowledged at once (RFC 3758 3.6). As chunks of streams that are not open are dropped, so are
-    /// names of these. One that names too far ahead comes again, while something can be read.
+    // Opens the streams that a FORWARD-TSN names, where it is ahead: of their messages those may be the first that are skipped (RFC 3758 3.6).
+    fn open_named(&mut self, skip: &ChunkForwardTsn, events: &mut Events) -> Result<(), Fault>
+        ensures received { Received (IsOpeningNamed (forward_tsn_of skip.now))
+            self.old.receiver self.new.receiver }
+        ensures limits { (self.new.receiver.limits ≡ self.old.receiver.limits)
+            × (self.new.streams ≡ self.old.streams) }
+        ensures place { self.new.receiver.cumulative_tsn ≡ self.old.receiver.cumulative_tsn }
+        ensures served { IsOk result
+            → comes_before self.old.receiver.cumulative_tsn skip.now.new_cumulative_tsn ≡ true
+            → AreServed (forward_tsn_of skip.now) self.new }
+    {
+        if !sna32lt(self.receiver.cumulative_tsn(), skip.new_cumulative_tsn) {
+            return Ok(());
+        }
+        for named in &skip.streams {
+            self.open(named.identifier, events)?;
+        }
+        Ok(())
+    }
+
+    /// Takes a FORWARD-TSN, which is acknowledged at once (RFC 3758 3.6). Streams that it names open by that. Names of others than were agreed,
+    /// and of those on which a message was too long, are dropped. One that names too far ahead comes again, while something can be read.
     #[tactic(auto, using(crate::proofs::Reaching::skip_led, crate::proofs::Reaching::skipped_limits, crate::proofs::Arriving::received_skip))]
     pub(crate) fn take_skip(
         &mut self,
@@ -234,10 +259,15 @@ impl Inbound {
         // Whatever it answers, the receiver is called for this chunk alone.
         ensures received { Received (AsksFor (forward_tsn_chunk (forward_tsn_of skip.now)))
             self.old.receiver self.new.receiver }
+        // No stream that it names waits for a message that is skipped.
+        ensures named { OnOk result
+            (comes_before self.old.receiver.cumulative_tsn skip.now.new_cumulative_tsn ≡ true
+            → AreServed (forward_tsn_of skip.now) self.new) }
         ensures limits { (self.new.receiver.limits ≡ self.old.receiver.limits)
             × (self.new.streams ≡ self.old.streams) }
     {
         let _tsn = skip.new_cumulative_tsn;
+        self.open_named(skip, events)?;
         match self.receiver.forward_tsn(skip, Closed::PassOver) {
             Ok(Forwarded::Skipped) => self.note_readable(events),
             Ok(Forwarded::Stale) => {}

@@ -1,29 +1,47 @@
 use Rattle.std.proofs.Common.{refl, rules, ◌<◌, ◌^◌}
-use Rattle.sctp_association.proofs.Arriving.{received_skip}
+use Rattle.sctp_association.proofs.Arriving.{received_skip, received_then}
 use Rattle.sctp_association.proofs.inbound.Inbound.take_skip.Goals as goal
 use Rattle.sctp_association.proofs.inbound.Inbound.take_skip.Goals.{in-Err+in_default, in-Ok-Skipped, in-Ok-Stale}
+use Rattle.sctp_association.proofs.Named.{named_asked, skipped_served}
 use Rattle.sctp_association.proofs.Reaching.{skip_led}
+
+pub returns-in_err-open_named-clause-received : goal.returns-in_err-open_named-clause-received
+returns-in_err-open_named-clause-received c = named_asked _ _ _ c.in_err-open_named.ensures.received
 
 pub invariant_of-self : goal.invariant_of-self
 invariant_of-self c =
     let fits : c.args.skip.now.new_cumulative_tsn < 2 ^ 32 = search rules in
-    record { limited = skip_led _ _ _ _ _ fits c.forward_tsn.ensures c.args.self.now.limited }
+    record { limited = skip_led _ _ _ _ _ fits c.forward_tsn.ensures c.open_named.new.self.limited }
 
 pub returns-in-Err-OutOfMemory-clause-received : goal.returns-in-Err-OutOfMemory-clause-received
 returns-in-Err-OutOfMemory-clause-received c =
     let fits : c.args.skip.now.new_cumulative_tsn < 2 ^ 32 = search rules in
-    received_skip _ _ _ _ fits c.forward_tsn.ensures
+    received_then _ _ _ _ (named_asked _ _ _ c.in_ok-open_named.ensures.received) (received_skip _ _ _ _ fits c.forward_tsn.ensures)
 
 pub returns-in-Abort : goal.returns-in-Abort
 returns-in-Abort c =
     let fits : c.args.skip.now.new_cumulative_tsn < 2 ^ 32 = search rules in
-    record { received = received_skip _ _ _ _ fits c.forward_tsn.ensures; limits = search rules }
+    record {
+      received = received_then _ _ _ _ (named_asked _ _ _ c.in_ok-open_named.ensures.received) (received_skip _ _ _ _ fits c.forward_tsn.ensures);
+      named = λ ahead. skipped_served _ c.open_named.new.self _ _ _ _ c.forward_tsn.ensures refl refl (c.in_ok-open_named.ensures.served refl ahead);
+      limits = search rules;
+    }
 
 pub returns-clause-received : goal.returns-clause-received
 returns-clause-received c =
     let fits : c.args.skip.now.new_cumulative_tsn < 2 ^ 32 = search rules in
+    let led = received_then _ _ _ _ (named_asked _ _ _ c.in_ok-open_named.ensures.received) (received_skip _ _ _ _ fits c.forward_tsn.ensures) in
     elim c.match-forward_tsn.branch [
-      | in-Ok-Skipped w ↦ rw w.self-is (received_skip _ _ _ _ fits c.forward_tsn.ensures)
-      | in-Ok-Stale w ↦ rw w.self-is (received_skip _ _ _ _ fits c.forward_tsn.ensures)
-      | in-Err+in_default w ↦ rw w.self-is (received_skip _ _ _ _ fits c.forward_tsn.ensures)
+      | in-Ok-Skipped w ↦ rw w.self-is led
+      | in-Ok-Stale w ↦ rw w.self-is led
+      | in-Err+in_default w ↦ rw w.self-is led
+    ]
+
+pub returns-clause-named : goal.returns-clause-named
+returns-clause-named c = λ ahead.
+    let served = c.in_ok-open_named.ensures.served refl ahead in
+    elim c.match-forward_tsn.branch [
+      | in-Ok-Skipped w ↦ rw w.self-is (skipped_served _ c.open_named.new.self _ _ _ _ c.forward_tsn.ensures refl refl served)
+      | in-Ok-Stale w ↦ rw w.self-is (skipped_served _ c.open_named.new.self _ _ _ _ c.forward_tsn.ensures refl refl served)
+      | in-Err+in_default w ↦ rw w.self-is (skipped_served _ c.open_named.new.self _ _ _ _ c.forward_tsn.ensures refl refl served)
     ]

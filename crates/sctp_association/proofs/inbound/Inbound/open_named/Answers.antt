@@ -1,0 +1,69 @@
+use Rattle.std.proofs.Common.{◌≡◌, ◌<◌, ◌≤◌, length, refl, rules, subst, take, ◌∙◌}
+use Rattle.std.proofs.lemmas.List.{take_all}
+use Rattle.std.proofs.lemmas.List.Elements.{All-more, All-nil, All-weaker}
+use Rattle.std.specs.Prelude.{All}
+use Rattle.sctp_association.proofs.Arriving.{received_same, received_then}
+use Rattle.sctp_association.proofs.inbound.Inbound.open_named.Goals as goal
+use Rattle.sctp_association.proofs.Named.{named_at, named_opened, served_still}
+use Rattle.sctp_association.specs.Served.{IsServed}
+use Rattle.sctp_data.specs.ForwardTsn.{forward_tsn_of}
+
+pub returns-then-not-sna32lt-clause-received : goal.returns-then-not-sna32lt-clause-received
+returns-then-not-sna32lt-clause-received c = received_same _ _ _ refl
+
+pub loop-named-init : goal.loop-named-init
+loop-named-init c = record { received = received_same _ _ _ refl; limits = refl; streams = refl; place = refl; served = All-nil _ }
+
+pub returns-in_err-open-clause-received : goal.returns-in_err-open-clause-received
+returns-in_err-open-clause-received c =
+    let xs = c.deref-named-items.result.now in
+    let at = c.loop-named.named-index in
+    let lt : at < length xs = search rules in
+    let f = forward_tsn_of c.args.skip.now in
+    received_then _ _ _ _ c.loop-named.invariant.received
+    (named_opened f _ (named_at f xs at _ c.deref-named-items.ensures.value lt) _ _ c.in_err-open.ensures.received)
+
+pub returns-in_err-open-clause-limits : goal.returns-in_err-open-clause-limits
+returns-in_err-open-clause-limits c =
+    let i = c.loop-named.invariant in
+    let e = c.in_err-open.ensures.limits in
+    (e.0 ∙ i.limits, e.1 ∙ i.streams)
+
+pub returns-in_err-open-clause-place : goal.returns-in_err-open-clause-place
+returns-in_err-open-clause-place c = c.in_err-open.ensures.place ∙ c.loop-named.invariant.place
+
+pub loop-named-preserved : goal.loop-named-preserved
+loop-named-preserved c =
+    let xs = c.deref-named-items.result.now in
+    let at = c.loop-named.named-index in
+    let lt : at < length xs = search rules in
+    let f = forward_tsn_of c.args.skip.now in
+    let i = c.loop-named.invariant in
+    let e = c.in_ok-open.ensures in
+    record {
+      received = received_then _ _ _ _ i.received (named_opened f _ (named_at f xs at _ c.deref-named-items.ensures.value lt) _ _ e.received);
+      limits = e.limits.0 ∙ i.limits;
+      streams = e.limits.1 ∙ i.streams;
+      place = e.place ∙ i.place;
+      served = All-more (λ n. IsServed n.identifier c.open.new.self) xs at _ lt
+          (All-weaker (λ n. IsServed n.identifier c.loop-named.self) (λ n. IsServed n.identifier c.open.new.self)
+          (λ n. served_still c.loop-named.self c.open.new.self e.limits.1 e.same e.still n.identifier) (take at xs) i.served)
+          (e.served refl);
+    }
+
+pub returns-clause-received : goal.returns-clause-received
+returns-clause-received c = c.loop-named.invariant.received
+
+pub returns-clause-limits : goal.returns-clause-limits
+returns-clause-limits c = (c.loop-named.invariant.limits, c.loop-named.invariant.streams)
+
+pub returns-clause-place : goal.returns-clause-place
+returns-clause-place c = c.loop-named.invariant.place
+
+pub returns-clause-served : goal.returns-clause-served
+returns-clause-served c =
+    let xs = c.deref-named-items.result.now in
+    let at = c.loop-named.named-index in
+    let past : length xs ≤ at = search rules in
+    λ ok ahead. subst (All (λ n. IsServed n.identifier c.loop-named.self)) (take_all at xs past ∙ c.deref-named-items.ensures.value)
+    c.loop-named.invariant.served

@@ -1,0 +1,16 @@
+use Rattle.std.proofs.Common.{◌≡◌, take}
+use Rattle.std.specs.Prelude.{All}
+use Rattle.sctp_association.specs.Arrivals.{IsOpeningNamed, Received}
+use Rattle.sctp_association.specs.Served.{IsServed}
+use Rattle.sctp_data.specs.ForwardTsn.{forward_tsn_of}
+use Rattle.sctp_association.proofs.inbound.Inbound.open_named.Given as goal
+
+-- the streams before this one are served
+abbrev pub invariant-loop-named : goal.invariant-loop-named
+invariant-loop-named l = record {
+  received : Received (IsOpeningNamed (forward_tsn_of l.skip)) l.initial.self.receiver l.self.receiver;
+  limits : l.self.receiver.limits ≡ l.initial.self.receiver.limits;
+  streams : l.self.streams ≡ l.initial.self.streams;
+  place : l.self.receiver.cumulative_tsn ≡ l.initial.self.receiver.cumulative_tsn;
+  served : All (λ n. IsServed n.identifier l.self) (take l.named-index l.named-items);
+}
