@@ -20,3 +20,5 @@ pub mod Begun
 pub mod Carrying
 pub mod Cut
 pub mod Named
+pub mod HostSteps
+pub mod Hosts

@@ -9,6 +9,7 @@ pub mod Events
 pub mod Failing
 pub mod Halves
 pub mod Held
+pub mod Hosts
 pub mod Once
 pub mod Packets
 pub mod Reached

@@ -2,6 +2,7 @@
 
 ghost use Rattle.sctp_association.specs.Delivered.{EachBringsOnly, EachCarriesOnly, EachComes};
 ghost use Rattle.sctp_association.specs.Held.{CostsLittle, HoldsFewChunks, KeepsFewTsns, NotesFewDuplicates, OfEach, OpensFewStreams};
+ghost use Rattle.sctp_association.specs.Hosts.{EachDelivers};
 ghost use Rattle.sctp_association.specs.Sessions.{EachIsSent};
 
 /// Whatever a peer sends, and whatever calls an association had, what it holds of the peer's messages is within its `Config`. By 400 a
@@ -32,4 +33,10 @@ pub fn what_comes_was_made()
     ensures carried { EachCarriesOnly }
     ensures brought { EachBringsOnly }
     ensures sessions { EachComes }
+{}
+
+/// Two associations, from `new` on: whatever their applications call, and whatever datagrams come late, again, in another order or never, what
+/// one reads the other wrote, on that stream, with that payload type and those bytes, no write twice, ordered ones in order (`Hosts`).
+pub fn what_is_read_was_written()
+    ensures { EachDelivers }
 {}

@@ -1,0 +1,272 @@
+-- From sessions in which two associations stand, the calls of their halves lead to sessions in which they stand then.
+use Rattle.std.proofs.Common.{◌≡◌, ◌+◌, ◌≤◌, ◌<◌, ◌^◌, ℕ, Bool, true, false, List, [], ◌∷◌, ◌++◌, length, refl, ap, sym, subst, ◌∙◌, inl, inr, arith}
+use Rattle.std.proofs.lemmas.Bool.{false≢true}
+use Rattle.std.proofs.lemmas.List.Elements.{All-contains, All-from_recursion, Contains-append_cases, Contains-append_left}
+use Rattle.std.specs.Prelude.{◌⊎◌, Contains, if◌then◌else◌}
+use Rattle.std.specs.List.{sum_by}
+use Rattle.sctp_association.proofs.Delivered.{reports-more}
+use Rattle.sctp_association.proofs.Sessions.{made_more, none_taken}
+use Rattle.sctp_association.specs.Acks.{without_blocks}
+use Rattle.sctp_association.specs.Runs.{AcksBy, Runs, SendsBy, is_acking, is_sending, made_by, reported_by}
+use Rattle.sctp_data.specs.SelectiveAck.{Sack}
+use Rattle.sctp_delivery.proofs.StandsSo.{acked-steps-so, receiver-steps-so, sender-steps-so}
+use Rattle.sctp_delivery.specs.ReceiverCalls.{ReceiverCall, ReceiverMakes, forgets, makes_sack, reports_after}
+use Rattle.sctp_delivery.specs.SenderCalls.{Made, SenderCall, SenderMakes, TakesBackAndSack, Write, made_after, written_after}
+use Rattle.sctp_delivery.specs.SenderCalls.{expires, expires_late, expires_rexmit, expires_tail, forwards_within, resends, sends, starts}
+use Rattle.sctp_delivery.specs.Session.{IsReported, IsSent, ReceiverFollows, SenderFollows, Session}
+use Rattle.sctp_delivery.specs.Stand.{StandSo, given_so}
+use Rattle.sctp_receiver.specs.Receiver.{Reception, sack_within}
+use Rattle.sctp_sender.specs.Sender.{Transmission}
+use Rattle.sctp_sender.specs.declared.sender.flight.Released.{Released}
+use Rattle.sctp_sender.specs.declared.sender.flight.kept.TakenBack.{TakenBack}
+
+pub either : {A B C : Type 0} → (A → C) → (B → C) → A ⊎ B → C
+either f g (inl a) = f a
+either f g (inr b) = g b
+
+pub contains-none : {A : Type 0} (x : A) → Contains [] x → ⊥
+contains-none x c = let lt = c.1 in omega (arith, lt)
+
+abbrev pub bytes-of : List Write → ℕ
+bytes-of ws = sum_by (λ w. length w.bytes) ws
+
+-- ## One call
+
+-- what is the same, and what is still there
+pub record IsMore (old new : StandSo) : Type 0 where
+  pub made : (m : Made) → Contains old.session.made m → Contains new.session.made m
+  pub sacks : (k : Sack) → Contains old.session.sacks k → Contains new.session.sacks k
+
+pub more-same : (st : StandSo) → IsMore st st
+more-same st = record { made = λ m c. c; sacks = λ k c. c }
+
+pub more-then : (x y z : StandSo) → IsMore x y → IsMore y z → IsMore x z
+more-then x y z f g = record { made = λ m c. g.made m (f.made m c); sacks = λ k c. g.sacks k (f.sacks k c) }
+
+-- calls of the sender lead to this one
+pub record Sent (st : StandSo) (n : ℕ) (ws : List Write) (new : Transmission) : Type 0 where
+  pub next : StandSo
+  pub sends : next.session.sending.sender ≡ new
+  pub receiving : next.session.receiving ≡ st.session.receiving
+  pub written : next.session.written ≡ ws
+  pub given : given_so next ≤ given_so st + n
+  pub more : IsMore st next
+
+pub record SentOne (call : SenderCall) (st : StandSo) (new : Transmission) : Type 0 where
+  pub sent : Sent st 1 (written_after call st.session.written) new
+  pub follows : SenderFollows call st.session sent.next.session
+
+pub send-one : (call : SenderCall) (new : Transmission) (st : StandSo) → SenderMakes call st.session.sending.sender new → IsReported call st.session
+    → given_so st + 1 < 2 ^ 31 → bytes-of (written_after call st.session.written) < 2 ^ 64
+    → SentOne call st new
+send-one call new st m h room bytes =
+    let x = sender-steps-so call st.session.sending.sender new st.session.receiving.receiver st (record { sends = refl; receives = refl }) m h room bytes in
+    let f : SenderFollows call st.session x.0.session = x.2.step in
+    record {
+      sent = record {
+        next = x.0;
+        sends = x.1.sends;
+        receiving = ap (λ (s : Session). s.receiving) f.after;
+        written = ap (λ (s : Session). s.written) f.after;
+        given = x.2.given;
+        more = record { made = x.2.made; sacks = x.2.sacks };
+      };
+      follows = f;
+    }
+
+-- calls of the receiver lead to this one
+pub record Heard (call : ReceiverCall) (st : StandSo) (new : Reception) : Type 0 where
+  pub next : StandSo
+  pub receives : next.session.receiving.receiver ≡ new
+  pub step : ReceiverFollows call st.session next.session
+  pub given : given_so next ≤ given_so st
+  pub more : IsMore st next
+
+pub hear-one : (call : ReceiverCall) (new : Reception) (st : StandSo) → ReceiverMakes call st.session.receiving.receiver new → IsSent call st.session
+    → Heard call st new
+hear-one call new st m h =
+    let x = receiver-steps-so call st.session.receiving.receiver new st.session.sending.sender st (record { sends = refl; receives = refl }) m h in
+    let given = x.2.given in
+    record {
+      next = x.0;
+      receives = x.1.receives;
+      step = x.2.step;
+      given = omega (arith, given);
+      more = record { made = x.2.made; sacks = x.2.sacks };
+    }
+
+-- ## What is sent
+
+none-written : (c : SenderCall) (ws : List Write) → is_sending c ≡ true → written_after c ws ≡ ws
+none-written (sends now) ws e = refl
+none-written (resends tsn now c) ws e = refl
+none-written (forwards_within bytes f) ws e = refl
+none-written (starts now) ws e = refl
+none-written (expires now m) ws e = refl
+none-written (expires_tail now m) ws e = refl
+none-written (expires_late now gone) ws e = refl
+none-written (expires_rexmit gone) ws e = refl
+none-written _ ws e = absurd (false≢true e)
+
+pub record SentEach (st : StandSo) (n : ℕ) (ms : List Made) (new : Transmission) : Type 0 where
+  pub sent : Sent st n st.session.written new
+  pub own : (m : Made) → Contains ms m → Contains sent.next.session.made m
+
+pub send-each : (cs : List SenderCall) (ms : List Made) (new : Transmission) (st : StandSo) → given_so st + length cs < 2 ^ 31
+    → Runs SendsBy made_by cs ms st.session.sending.sender new → SentEach st (length cs) ms new
+send-each [] ms new st few r = record {
+  sent = record { next = st; sends = sym r.1; receiving = refl; written = refl; given = omega arith; more = more-same st };
+  own = λ m c. absurd (contains-none m (subst (λ (l : List Made). Contains l m) r.0 c));
+}
+send-each (c ∷ cs) ms new st few r =
+    let none = none-written c st.session.written r.made.0 in
+    let y = send-one c r.mid st r.made.1 (none_taken c st.session r.made.0) (omega (arith, few))
+    (subst (λ (ws : List Write). bytes-of ws < 2 ^ 64) (sym none) st.short) in
+    let x = y.sent in
+    let one = x.given in
+    let g = send-each cs r.later new x.next (omega (arith, few, one))
+    (subst (λ (t : Transmission). Runs SendsBy made_by cs r.later t new) (sym x.sends) r.rest) in
+    let rest = g.sent.given in
+    let f : SenderFollows c st.session x.next.session = y.follows in
+    let made : x.next.session.made ≡ made_by c st.session.sending.sender ++ st.session.made =
+    ap (λ (s : Session). s.made) f.after ∙ made_more c st.session.sending.sender st.session.made r.made.0 in
+    record {
+      sent = record {
+        next = g.sent.next;
+        sends = g.sent.sends;
+        receiving = g.sent.receiving ∙ x.receiving;
+        written = g.sent.written ∙ x.written ∙ none;
+        given = omega (arith, one, rest);
+        more = more-then st x.next g.sent.next x.more g.sent.more;
+      };
+      own = λ m h.
+          either (g.own m)
+          (λ (b : Contains (made_by c st.session.sending.sender) m).
+          g.sent.more.made m (subst (λ (l : List Made). Contains l m) (sym made) (Contains-append_left (made_by c st.session.sending.sender) st.session.made m b)))
+          (Contains-append_cases r.later (made_by c st.session.sending.sender) m (subst (λ (l : List Made). Contains l m) r.order h));
+    }
+
+-- ## What is reported
+
+-- the SACK was made, and one that acknowledges as it does and has neither gap ack blocks nor duplicates
+pub record IsThere (s : Session) (k : Sack) : Type 0 where
+  pub own : Contains s.sacks k
+  pub plain : Contains s.sacks (without_blocks k.cumulative_tsn_ack)
+
+pub there-more : (x y : StandSo) → IsMore x y → (k : Sack) → IsThere x.session k → IsThere y.session k
+there-more x y m k h = record { own = m.sacks k h.own; plain = m.sacks (without_blocks k.cumulative_tsn_ack) h.plain }
+
+pub record Reported (st : StandSo) (ks : List Sack) (new : Reception) : Type 0 where
+  pub next : StandSo
+  pub receives : next.session.receiving.receiver ≡ new
+  pub sending : next.session.sending ≡ st.session.sending
+  pub read : next.session.receiving.read ≡ st.session.receiving.read
+  pub written : next.session.written ≡ st.session.written
+  pub given : given_so next ≤ given_so st
+  pub more : IsMore st next
+  pub own : (k : Sack) → Contains ks k → IsThere next.session k
+
+-- one call; before it the receiver makes a SACK without gap ack blocks, which changes nothing
+report-one : (c : ReceiverCall) (new : Reception) (st : StandSo) → AcksBy c st.session.receiving.receiver new
+    → Reported st (reported_by c st.session.receiving.receiver) new
+report-one forgets new st m =
+    let y = hear-one forgets new st m.1 tt in
+    record {
+      next = y.next;
+      receives = y.receives;
+      sending = ap (λ (s : Session). s.sending) y.step.after;
+      read = y.step.step.read;
+      written = ap (λ (s : Session). s.written) y.step.after;
+      given = y.given;
+      more = y.more;
+      own = λ k c. absurd (contains-none k c);
+    }
+report-one (makes_sack credit bytes) new st m =
+    let r = st.session.receiving.receiver in
+    let x = hear-one (makes_sack 0 16) r st (refl, tt) tt in
+    let y = hear-one (makes_sack credit bytes) new x.next (subst (λ q. ReceiverMakes (makes_sack credit bytes) q new) (sym x.receives) m.1) tt in
+    let first = x.given in
+    let second = y.given in
+    let plain : Contains x.next.session.sacks (without_blocks r.cumulative_tsn) =
+    subst (λ (l : List Sack). Contains l (without_blocks r.cumulative_tsn)) (sym (ap (λ (s : Session). s.sacks) x.step.after))
+    (Contains-append_left (without_blocks r.cumulative_tsn ∷ []) st.session.sacks (without_blocks r.cumulative_tsn) (0, omega arith, refl)) in
+    let is : y.next.session.sacks ≡ sack_within credit bytes r ∷ x.next.session.sacks =
+    ap (λ (s : Session). s.sacks) y.step.after ∙ ap (λ q. sack_within credit bytes q ∷ x.next.session.sacks) x.receives in
+    record {
+      next = y.next;
+      receives = y.receives;
+      sending = ap (λ (s : Session). s.sending) y.step.after ∙ ap (λ (s : Session). s.sending) x.step.after;
+      read = y.step.step.read ∙ x.step.step.read;
+      written = ap (λ (s : Session). s.written) y.step.after ∙ ap (λ (s : Session). s.written) x.step.after;
+      given = omega (arith, first, second);
+      more = more-then st x.next y.next x.more y.more;
+      own = λ k c. record {
+        own = subst (λ (l : List Sack). Contains l k) (sym is) (Contains-append_left (sack_within credit bytes r ∷ []) x.next.session.sacks k c);
+        plain = y.more.sacks (without_blocks k.cumulative_tsn_ack)
+            (subst (λ (n : ℕ). Contains x.next.session.sacks (without_blocks n))
+            (sym (All-contains (λ (j : Sack). j.cumulative_tsn_ack ≡ r.cumulative_tsn) (sack_within credit bytes r ∷ []) k
+            (All-from_recursion (λ (j : Sack). j.cumulative_tsn_ack ≡ r.cumulative_tsn) (sack_within credit bytes r ∷ []) (refl, tt)) c)) plain);
+      };
+    }
+report-one _ new st m = absurd (false≢true m.0)
+
+pub report-each : (cs : List ReceiverCall) (ks : List Sack) (new : Reception) (st : StandSo)
+    → Runs AcksBy reported_by cs ks st.session.receiving.receiver new → Reported st ks new
+report-each [] ks new st r = record {
+  next = st;
+  receives = sym r.1;
+  sending = refl;
+  read = refl;
+  written = refl;
+  given = omega arith;
+  more = more-same st;
+  own = λ k c. absurd (contains-none k (subst (λ (l : List Sack). Contains l k) r.0 c));
+}
+report-each (c ∷ cs) ks new st r =
+    let x = report-one c r.mid st r.made in
+    let g = report-each cs r.later new x.next (subst (λ q. Runs AcksBy reported_by cs r.later q new) (sym x.receives) r.rest) in
+    let first = x.given in
+    let second = g.given in
+    record {
+      next = g.next;
+      receives = g.receives;
+      sending = g.sending ∙ x.sending;
+      read = g.read ∙ x.read;
+      written = g.written ∙ x.written;
+      given = omega (arith, first, second);
+      more = more-then st x.next g.next x.more g.more;
+      own = λ k h.
+          either (g.own k) (λ (b : Contains (reported_by c st.session.receiving.receiver) k). there-more x.next g.next g.more k (x.own k b))
+          (Contains-append_cases r.later (reported_by c st.session.receiving.receiver) k (subst (λ (l : List Sack). Contains l k) r.order h));
+    }
+
+-- ## What is acknowledged
+
+-- a SACK counts by its cumulative TSN and its gap ack blocks alone
+pub plain-sack : (k : Sack) (back : List TakenBack) (gone : List Released) (t u : Transmission)
+    → TakesBackAndSack (record k { gap_ack_blocks = [] }) back gone t u → TakesBackAndSack (without_blocks k.cumulative_tsn_ack) back gone t u
+plain-sack k back gone t u h = record {
+  returned = h.returned;
+  exact = h.exact;
+  accepted = h.accepted;
+  answered = h.answered;
+  bytes = h.bytes;
+  whole = h.whole;
+}
+
+pub ack-one : (k : Sack) (back : List TakenBack) (gone : List Released) (new : Transmission) (st : StandSo)
+    → TakesBackAndSack k back gone st.session.sending.sender new → Contains st.session.sacks k → given_so st + 1 < 2 ^ 31 → Sent st 1 st.session.written new
+ack-one k back gone new st h handed room =
+    let x = acked-steps-so k back gone st.session.sending.sender new st.session.receiving.receiver st (record { sends = refl; receives = refl }) h handed room in
+    let a = x.1.step in
+    let b = x.4.step in
+    let first = x.1.given in
+    let second = x.4.given in
+    record {
+      next = x.2;
+      sends = x.3.sends;
+      receiving = ap (λ (s : Session). s.receiving) b.after ∙ ap (λ (s : Session). s.receiving) a.after;
+      written = ap (λ (s : Session). s.written) b.after ∙ ap (λ (s : Session). s.written) a.after;
+      given = omega (arith, first, second);
+      more = record { made = λ m c. x.4.made m (x.1.made m c); sacks = λ j c. x.4.sacks j (x.1.sacks j c) };
+    }
