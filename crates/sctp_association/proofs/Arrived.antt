@@ -4,7 +4,8 @@ use Rattle.std.specs.Prelude.{◌⊎◌, Contains, nat_lt, if◌then◌else◌}
 use Rattle.std.specs.List.{AllByRecursion}
 use Rattle.sctp_association.proofs.Arriving.{follows_of, follows_one, follows_same, follows_then}
 use Rattle.sctp_association.specs.Arrivals.{Arrival, Arrives, Asks, AsksFor, AsksToHear, Begins, BeginsAnew, BeginsBy, Does, Follows, Halves, HasType}
-use Rattle.sctp_association.specs.Arrivals.{Hearing, Hears, HearsBy, IsBrought, IsReset, IsResetAt, IsRestart, ParamAsks, ParamAsksIn, Received, ReceivedIn, Receives, Steps}
+use Rattle.sctp_association.specs.Arrivals.{Hearing, Hears, HearsBy, IsBrought, IsReset, IsResetAt, IsRestart, ParamAsks, ParamAsksIn, Received, ReceivedIn}
+use Rattle.sctp_association.specs.Arrivals.{Receives, Steps}
 use Rattle.sctp_association.specs.Arrivals.{begins, by_chunk, by_param, by_type, halves, hears, new_sender, receives, renews, restarts}
 use Rattle.sctp_association.specs.declared.association.Association.{Association}
 use Rattle.sctp_association.specs.declared.inbound.Inbound.{Inbound}

@@ -12,7 +12,8 @@ use Rattle.sctp_datagram.specs.declared.datagram.ChunkPlace.{ChunkPlace}
 use Rattle.sctp_handshake.specs.Answers.{both, noticed, replied, silent}
 use Rattle.sctp_handshake.specs.Beginnings.{init_ack_checked, init_ack_row, on_init_ack}
 use Rattle.sctp_handshake.specs.Cookies.{begun_again, cookie_ack_row, on_cookie_ack, on_stale_cookie, stale_cookie_row}
-use Rattle.sctp_handshake.specs.Endings.{on_shutdown, on_shutdown_ack, on_shutdown_complete, shutdown_ack_row, shutdown_complete_row, shutdown_row}
+use Rattle.sctp_handshake.specs.Endings.{on_shutdown, on_shutdown_ack, on_shutdown_asked, on_shutdown_complete, shutdown_ack_row, shutdown_asked_row}
+use Rattle.sctp_handshake.specs.Endings.{shutdown_complete_row, shutdown_row}
 use Rattle.sctp_handshake.specs.Machines.{Step, failed}
 use Rattle.sctp_handshake.specs.Offers.{offer_fault}
 use Rattle.sctp_handshake.specs.Timeouts.{on_packet_arrived, packet_arrived_row}
@@ -79,6 +80,10 @@ shutdown-quiet : (s : State) (m : Machine) (x y : Halves) → BeginsBy (shutdown
 shutdown-quiet Closed m x y b = b
 shutdown-quiet _ m x y b = b
 
+asked-quiet : (s : State) (m : Machine) (x y : Halves) → BeginsBy (shutdown_asked_row s m).answer.told x y → y ≡ x
+asked-quiet CookieWait m x y b = b
+asked-quiet _ m x y b = b
+
 shutdown-ack-quiet : (s : State) (m : Machine) (x y : Halves) → BeginsBy (shutdown_ack_row s m).answer.told x y → y ≡ x
 shutdown-ack-quiet Closed m x y b = b
 shutdown-ack-quiet _ m x y b = b
@@ -115,6 +120,9 @@ module _ (m : Machine) (x y : Halves) (a : Answer) (begun : BeginsBy a.told x y)
   pub quiet_shutdown : a ≡ (on_shutdown m).answer → y ≡ x
   quiet_shutdown e = shutdown-quiet m.state m x y (told-as (on_shutdown m).answer e)
 
+  pub quiet_asked : a ≡ (on_shutdown_asked m).answer → y ≡ x
+  quiet_asked e = asked-quiet m.state m x y (told-as (on_shutdown_asked m).answer e)
+
   pub quiet_shutdown_ack : a ≡ (on_shutdown_ack m).answer → y ≡ x
   quiet_shutdown_ack e = shutdown-ack-quiet m.state m x y (told-as (on_shutdown_ack m).answer e)
 
@@ -141,6 +149,9 @@ begins_anew x y t tsn size max e b = record {
 
 pub halves_alike : (a b : Association) → halves_of b ≡ halves_of a → HalvesAlike a b
 halves_alike a b e = record { sender = ap (λ h. h.sender) e; receiver = ap (λ h. h.receiver) e }
+
+pub alike_then : (a b c : Association) → HalvesAlike a b → HalvesAlike b c → HalvesAlike a c
+alike_then a b c h k = record { sender = k.sender ∙ h.sender; receiver = k.receiver ∙ h.receiver }
 
 pub begun_by : (t o : Told) (x y : Halves) → t ≡ o → BeginsBy (Some o) x y → BeginsBy (Some t) x y
 begun_by t o x y e b = subst (λ k. BeginsBy (Some k) x y) (sym e) b

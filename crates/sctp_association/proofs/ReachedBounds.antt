@@ -18,7 +18,8 @@ use Rattle.sctp_receiver.specs.declared.receiver.inbound_streams.InboundStream.{
 use Rattle.sctp_receiver.specs.declared.receiver.limits.Limits.{Limits}
 use Rattle.sctp_receiver.specs.Inbound.{has_number, new_stream, number, numbers_of}
 use Rattle.sctp_receiver.specs.Limits.{chunk_cost, cost_of}
-use Rattle.sctp_receiver.specs.Receiver.{Reception, after_discard, after_forward, filter_of, follow_forward_tsn, is_stale, max_sack_entries, repeat_tsn, with_filter}
+use Rattle.sctp_receiver.specs.Receiver.{Reception, after_discard, after_forward, filter_of, follow_forward_tsn, is_stale, max_sack_entries, repeat_tsn}
+use Rattle.sctp_receiver.specs.Receiver.{with_filter}
 use Rattle.sctp_receiver.specs.ReceiverRuns.{Call, Makes, RunsUnrefused, Stand, accepted_after, at_start, chunks_held}
 use Rattle.sctp_receiver.specs.ReceiverRuns.{opens, closes, takes, discards, reports, reports_within, reads, resets, forwards, forwards_by_names}
 use Rattle.sctp_receiver.specs.Resets.{stream_reset}

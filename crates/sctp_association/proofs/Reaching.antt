@@ -1,5 +1,6 @@
 -- Each call of a receiver leads on from where calls led to.
-use Rattle.std.proofs.Common.{◌≡◌, ℕ, ◌^◌, ◌<◌, Bool, true, false, List, [], ◌∷◌, ◌++◌, length, ◌≤◌, Option, Some, None, Result, Ok, Err, refl, ap, sym, ◌∙◌, subst}
+use Rattle.std.proofs.Common.{◌≡◌, ℕ, ◌^◌, ◌<◌, Bool, true, false, List, [], ◌∷◌, ◌++◌, length, ◌≤◌, Option, Some, None, Result, Ok, Err, refl, ap, sym, ◌∙◌}
+use Rattle.std.proofs.Common.{subst}
 use Rattle.std.proofs.Math.Logic.{∥∥₁_map}
 use Rattle.std.specs.Prelude.{not, ◌&&◌, if◌then◌else◌}
 use Rattle.sctp_association.specs.Reached.{AreUsual, IsLimited, IsReached, IsUsual, most_user_data}
@@ -12,8 +13,10 @@ use Rattle.sctp_receiver.specs.declared.receiver.limits.Limits.{Limits}
 use Rattle.sctp_receiver.specs.declared.receiver.refusal.ReceiverRefusal.{ReceiverRefusal}
 use Rattle.sctp_receiver.specs.Calls.{Skips, TakesData}
 use Rattle.sctp_receiver.specs.declared.receiver.refusal.ReceiverRefusal.TheVariants.{SsnTooFar, NamedSsnTooFar}
-use Rattle.sctp_receiver.specs.Receiver.{Reception, after_discard, after_read, arrival_of, arrival_refusal, at_first, close_stream, data_refusal, discard_refusal}
-use Rattle.sctp_receiver.specs.Receiver.{filter_of, follow_forward_tsn, forward_refusal, is_answered_complete, is_open, is_stale, open_stream, repeat_tsn, stream_of}
+use Rattle.sctp_receiver.specs.Receiver.{Reception, after_discard, after_read, arrival_of, arrival_refusal, at_first, close_stream, data_refusal}
+use Rattle.sctp_receiver.specs.Receiver.{discard_refusal}
+use Rattle.sctp_receiver.specs.Receiver.{filter_of, follow_forward_tsn, forward_refusal, is_answered_complete, is_open, is_stale, open_stream, repeat_tsn}
+use Rattle.sctp_receiver.specs.Receiver.{stream_of}
 use Rattle.sctp_receiver.specs.Receiver.{with_filter, without_duplicates, Takes}
 use Rattle.sctp_receiver.specs.ReceiverRuns.{Call, Follows, IsUnrefused, Makes, RunsUnrefused, Stand, accepted_after, at_start, messages_after}
 use Rattle.sctp_receiver.specs.ReceiverRuns.{opens, closes, takes, discards, reports, reads, resets, forwards}

@@ -109,7 +109,11 @@ fn offer_of(config: &Config, secrets: &Secrets) -> Offer {
 }
 
 // How the sending half is set up.
-fn outbound_config(config: &Config, first_tsn: u32) -> OutboundConfig {
+fn outbound_config(config: &Config, first_tsn: u32) -> OutboundConfig
+    ensures first_tsn { result.first_tsn ≡ first_tsn }
+    ensures sizes { (result.mtu ≡ config.now.mtu)
+        × (result.max_message_size ≡ config.now.max_message_size) }
+{
     OutboundConfig {
         first_tsn,
         mtu: config.mtu,
@@ -122,12 +126,15 @@ fn outbound_config(config: &Config, first_tsn: u32) -> OutboundConfig {
 }
 
 impl Association {
+    ghost use Rattle.sctp_association.specs.Halves.{HalvesAlike, first_halves, halves_of};
     ghost use Rattle.sctp_association.specs.Held.{HoldsFewChunks, OfReceiver, OpensFewStreams, held_by};
     ghost use Rattle.sctp_association.specs.Reads.{AreReadOff, IsSameBeside, length_of, message_in};
 
     /// No association yet: it waits for a peer's INIT, or for `connect`. Refuses with `BadConfig`. It takes no memory.
     pub fn new(alloc: Global, config: Config, secrets: Secrets) -> Result<Association, Fault>
         ensures mtu { IfOk result (λ a. a.draft.limit ≡ config.mtu) }
+        ensures halves { IfOk result (λ a. halves_of a
+            ≡ first_halves secrets.first_tsn config.mtu config.max_message_size) }
         ensures refused { IfErr result (λ e. e ≡ BadConfig) }
     {
         if secrets.tag == 0 || !config.is_usable() {
@@ -167,6 +174,7 @@ impl Association {
         ensures accepted { IsOk result
             → (self.old.is_over ≡ false) × (self.old.machine.state ≡ Closed) }
         ensures refused { IfErr result (λ e. e ≡ WrongState) }
+        ensures halves { HalvesAlike self.old self.new }
         ensures err { OnErr result (self.new ≡ self.old) }
     {
         if self.is_over {
@@ -253,6 +261,7 @@ impl Association {
     pub fn shutdown(&mut self, now: u64) -> Result<(), Fault>
         ensures accepted { IsOk result → self.old.machine.state ≢ Closed }
         ensures refused { IfErr result (λ e. e ≡ WrongState) }
+        ensures halves { HalvesAlike self.old self.new }
         ensures err { OnErr result (self.new ≡ self.old) }
     {
         let before = self.machine.state();
@@ -275,6 +284,7 @@ impl Association {
     pub fn abort(&mut self) -> Result<(), Fault>
         ensures accepted { IsOk result → self.old.is_over ≡ false }
         ensures refused { IfErr result (λ e. e ≡ WrongState) }
+        ensures halves { HalvesAlike self.old self.new }
         ensures err { OnErr result (self.new ≡ self.old) }
     {
         if self.is_over {

@@ -1,12 +1,13 @@
 //! What is sent, and when (RFC 9260 6.1, 6.3, 7.2; RFC 3758 3.5; RFC 7496 3.1).
 
-ghost use Rattle.std.specs.Prelude.{◌≡◌, ℕ, ◌<◌, ◌≤◌, ◌==◌, [], not, true, false, None, Some, OnOk, OnErr, IfOk, IfErr, IsOk, length};
+ghost use Rattle.std.specs.Prelude.{◌≡◌, ◌-◌, ◌<◌, ◌≤◌, ◌==◌, [], max, min, not, true, false, None, Some, OnOk, OnErr, IfOk, IfErr, IsOk, length};
 ghost use Rattle.sctp_association.specs.declared.fault.Fault.TheVariants.{OutOfMemory};
 ghost use Rattle.sctp_association.specs.Arrivals.{new_sender};
 ghost use Rattle.sctp_association.specs.Counts.{IsCountedAlike};
+ghost use Rattle.sctp_association.specs.Halves.{fragment_size};
 ghost use Rattle.sctp_association.specs.Runs.{Sends};
 ghost use Rattle.sctp_association.specs.Waiting.{IsRefusal, closed_where, fault_of, opened, waiting_fault};
-ghost use Rattle.sctp_sender.specs.Settings.{with_low_on};
+ghost use Rattle.sctp_sender.specs.Settings.{with_fragment_size, with_low_on};
 ghost use Rattle.sctp_stream.specs.Stats.{count_up};
 ghost use Rattle.sctp_stream.specs.declared.outbound_stream.OutboundStream.{OutboundStream};
 ghost use Rattle.sctp_association.specs.Sending.{EndsWithin, IsTimed, is_none_of, t3_after, t3_time};
@@ -88,6 +89,7 @@ pub(crate) struct Outbound {
 
 // How many bytes of user data a chunk of at most so many bytes has.
 fn fragment_of(pmdcs: usize) -> u32
+    ensures value { result ≡ max 1 (min (pmdcs - 16) 65519) }
     ensures some { 0 < result }
     ensures short { result ≤ 65519 }
 {
@@ -108,8 +110,8 @@ fn fault_of(refusal: SenderRefusal) -> Fault
 impl Outbound {
     /// Nothing is written. It takes no memory.
     pub(crate) fn new(alloc: Global, config: OutboundConfig) -> Outbound
-        ensures sender { (size : ℕ) × (result.sender
-            ≡ new_sender config.first_tsn size config.max_message_size) }
+        ensures sender { result.sender ≡ new_sender
+            config.first_tsn (fragment_size config.mtu) config.max_message_size }
     {
         let congestion = Congestion::new(config.mtu, 0);
         Outbound {
@@ -170,6 +172,9 @@ impl Outbound {
               sender = written_to l stream ppi bytes.now
                   (opened stream self.old.sender);
             }) }
+        // A message of no bytes opens its stream, and no more.
+        ensures empty { length bytes.now ≡ 0 → OnOk result (self.new
+            ≡ record self.old { sender = opened stream self.old.sender }) }
         ensures accepted { IsOk result → waiting_fault stream (length bytes.now)
             self.old.most_waiting self.old.sender ≡ None }
         ensures refused { IfErr result (λ e. IsRefusal e (waiting_fault stream (length bytes.now)
@@ -262,6 +267,8 @@ impl Outbound {
     /// Packets have at most so many bytes from now on, and what is written is cut to that (RFC 9260 7.3). Call it where nothing waits or is in
     /// flight, or with more bytes than before.
     pub(crate) fn set_mtu(&mut self, mtu: usize)
+        ensures sender { self.new.sender
+            ≡ with_fragment_size (fragment_size mtu) self.old.sender }
         ensures counts { IsCountedAlike self.old self.new }
     {
         self.mtu = mtu;

@@ -2,6 +2,7 @@
 
 ghost use Rattle.std.specs.Prelude.{◌≡◌, ◌<◌, None, Some, Err, OnOk, OnErr, IfErr, IsOk, length};
 ghost use Rattle.sctp_association.specs.declared.fault.Fault.{Fault};
+ghost use Rattle.sctp_association.specs.Halves.{SetsFragmentSize};
 ghost use Rattle.sctp_association.specs.Waiting.{IsRefusal, opened};
 ghost use Rattle.sctp_sender.specs.Sender.{stream_of, with_mode_on, written_to};
 ghost use Rattle.sctp_sender.specs.Settings.{with_low_on};
@@ -51,11 +52,20 @@ impl Association {
               sender = written_to l stream ppi
                   bytes.now (opened stream self.old.outbound.sender);
             }) }
+        // A message of no bytes opens its stream, and no more.
+        ensures empty { length bytes.now ≡ 0 → OnOk result
+            (self.new.outbound ≡ record self.old.outbound {
+              sender = opened stream self.old.outbound.sender;
+            }) }
         ensures accepted { IsOk result → write_fault stream (length bytes.now) self.old ≡ None }
         ensures named { (e : Fault) → or_else (use_fault stream self.old)
             (reset_fault stream self.old) ≡ Some e → result ≡ Err e }
         ensures refused { IfErr result
             (λ e. IsRefusal e (write_fault stream (length bytes.now) self.old)) }
+        ensures rest { self.new ≡ record self.old {
+          outbound = self.new.outbound;
+          events = self.new.events;
+        } }
         ensures err { OnErr result (self.new ≡ self.old) }
     {
         if let Some(fault) = self.use_fault(stream) {
@@ -89,6 +99,10 @@ impl Association {
         ensures accepted { IsOk result → use_fault stream self.old ≡ None }
         ensures named { (e : Fault) → use_fault stream self.old ≡ Some e → result ≡ Err e }
         ensures refused { IfErr result (λ e. IsRefusal e (use_fault stream self.old)) }
+        ensures rest { self.new ≡ record self.old {
+          outbound = self.new.outbound;
+          events = self.new.events;
+        } }
         ensures err { OnErr result (self.new ≡ self.old) }
     {
         if let Some(fault) = self.use_fault(stream) {
@@ -117,6 +131,10 @@ impl Association {
         ensures accepted { IsOk result → use_fault stream self.old ≡ None }
         ensures named { (e : Fault) → use_fault stream self.old ≡ Some e → result ≡ Err e }
         ensures refused { IfErr result (λ e. IsRefusal e (use_fault stream self.old)) }
+        ensures rest { self.new ≡ record self.old {
+          outbound = self.new.outbound;
+          events = self.new.events;
+        } }
         ensures err { OnErr result (self.new ≡ self.old) }
     {
         if let Some(fault) = self.use_fault(stream) {
@@ -135,6 +153,7 @@ impl Association {
     /// has changed then.
     pub fn set_mtu(&mut self, mtu: usize) -> Result<(), Fault>
         ensures ok { OnOk result ((self.new.config.mtu ≡ mtu) × (self.new.draft.limit ≡ mtu)) }
+        ensures halves { OnOk result (SetsFragmentSize mtu self.old self.new) }
         ensures err { OnErr result (self.new ≡ self.old) }
     {
         if mtu < 512 || mtu > 65_535 {

@@ -1,6 +1,7 @@
 //! When something is to be done though nothing came (RFC 9260 6.3.3, 8.1, 8.3, 9.2).
 
 ghost use Rattle.std.specs.Prelude.{◌≡◌, ◌⊎◌, None, true, false, option_map};
+ghost use Rattle.sctp_association.specs.Halves.{MarksByT3};
 ghost use Rattle.sctp_association.specs.Sending.{IsTimed, t3_time};
 ghost use Rattle.sctp_path.specs.Timers.{is_due, is_passed, one_more};
 ghost use Rattle.sctp_reset.specs.Own.{time_of};
@@ -107,6 +108,7 @@ impl Association {
         // A shutdown ends: it lasts until T5-shutdown-guard expires at most.
         ensures guard { is_due now self.old.guard.at ≡ true → self.new.is_over ≡ true }
         ensures guarded { (self.new.is_over ≡ true) ⊎ IsGuarded self.new }
+        ensures halves { MarksByT3 now self.old self.new }
     {
         if self.is_over {
             return;
@@ -127,6 +129,7 @@ impl Association {
             → (self.new.is_over ≡ true) ⊎ IsTimedOut self.old.machine self.new.machine }
         ensures outbound { self.new.outbound
             ≡ record self.old.outbound { rto = self.new.outbound.rto } }
+        ensures inbound { self.new.inbound ≡ self.old.inbound }
         ensures guarded { (self.new.is_over ≡ true) ⊎ IsGuarded self.new }
     {
         if self.control.is_due(now) {
@@ -186,6 +189,7 @@ impl Association {
     fn fail(&mut self)
         ensures over { self.new.is_over ≡ true }
         ensures outbound { self.new.outbound ≡ self.old.outbound }
+        ensures inbound { self.new.inbound ≡ self.old.inbound }
     {
         let _answer = self.machine.abort();
         self.end(Ending::Unanswered);

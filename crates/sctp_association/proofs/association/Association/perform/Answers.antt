@@ -13,7 +13,8 @@ returns-then-is_empty c =
     let streams = c.args.request.now.stream_identifiers in
     let none : streams.items ≡ [] = nil_from_length streams.items (grind (arith, nat_tests, streams.ok.0, c.is_empty.ensures, c.if-is_empty.true)) in
     record {
-      came = all_reset (reset_request_of c.args.request.now) _ refl _ _ (ap (λ o. o.sender) c.perform_all.ensures.outbound) _ _ none c.perform_all.ensures.received;
+      came = all_reset (reset_request_of c.args.request.now) _ refl _ _
+          (ap (λ o. o.sender) c.perform_all.ensures.outbound) _ _ none c.perform_all.ensures.received;
     }
 
 pub loop-stream-init : goal.loop-stream-init
@@ -38,7 +39,8 @@ returns-in_err-wrong c =
     let named = subst (λ l. Contains l (get_or xs at 0)) same (Contains-get_or xs at 0 lt) in
     record {
       came = follows_then _ _ _ _ _ c.loop-stream.invariant
-          (one_reset (reset_request_of c.args.request.now) _ refl _ _ (ap (λ o. o.sender) c.perform_one.ensures.outbound) _ _ _ named c.perform_one.ensures.received);
+          (one_reset (reset_request_of c.args.request.now) _ refl _ _
+          (ap (λ o. o.sender) c.perform_one.ensures.outbound) _ _ _ named c.perform_one.ensures.received);
     }
 
 pub returns-in-InProgress : goal.returns-in-InProgress
@@ -50,7 +52,8 @@ returns-in-InProgress c =
     let named = subst (λ l. Contains l (get_or xs at 0)) same (Contains-get_or xs at 0 lt) in
     record {
       came = follows_then _ _ _ _ _ c.loop-stream.invariant
-          (one_reset (reset_request_of c.args.request.now) _ refl _ _ (ap (λ o. o.sender) c.perform_one.ensures.outbound) _ _ _ named c.perform_one.ensures.received);
+          (one_reset (reset_request_of c.args.request.now) _ refl _ _
+          (ap (λ o. o.sender) c.perform_one.ensures.outbound) _ _ _ named c.perform_one.ensures.received);
     }
 
 pub returns : goal.returns

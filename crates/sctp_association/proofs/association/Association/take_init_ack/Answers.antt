@@ -13,5 +13,6 @@ returns-then-is_none-2-clause-refused c =
 pub returns-clause-halves : goal.returns-clause-halves
 returns-clause-halves c =
     let quiet =
-    quiet_init_ack c.args.self.now.machine _ _ c.init_ack-answer.result c.follow.ensures.begun c.in-Ok-read_init_ack.read.0 c.init_ack-answer.ensures.takes.answer
+    quiet_init_ack c.args.self.now.machine _ _ c.init_ack-answer.result c.follow.ensures.begun c.in-Ok-read_init_ack.read.0
+    c.init_ack-answer.ensures.takes.answer
     in halves_alike _ _ (quiet ∙ ap halves_of c.note_params.ensures.rest)

@@ -44,5 +44,6 @@ returns-in-Ok-ReconfigResponse c =
     let is : c.in-Ok-ReconfigResponse.field-0 ≡ ReconfigResponse c.in-Ok-ReconfigResponse.response = search rules in
     let reads = subst (λ p. ReadsParam c.in_ok-rest.rest (parameter_of p)) is c.in-Ok-ReconfigResponse.ensures.found in
     record {
-      came = responded_of _ _ c.in-Ok-ReconfigResponse.response cut reads _ _ (ap receiver_of c.take_response.ensures.inbound) _ _ c.take_response.ensures.hearing;
+      came =
+          responded_of _ _ c.in-Ok-ReconfigResponse.response cut reads _ _ (ap receiver_of c.take_response.ensures.inbound) _ _ c.take_response.ensures.hearing;
     }

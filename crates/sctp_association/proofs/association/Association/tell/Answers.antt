@@ -13,7 +13,7 @@ pub returns-in-Restarted-clause-begun : goal.returns-in-Restarted-clause-begun
 returns-in-Restarted-clause-begun c =
     let is : c.args.told ≡ told.Restarted = search rules in
     begun_by _ _ _ _ is (
-    begins_anew _ _ c.new.result.sender _ c.new.ensures.sender.0 _ c.new.ensures.sender.1 c.begin-in-Restarted.ensures.begun
+    begins_anew _ _ c.new.result.sender _ _ _ c.new.ensures.sender c.begin-in-Restarted.ensures.begun
     )
 
 pub returns-in-ShutdownBegun-clause-begun : goal.returns-in-ShutdownBegun-clause-begun
