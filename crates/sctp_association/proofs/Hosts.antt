@@ -473,6 +473,7 @@ delivers f b x z j =
       writes = laws.written st.reported st.tsn st.size st.max st.most st.limits st.calls st.session st.run st.small st.some st.few st.short;
       own = laws.of-their-own st.reported st.tsn st.size st.max st.most st.limits st.calls st.session st.run st.small st.some st.few st.short;
       order = laws.in-order st.reported st.tsn st.size st.max st.most st.limits st.calls st.session st.run st.small st.some st.few st.short;
+      ends = laws.others-read st.reported st.tsn st.size st.max st.most st.limits st.calls st.session st.run st.small st.some st.few st.short;
     }
 
 pub each-delivers : EachDelivers

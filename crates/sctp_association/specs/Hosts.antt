@@ -4,8 +4,10 @@ use Rattle.std.specs.List.{sum_by}
 use Rattle.sctp_association.specs.Arrivals.{Arrival, Does, Follows, Halves, IsBrought, begins, halves, hears, new_sender, receives, renews, restarts}
 use Rattle.sctp_association.specs.Packets.{Transmits, sides}
 use Rattle.sctp_data.specs.ForwardTsn.{ForwardTsn}
+use Rattle.sctp_delivery.specs.Abandoned.{IsEachOtherReadInTheEnd}
 use Rattle.sctp_delivery.specs.Messages.{AreWrites, AreWritesOfTheirOwn}
 use Rattle.sctp_delivery.specs.Order.{AreReadInOrder}
+use Rattle.sctp_delivery.specs.Returns.{abandoned_so, at_start_with}
 use Rattle.sctp_delivery.specs.SenderCalls.{SenderCall, SenderMakes, Write, written_after}
 use Rattle.sctp_delivery.specs.SenderCalls.{marks, opens, sets_low, sets_mode, sets_size, writes}
 use Rattle.sctp_delivery.specs.Stand.{StandSo}
@@ -175,8 +177,15 @@ abbrev pub IsReceiver : Way → Option Reception → Reception → Type 0
 IsReceiver w None r = r ≡ at_first w.tsn w.most (Some w.limits)
 IsReceiver w (Some s) r = r ≡ s
 
+-- the messages that calls of the session abandoned or let expire
+abbrev pub given_up : StandSo → List ℕ
+given_up st =
+    abandoned_so (at_start_with st.reported st.tsn st.size st.max st.most st.limits)
+    st.calls st.session st.run
+
 -- the sender of the one and the receiver of the other stand in a session (`sctp_delivery`), in which was written what the one wrote, and
--- read what the other read. So each message that was read is one that was written, at a place of its own, in order
+-- read what the other read. So each message that was read is one that was written, at a place of its own, in order; and where nothing waits,
+-- is in flight or is to be read, each other write was read exactly once
 pub record Delivers (w : Way) (a b : Host) : Type 0 where
   pub stand : StandSo
   pub sends : stand.session.sending.sender ≡ a.sender
@@ -186,6 +195,7 @@ pub record Delivers (w : Way) (a b : Host) : Type 0 where
   pub writes : AreWrites stand.session
   pub own : AreWritesOfTheirOwn stand.session
   pub order : AreReadInOrder stand.session
+  pub ends : IsEachOtherReadInTheEnd (given_up stand) stand.session
 
 -- so it is both ways, whatever two associations do from `new` on, and whatever becomes of their datagrams
 abbrev pub EachDelivers : Type 0

@@ -1,5 +1,6 @@
 pub mod Acks
 pub mod Arrivals
+pub mod Asked
 pub mod Calls
 pub mod Cookies
 pub mod Counts

@@ -3,6 +3,7 @@
 ghost use Rattle.std.specs.Prelude.{◌≡◌, ◌-◌, ◌<◌, ◌≤◌, ◌==◌, [], max, min, not, true, false, None, Some, OnOk, OnErr, IfOk, IfErr, IsOk, length};
 ghost use Rattle.sctp_association.specs.declared.fault.Fault.TheVariants.{OutOfMemory};
 ghost use Rattle.sctp_association.specs.Arrivals.{new_sender};
+ghost use Rattle.sctp_association.specs.Asked.{AsksOn};
 ghost use Rattle.sctp_association.specs.Counts.{IsCountedAlike};
 ghost use Rattle.sctp_association.specs.Halves.{fragment_size};
 ghost use Rattle.sctp_association.specs.Runs.{Sends};
@@ -11,6 +12,7 @@ ghost use Rattle.sctp_sender.specs.Settings.{with_fragment_size, with_low_on};
 ghost use Rattle.sctp_stream.specs.Stats.{count_up};
 ghost use Rattle.sctp_stream.specs.declared.outbound_stream.OutboundStream.{OutboundStream};
 ghost use Rattle.sctp_association.specs.Sending.{EndsWithin, IsTimed, is_none_of, t3_after, t3_time};
+ghost use Rattle.sctp_delivery.specs.SenderCalls.{sets_low, sets_mode, writes};
 ghost use Rattle.sctp_outbound.specs.Outstanding.{outstanding_of};
 ghost use Rattle.sctp_outbound.specs.pending_queue.PendingQueue.{chunk_count};
 ghost use Rattle.sctp_path.specs.Congestion.{after_timeout};
@@ -175,6 +177,8 @@ impl Outbound {
         // A message of no bytes opens its stream, and no more.
         ensures empty { length bytes.now ≡ 0 → OnOk result (self.new
             ≡ record self.old { sender = opened stream self.old.sender }) }
+        ensures asks { OnOk result
+            (AsksOn stream (writes stream ppi bytes.now) self.old.sender self.new.sender) }
         ensures accepted { IsOk result → waiting_fault stream (length bytes.now)
             self.old.most_waiting self.old.sender ≡ None }
         ensures refused { IfErr result (λ e. IsRefusal e (waiting_fault stream (length bytes.now)
@@ -237,6 +241,8 @@ impl Outbound {
           sender = with_mode_on stream
               unordered reliability value (opened stream self.old.sender);
         }) }
+        ensures asks { OnOk result (AsksOn stream
+            (sets_mode stream unordered reliability value) self.old.sender self.new.sender) }
         ensures memory { IfErr result (λ e. e ≡ OutOfMemory) }
         ensures err { OnErr result (self.new ≡ self.old) }
     {
@@ -254,6 +260,8 @@ impl Outbound {
         ensures ok { OnOk result (self.new ≡ record self.old {
           sender = with_low_on stream bytes (opened stream self.old.sender);
         }) }
+        ensures asks { OnOk result
+            (AsksOn stream (sets_low stream bytes) self.old.sender self.new.sender) }
         ensures memory { IfErr result (λ e. e ≡ OutOfMemory) }
         ensures err { OnErr result (self.new ≡ self.old) }
     {

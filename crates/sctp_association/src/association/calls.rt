@@ -2,8 +2,10 @@
 
 ghost use Rattle.std.specs.Prelude.{◌≡◌, ◌<◌, None, Some, Err, OnOk, OnErr, IfErr, IsOk, length};
 ghost use Rattle.sctp_association.specs.declared.fault.Fault.{Fault};
+ghost use Rattle.sctp_association.specs.Asked.{AsksOn};
 ghost use Rattle.sctp_association.specs.Halves.{SetsFragmentSize};
 ghost use Rattle.sctp_association.specs.Waiting.{IsRefusal, opened};
+ghost use Rattle.sctp_delivery.specs.SenderCalls.{sets_low, sets_mode, writes};
 ghost use Rattle.sctp_sender.specs.Sender.{stream_of, with_mode_on, written_to};
 ghost use Rattle.sctp_sender.specs.Settings.{with_low_on};
 ghost use Rattle.sctp_stream.specs.declared.outbound_stream.OutboundStream.{OutboundStream};
@@ -57,6 +59,9 @@ impl Association {
             (self.new.outbound ≡ record self.old.outbound {
               sender = opened stream self.old.outbound.sender;
             }) }
+        // It is so many calls of the sender, of a session too (`sctp_delivery`).
+        ensures asks { OnOk result (AsksOn stream (writes stream ppi bytes.now)
+            self.old.outbound.sender self.new.outbound.sender) }
         ensures accepted { IsOk result → write_fault stream (length bytes.now) self.old ≡ None }
         ensures named { (e : Fault) → or_else (use_fault stream self.old)
             (reset_fault stream self.old) ≡ Some e → result ≡ Err e }
@@ -96,6 +101,8 @@ impl Association {
           sender = with_mode_on stream unordered reliability value
               (opened stream self.old.outbound.sender);
         }) }
+        ensures asks { OnOk result (AsksOn stream (sets_mode stream unordered reliability value)
+            self.old.outbound.sender self.new.outbound.sender) }
         ensures accepted { IsOk result → use_fault stream self.old ≡ None }
         ensures named { (e : Fault) → use_fault stream self.old ≡ Some e → result ≡ Err e }
         ensures refused { IfErr result (λ e. IsRefusal e (use_fault stream self.old)) }
@@ -128,6 +135,8 @@ impl Association {
         ensures ok { OnOk result (self.new.outbound ≡ record self.old.outbound {
           sender = with_low_on stream threshold (opened stream self.old.outbound.sender);
         }) }
+        ensures asks { OnOk result (AsksOn stream (sets_low stream threshold)
+            self.old.outbound.sender self.new.outbound.sender) }
         ensures accepted { IsOk result → use_fault stream self.old ≡ None }
         ensures named { (e : Fault) → use_fault stream self.old ≡ Some e → result ≡ Err e }
         ensures refused { IfErr result (λ e. IsRefusal e (use_fault stream self.old)) }
