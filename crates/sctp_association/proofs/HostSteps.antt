@@ -75,16 +75,16 @@ send-one call new st m h room bytes =
     }
 
 -- calls of the receiver lead to this one
-pub record Heard (call : ReceiverCall) (st : StandSo) (new : Reception) : Type 0 where
+pub record Called (call : ReceiverCall) (st : StandSo) (new : Reception) : Type 0 where
   pub next : StandSo
   pub receives : next.session.receiving.receiver ≡ new
   pub step : ReceiverFollows call st.session next.session
   pub given : given_so next ≤ given_so st
   pub more : IsMore st next
 
-pub hear-one : (call : ReceiverCall) (new : Reception) (st : StandSo) → ReceiverMakes call st.session.receiving.receiver new → IsSent call st.session
-    → Heard call st new
-hear-one call new st m h =
+pub call-one : (call : ReceiverCall) (new : Reception) (st : StandSo) → ReceiverMakes call st.session.receiving.receiver new → IsSent call st.session
+    → Called call st new
+call-one call new st m h =
     let x = receiver-steps-so call st.session.receiving.receiver new st.session.sending.sender st (record { sends = refl; receives = refl }) m h in
     let given = x.2.given in
     record {
@@ -170,7 +170,7 @@ pub record Reported (st : StandSo) (ks : List Sack) (new : Reception) : Type 0 w
 report-one : (c : ReceiverCall) (new : Reception) (st : StandSo) → AcksBy c st.session.receiving.receiver new
     → Reported st (reported_by c st.session.receiving.receiver) new
 report-one forgets new st m =
-    let y = hear-one forgets new st m.1 tt in
+    let y = call-one forgets new st m.1 tt in
     record {
       next = y.next;
       receives = y.receives;
@@ -183,8 +183,8 @@ report-one forgets new st m =
     }
 report-one (makes_sack credit bytes) new st m =
     let r = st.session.receiving.receiver in
-    let x = hear-one (makes_sack 0 16) r st (refl, tt) tt in
-    let y = hear-one (makes_sack credit bytes) new x.next (subst (λ q. ReceiverMakes (makes_sack credit bytes) q new) (sym x.receives) m.1) tt in
+    let x = call-one (makes_sack 0 16) r st (refl, tt) tt in
+    let y = call-one (makes_sack credit bytes) new x.next (subst (λ q. ReceiverMakes (makes_sack credit bytes) q new) (sym x.receives) m.1) tt in
     let first = x.given in
     let second = y.given in
     let plain : Contains x.next.session.sacks (without_blocks r.cumulative_tsn) =

@@ -6,7 +6,7 @@ use Rattle.std.proofs.lemmas.List.Elements.{All-contains, All-from_recursion, Co
 use Rattle.std.proofs.lemmas.List.Sums.{sum_by-cons}
 use Rattle.std.specs.Prelude.{◌⊎◌, Contains, if◌then◌else◌}
 use Rattle.sctp_association.proofs.Delivered.{carries-only, of-call}
-use Rattle.sctp_association.proofs.HostSteps.{IsMore, IsThere, Sent, ack-one, bytes-of, contains-none, either, hear-one, more-same, more-then}
+use Rattle.sctp_association.proofs.HostSteps.{IsMore, IsThere, Sent, ack-one, bytes-of, contains-none, either, call-one, more-same, more-then}
 use Rattle.sctp_association.proofs.HostSteps.{plain-sack, report-each, send-each, send-one, there-more}
 use Rattle.sctp_association.specs.Acks.{without_blocks}
 use Rattle.sctp_association.specs.Arrivals.{Arrival, Halves, Hearing, Hears, IsBrought, Receives, ReceivesIn, Steps, halves, without_gaps}
@@ -35,7 +35,7 @@ use Rattle.sctp_sender.specs.declared.sender.Reported.TheVariants.{Keep}
 
 -- ## The receiver, where there is one
 
-record Heard (w : Way) (st : StandSo) (new : Option Reception) (rs : List Message) : Type 0 where
+record Led (w : Way) (st : StandSo) (new : Option Reception) (rs : List Message) : Type 0 where
   next : StandSo
   receives : IsReceiver w new next.session.receiving.receiver
   sending : next.session.sending ≡ st.session.sending
@@ -44,8 +44,8 @@ record Heard (w : Way) (st : StandSo) (new : Option Reception) (rs : List Messag
   given : given_so next ≤ given_so st
   more : IsMore st next
 
-abbrev heard-same : (w : Way) (st : StandSo) (o : Option Reception) → IsReceiver w o st.session.receiving.receiver → Heard w st o st.session.receiving.read
-heard-same w st o is = record {
+abbrev led-same : (w : Way) (st : StandSo) (o : Option Reception) → IsReceiver w o st.session.receiving.receiver → Led w st o st.session.receiving.read
+led-same w st o is = record {
   next = st;
   receives = is;
   sending = refl;
@@ -55,10 +55,10 @@ heard-same w st o is = record {
   more = more-same st;
 }
 
-heard-by : (w : Way) (call : ReceiverCall) (new : Reception) (st : StandSo) → ReceiverMakes call st.session.receiving.receiver new → IsSent call st.session
-    → Heard w st (Some new) (messages_after (incoming.as_run call) st.session.receiving.receiver st.session.receiving.read)
-heard-by w call new st m h =
-    let x = hear-one call new st m h in
+led-by : (w : Way) (call : ReceiverCall) (new : Reception) (st : StandSo) → ReceiverMakes call st.session.receiving.receiver new → IsSent call st.session
+    → Led w st (Some new) (messages_after (incoming.as_run call) st.session.receiving.receiver st.session.receiving.read)
+led-by w call new st m h =
+    let x = call-one call new st m h in
     record {
       next = x.next;
       receives = x.receives;
@@ -79,7 +79,7 @@ sent-same st n new is =
 
 record Came (w : Way) (forth back : StandSo) (n : ℕ) (new : Halves) : Type 0 where
   sent : Sent forth n forth.session.written new.sender
-  heard : Heard w back new.receiver back.session.receiving.read
+  led : Led w back new.receiver back.session.receiving.read
 
 module _ (w : Way) (ms : List Made) (ks : List Sack) where
   record Ready (forth back : StandSo) (old : Halves) : Type 0 where
@@ -90,26 +90,26 @@ module _ (w : Way) (ms : List Made) (ks : List Sack) where
 
   receive-one : (call : runs.Call) (t : Transmission) (r s : Reception) (st : StandSo) → Receives call r s → IsPlain w (receives call) (halves t (Some r))
       → IsForMade ms call → st.session.receiving.receiver ≡ r → ((m : Made) → Contains ms m → Contains st.session.made m)
-      → Heard w st (Some s) st.session.receiving.read
+      → Led w st (Some s) st.session.receiving.read
   receive-one (runs.takes c a) t r s st h plain of is made =
-      heard-by w (incoming.takes c a) s st (subst (λ q. ReceiverMakes (incoming.takes c a) q s) (sym is) (h.makes, h.accepted)) (made _ of)
+      led-by w (incoming.takes c a) s st (subst (λ q. ReceiverMakes (incoming.takes c a) q s) (sym is) (h.makes, h.accepted)) (made _ of)
   receive-one (runs.opens stream) t r s st h plain of is made =
-      heard-by w (incoming.opens stream) s st (subst (λ q. ReceiverMakes (incoming.opens stream) q s) (sym is) (h.makes, tt)) tt
+      led-by w (incoming.opens stream) s st (subst (λ q. ReceiverMakes (incoming.opens stream) q s) (sym is) (h.makes, tt)) tt
   receive-one (runs.forwards f) t r s st h plain of is made =
       let none = ap (λ b. if b then Some NamedStreamUnknown else past_closed_refusal f r) plain ∙ h.accepted in
-      heard-by w (incoming.follows f) s st (subst (λ q. ReceiverMakes (incoming.follows f) q s) (sym is) (h.makes, none)) (made _ of)
+      led-by w (incoming.follows f) s st (subst (λ q. ReceiverMakes (incoming.follows f) q s) (sym is) (h.makes, none)) (made _ of)
   receive-one _ t r s st h plain of is made = absurd plain
 
   receive-in : (call : runs.Call) (t : Transmission) (o p : Option Reception) (st : StandSo) → ReceivesIn call o p → IsPlain w (receives call) (halves t o)
       → IsForMade ms call → IsReceiver w o st.session.receiving.receiver → ((m : Made) → Contains ms m → Contains st.session.made m)
-      → Heard w st p st.session.receiving.read
+      → Led w st p st.session.receiving.read
   receive-in call t (Some r) (Some s) st h plain of is made = receive-one call t r s st h plain of is made
   receive-in call t (Some r) None st h plain of is made = absurd h
   receive-in call t None p st h plain of is made = absurd h
 
-  hear : (h : Hearing) (old new : Halves) (st : StandSo) → Hears h st.session.sending.sender new.sender → IsPlain w (hears h) old → IsFor ms ks (hears h)
+  acknowledge : (h : Hearing) (old new : Halves) (st : StandSo) → Hears h st.session.sending.sender new.sender → IsPlain w (hears h) old → IsFor ms ks (hears h)
       → ((k : Sack) → Contains ks k → IsThere st.session k) → given_so st + 1 < 2 ^ 31 → Sent st 1 st.session.written new.sender
-  hear (acks k back gone) old new st x plain of there room =
+  acknowledge (acks k back gone) old new st x plain of there room =
       either
       (λ (e : k ≡ of.sack). ack-one k back gone new.sender st x (subst (λ (j : Sack). Contains st.session.sacks j) (sym e) (there of.sack of.own).own) room)
       (λ (e : k ≡ without_gaps of.sack).
@@ -118,21 +118,21 @@ module _ (w : Way) (ms : List Made) (ks : List Sack) where
       (subst (λ (j : Sack). TakesBackAndSack j back gone st.session.sending.sender new.sender) e x))
       (there of.sack of.own).plain room)
       of.is
-  hear (passes tsn gone) old new st x plain of there room =
+  acknowledge (passes tsn gone) old new st x plain of there room =
       (send-one (outgoing.takes_sack (without_blocks tsn) gone) new.sender st x
       (subst (λ (n : ℕ). Contains st.session.sacks (without_blocks n)) of.cumulative (there of.sack of.own).plain) room st.short).sent
-  hear (counts count) old new st x plain of there room = (send-one (outgoing.misses count) new.sender st x tt room st.short).sent
-  hear (restarts stream) old new st x plain of there room = absurd plain
+  acknowledge (counts count) old new st x plain of there room = (send-one (outgoing.misses count) new.sender st x tt room st.short).sent
+  acknowledge (restarts stream) old new st x plain of there room = absurd plain
 
   take-one : (a : Arrival) (old new : Halves) (forth back : StandSo) → DoesPlainly w a old new → IsFor ms ks a → Ready forth back old
       → given_so forth + 1 < 2 ^ 31 → Came w forth back 1 new
   take-one (receives call) old new forth back d of y room = record {
     sent = sent-same forth 1 new.sender (y.sends ∙ sym d.does.0);
-    heard = receive-in call old.sender old.receiver new.receiver back d.does.1 d.plain of y.receives y.made;
+    led = receive-in call old.sender old.receiver new.receiver back d.does.1 d.plain of y.receives y.made;
   }
   take-one (hears h) old new forth back d of y room = record {
-    sent = hear h old new forth (subst (λ t. Hears h t new.sender) (sym y.sends) d.does.1) d.plain of y.sacks room;
-    heard = heard-same w back new.receiver (subst (λ o. IsReceiver w o back.session.receiving.receiver) (sym d.does.0) y.receives);
+    sent = acknowledge h old new forth (subst (λ t. Hears h t new.sender) (sym y.sends) d.does.1) d.plain of y.sacks room;
+    led = led-same w back new.receiver (subst (λ o. IsReceiver w o back.session.receiving.receiver) (sym d.does.0) y.receives);
   }
   take-one (begins tsn max limits) old new forth back d of y room =
       let first = subst (λ o. IsReceiver w o back.session.receiving.receiver) d.plain.0 y.receives in
@@ -140,7 +140,7 @@ module _ (w : Way) (ms : List Made) (ks : List Sack) where
       ∙ ap (λ l. at_first tsn max (Some l)) (sym d.plain.1.1.1) in
       record {
         sent = sent-same forth 1 new.sender (y.sends ∙ sym d.does.0);
-        heard = heard-same w back new.receiver (subst (λ o. IsReceiver w o back.session.receiving.receiver) (sym d.does.1) (first ∙ same));
+        led = led-same w back new.receiver (subst (λ o. IsReceiver w o back.session.receiving.receiver) (sym d.does.1) (first ∙ same));
       }
   take-one (renews tsn size max) old new forth back d of y room = absurd d.plain
 
@@ -149,13 +149,13 @@ module _ (w : Way) (ms : List Made) (ks : List Sack) where
       → given_so forth + length calls < 2 ^ 31 → Came w forth back (length calls) new
   take-each datagram [] old new forth back r for y room = record {
     sent = sent-same forth 0 new.sender (y.sends ∙ sym (ap (λ (h : Halves). h.sender) r));
-    heard = heard-same w back new.receiver
+    led = led-same w back new.receiver
         (subst (λ o. IsReceiver w o back.session.receiving.receiver) (sym (ap (λ (h : Halves). h.receiver) r)) y.receives);
   }
   take-each datagram (a ∷ calls) old new forth back r for y room =
       let x = take-one a old r.0 forth back r.1.0.does (for a r.1.0.asked) y (omega (arith, room)) in
       let s = x.sent in
-      let k = x.heard in
+      let k = x.led in
       let first = s.given in
       let ready : Ready s.next k.next r.0 = record {
         sends = s.sends;
@@ -166,7 +166,7 @@ module _ (w : Way) (ms : List Made) (ks : List Sack) where
       let g = take-each datagram calls r.0 new s.next k.next r.1.1 for ready (omega (arith, room, first)) in
       let rest = g.sent.given in
       let one = k.given in
-      let two = g.heard.given in
+      let two = g.led.given in
       record {
         sent = record {
           next = g.sent.next;
@@ -176,14 +176,14 @@ module _ (w : Way) (ms : List Made) (ks : List Sack) where
           given = omega (arith, first, rest);
           more = more-then forth s.next g.sent.next s.more g.sent.more;
         };
-        heard = record {
-          next = g.heard.next;
-          receives = g.heard.receives;
-          sending = g.heard.sending ∙ k.sending;
-          read = g.heard.read ∙ k.read;
-          written = g.heard.written ∙ k.written;
+        led = record {
+          next = g.led.next;
+          receives = g.led.receives;
+          sending = g.led.sending ∙ k.sending;
+          read = g.led.read ∙ k.read;
+          written = g.led.written ∙ k.written;
           given = omega (arith, one, two);
-          more = more-then back k.next g.heard.next k.more g.heard.more;
+          more = more-then back k.next g.led.next k.more g.led.more;
         };
       }
 
@@ -227,7 +227,7 @@ turned f b x z j =
     record { forth = j.back; back = j.forth; goes = j.comes; comes = j.goes; one-sent = j.other-sent; other-sent = j.one-sent }
 
 module _ (f b : Way) (x y z : Host) (j : Joined f b x z) where
-  joins : (n : ℕ) (ws : List Write) (rs : List Message) (s : Sent j.forth n ws y.sender) (k : Heard b j.back y.receiver rs) → ws ≡ y.written → rs ≡ y.read
+  joins : (n : ℕ) (ws : List Write) (rs : List Message) (s : Sent j.forth n ws y.sender) (k : Led b j.back y.receiver rs) → ws ≡ y.written → rs ≡ y.read
       → given_so j.forth + n ≤ y.calls → ((d : List ℕ) → Contains y.sent d → WasPolled s.next k.next d) → Joined f b y z
   joins n ws rs s k written read calls sent =
       let given = s.given in
@@ -268,7 +268,7 @@ module _ (f b : Way) (x y z : Host) (j : Joined f b x z) where
       let t = (send-one call y.sender j.forth (subst (λ t. SenderMakes call t y.sender) (sym j.goes.sends) h.makes) reported (omega (arith, calls, before, room))
       (subst (λ (ws : List Write). bytes-of ws < 2 ^ 64) (sym same) few.1)).sent in
       joins 1 (written_after call j.forth.session.written) j.back.session.receiving.read t
-      (heard-same b j.back y.receiver
+      (led-same b j.back y.receiver
       (subst (λ o. IsReceiver b o j.back.session.receiving.receiver) (sym (ap (λ (i : Host). i.receiver) h.after)) j.comes.receives))
       same (j.comes.read ∙ sym (ap (λ (i : Host). i.read) h.after)) (omega (arith, calls, before))
       (sent-still t.next j.back t.more (more-same j.back) (ap (λ (i : Host). i.sent) h.after))
@@ -278,10 +278,10 @@ module _ (f b : Way) (x y z : Host) (j : Joined f b x z) where
       let calls = ap (λ (i : Host). i.calls) h.after in
       let before = j.goes.given in
       let is : j.back.session.receiving.receiver ≡ h.receiver = subst (λ o. IsReceiver b o j.back.session.receiving.receiver) h.there j.comes.receives in
-      let k = heard-by b (incoming.reads stream) (after_read stream h.receiver) j.back
+      let k = led-by b (incoming.reads stream) (after_read stream h.receiver) j.back
       (subst (λ q. ReceiverMakes (incoming.reads stream) q (after_read stream h.receiver)) (sym is) (refl, h.is)) tt in
-      let m : Heard b j.back y.receiver (messages_after (runs.reads stream) j.back.session.receiving.receiver j.back.session.receiving.read) =
-      subst (λ o. Heard b j.back o (messages_after (runs.reads stream) j.back.session.receiving.receiver j.back.session.receiving.read))
+      let m : Led b j.back y.receiver (messages_after (runs.reads stream) j.back.session.receiving.receiver j.back.session.receiving.read) =
+      subst (λ o. Led b j.back o (messages_after (runs.reads stream) j.back.session.receiving.receiver j.back.session.receiving.read))
       (sym (ap (λ (i : Host). i.receiver) h.after)) k in
       joins 0 j.forth.session.written (messages_after (runs.reads stream) j.back.session.receiving.receiver j.back.session.receiving.read)
       (sent-same j.forth 0 y.sender (j.goes.sends ∙ sym (ap (λ (i : Host). i.sender) h.after))) m
@@ -292,18 +292,18 @@ module _ (f b : Way) (x y z : Host) (j : Joined f b x z) where
 
   -- the receiver reports, where there is one
   record ReportedIn (ks : List Sack) (new : Option Reception) : Type 0 where
-    heard : Heard b j.back new j.back.session.receiving.read
-    own : (k : Sack) → Contains ks k → IsThere heard.next.session k
+    led : Led b j.back new j.back.session.receiving.read
+    own : (k : Sack) → Contains ks k → IsThere led.next.session k
 
   report-in : (ks : List Sack) (o p : Option Reception) → ReportsIn ks o p → IsReceiver b o j.back.session.receiving.receiver → ReportedIn ks p
   report-in ks None None h is = record {
-    heard = heard-same b j.back None is;
+    led = led-same b j.back None is;
     own = λ k c. absurd (contains-none k (subst (λ (l : List Sack). Contains l k) h c));
   }
   report-in ks (Some r) (Some s) h is =
       let g = report-each h.calls ks s j.back (subst (λ q. Runs AcksBy reported_by h.calls ks q s) (sym is) h.run) in
       record {
-        heard = record {
+        led = record {
           next = g.next;
           receives = g.receives;
           sending = g.sending;
@@ -327,16 +327,16 @@ module _ (f b : Way) (x y z : Host) (j : Joined f b x z) where
       (subst (λ u. Runs SendsBy made_by t.sent.calls t.made u y.sender) (sym j.goes.sends) t.sent.run) in
       let k = report-in t.sacks x.receiver y.receiver t.reported j.comes.receives in
       let s = g.sent in
-      let new : is_sent ≡ true → WasPolled s.next k.heard.next datagram = λ e. record {
+      let new : is_sent ≡ true → WasPolled s.next k.led.next datagram = λ e. record {
         ms = t.made;
         ks = t.sacks;
         written = t.written e;
         made = g.own;
         sacks = k.own;
       } in
-      joins (length t.sent.calls) j.forth.session.written j.back.session.receiving.read s k.heard
+      joins (length t.sent.calls) j.forth.session.written j.back.session.receiving.read s k.led
       (j.goes.written ∙ sym (ap (λ (i : Host). i.written) h.after)) (j.comes.read ∙ sym (ap (λ (i : Host). i.read) h.after)) (omega (arith, calls, before))
-      (λ d c. by is_sent s.next k.heard.next s.more k.heard.more new d (subst (λ (l : List (List ℕ)). Contains l d) (ap (λ (i : Host). i.sent) h.after) c))
+      (λ d c. by is_sent s.next k.led.next s.more k.led.more new d (subst (λ (l : List (List ℕ)). Contains l d) (ap (λ (i : Host). i.sent) h.after) c))
     where
       by : (e : Bool) (s g : StandSo) → IsMore j.forth s → IsMore j.back g → (e ≡ true → WasPolled s g datagram) → (d : List ℕ)
           → Contains (if e then datagram ∷ x.sent else x.sent) d → WasPolled s g d
@@ -354,9 +354,9 @@ module _ (f b : Way) (x y z : Host) (j : Joined f b x z) where
       let c = take-each b p.ms p.ks datagram h.arrives.calls (halves x.sender x.receiver) (halves y.sender y.receiver) j.forth j.back h.arrives.run
       (of-call p.ms p.ks datagram (carries-only p.ms p.ks datagram p.written))
       (record { sends = j.goes.sends; receives = j.comes.receives; made = p.made; sacks = p.sacks }) (omega (arith, calls, before, room)) in
-      joins (length h.arrives.calls) j.forth.session.written j.back.session.receiving.read c.sent c.heard
+      joins (length h.arrives.calls) j.forth.session.written j.back.session.receiving.read c.sent c.led
       (j.goes.written ∙ sym (ap (λ (i : Host). i.written) h.after)) (j.comes.read ∙ sym (ap (λ (i : Host). i.read) h.after)) (omega (arith, calls, before))
-      (sent-still c.sent.next c.heard.next c.sent.more c.heard.more (ap (λ (i : Host). i.sent) h.after))
+      (sent-still c.sent.next c.led.next c.sent.more c.led.more (ap (λ (i : Host). i.sent) h.after))
 
 -- ## A move
 

@@ -178,8 +178,8 @@ IsReceiver w None r = r ≡ at_first w.tsn w.most (Some w.limits)
 IsReceiver w (Some s) r = r ≡ s
 
 -- the messages that calls of the session abandoned or let expire
-abbrev pub given_up : StandSo → List ℕ
-given_up st =
+abbrev pub abandoned_in : StandSo → List ℕ
+abandoned_in st =
     abandoned_so (at_start_with st.reported st.tsn st.size st.max st.most st.limits)
     st.calls st.session st.run
 
@@ -195,7 +195,7 @@ pub record Delivers (w : Way) (a b : Host) : Type 0 where
   pub writes : AreWrites stand.session
   pub own : AreWritesOfTheirOwn stand.session
   pub order : AreReadInOrder stand.session
-  pub ends : IsEachOtherReadInTheEnd (given_up stand) stand.session
+  pub ends : IsEachOtherReadInTheEnd (abandoned_in stand) stand.session
 
 -- so it is both ways, whatever two associations do from `new` on, and whatever becomes of their datagrams
 abbrev pub EachDelivers : Type 0

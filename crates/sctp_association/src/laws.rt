@@ -23,9 +23,6 @@ pub fn what_is_sent_was_made()
     ensures { EachIsSent }
 {}
 
-// Wanted for delivery over datagrams, and not said yet: that the calls which a datagram brings are calls of these sessions. Those accept less than
-// what is not refused (`ReceiverCalls.IsAccepted`). They have no stream closed for a message that was too long, no reset, no association that begins
-// anew, no SACK without its gap ack blocks, and no SHUTDOWN. Nor is it said which calls an application makes between.
 /// Whatever bytes a datagram of `poll_transmit` has: each DATA chunk and FORWARD-TSN that it carries was made by the sender that wrote it, each
 /// SACK by the receiver, and a SHUTDOWN acknowledges as such a SACK. So each call that it brings (`Arrives`) is for one of these, in whatever
 /// sessions of `sctp_delivery` these halves stand.
@@ -35,8 +32,10 @@ pub fn what_comes_was_made()
     ensures sessions { EachComes }
 {}
 
-/// Two associations, from `new` on: whatever their applications call, and whatever datagrams come late, again, in another order or never, what
-/// one reads the other wrote, on that stream, with that payload type and those bytes, no write twice, ordered ones in order (`Hosts`).
+// Not said yet of associations that reset or close streams, or begin anew: sessions of sctp_delivery have no such calls.
+/// Two associations, from `new` on: whatever their applications call, and whichever datagrams of the peer come, late, again, in another order or
+/// never. What one reads the other wrote, on that stream, with that payload type and those bytes, no write twice, and ordered ones in order.
+/// In the end each other write was read.
 pub fn what_is_read_was_written()
     ensures { EachDelivers }
 {}
