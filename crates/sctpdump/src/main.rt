@@ -158,6 +158,7 @@ fn report_fault(rt: &HostRuntime, name: &str, fault: RunFault) -> anyhow::Result
         RunFault::Output(code) => report_output(rt, name, system_error(code)),
         RunFault::Memory => report(rt, name, "out of memory"),
         RunFault::Other(kind) => report(rt, name, kind),
+        RunFault::TooMany => report(rt, name, "more than 2^64 - 1 records"),
     }
 }
 
