@@ -5,8 +5,10 @@ ghost use Rattle.std.specs.Io.KnownBytes.{Appends, Keeps, prepend_known};
 ghost use Rattle.sctp_capture.specs.Blocks.{known_of};
 ghost use Rattle.sctp_capture.specs.Input.{IsInput};
 ghost use Rattle.sctp_show.specs.declared.run.RunFault.TheVariants.{TooMany};
+ghost use Rattle.sctp_show.specs.Columns.{heading};
 ghost use Rattle.sctp_show.specs.Run.{none, Fits, PrintsRecord, Prints};
 
+use crate::columns::heading;
 use crate::follow::Follow;
 use crate::summary::Summary;
 use crate::text::{Options, record_text};
@@ -174,6 +176,15 @@ impl Course {
         let text = self.summary.text(alloc, options.form, self.counts.records)?;
         write_text(output, &text)
     }
+}
+
+/// Writes what stands above the records: the line that names the columns, where they are printed in columns.
+pub fn begin<W: Write>(alloc: Global, options: &Options, output: &mut W) -> Result<(), RunFault>
+    ensures { OnOk result (Appends (W.contents output.old) (W.contents output.new)
+        (heading options.now.form options.now.layout)) }
+{
+    let text = heading(alloc, options.form, options.layout)?;
+    write_text(output, &text)
 }
 
 /// Prints each record of an input in order that has what is asked for, until as many are shown as are to be shown at most. Its records are
