@@ -381,7 +381,7 @@ def save_tests(program, has_tshark):
 
 
 # Every view of packets, each with its words.
-VIEWS = ([], ["-V"], ["--json"], ["--relative"], ["--summary"], ["--flow"], ["--messages"], ["--acks"], ["--channels"], ["--svg", "-"], ["-w", "-"])
+VIEWS = ([], ["-V"], ["--columns"], ["--json"], ["--relative"], ["--summary"], ["--flow"], ["--messages"], ["--acks"], ["--channels"], ["--svg", "-"], ["-w", "-"])
 
 # Captures that are cut between two records: text with a datagram on a line, and a classic capture.
 SPLIT = ("aiortc-channels.hex", "aiortc-partial.hex", "usrsctp-partial.log", "loss.log", "interleaved.hex", "reopened.hex", "merged.hex", "frames.pcap")

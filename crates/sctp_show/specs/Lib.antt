@@ -12,3 +12,4 @@ pub mod Choice
 pub mod Text
 pub mod Run
 pub mod Mark
+pub mod Columns

@@ -5,6 +5,7 @@ pub mod brief;
 pub mod checksum;
 pub mod choice;
 pub mod chunk_text;
+pub mod columns;
 pub mod cut;
 pub mod dcep;
 pub mod fields;

@@ -1,11 +1,14 @@
 //! A run: the records of inputs, each printed.
 
-ghost use Rattle.std.specs.Prelude.{◌≡◌, ◌≤◌, ◌+◌, ℕ, List, Option, IfOk, OnOk, IfSome};
+ghost use Rattle.std.specs.Prelude.{◌≡◌, ◌≤◌, ◌<◌, ◌+◌, ◌^◌, ℕ, List, Option, IsOk, IfOk, IfErr, OnOk, IfSome};
 ghost use Rattle.std.specs.Io.KnownBytes.{Appends, Keeps, prepend_known};
 ghost use Rattle.sctp_capture.specs.Blocks.{known_of};
 ghost use Rattle.sctp_capture.specs.Input.{IsInput};
-ghost use Rattle.sctp_show.specs.Run.{none, PrintsRecord, Prints};
+ghost use Rattle.sctp_show.specs.declared.run.RunFault.TheVariants.{TooMany};
+ghost use Rattle.sctp_show.specs.Columns.{heading};
+ghost use Rattle.sctp_show.specs.Run.{none, Fits, PrintsRecord, Prints};
 
+use crate::columns::heading;
 use crate::follow::Follow;
 use crate::summary::Summary;
 use crate::text::{Options, record_text};
@@ -28,6 +31,8 @@ pub enum RunFault {
     Memory,
     /// The input is a file of a kind that is known, but not read.
     Other(Kind),
+    /// A count would pass the greatest `u64`.
+    TooMany,
 }
 
 impl From<ReadFault> for RunFault {
@@ -71,11 +76,13 @@ pub fn write_text<W: Write>(output: &mut W, text: &str) -> Result<(), RunFault>
 
 /// A count that grows. There is none past `u64::MAX`.
 fn added(count: u64, more: u64) -> Result<u64, RunFault>
-    ensures { IfOk result (λ sum. sum ≡ count + more) }
+    ensures sum { IfOk result (λ sum. sum ≡ count + more) }
+    ensures accepted { IsOk result → count + more < 2 ^ 64 }
+    ensures refused { IfErr result (λ e. (e ≡ TooMany) × (2 ^ 64 ≤ count + more)) }
 {
     match count.checked_add(more) {
         Some(sum) => Ok(sum),
-        None => Err(RunFault::Input(None)),
+        None => Err(RunFault::TooMany),
     }
 }
 
@@ -101,11 +108,13 @@ impl Counts {
         }
     }
 
-    /// One record more, of which so many have no frame, and so many are shown. Refuses what a count cannot be.
+    /// One record more, of which so many have no frame, and so many are shown. Refuses with `TooMany` exactly where a sum passes `u64::MAX`.
     pub fn with(self, unread: u64, shown: u64) -> Result<Self, RunFault>
         ensures records { IfOk result (λ after. after.records ≡ self.records + 1) }
         ensures unread { IfOk result (λ after. after.unread ≡ self.unread + unread) }
         ensures shown { IfOk result (λ after. after.shown ≡ self.shown + shown) }
+        ensures accepted { IsOk result → Fits self unread shown }
+        ensures refused { IfErr result (λ e. (e ≡ TooMany) × (Fits self unread shown → ⊥)) }
     {
         Ok(Counts {
             records: added(self.records, 1)?,
@@ -169,6 +178,15 @@ impl Course {
     }
 }
 
+/// Writes what stands above the records: the line that names the columns, where they are printed in columns.
+pub fn begin<W: Write>(alloc: Global, options: &Options, output: &mut W) -> Result<(), RunFault>
+    ensures { OnOk result (Appends (W.contents output.old) (W.contents output.new)
+        (heading options.now.form options.now.layout)) }
+{
+    let text = heading(alloc, options.form, options.layout)?;
+    write_text(output, &text)
+}
+
 /// Prints each record of an input in order that has what is asked for, until as many are shown as are to be shown at most. Its records are
 /// counted on from those of the inputs before it, and printed with these numbers.
 /// Each packet is noted by the follower before it is printed. What was printed is sent off before more of the input is waited for. An input of a kind that is known, but not read, is refused.
@@ -202,5 +220,5 @@ pub fn run<R: Read + Drop, F: Follow, W: Write>(
             Taken::End => return Ok(()),
         }
     }
-    Err(RunFault::Input(None))
+    Err(RunFault::TooMany)
 }

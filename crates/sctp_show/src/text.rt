@@ -2,7 +2,9 @@
 
 ghost use Rattle.std.specs.Prelude.{◌≡◌, ℕ, List, [], true, false, IfOk};
 ghost use Rattle.std.specs.String.{string_bytes};
-ghost use Rattle.sctp_show.specs.Text.{IsSeen, IsShown, IsPacketText, IsText, IsFrameText, numbered_text, refused_text, fault_line};
+ghost use Rattle.sctp_show.specs.Text.{IsSeen, IsShown, IsShownText, IsPacketText, IsText, IsFrameText, IsFaultText, numbered_text, refused_text};
+ghost use Rattle.sctp_show.specs.declared.mark.Mark.{Mark as MarkKind};
+ghost use Rattle.sctp_show.specs.Columns as columns;
 ghost use Rattle.sctp_show.specs.Sum.{sum_of, sum_for, is_wrong};
 ghost use Rattle.sctp_show.specs.Choice.{passes};
 ghost use Rattle.sctp_show.specs.Scene as scenes;
@@ -11,6 +13,9 @@ use crate::brief::put_brief;
 use crate::checksum::{Sum, is_wrong, sum_for};
 use crate::choice::Choice;
 use crate::chunk_text::put_block;
+use crate::columns::{
+    Layout, Size, fault_row, in_columns, packet_row, put_size_line, put_size_members, size_of,
+};
 use crate::cut::with_cut;
 use crate::filter::{is_left_over, is_refused};
 use crate::follow::{Bases, Follow, Known, bases_for};
@@ -34,8 +39,8 @@ pub struct Options {
     /// The UDP port of SCTP in UDP (RFC 6951).
     pub port: u16,
     pub form: Form,
-    /// Whether what each chunk says stands below the line of its packet, where records are printed as text. JSON has it in any case.
-    pub is_full: bool,
+    /// How records stand that are printed as text. JSON has what each chunk says in any case.
+    pub layout: Layout,
     /// How times are printed, where records are printed as text. JSON has them as they were captured in any case.
     pub clock: Clock,
     /// Whether lines of packets that are refused, or repeat a TSN, are colored, where records are printed as text.
@@ -94,8 +99,8 @@ fn put_hex(text: &mut String, number: u32) -> Result<(), AllocError> {
     write!(text, "{number:08x}")
 }
 
-/// The ports and the tag of a packet.
-fn put_header(page: &mut Page, header: &Header) -> Result<(), AllocError> {
+/// The ports and the tag of a packet, in text behind words.
+fn put_header(page: &mut Page, lead: &str, header: &Header) -> Result<(), AllocError> {
     let fields = header.fields;
     let (mut source, mut destination) = (Buffer::new(), Buffer::new());
     let source = source.format(fields.source_port);
@@ -103,7 +108,7 @@ fn put_header(page: &mut Page, header: &Header) -> Result<(), AllocError> {
     if page.is_text() {
         put_all(
             &mut page.text,
-            &[" SCTP ", source, " > ", destination, " tag 0x"],
+            &[lead, source, " > ", destination, " tag 0x"],
         )?;
         return put_hex(&mut page.text, fields.verification_tag);
     }
@@ -198,16 +203,17 @@ pub fn put_tail(text: &mut String, seen: &Dissection, missing: usize) -> Result<
     )
 }
 
-/// The line of a packet behind its addresses.
+/// The line of a packet behind its addresses, its ports behind words.
 fn put_line(
     page: &mut Page,
+    lead: &str,
     bases: Bases,
     seen: &Dissection,
     missing: usize,
     is_wrong: bool,
 ) -> Result<(), AllocError> {
     if let Some(header) = &seen.header {
-        put_header(page, header)?;
+        put_header(page, lead, header)?;
     }
     if !page.is_text() {
         return Ok(());
@@ -282,13 +288,16 @@ fn put_below(
     alloc: Global,
     page: &mut Page,
     options: &Options,
+    size: Size,
     bases: Bases,
     seen: &Dissection,
     missing: usize,
     is_wrong: bool,
 ) -> Result<(), AllocError> {
-    if page.is_text() && !options.is_full {
-        return Ok(());
+    match (page.form, options.layout) {
+        (Form::Json, _) => {}
+        (Form::Text, Layout::Blocks) => put_size_line(&mut page.text, size)?,
+        (Form::Text, _) => return Ok(()),
     }
     let sum = sum_for(options.sum, missing);
     put_blocks(alloc, page, bases, seen, sum, missing, is_wrong)?;
@@ -303,6 +312,7 @@ fn seen_text(
     options: &Options,
     start: &Option<Time>,
     record: &Record,
+    size: Size,
     datagram: &Datagram<'_>,
     seen: &Dissection,
     known: Known,
@@ -313,14 +323,52 @@ fn seen_text(
     let mut line = Page::new(alloc, options.form);
     put_time(&mut line, options, start, &record.time)?;
     put_ends(&mut line, record.direction, datagram)?;
-    put_line(&mut line, bases, seen, missing, is_wrong)?;
+    put_line(&mut line, " SCTP ", bases, seen, missing, is_wrong)?;
     let is_refused = is_wrong || is_refused(missing, seen);
     let mark = mark_of(options.is_colored, is_refused, known.is_repeated);
     let mut page = Page::new(alloc, options.form);
     put_marked(&mut page.text, mark, &line.text)?;
     page.in_text("\n")?;
-    put_below(alloc, &mut page, options, bases, seen, missing, is_wrong)?;
+    put_below(
+        alloc, &mut page, options, size, bases, seen, missing, is_wrong,
+    )?;
     Ok(page.text)
+}
+
+/// The same in columns, with its number.
+fn seen_row(
+    alloc: Global,
+    options: &Options,
+    number: u64,
+    start: &Option<Time>,
+    record: &Record,
+    size: Size,
+    datagram: &Datagram<'_>,
+    seen: &Dissection,
+    known: Known,
+    is_wrong: bool,
+) -> Result<String, AllocError>
+    ensures { IfOk result (λ text. (mark : MarkKind) × (time : List ℕ) × (info : List ℕ)
+        × (string_bytes text ≡ columns.packet_row number mark time datagram.now.ends
+        «record».now.direction size info)) }
+{
+    let missing = datagram.missing;
+    let mut time = String::new(alloc);
+    put_clock(&mut time, options.clock, start, &record.time)?;
+    let mut line = Page::new(alloc, Form::Text);
+    put_line(&mut line, " ", known.bases, seen, missing, is_wrong)?;
+    let is_refused = is_wrong || is_refused(missing, seen);
+    let mark = mark_of(options.is_colored, is_refused, known.is_repeated);
+    packet_row(
+        alloc,
+        number,
+        mark,
+        &time,
+        datagram.ends,
+        record.direction,
+        size,
+        line.text.trim_start(),
+    )
 }
 
 /// What a datagram shows.
@@ -347,12 +395,40 @@ pub fn shown_in(
     with_cut(seen, missing)
 }
 
+/// The text of a packet that is shown.
+fn shown_text(
+    alloc: Global,
+    options: &Options,
+    number: u64,
+    start: &Option<Time>,
+    record: &Record,
+    size: Size,
+    datagram: &Datagram<'_>,
+    seen: &Dissection,
+    known: Known,
+    is_wrong: bool,
+) -> Result<String, AllocError>
+    ensures { IfOk result (λ text. IsShownText options.now number «record».now.direction size
+        datagram.now.ends (string_bytes text)) }
+{
+    if in_columns(options.form, options.layout) {
+        return seen_row(
+            alloc, options, number, start, record, size, datagram, seen, known, is_wrong,
+        );
+    }
+    let shown = seen_text(
+        alloc, options, start, record, size, datagram, seen, known, is_wrong,
+    )?;
+    numbered(alloc, options.form, number, size, &shown)
+}
+
 /// The text of a packet. There is none where it does not have what is asked for.
 fn passed_text(
     alloc: Global,
     options: &Options,
     number: u64,
     record: &Record,
+    size: Size,
     datagram: &Datagram<'_>,
     seen: &Dissection,
     known: Known,
@@ -361,8 +437,9 @@ fn passed_text(
     ensures shown { IfOk result (λ text. passes options.now.filter
         (scenes.scene_of datagram.now.missing
         (is_wrong (sum_for options.now.sum datagram.now.missing) known.accepts_zero seen.now.header)
-        datagram.now.ends summary.old.start «record».now.time) seen.now ≡ true → (shown : List ℕ)
-        × (string_bytes text ≡ numbered_text options.now.form number shown)) }
+        datagram.now.ends summary.old.start «record».now.time) seen.now ≡ true
+        → IsShownText options.now number «record».now.direction size datagram.now.ends
+        (string_bytes text)) }
     ensures hidden { IfOk result (λ text. passes options.now.filter
         (scenes.scene_of datagram.now.missing
         (is_wrong (sum_for options.now.sum datagram.now.missing) known.accepts_zero seen.now.header)
@@ -384,17 +461,18 @@ fn passed_text(
         return Ok(String::new(alloc));
     }
     summary.count_packet(seen, is_wrong, missing);
-    let shown = seen_text(
+    shown_text(
         alloc,
         options,
+        number,
         &summary.start,
         record,
+        size,
         datagram,
         seen,
         known,
         is_wrong,
-    )?;
-    numbered(alloc, options.form, number, &shown)
+    )
 }
 
 /// The same by what the datagram shows.
@@ -403,28 +481,41 @@ fn packet_text<F: Follow>(
     options: &Options,
     number: u64,
     record: &Record,
+    size: Size,
     datagram: &Datagram<'_>,
     follower: &mut F,
     summary: &mut Summary,
 ) -> Result<String, AllocError>
-    ensures { IfOk result (λ text. IsPacketText options.now number datagram.now.bytes.now
-        datagram.now.missing datagram.now.ends «record».now.time (string_bytes text)) }
+    ensures { IfOk result (λ text. IsPacketText options.now number «record».now size
+        datagram.now.bytes.now datagram.now.missing datagram.now.ends (string_bytes text)) }
 {
     let sum = sum_for(options.sum, datagram.missing);
     let seen = shown_in(alloc, sum, datagram.bytes, datagram.missing)?;
     let known = follower.note(alloc, &seen, sum, datagram.ends)?;
     passed_text(
-        alloc, options, number, record, datagram, &seen, known, summary,
+        alloc, options, number, record, size, datagram, &seen, known, summary,
     )
 }
 
-/// A record's number, and what it shows.
-fn numbered(alloc: Global, form: Form, number: u64, shown: &str) -> Result<String, AllocError>
-    ensures { IfOk result (λ text. string_bytes text ≡ numbered_text form number shown.now) }
+/// A record's number, and what it shows. JSON has the length of its frame, too.
+fn numbered(
+    alloc: Global,
+    form: Form,
+    number: u64,
+    size: Size,
+    shown: &str,
+) -> Result<String, AllocError>
+    ensures { IfOk result (λ text. string_bytes text
+        ≡ numbered_text form number size shown.now) }
 {
     match form {
         Form::Text => format!(in alloc; "{number} {shown}"),
-        Form::Json => format!(in alloc; "{{\"record\":{number}{shown}"),
+        Form::Json => {
+            let mut text = format!(in alloc; "{{\"record\":{number}")?;
+            put_size_members(&mut text, size)?;
+            text.push_str(shown)?;
+            Ok(text)
+        }
     }
 }
 
@@ -443,17 +534,24 @@ fn fault_line(
     alloc: Global,
     options: &Options,
     number: u64,
+    record: &Record,
     fault: Fault,
     summary: &mut Summary,
 ) -> Result<String, AllocError>
-    ensures { IfOk result (λ text. string_bytes text ≡ fault_line options.now number fault) }
+    ensures { IfOk result (λ text. IsFaultText options.now number «record».now fault
+        (string_bytes text)) }
 {
     if !options.filter.asks_nothing() {
         summary.count_other();
         return Ok(String::new(alloc));
     }
     summary.count_fault(fault);
-    refused_text(alloc, options.form, number, fault)
+    if !in_columns(options.form, options.layout) {
+        return refused_text(alloc, options.form, number, fault);
+    }
+    let mut time = String::new(alloc);
+    put_clock(&mut time, options.clock, &summary.start, &record.time)?;
+    fault_row(alloc, number, &time, record, fault)
 }
 
 /// The text of a record that has a frame.
@@ -466,17 +564,18 @@ fn frame_text<F: Follow>(
     follower: &mut F,
     summary: &mut Summary,
 ) -> Result<String, AllocError>
-    ensures { IfOk result (λ text. IsFrameText options.now number «record».now.time
-        «record».now.link_type frame.now «record».now.lost (string_bytes text)) }
+    ensures { IfOk result (λ text. IsFrameText options.now number «record».now frame.now
+        (string_bytes text)) }
 {
-    match datagram_in(
-        record.link_type,
-        frame.as_slice(),
-        record.lost,
-        options.port,
-    ) {
-        Ok(datagram) => packet_text(alloc, options, number, record, &datagram, follower, summary),
-        Err(fault) => fault_line(alloc, options, number, fault, summary),
+    let bytes = frame.as_slice();
+    match datagram_in(record.link_type, bytes, record.lost, options.port) {
+        Ok(datagram) => {
+            let size = size_of(record, bytes, &datagram);
+            packet_text(
+                alloc, options, number, record, size, &datagram, follower, summary,
+            )
+        }
+        Err(fault) => fault_line(alloc, options, number, record, fault, summary),
     }
 }
 
@@ -494,6 +593,6 @@ pub fn record_text<F: Follow>(
     summary.note_time(&record.time);
     match &record.frame {
         Ok(frame) => frame_text(alloc, options, number, record, frame, follower, summary),
-        Err(fault) => fault_line(alloc, options, number, *fault, summary),
+        Err(fault) => fault_line(alloc, options, number, record, *fault, summary),
     }
 }

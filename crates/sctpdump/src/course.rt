@@ -3,7 +3,7 @@
 use crate::save::{Saved, save};
 use sctp_follow::summarize::{Past, Take, end_all, take_each};
 use sctp_show::follow::Follow;
-use sctp_show::run::{self, Counts, RunFault, run};
+use sctp_show::run::{self, Counts, RunFault, begin, run};
 use sctp_show::text::Options;
 use std::alloc::{AllocError, Global};
 use std::io::{Read, Write};
@@ -31,6 +31,8 @@ pub trait Course<W: Write> {
 pub struct Printed<F: Follow + Drop> {
     course: run::Course,
     follower: F,
+    /// Whether what stands above the records is written.
+    is_begun: bool,
 }
 
 impl<F: Follow + Drop> Printed<F> {
@@ -39,6 +41,7 @@ impl<F: Follow + Drop> Printed<F> {
         Ok(Printed {
             course: run::Course::new(alloc)?,
             follower,
+            is_begun: false,
         })
     }
 }
@@ -51,6 +54,10 @@ impl<F: Follow + Drop, W: Write> Course<W> for Printed<F> {
         input: R,
         output: &mut W,
     ) -> Result<(), RunFault> {
+        if !self.is_begun {
+            begin(alloc, options, output)?;
+            self.is_begun = true;
+        }
         run(
             alloc,
             options,

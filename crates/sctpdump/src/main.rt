@@ -26,6 +26,7 @@ use sctp_follow::svg::Pictures;
 use sctp_follow::track::Tracker;
 use sctp_show::checksum::Sum;
 use sctp_show::choice::Choice;
+use sctp_show::columns::Layout;
 use sctp_show::follow::Alone;
 use sctp_show::page::Form;
 use sctp_show::run::{Counts, RunFault};
@@ -52,7 +53,7 @@ const FILTER_WORDS: &str =
 
 /// What is printed in place of packets.
 const VIEW_WORDS: &str =
-    "--summary, --flow, --messages, --acks, --channels and --svg do not go together, nor --flow or --svg with --json or -V, nor --messages, --acks or --channels with -V";
+    "--summary, --flow, --messages, --acks, --channels and --svg do not go together, nor --flow or --svg with --json or -V, nor --messages, --acks or --channels with -V, nor --columns with any of them, -V or --json";
 
 /// What the color, the numbers and the picture may be.
 const COLOR_WORDS: &str = "--color is auto, always or never";
@@ -76,6 +77,9 @@ const RELATIVE_HELP: &str =
 
 const COLOR_HELP: &str =
     "Color packets that are refused, have a wrong checksum or repeat a TSN: auto (on a terminal), always or never";
+
+const COLUMNS_HELP: &str =
+    "Print packets in columns, below a line that names them: number, time, source, destination, length of the frame, and what it holds";
 
 const JSON_HELP: &str = "Print each record as a JSON object on a line, with all that it says";
 
@@ -101,7 +105,7 @@ const WRITE_HELP: &str =
 
 /// With what `-w` does not go together.
 const WRITE_WORDS: &str =
-    "-w does not go with another view, -V or --json, and its FILE is none of those that are read";
+    "-w does not go with another view, -V, --columns or --json, and its FILE is none of those that are read";
 
 const COUNT_HELP: &str = "End after COUNT records are shown";
 
@@ -158,6 +162,7 @@ fn report_fault(rt: &HostRuntime, name: &str, fault: RunFault) -> anyhow::Result
         RunFault::Output(code) => report_output(rt, name, system_error(code)),
         RunFault::Memory => report(rt, name, "out of memory"),
         RunFault::Other(kind) => report(rt, name, kind),
+        RunFault::TooMany => report(rt, name, "more than 2^64 - 1 records"),
     }
 }
 
@@ -477,6 +482,7 @@ fn with_forms<'a>(alloc: Global, command: Command<'a>) -> Result<Command<'a>, Al
         .arg(valued(alloc, "times", "FORMAT", TIMES_HELP).short('t'))?
         .arg(flag(alloc, "relative", RELATIVE_HELP))?
         .arg(valued(alloc, "color", "WHEN", COLOR_HELP))?
+        .arg(flag(alloc, "columns", COLUMNS_HELP))?
         .arg(flag(alloc, "json", JSON_HELP))?
         .arg(flag(alloc, "summary", SUMMARY_HELP))?
         .arg(flag(alloc, "flow", FLOW_HELP))?
@@ -542,10 +548,11 @@ fn files_in<'a>(alloc: Global, matches: &ArgMatches<'a>) -> Result<Vec<&'a str>,
     Ok(files)
 }
 
-/// What is to be printed. Ladders and pictures have one form, and but for records nothing is printed in full.
+/// What is to be printed. Ladders and pictures have one form, and but for records nothing is printed in full or in columns.
 fn view_in(matches: &ArgMatches<'_>) -> Option<View> {
     let is_json = matches.get_flag("json");
     let is_full = matches.get_flag("full");
+    let is_columns = matches.get_flag("columns");
     let flags = (
         matches.get_flag("summary"),
         matches.get_flag("flow"),
@@ -555,7 +562,9 @@ fn view_in(matches: &ArgMatches<'_>) -> Option<View> {
         matches.get_str("svg").is_some(),
     );
     match flags {
-        (false, false, false, false, false, false) => Some(View::Records),
+        (false, false, false, false, false, false) if !is_columns => Some(View::Records),
+        (false, false, false, false, false, false) if !is_json && !is_full => Some(View::Records),
+        _ if is_columns => None,
         (true, false, false, false, false, false) => Some(View::Summary),
         (false, true, false, false, false, false) if !is_json && !is_full => Some(View::Ladders),
         (false, false, true, false, false, false) if !is_full => Some(View::Messages),
@@ -580,9 +589,18 @@ fn is_saved(saved: Option<&str>, view: View, options: &Options, files: &[&str]) 
         return true;
     };
     view == View::Records
-        && !options.is_full
+        && options.layout == Layout::Lines
         && options.form == Form::Text
         && (path == "-" || !files.contains(&path))
+}
+
+/// How records stand that are printed as text.
+fn layout_in(matches: &ArgMatches<'_>) -> Layout {
+    match (matches.get_flag("full"), matches.get_flag("columns")) {
+        (true, _) => Layout::Blocks,
+        (false, true) => Layout::Columns,
+        (false, false) => Layout::Lines,
+    }
 }
 
 /// How records are to be looked at, if the port and the count are numbers that can be.
@@ -608,7 +626,7 @@ fn options_in(
         sum,
         port,
         form,
-        is_full: matches.get_flag("full"),
+        layout: layout_in(matches),
         clock,
         is_colored: is_colored && form == Form::Text,
         filter,

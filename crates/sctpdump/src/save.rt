@@ -133,5 +133,5 @@ pub fn save<R: Read + Drop, W: Write>(
             Taken::End => return Ok(()),
         }
     }
-    Err(RunFault::Input(None))
+    Err(RunFault::TooMany)
 }
