@@ -6,6 +6,7 @@
     python3 evidence/bench_page.py --times < TIMES                          the rows of times as a table
     python3 evidence/bench_page.py --exchange OURS RUST > docs/exchange.svg picture: instructions of a message over its size
     python3 evidence/bench_page.py --exchange-table OURS RUST               the same as a table
+    python3 evidence/bench_page.py --goals OURS RUST                        the rows that have a goal, in instructions, beside it
     python3 evidence/bench_page.py --parts OURS RUST                        instructions of all other rows that both have
 
 GROWTH is what `bench growth` prints, TIMES what `bench times` or `bench times --against FILE` does. A line of GROWTH has a call, its
@@ -26,6 +27,31 @@ EXCHANGES = (
     ("1,200 bytes", 1200, "exchange of 1200 bytes, a message a packet"),
     ("16 KiB", 16_384, "exchange of 16384 bytes, steady"),
     ("64 KiB", 65_536, "64 KiB in packets"),
+)
+# a label, the row's name, where {} is the sum, and the greatest ratio wanted: under sum 0 and CRC-32C, or the one for a row without sums
+GOALS = (
+    ("100 bytes, a SACK each", "exchange of 100 bytes, a message a packet, {}", 0.5, 0.5),
+    ("100 bytes, a caller with `?`", "exchange of 100 bytes, a message a packet, with ?, {}", 0.6, 0.6),
+    ("1,200 bytes, a SACK each", "exchange of 1200 bytes, a message a packet, {}", 0.5, 0.6),
+    ("1,200 bytes, a caller with `?`", "exchange of 1200 bytes, a message a packet, with ?, {}", None, None),
+    ("100 bytes, ten a packet", "exchange of 100 bytes, ten messages a packet, {}", 0.5, 0.6),
+    ("100 bytes, ten a packet, a caller with `?`", "exchange of 100 bytes, ten messages a packet, with ?, {}", None, None),
+    ("16 KiB", "exchange of 16384 bytes, steady, {}", None, None),
+    ("64 KiB", "exchange of 65536 bytes, steady, {}", 0.4, 0.6),
+    ("64 KiB, by new hosts", "64 KiB in packets, {}", None, None),
+    ("100 bytes, 1,000 pairs in turn", "exchange of 100 bytes, 1000 pairs in turn, {}", None, None),
+    ("100 bytes, 10,000 pairs in turn", "exchange of 100 bytes, 10000 pairs in turn, {}", None, 0.6),
+    ("`acked` of one chunk, 64 in flight", "Sender::acked over 64", 0.9),
+    ("the same, 1,000 in flight", "Sender::acked over 1000", None),
+    ("`sack` with nothing to tell", "Receiver::sack over 0", 1.2),
+    ("`read` of a message of one chunk", "Receiver::read over 64", 0.9),
+    ("`mark_as_acked`, 1,000 held", "mark_as_acked over 1000", 1),
+    ("SACK of one block, written", "SACK of 1 blocks written", 0.8),
+    ("gap ack blocks of 500 in runs of four", "gap ack blocks of 500 in runs of 4", 0.5),
+    ("of 500 apart", "gap ack blocks of 500 in runs of 1", 0.4),
+    ("`unmarshal` of a DATA chunk of 1,200 bytes, sum 0", "unmarshal", 0.6),
+    ("`marshal_to` of it", "marshal_to", 0.7),
+    ("ordered 64 KiB, 55 fragments in order", "ordered in order", 0.35),
 )
 BARS = (("here", "#1a7f37"), ("Rust crate", "url(#hatch)"), ("kept buffer", "#fff"), ("limit", "#222"))
 UNITS = ((10**9, "s"), (10**6, "ms"), (10**3, "µs"), (1, "ns"))
@@ -163,6 +189,18 @@ def exchange_table(ours, rust):
     return "\n".join([*out, ""])
 
 
+def goals_table(ours, rust):
+    """Returns the table of rows that have a goal, in instructions."""
+    out = ["row | here | Rust crate | ratio | goal | met", "---|---|---|---|---|---"]
+    for name, row, *goals in GOALS:
+        for sum_name, goal in zip(("sum 0", "CRC-32C") if len(goals) > 1 else ("",), goals):
+            here, there = ours[row.format(sum_name)], rust[row.format(sum_name)]
+            met = "" if goal is None else "yes" if here <= goal * there else "no"
+            label = f"{name}, {sum_name}" if sum_name else name
+            out.append(f"{label} | {here:,} | {there:,} | {ratio_of(here, there)} | {goal or ''} | {met}")
+    return "\n".join([*out, ""])
+
+
 def parts_table(ours, rust):
     """Returns the table of the other rows that both have, in instructions."""
     out = ["row | here | Rust crate | here / Rust", "---|---|---|---"]
@@ -182,6 +220,8 @@ def main():
         print(exchange_picture(*map(instructions_in, what[1:])), end="")
     elif what[:1] == ["--exchange-table"] and len(what) == 3:
         print(exchange_table(*map(instructions_in, what[1:])), end="")
+    elif what[:1] == ["--goals"] and len(what) == 3:
+        print(goals_table(*map(instructions_in, what[1:])), end="")
     elif what[:1] == ["--parts"] and len(what) == 3:
         print(parts_table(*map(instructions_in, what[1:])), end="")
     elif what == ["--times"]:

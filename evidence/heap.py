@@ -2,9 +2,13 @@
 """What heap an association holds beside usrsctp: idle, and after a message on each of 100 streams.
 
     python3 evidence/heap.py [--ours PROGRAM]
+    python3 evidence/heap.py --states N PROGRAM
 
 PROGRAM is crates/assocrun/out/assocrun unless told otherwise (`rt run` makes it). Two hosts of a kind talk with no delay; evidence/heap_count.c, preloaded,
 counts the blocks that are live. usrsctp's host and the counter are built here: Debian's libusrsctp-dev, and gcc or the CC given, are needed.
+
+With --states PROGRAM is `bench` or `rust_side`, and holds N pairs of a sender and a receiver in one state after another. The bytes and blocks of each state
+are those beyond the last state before it in which nothing was held, of one pair.
 """
 import argparse
 import os
@@ -79,13 +83,31 @@ class Heap:
         return idle, many
 
 
+def states(program, count, library):
+    """Prints the heap of each state of so many pairs, and of one receiver."""
+    env = dict(os.environ, LD_PRELOAD=library, HEAP_AT_LINES="1")
+    done = subprocess.run([program, "heap", count], env=env, capture_output=True, text=True, check=True)
+    before, pairs = (0, 0), int(count)
+    for line, heap in zip(done.stdout.splitlines(), done.stderr.splitlines(), strict=True):
+        live = tuple(map(int, heap.split()))
+        if line.startswith(("none", "a receiver")):
+            before, pairs = live, int(count) if line.startswith("none") else 1
+        else:
+            held, blocks = live[0] - before[0], live[1] - before[1]
+            print(f"{line}: {held / pairs:,.0f} bytes in {blocks / pairs:,.1f} blocks")
+
+
 def main():
     parser = argparse.ArgumentParser()
     parser.add_argument("--ours", default=f"{TOP}/crates/assocrun/out/assocrun")
+    parser.add_argument("--states", nargs=2, metavar=("N", "PROGRAM"))
     args = parser.parse_args()
     with tempfile.TemporaryDirectory() as folder:
         library = f"{folder}/heap_count.so"
         subprocess.run([os.environ.get("CC", "gcc"), "-std=gnu99", "-O2", f"{TOP}/evidence/heap_count.c", "-shared", "-fPIC", "-o", library], check=True)
+        if args.states:
+            states(args.states[1], args.states[0], library)
+            return
         for name, command in (("ours", [args.ours]), ("usrsctp", [build_usrsctp(folder)])):
             heap = Heap(command, library)
             idle, many = heap.measure()

@@ -1,5 +1,5 @@
 /* Counts the heap that a program holds: preloaded, it writes to standard error, at each SIGUSR1, the bytes of the blocks that are live, as
- * malloc_usable_size has them, and their number.
+ * malloc_usable_size has them, and their number. With HEAP_AT_LINES in the environment it does so after each write to standard output too.
  *
  *     gcc -shared -fPIC -O2 heap_count.c -o heap_count.so; LD_PRELOAD=./heap_count.so PROGRAM */
 #define _GNU_SOURCE
@@ -8,6 +8,7 @@
 #include <signal.h>
 #include <stdio.h>
 #include <stdlib.h>
+#include <sys/syscall.h>
 #include <unistd.h>
 
 static long bytes, blocks;
@@ -57,6 +58,12 @@ static void tell(int number) {
     int n = snprintf(text, sizeof text, "%ld %ld\n", bytes, blocks);
     (void)number;
     if (write(2, text, (size_t)n) < 0) _exit(3);
+}
+
+ssize_t write(int file, const void *from, size_t n) {
+    ssize_t wrote = syscall(SYS_write, file, from, n);
+    if (file == 1 && getenv("HEAP_AT_LINES")) tell(0);
+    return wrote;
 }
 
 __attribute__((constructor)) static void begin(void) {

@@ -4,6 +4,7 @@
     python3 evidence/instructions.py PROGRAM > FILE                     a line of FILE: a row's name, a tab, instructions
     python3 evidence/instructions.py PROGRAM --word WORD                the same of rows in whose name WORD stands (`rust_side` alone)
     python3 evidence/instructions.py PROGRAM --profile ROW              the functions in which the instructions of a row are
+    python3 evidence/instructions.py PROGRAM --profiles WHERE > FILE    each row, and WHERE gets the functions of each
 
 PROGRAM runs under valgrind, which counts between two looks at the clock; evidence/clock.c, preloaded, lets a few runs of a row be enough. The shortest
 counts. Between the looks are all instructions of a run, and none of what was prepared for it. gcc or the CC given, and valgrind, are needed.
@@ -36,7 +37,8 @@ def units_of(row):
         return 4000
     if row.startswith("exchange"):
         return CALLS * (10 if "ten messages" in row else 1)
-    return CALLS if re.match(r"limit|SACK|Sender::acked over|Receiver::data_each", row) else 1
+    calls = r"limit|SACK|mark_as_acked|Sender::(acked|close) over|Receiver::(close|sack|read) over|Receiver::data_each"
+    return CALLS if re.match(calls, row) else 1
 
 
 def dumps_in(folder):
@@ -105,6 +107,7 @@ def main():
     parser.add_argument("program")
     parser.add_argument("--word")
     parser.add_argument("--profile")
+    parser.add_argument("--profiles", type=argparse.FileType("w"))
     args = parser.parse_args()
     with tempfile.TemporaryDirectory() as folder:
         lines = run(args.program, [args.word] if args.word else [], folder)
@@ -115,6 +118,9 @@ def main():
                     print(f"{own / units_of(row):.0f}\t{name}")
             elif not args.profile:
                 print(f"{row}\t{count / units_of(row):.0f}", flush=True)
+            if args.profiles:
+                functions = (f"\t{own / units_of(row):.0f}\t{name}" for name, own in profile_of(file))
+                print(row, *functions, sep="\n", file=args.profiles, flush=True)
 
 
 if __name__ == "__main__":

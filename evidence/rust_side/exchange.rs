@@ -2,7 +2,7 @@
 //!
 //! The steps are those that an association needs of the crate's private parts, without timers, windows and a map of streams, as crates/bench has
 //! them without ours.
-use crate::parts::{CALLS, FRAGMENT, STREAM, TEXT};
+use crate::parts::{fragment, CALLS, FRAGMENT, STREAM, TEXT};
 use crate::{timed, Measured, Row};
 use bytes::{Bytes, BytesMut};
 use sctp_proto::association::stream::{ReliabilityType, StreamState};
@@ -12,7 +12,9 @@ use sctp_proto::chunk::Chunk;
 use sctp_proto::packet::{CommonHeader, Packet};
 use sctp_proto::queue::outbound_queue::OutboundQueue;
 use sctp_proto::queue::payload_queue::PayloadQueue;
+use sctp_proto::error::Error;
 use sctp_proto::Side;
+use std::hint::black_box;
 use std::sync::LazyLock;
 use std::time::Instant;
 
@@ -30,17 +32,33 @@ pub enum Writer {
 }
 
 impl Writer {
-    fn write(&mut self, packet: &Packet) -> Bytes {
+    fn write(&mut self, packet: &Packet) -> Result<Bytes, Error> {
         match self {
-            Writer::New => packet.marshal().expect("a packet"),
+            Writer::New => packet.marshal(),
             Writer::Kept(buf) => {
                 buf.clear();
-                packet.marshal_to(buf).expect("a packet");
-                Bytes::copy_from_slice(buf)
+                packet.marshal_to(buf)?;
+                Ok(Bytes::copy_from_slice(buf))
             }
         }
     }
 }
+
+/// Why an exchange of a caller with an error type ended early.
+#[derive(Debug)]
+#[allow(dead_code)]
+pub enum Fault {
+    Crate(Error),
+    OtherChunks,
+}
+
+impl From<Error> for Fault {
+    fn from(error: Error) -> Fault {
+        Fault::Crate(error)
+    }
+}
+
+const HEADER: CommonHeader = CommonHeader { source_port: 5000, destination_port: 5001, verification_tag: 1 };
 
 /// How many bytes a receiver lets wait.
 const WINDOW: u32 = 1 << 20;
@@ -97,6 +115,10 @@ impl Pair {
             self.arrived.push(chunk.clone(), self.last_tsn);
             let _ = self.into.handle_data(chunk);
         }
+        self.advance();
+    }
+
+    fn advance(&mut self) {
         while self.arrived.pop(self.last_tsn.wrapping_add(1)).is_some() {
             self.last_tsn = self.last_tsn.wrapping_add(1);
         }
@@ -128,8 +150,7 @@ impl Pair {
 
     /// Chunks go in a packet, as bytes, and come out.
     fn carry(&mut self, chunks: Vec<Box<dyn Chunk + Send + Sync>>, writer: &mut Writer) {
-        let common_header = CommonHeader { source_port: 5000, destination_port: 5001, verification_tag: 1 };
-        let datagram = writer.write(&Packet { common_header, chunks });
+        let datagram = writer.write(&Packet { common_header: HEADER, chunks }).expect("a packet");
         let packet = Packet::unmarshal(&datagram).expect("a packet");
         for chunk in &packet.chunks {
             if let Some(data) = chunk.as_any().downcast_ref::<ChunkPayloadData>() {
@@ -184,6 +205,51 @@ impl Pair {
         self.acknowledge(writer);
     }
 
+    /// As `data`, `carry` and `exchange_short`, for a caller with an error type.
+    fn try_data(&mut self, chunk: &ChunkPayloadData) -> Result<(), Fault> {
+        if self.arrived.can_push(chunk, self.last_tsn) {
+            self.arrived.push(chunk.clone(), self.last_tsn);
+            self.into.handle_data(chunk)?;
+        }
+        self.advance();
+        Ok(())
+    }
+
+    fn try_carry(&mut self, chunks: Vec<Box<dyn Chunk + Send + Sync>>, writer: &mut Writer) -> Result<(), Fault> {
+        let datagram = writer.write(&Packet { common_header: HEADER, chunks })?;
+        let packet = Packet::unmarshal(&datagram)?;
+        for chunk in &packet.chunks {
+            if let Some(data) = chunk.as_any().downcast_ref::<ChunkPayloadData>() {
+                self.try_data(data)?;
+            } else if let Some(sack) = chunk.as_any().downcast_ref::<ChunkSelectiveAck>() {
+                self.acked(sack);
+            } else {
+                return Err(Fault::OtherChunks);
+            }
+        }
+        Ok(())
+    }
+
+    pub fn try_exchange(&mut self, messages: usize, text: &Bytes, writer: &mut Writer) -> Result<usize, Fault> {
+        (0..messages).for_each(|_| self.write(text));
+        let chunks = self.send(messages);
+        self.try_carry(chunks, writer)?;
+        let read = (0..messages).map(|_| self.read()).sum();
+        let sack = self.sack();
+        self.try_carry(vec![Box::new(sack)], writer)?;
+        Ok(read)
+    }
+
+    /// Takes and reads so many unordered messages of a byte, of every second TSN from the first on, and gives how many bytes that were.
+    #[cfg(feature = "heap")]
+    pub fn take_apart(&mut self, first: u32, count: u32) -> usize {
+        let mut take_and_read = |place| {
+            self.data(&fragment(first + 2 * place, true, true, true, text_of(1)));
+            self.read()
+        };
+        (0..count).map(|place| take_and_read(place)).sum()
+    }
+
     pub fn exchange(&mut self, messages: usize, text: &Bytes, writer: &mut Writer) -> usize {
         if text.len() > FRAGMENT {
             self.exchange_long(text, writer)
@@ -214,6 +280,69 @@ fn exchanges(count: u32, messages: usize, length: usize, is_kept: bool) -> Measu
     })
 }
 
+/// The same of short messages by a caller with an error type.
+fn try_exchanges(count: u32, messages: usize, length: usize, is_kept: bool) -> Measured {
+    let mut pair = Pair::new();
+    let text = text_of(length);
+    timed(|| {
+        let mut writer = writer_of(is_kept);
+        (0..count).map(|_| pair.try_exchange(messages, &text, &mut writer)).sum::<Result<usize, Fault>>()
+    })
+    .map(|read| read.expect("exchanges"))
+}
+
+/// A pair of which so many messages of a byte are in flight, or came.
+fn held(count: u32, is_sent: bool) -> Pair {
+    let mut pair = Pair::new();
+    for tsn in 1..=count {
+        if is_sent {
+            pair.write(&text_of(1));
+            pair.send(1);
+        } else {
+            pair.data(&fragment(tsn + 1, true, true, true, text_of(1)));
+        }
+    }
+    pair
+}
+
+/// SACKs of one chunk more, while so many are in flight.
+fn acked(count: u32) -> Measured {
+    let mut pair = held(count, true);
+    let sack_to = |tsn| ChunkSelectiveAck {
+        cumulative_tsn_ack: tsn,
+        advertised_receiver_window_credit: WINDOW,
+        gap_ack_blocks: vec![],
+        duplicate_tsn: vec![],
+    };
+    timed(|| {
+        (1..=CALLS).for_each(|tsn| pair.acked(black_box(&sack_to(tsn))));
+        pair.acked_to as usize
+    })
+}
+
+/// SACKs with nothing to tell.
+fn sacks() -> Measured {
+    let mut pair = Pair::new();
+    timed(|| (0..CALLS).map(|_| black_box(pair.sack()).gap_ack_blocks.len()).sum())
+}
+
+/// Reads of so many messages that came.
+fn reads(count: u32) -> Measured {
+    let mut pair = held(count, false);
+    timed(|| (0..CALLS).map(|_| pair.read()).sum())
+}
+
+/// The rows of calls of a sender and of a receiver.
+pub fn calls() -> Vec<Row> {
+    let mut rows = vec![];
+    for count in [64, 1000] {
+        rows.push(Row::new(format!("Sender::acked over {count}"), CALLS, move || acked(count)));
+    }
+    rows.push(Row::new("Receiver::sack over 0", CALLS, sacks));
+    rows.push(Row::new("Receiver::read over 64", CALLS, || reads(64)));
+    rows
+}
+
 /// An exchange of each of many pairs that each had one, in turn.
 fn in_turn(pairs: u32, length: usize, is_kept: bool) -> Measured {
     let text = text_of(length);
@@ -231,6 +360,8 @@ pub fn rows(sum: &'static str) -> Vec<Row> {
         for (length, messages, load) in [(100, 1, "a message"), (100, 10, "ten messages"), (1200, 1, "a message")] {
             let name = format!("exchange of {length} bytes, {load} a packet,{kept} {sum}");
             rows.push(Row::new(name, CALLS * messages as u32, move || exchanges(CALLS, messages, length, is_kept)));
+            let name = format!("exchange of {length} bytes, {load} a packet, with ?,{kept} {sum}");
+            rows.push(Row::new(name, CALLS * messages as u32, move || try_exchanges(CALLS, messages, length, is_kept)));
         }
         rows.push(Row::new(format!("64 KiB in packets,{kept} {sum}"), 1, move || exchanges(1, 1, 65_536, is_kept)));
         for length in [16_384, 65_536] {

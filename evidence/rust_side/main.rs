@@ -65,7 +65,7 @@ impl Row {
 
 fn all_rows() -> Vec<Row> {
     if cfg!(feature = "zero") {
-        exchange::rows("sum 0").into_iter().chain(limit::rows()).chain(parts::rows()).collect()
+        exchange::rows("sum 0").into_iter().chain(limit::rows()).chain(exchange::calls()).chain(parts::rows()).collect()
     } else {
         exchange::rows("CRC-32C").into_iter().chain(parts::sums()).collect()
     }

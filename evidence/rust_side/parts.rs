@@ -44,7 +44,7 @@ fn number_at(place: u32, count: u32, order: Order) -> u32 {
     }
 }
 
-fn fragment(tsn: u32, unordered: bool, first: bool, last: bool, user_data: Bytes) -> ChunkPayloadData {
+pub fn fragment(tsn: u32, unordered: bool, first: bool, last: bool, user_data: Bytes) -> ChunkPayloadData {
     ChunkPayloadData {
         unordered,
         beginning_fragment: first,
@@ -141,13 +141,40 @@ fn push_all(count: u32) -> Measured {
     .map(|queue| queue.pending_len())
 }
 
-fn sack(count: u16) -> Measured {
-    let sack = ChunkSelectiveAck {
+/// A SACK of so many blocks of one TSN each.
+fn sack_of(count: u16) -> ChunkSelectiveAck {
+    ChunkSelectiveAck {
         cumulative_tsn_ack: 0,
         advertised_receiver_window_credit: 65_536,
         gap_ack_blocks: (1..=count).map(|it| GapAckBlock { start: 2 * it, end: 2 * it }).collect(),
         duplicate_tsn: vec![],
-    };
+    }
+}
+
+/// Writes it into a buffer that has room.
+fn write_sack(count: u16) -> Measured {
+    let (sack, mut buf) = (sack_of(count), BytesMut::new());
+    sack.marshal_to(&mut buf).expect("room");
+    timed(|| {
+        let again = |_| {
+            buf.clear();
+            black_box(&sack).marshal_to(&mut buf).unwrap_or(0)
+        };
+        (0..CALLS).map(again).sum()
+    })
+}
+
+/// Marks chunks here and there among so many.
+fn mark(held: u32) -> Measured {
+    let mut queue = PayloadQueue::new();
+    (1..=held).for_each(|tsn| {
+        queue.push(whole(tsn), 0);
+    });
+    timed(|| (0..CALLS).map(|turn| queue.mark_as_acked(turn * 7919 % held + 1)).sum())
+}
+
+fn sack(count: u16) -> Measured {
+    let sack = sack_of(count);
     let again = || {
         let mut buf = BytesMut::new();
         sack.marshal_to(&mut buf).ok()?;
@@ -205,7 +232,7 @@ pub fn rows() -> Vec<Row> {
     for count in [1000, 10_000] {
         rows.push(Row::new(format!("send_next over {count}"), count, move || send_all(count)));
     }
-    for (held, run) in [(500, 500), (500, 2), (500, 1), (5000, 1)] {
+    for (held, run) in [(500, 500), (500, 2), (500, 4), (500, 1), (5000, 1)] {
         rows.push(Row::new(format!("gap ack blocks of {held} in runs of {run}"), 1, move || gap_blocks(held, run)));
     }
     for (unordered, delivery) in [(false, "ordered"), (true, "unordered")] {
@@ -220,5 +247,7 @@ pub fn rows() -> Vec<Row> {
     for count in [1, 100] {
         rows.push(Row::new(format!("SACK of {count} blocks written and read"), CALLS, move || sack(count)));
     }
+    rows.push(Row::new("SACK of 1 blocks written", CALLS, || write_sack(1)));
+    rows.push(Row::new("mark_as_acked over 1000", CALLS, || mark(1000)));
     rows
 }

@@ -34,8 +34,8 @@ pub fn messages_of(load: Load) -> u32
     }
 }
 
-// The message.
-fn text_of(load: Load) -> Bytes {
+/// The message.
+pub fn text_of(load: Load) -> Bytes {
     match load {
         Load::Full => Bytes::from_static(&TEXT),
         Load::Short | Load::Ten => Bytes::from_static(&TEXT[..100]),
@@ -75,8 +75,8 @@ fn sends<C: Checksum>(ends: &mut Ends, writer: &mut PacketWriter, messages: u32,
     comes_each(ends, writer, messages, sum)
 }
 
-// So many messages are read; how many bytes.
-fn reads(ends: &mut Ends, messages: u32) -> usize {
+/// So many messages are read; how many bytes.
+pub fn reads(ends: &mut Ends, messages: u32) -> usize {
     let mut bytes = 0usize;
     for _ in 0..messages {
         let Ok(message) = ends.receiver.read(STREAM) else {
@@ -87,8 +87,8 @@ fn reads(ends: &mut Ends, messages: u32) -> usize {
     bytes
 }
 
-// One exchange: messages are written, sent, read and acknowledged; how many bytes were read.
-fn exchanges<C: Checksum>(
+/// One exchange: messages are written, sent, read and acknowledged; how many bytes were read.
+pub fn exchanges<C: Checksum>(
     ends: &mut Ends,
     writer: &mut PacketWriter,
     load: Load,

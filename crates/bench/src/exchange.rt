@@ -1,9 +1,9 @@
-//! A message of 64 KiB from a sender to a receiver, each chunk in a packet, and the SACKs back.
+//! Messages of 16 or 64 KiB from a sender to a receiver, each chunk in a packet, and the SACKs back.
 
 use crate::ends::Ends;
 use crate::reassembly::length_of;
-use crate::stream::text;
-use crate::subject::{FRAGMENTS, STREAM};
+use crate::stream::{quarter, text};
+use crate::subject::{FRAGMENTS, QUARTER_FRAGMENTS, STREAM, Size};
 use bytes::Bytes;
 use sctp_chunks::chunk::Chunk;
 use sctp_chunks::chunk::chunk_kind::ChunkKind;
@@ -80,8 +80,8 @@ fn arrives<K: Chunk, C: Checksum>(
     comes_each(ends, writer, 1, sum)
 }
 
-// The next fragment is sent, and comes.
-fn sends<C: Checksum>(ends: &mut Ends, writer: &mut PacketWriter, sum: &C) -> bool {
+/// The next fragment is sent, and comes.
+pub fn sends<C: Checksum>(ends: &mut Ends, writer: &mut PacketWriter, sum: &C) -> bool {
     match ends.sender.send_next(0) {
         Ok(Some(chunk)) => arrives(ends, writer, &chunk, sum),
         _ => false,
@@ -96,21 +96,26 @@ pub fn acknowledges<C: Checksum>(ends: &mut Ends, writer: &mut PacketWriter, sum
     }
 }
 
-/// Writes the message, carries it over, acknowledges every second packet and the last, and gives how many bytes were read.
-pub fn exchange<C: Checksum>(ends: &mut Ends, sum: &C) -> usize {
+// The message, and how many fragments it has.
+fn message_of(size: Size) -> (Bytes, u16) {
+    match size {
+        Size::Kib16 => (quarter(), QUARTER_FRAGMENTS),
+        Size::Kib64 => (text(), FRAGMENTS),
+    }
+}
+
+// Writes a message, carries it over, acknowledges every second packet and the last, and gives how many bytes were read.
+fn carries<C: Checksum>(ends: &mut Ends, writer: &mut PacketWriter, size: Size, sum: &C) -> usize {
+    let (message, fragments) = message_of(size);
     let written = ends
         .sender
-        .write(STREAM, PayloadProtocolIdentifier::Binary, &text());
+        .write(STREAM, PayloadProtocolIdentifier::Binary, &message);
     if written.is_err() {
         return 0;
     }
-    let Ok(mut writer) = PacketWriter::new(ends.alloc, LIMIT) else {
-        return 0;
-    };
-    for place in 0..FRAGMENTS {
-        if !sends(ends, &mut writer, sum)
-            || place % 2 == 0 && !acknowledges(ends, &mut writer, sum)
-        {
+    for place in 0..fragments {
+        let is_acknowledged = fragments.wrapping_sub(place) % 2 == 1;
+        if !sends(ends, writer, sum) || is_acknowledged && !acknowledges(ends, writer, sum) {
             return 0;
         }
     }
@@ -118,4 +123,16 @@ pub fn exchange<C: Checksum>(ends: &mut Ends, sum: &C) -> usize {
         Ok(message) => length_of(message),
         Err(_) => 0,
     }
+}
+
+/// Carries so many messages over, one after another, and gives how many bytes were read.
+pub fn exchange<C: Checksum>(ends: &mut Ends, size: Size, count: u32, sum: &C) -> usize {
+    let Ok(mut writer) = PacketWriter::new(ends.alloc, LIMIT) else {
+        return 0;
+    };
+    let mut bytes = 0usize;
+    for _ in 0..count {
+        bytes = bytes.saturating_add(carries(ends, &mut writer, size, sum));
+    }
+    bytes
 }

@@ -5,18 +5,22 @@
 //!     bench times --against FILE     and beside it what FILE says of the row, and the ratio; a line of FILE is a row's name, a tab, and
 //!                                    nanoseconds
 //!     bench growth                   prints how the time of a call grows with what is held
+//!     bench heap N                   holds N pairs in one state after another, and prints a line at each
 #![tactic(auto)]
 
 mod against;
+mod asking;
 mod ends;
 mod everyday;
 mod exchange;
 mod growth;
+mod heap;
 mod linking;
 mod names;
 mod outbound;
 mod packet;
 mod packets;
+mod pairs;
 mod payload;
 mod reassembly;
 mod receiving;
@@ -35,7 +39,7 @@ use std::process::ExitCode;
 use std::{env, fs};
 
 /// What the command line may be.
-const USAGE: &str = "bench [times [--against FILE] | growth]";
+const USAGE: &str = "bench [times [--against FILE] | growth | heap N]";
 
 // Prints what came out, and the times that a table is asked for.
 fn run(rt: &HostRuntime, table: &Table<'_>) -> anyhow::Result<ExitCode> {
@@ -58,6 +62,16 @@ fn run_against(rt: &HostRuntime, file: &str) -> anyhow::Result<ExitCode> {
             others: text.as_str(),
         },
     )
+}
+
+// Holds so many pairs, at most 65,535, and tells their states.
+fn run_heap(rt: &HostRuntime, count: &str) -> anyhow::Result<ExitCode> {
+    let Ok(count) = count.parse::<u16>() else {
+        eprintln!(rt; "bench: {count} is no number of pairs below 65536")?;
+        return Ok(ExitCode::FAILURE);
+    };
+    heap::run(rt, count)?;
+    Ok(ExitCode::SUCCESS)
 }
 
 // The word at a place, empty where there are fewer.
@@ -86,6 +100,7 @@ fn main(rt: HostRuntime) -> anyhow::Result<ExitCode> {
             growth::run(&rt)?;
             Ok(ExitCode::SUCCESS)
         }
+        ("heap", count, _, 2) => run_heap(&rt, count),
         _ => {
             eprintln!(&rt; "usage: {USAGE}")?;
             Ok(ExitCode::FAILURE)

@@ -5,7 +5,7 @@ use crate::payload::Touch;
 use crate::receiving::Receiving;
 use crate::scenario::{Scenario, Sum};
 use crate::sending::Sending;
-use crate::subject::{Delivery, Order};
+use crate::subject::{Delivery, Order, Size};
 use std::fmt;
 
 impl fmt::Display for Scenario {
@@ -29,7 +29,25 @@ impl fmt::Display for Scenario {
             Scenario::Pending(count) => write!(f, "pending push and pop {count}"),
             Scenario::OutboundPush(count) => write!(f, "outbound push {count}"),
             Scenario::Sack(count) => write!(f, "SACK of {count} blocks written and read"),
+            Scenario::SackWritten(count) => write!(f, "SACK of {count} blocks written"),
             Scenario::Everyday(load, sum) => { write!(f, "{}, {}", load_name(load), sum_name(sum)) }
+            Scenario::Asking(load, sum) => write!(
+                f,
+                "{}, with ?, {}",
+                load_name(load),
+                sum_name(sum)
+            ),
+            Scenario::Steady(size, sum) => write!(
+                f,
+                "{}, steady, {}",
+                size_name(size),
+                sum_name(sum)
+            ),
+            Scenario::InTurn(pairs, sum) => write!(
+                f,
+                "exchange of 100 bytes, {pairs} pairs in turn, {}",
+                sum_name(sum)
+            ),
             Scenario::Exchange(sum) => write!(f, "64 KiB in packets, {}", sum_name(sum)),
             Scenario::Linked(sum) => write!(f, "64 KiB through a Link, {}", sum_name(sum)),
             _ => write!(f, "{} over {}", call_name(*self), held_in(*self)),
@@ -60,6 +78,13 @@ fn load_name(load: Load) -> &'static str {
     }
 }
 
+fn size_name(size: Size) -> &'static str {
+    match size {
+        Size::Kib16 => "exchange of 16384 bytes",
+        Size::Kib64 => "exchange of 65536 bytes",
+    }
+}
+
 fn sum_name(sum: Sum) -> &'static str {
     match sum {
         Sum::Zero => "sum 0",
@@ -73,6 +98,7 @@ pub fn call_name(scenario: Scenario) -> &'static str {
         Scenario::Touch(Touch::Push, _) => "push",
         Scenario::Touch(Touch::Pop, _) => "pop",
         Scenario::Touch(Touch::Get, _) => "get",
+        Scenario::Touch(Touch::Mark, _) => "mark_as_acked",
         Scenario::Sending(call, _) => sending_name(call),
         Scenario::Receiving(call, _) => receiving_name(call),
         _ => "",
@@ -88,6 +114,9 @@ fn sending_name(call: Sending) -> &'static str {
         Sending::ExpireLate => "Sender::expire_late, all late,",
         Sending::NoneLate => "Sender::expire_late, none late,",
         Sending::Expire => "Sender::expire",
+        Sending::ExpireEach => "Sender::expire, each one,",
+        Sending::Close => "Sender::close",
+        Sending::CloseEach => "Sender::close, every second one,",
     }
 }
 
@@ -100,6 +129,8 @@ fn receiving_name(call: Receiving) -> &'static str {
         Receiving::Read => "Receiver::read",
         Receiving::Skip => "Receiver::forward_tsn",
         Receiving::SkipNames => "Receiver::forward_tsn, 16381 numbers of a stream,",
+        Receiving::Close => "Receiver::close",
+        Receiving::CloseEach => "Receiver::close, every second one,",
     }
 }
 
@@ -117,6 +148,10 @@ pub fn what_of(scenario: Scenario) -> &'static str {
     match scenario {
         Scenario::OneMessage(_, _)
         | Scenario::Everyday(_, _)
+        | Scenario::Asking(_, _)
+        | Scenario::Steady(_, _)
+        | Scenario::InTurn(_, _)
+        | Scenario::SackWritten(_)
         | Scenario::Exchange(_)
         | Scenario::Linked(_) => "bytes",
         Scenario::GapBlocks(_, _) | Scenario::Sack(_) => "blocks",

@@ -12,7 +12,7 @@ use sctp_util::util::Checksum;
 use std::alloc::Global;
 use std::time::{Clock, Instant};
 
-const BATCHES: u32 = 200;
+const BATCHES: u32 = 40;
 
 const ROUNDS: u32 = 20_000;
 

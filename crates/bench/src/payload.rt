@@ -16,6 +16,7 @@ pub enum Touch {
     Push,
     Pop,
     Get,
+    Mark,
 }
 
 // More bytes than any run holds.
@@ -127,6 +128,16 @@ fn get_each(queue: &PayloadQueue, held: u32) -> usize {
     found
 }
 
+// Marks chunks here and there among the first so many, and gives how many bytes left.
+fn mark_each(queue: &mut PayloadQueue, held: u32) -> usize {
+    let mut left = 0usize;
+    for turn in 0..CALLS {
+        let place = turn.wrapping_mul(7919) % held.max(1);
+        left = left.wrapping_add(queue.mark_as_acked(place.wrapping_add(1)));
+    }
+    left
+}
+
 // Makes the calls on a queue that holds the chunks 1 to `held`.
 fn touch_each(queue: &mut PayloadQueue, held: u32, call: Touch) -> Result<usize>
     requires held { AreBelow (2 ^ 31) queue.old.chunks }
@@ -139,6 +150,7 @@ fn touch_each(queue: &mut PayloadQueue, held: u32, call: Touch) -> Result<usize>
         }
         Touch::Pop => Ok(pop_all(queue, CALLS as u16)),
         Touch::Get => Ok(get_each(queue, held)),
+        Touch::Mark => Ok(mark_each(queue, held)),
     }
 }
 

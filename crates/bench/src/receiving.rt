@@ -2,12 +2,13 @@
 
 use crate::ends::Ends;
 use crate::reassembly::length_of;
-use crate::subject::{CALLS, Delivery, STREAM, fragment};
+use crate::subject::{CALLS, Delivery, STREAM, fragment, stream_at};
 use bytes::Bytes;
 use sctp_chunks::chunk::chunk_forward_tsn::ChunkForwardTsnStream;
 use sctp_chunks::chunk::chunk_payload_data::ChunkPayloadData;
 use sctp_receiver::receiver::Receiver;
 use sctp_receiver::receiver::arrival::Closed;
+use sctp_receiver::replay::open_streams;
 
 /// What is called.
 #[derive(Clone, Copy, PartialEq, Eq)]
@@ -26,6 +27,10 @@ pub enum Receiving {
     Skip,
     /// One that names 16,381 of so many ordered messages, each by its number.
     SkipNames,
+    /// Streams are closed, here and there among so many that are open.
+    Close,
+    /// Every second one of so many open streams is closed.
+    CloseEach,
 }
 
 // How many names a FORWARD-TSN has room for.
@@ -54,6 +59,27 @@ fn take_each(receiver: &mut Receiver, first: u32, count: u32) -> usize {
         }
     }
     taken
+}
+
+// Takes an unordered message of a chunk, reads it, and gives how many bytes it has.
+fn take_and_read(receiver: &mut Receiver, tsn: u32) -> usize {
+    if receiver.data(&piece(tsn, true)).is_err() {
+        return 0;
+    }
+    match receiver.read(STREAM) {
+        Ok(message) => length_of(message),
+        Err(_) => 0,
+    }
+}
+
+/// The same of so many, of every second TSN from the first on.
+pub fn take_apart(receiver: &mut Receiver, first: u32, count: u32) -> usize {
+    let mut bytes = 0usize;
+    for place in 0..count {
+        let tsn = first.wrapping_add(place.wrapping_mul(2));
+        bytes = bytes.wrapping_add(take_and_read(receiver, tsn));
+    }
+    bytes
 }
 
 // Takes the beginnings of unordered messages, a TSN missing behind each, and gives how many.
@@ -86,14 +112,20 @@ fn begin_ordered(receiver: &mut Receiver, count: u32) -> usize {
 fn open_each(receiver: &mut Receiver, count: u32) -> usize {
     let mut opened = 0usize;
     for place in 0..count {
-        if receiver
-            .open(((place % 65_536) as u16).wrapping_add(2))
-            .is_ok()
-        {
+        if receiver.open(stream_at(place)).is_ok() {
             opened = opened.wrapping_add(1);
         }
     }
     opened
+}
+
+// Closes so many streams, each so many places past the one before, and gives how many were open.
+fn close_each(receiver: &mut Receiver, count: u32, step: u32, held: u32) -> usize {
+    let before = open_streams(receiver).len();
+    for turn in 0..count {
+        receiver.close(stream_at(turn.wrapping_mul(step) % held.max(1)));
+    }
+    before.wrapping_sub(open_streams(receiver).len())
 }
 
 // Names so many ordered messages of one stream, each by its number.
@@ -115,7 +147,7 @@ pub fn prepare(ends: &mut Ends, call: Receiving, held: u32) -> bool {
     let is_open = ends.open();
     let receiver = &mut ends.receiver;
     let came = match call {
-        Receiving::Streams => open_each(receiver, held),
+        Receiving::Streams | Receiving::Close | Receiving::CloseEach => open_each(receiver, held),
         Receiving::Skip => begin_each(receiver, held),
         Receiving::SkipNames => begin_ordered(receiver, held),
         _ => take_each(receiver, 2, held),
@@ -149,7 +181,7 @@ fn sack_each(receiver: &mut Receiver) -> usize {
     blocks
 }
 
-// Reads messages, and gives how many.
+// Reads messages, and gives how many bytes.
 fn read_each(receiver: &mut Receiver) -> usize {
     let mut bytes = 0usize;
     for _ in 0..CALLS {
@@ -170,6 +202,8 @@ pub fn run(ends: &mut Ends, call: Receiving, held: u32) -> usize {
         Receiving::Streams => take_pairs(receiver, 1),
         Receiving::Sack => sack_each(receiver),
         Receiving::Read => read_each(receiver),
+        Receiving::Close => close_each(receiver, CALLS, 7919, held),
+        Receiving::CloseEach => close_each(receiver, held / 2, 2, held),
         Receiving::Skip | Receiving::SkipNames => usize::from(
             receiver.forward_tsn(&ends.skip, Closed::Refuse).is_ok(),
         ),

@@ -1,4 +1,4 @@
-//! A SACK of some gap ack blocks, written and read.
+//! A SACK of some gap ack blocks, written, and written and read.
 
 use crate::subject::CALLS;
 use crate::timing::Measured;
@@ -47,6 +47,29 @@ fn again_and_again(alloc: Global, sack: &ChunkSelectiveAck) -> Result<usize> {
         blocks = blocks.wrapping_add(again(alloc, sack)?);
     }
     Ok(blocks)
+}
+
+// Writes it over and over into one buffer, and gives the bytes of all.
+fn write_each(buf: &mut BytesMut, sack: &ChunkSelectiveAck) -> Result<usize> {
+    let mut bytes = 0usize;
+    for _ in 0..CALLS {
+        buf.clear();
+        sack.marshal_to(buf)?;
+        bytes = bytes.wrapping_add(buf.len());
+    }
+    Ok(bytes)
+}
+
+/// Writes a SACK of so many blocks into a buffer that has room.
+pub fn write(clock: &impl Clock, alloc: Global, count: u16) -> anyhow::Result<Measured> {
+    let mut sack = sack_to(alloc, 0);
+    add_blocks(&mut sack, count, None)?;
+    let mut buf = BytesMut::new(alloc);
+    sack.marshal_to(&mut buf)?;
+    let start = Instant::now(clock)?;
+    let given = write_each(&mut buf, &sack)?;
+    let elapsed = start.elapsed(clock)?;
+    Ok(Measured { given, elapsed })
 }
 
 /// Writes and reads a SACK of so many blocks.

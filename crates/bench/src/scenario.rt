@@ -1,15 +1,17 @@
 //! What is run.
 
+use crate::asking::asking;
 use crate::ends::Ends;
 use crate::everyday::{Load, everyday, messages_of};
 use crate::exchange::exchange;
 use crate::linking::through_link;
 use crate::packet::Zero;
+use crate::pairs::in_turn;
 use crate::payload::Touch;
 use crate::receiving::Receiving;
 use crate::sending::Sending;
 use crate::stream::packetize;
-use crate::subject::{CALLS, Delivery, Order};
+use crate::subject::{CALLS, Delivery, Order, Size};
 use crate::timing::{Fastest, Measured};
 use crate::{outbound, payload, reassembly, receiving, sack, sending};
 use sctp_packets::checksum::Crc32c;
@@ -51,6 +53,8 @@ pub enum Scenario {
     OutboundPush(u16),
     /// A SACK of so many blocks is written and read.
     Sack(u16),
+    /// The same, written alone.
+    SackWritten(u16),
     /// A payload queue that holds so many chunks.
     Touch(Touch, u32),
     /// A sender that holds so many messages.
@@ -59,8 +63,14 @@ pub enum Scenario {
     Receiving(Receiving, u32),
     /// Short messages go from a sender to a receiver, each packet acknowledged.
     Everyday(Load, Sum),
-    /// A message goes from a sender to a receiver in packets.
+    /// The same by a caller with an error type.
+    Asking(Load, Sum),
+    /// The same of 100 bytes, between so many pairs in turn.
+    InTurn(u16, Sum),
+    /// A message of 64 KiB goes from a new sender to a new receiver in packets.
     Exchange(Sum),
+    /// Messages of a size do, one after another.
+    Steady(Size, Sum),
     /// A message goes through a link.
     Linked(Sum),
 }
@@ -80,8 +90,12 @@ pub fn unit_of(scenario: Scenario) -> Unit {
         | Scenario::Pending(count)
         | Scenario::OutboundPush(count) => ("chunk", u32::from(count)),
         Scenario::Interleaved => ("push", 4000),
-        Scenario::Sack(_) | Scenario::Touch(_, _) => ("call", CALLS),
-        Scenario::Everyday(load, _) => ("message", CALLS * messages_of(load)),
+        Scenario::Sack(_) | Scenario::SackWritten(_) | Scenario::Touch(_, _) => ("call", CALLS),
+        Scenario::Everyday(load, _) | Scenario::Asking(load, _) => {
+            ("message", CALLS * messages_of(load))
+        }
+        Scenario::Steady(_, _) => ("message", CALLS),
+        Scenario::InTurn(pairs, _) => ("message", u32::from(pairs)),
         Scenario::Sending(call, _) => ("call", calls_to_send(call)),
         Scenario::Receiving(call, _) => ("call", calls_to_receive(call)),
         Scenario::GapBlocks(_, _) => ("call", 1),
@@ -95,14 +109,14 @@ pub fn unit_of(scenario: Scenario) -> Unit {
 
 fn calls_to_send(call: Sending) -> u32 {
     match call {
-        Sending::Write | Sending::SendNext | Sending::Acked => CALLS,
-        Sending::AckedBlocks | Sending::ExpireLate | Sending::NoneLate | Sending::Expire => 1,
+        Sending::Write | Sending::SendNext | Sending::Acked | Sending::Close => CALLS,
+        _ => 1,
     }
 }
 
 fn calls_to_receive(call: Receiving) -> u32 {
     match call {
-        Receiving::Skip | Receiving::SkipNames => 1,
+        Receiving::Skip | Receiving::SkipNames | Receiving::CloseEach => 1,
         _ => CALLS,
     }
 }
@@ -124,6 +138,7 @@ pub fn is_slow(scenario: Scenario) -> bool {
         Scenario::Touch(_, held) => held > 1000,
         Scenario::Sending(call, held) => call == Sending::AckedBlocks || held > 1000,
         Scenario::Receiving(_, held) => held > 1000,
+        Scenario::InTurn(pairs, _) => pairs > 1000,
         _ => false,
     }
 }
@@ -142,6 +157,9 @@ pub fn measure(clock: &impl Clock, alloc: Global, scenario: Scenario) -> anyhow:
         Scenario::Pending(count) => outbound::pend(clock, alloc, count),
         Scenario::OutboundPush(count) => outbound::push_all(clock, alloc, count),
         Scenario::Sack(count) => sack::write_and_read(clock, alloc, count),
+        Scenario::SackWritten(count) => sack::write(clock, alloc, count),
+        Scenario::InTurn(pairs, Sum::Zero) => in_turn(clock, alloc, pairs, &Zero),
+        Scenario::InTurn(pairs, Sum::Crc32c) => in_turn(clock, alloc, pairs, &Crc32c),
         Scenario::Touch(call, held) => payload::touch_held(clock, alloc, call, held),
         Scenario::Linked(Sum::Zero) => through_link(clock, alloc, Zero),
         Scenario::Linked(Sum::Crc32c) => through_link(clock, alloc, Crc32c),
@@ -176,12 +194,16 @@ fn prepare(ends: &mut Ends, scenario: Scenario) -> bool {
 
 fn run(ends: &mut Ends, scenario: Scenario) -> usize {
     match scenario {
-        Scenario::Sending(call, _) => sending::run(ends, call),
+        Scenario::Sending(call, held) => sending::run(ends, call, held),
         Scenario::Receiving(call, held) => receiving::run(ends, call, held),
         Scenario::Everyday(load, Sum::Zero) => everyday(ends, load, &Zero),
         Scenario::Everyday(load, Sum::Crc32c) => everyday(ends, load, &Crc32c),
-        Scenario::Exchange(Sum::Crc32c) => exchange(ends, &Crc32c),
-        _ => exchange(ends, &Zero),
+        Scenario::Asking(load, Sum::Zero) => asking(ends, load, &Zero),
+        Scenario::Asking(load, Sum::Crc32c) => asking(ends, load, &Crc32c),
+        Scenario::Steady(size, Sum::Zero) => exchange(ends, size, CALLS, &Zero),
+        Scenario::Steady(size, Sum::Crc32c) => exchange(ends, size, CALLS, &Crc32c),
+        Scenario::Exchange(Sum::Crc32c) => exchange(ends, Size::Kib64, 1, &Crc32c),
+        _ => exchange(ends, Size::Kib64, 1, &Zero),
     }
 }
 

@@ -2,10 +2,10 @@
 
 use crate::ends::Ends;
 use crate::sack::{add_blocks, sack_to};
-use crate::subject::{CALLS, STREAM};
+use crate::subject::{CALLS, STREAM, stream_at};
 use bytes::Bytes;
 use sctp_chunks::chunk::chunk_payload_data::{PayloadProtocolIdentifier, ReliabilityType};
-use sctp_sender::replay::{expire, expire_late, start};
+use sctp_sender::replay::{expire, expire_late, open_streams, start};
 use sctp_sender::sender::Sender;
 use std::alloc::Global;
 
@@ -26,6 +26,12 @@ pub enum Sending {
     NoneLate,
     /// The first of those that wait is past its deadline.
     Expire,
+    /// All that wait are past their deadlines, and leave one by one.
+    ExpireEach,
+    /// Streams are closed, here and there among so many that are open.
+    Close,
+    /// Every second one of so many open streams is closed.
+    CloseEach,
 }
 
 // How many blocks a SACK of many has.
@@ -71,10 +77,45 @@ fn ack_each(alloc: Global, sender: &mut Sender) -> usize {
     taken
 }
 
-/// Opens the stream, with a lifetime of a millisecond, and writes and sends so many messages of one byte.
+// Opens the streams 2, 3, .., and gives how many.
+fn open_each(sender: &mut Sender, count: u32) -> usize {
+    let mut opened = 0usize;
+    for place in 0..count {
+        if sender.open(stream_at(place)).is_ok() {
+            opened = opened.wrapping_add(1);
+        }
+    }
+    opened
+}
+
+// Closes so many streams, each so many places past the one before, and gives how many were open.
+fn close_each(sender: &mut Sender, count: u32, step: u32, held: u32) -> usize {
+    let before = open_streams(sender).len();
+    for turn in 0..count {
+        sender.close(stream_at(turn.wrapping_mul(step) % held.max(1)));
+    }
+    before.wrapping_sub(open_streams(sender).len())
+}
+
+// Has the messages leave that are past their deadlines, at most so many, and gives how many.
+fn expire_each(sender: &mut Sender, count: u32) -> usize {
+    let mut gone = 0usize;
+    for _ in 0..count {
+        if expire(sender, LATE).is_some() {
+            gone = gone.wrapping_add(1);
+        }
+    }
+    gone
+}
+
+/// Opens so many streams where some are to be closed. Else opens the stream, with a lifetime of a millisecond, and writes and sends so many
+/// messages of one byte.
 pub fn prepare(ends: &mut Ends, call: Sending, held: u32) -> bool {
-    let waits = matches!(call, Sending::Write | Sending::Expire);
-    let unordered = call != Sending::Expire;
+    if matches!(call, Sending::Close | Sending::CloseEach) {
+        return open_each(&mut ends.sender, held) == held as usize;
+    }
+    let unordered = !matches!(call, Sending::Expire | Sending::ExpireEach);
+    let waits = call == Sending::Write || !unordered;
     let is_open = ends.open()
         && ends
             .sender
@@ -96,7 +137,7 @@ pub fn prepare(ends: &mut Ends, call: Sending, held: u32) -> bool {
 }
 
 /// Makes the calls, and gives how many did what they are for; of `expire_late` how many messages were abandoned.
-pub fn run(ends: &mut Ends, call: Sending) -> usize {
+pub fn run(ends: &mut Ends, call: Sending, held: u32) -> usize {
     let sender = &mut ends.sender;
     match call {
         Sending::Write => write_each(sender, CALLS),
@@ -108,7 +149,10 @@ pub fn run(ends: &mut Ends, call: Sending) -> usize {
         },
         Sending::ExpireLate => abandoned(sender, LATE),
         Sending::NoneLate => abandoned(sender, 0).wrapping_add(1),
-        Sending::Expire => usize::from(expire(sender, LATE).is_some()),
+        Sending::Expire => expire_each(sender, 1),
+        Sending::ExpireEach => expire_each(sender, held),
+        Sending::Close => close_each(sender, CALLS, 7919, held),
+        Sending::CloseEach => close_each(sender, held / 2, 2, held),
     }
 }
 

@@ -1,4 +1,4 @@
-//! A message of 64 KiB, and how a stream cuts it.
+//! Messages of 16 and of 64 KiB, and how a stream cuts the longer one.
 
 use crate::subject::{FRAGMENT, MESSAGE, STREAM};
 use crate::timing::Measured;
@@ -10,9 +10,14 @@ use std::time::{Clock, Instant};
 
 static TEXT: [u8; 65_536] = [7; 65_536];
 
-/// The message.
+/// The message of 64 KiB.
 pub fn text() -> Bytes {
     Bytes::from_static(&TEXT)
+}
+
+/// The message of 16 KiB.
+pub fn quarter() -> Bytes {
+    Bytes::from_static(&TEXT[..16_384])
 }
 
 /// Cuts the message into fragments.

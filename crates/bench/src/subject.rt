@@ -1,6 +1,6 @@
 //! The chunks that runs of the queues are over.
 
-ghost use Rattle.std.specs.Prelude.{◌≡◌, ◌<◌, length, true};
+ghost use Rattle.std.specs.Prelude.{◌≡◌, ◌<◌, ◌+◌, ◌%◌, ◌^◌, length, true};
 
 use bytes::Bytes;
 use sctp_chunks::chunk::chunk_payload_data::{ChunkPayloadData, PayloadProtocolIdentifier};
@@ -11,6 +11,9 @@ pub const CALLS: u32 = 64;
 /// How many fragments of `FRAGMENT` bytes make 64 KiB.
 pub const FRAGMENTS: u16 = 55;
 
+/// How many of them make 16 KiB.
+pub const QUARTER_FRAGMENTS: u16 = 14;
+
 /// How many bytes of a message a chunk has.
 pub const FRAGMENT: u32 = 1200;
 
@@ -19,6 +22,13 @@ pub const MESSAGE: u32 = 65_536;
 
 /// The stream of each chunk, but where many are open.
 pub const STREAM: u16 = 1;
+
+/// The length of a message of many fragments.
+#[derive(Clone, Copy)]
+pub enum Size {
+    Kib16,
+    Kib64,
+}
 
 /// In which order chunks come.
 #[derive(Clone, Copy)]
@@ -48,6 +58,13 @@ pub fn number_at(place: u16, count: u16, order: Order) -> u16
         Order::Reversed => count - 1 - place,
         Order::Shuffled => (u32::from(place) * STRIDE % u32::from(count)) as u16,
     }
+}
+
+/// The stream at a place among many: 2, 3, ..
+pub fn stream_at(place: u32) -> u16
+    ensures { result ≡ (place % 2 ^ 16 + 2) % 2 ^ 16 }
+{
+    ((place % 65_536) as u16).wrapping_add(2)
 }
 
 /// A fragment of a message on stream 1.
