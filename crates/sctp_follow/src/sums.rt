@@ -1,6 +1,7 @@
 //! What the packets of an input are summed up to, with the round trips of each way.
 
 use crate::associations::{Associations, Way};
+use crate::flow::payload_length;
 use crate::handshake::Handshake;
 use crate::outstanding::{Outstanding, forward_of};
 use crate::packet::{Arrived, Packet, refused_sack};
@@ -74,7 +75,8 @@ impl Side {
         }
         self.outstanding.make_room();
         let (tsn, stream) = (read_u32(bytes, 4), read_u16(bytes, 8));
-        let _sending = self.outstanding.send(tsn, stream, arrived)?;
+        let length = payload_length(bytes);
+        let _sending = self.outstanding.send(tsn, stream, length, arrived)?;
         Ok(())
     }
 }
