@@ -5,7 +5,7 @@
 
 PROGRAM is crates/sctpdump/out/sctpdump unless told otherwise (`rt run` in crates/sctpdump makes it). Each line has to be JSON, as docs/sctpdump.schema.json has it. Where the capture is
 lines of hex text, each datagram is put together again from its members, and has to be the one of the capture. What `--summary` says of packets,
-bytes and chunks in all, and for each tag of DATA, I-DATA, SACK and FORWARD-TSN, has to be what the records have; associations are taken not to share
+bytes, their kinds and chunks in all, and for each tag of DATA, I-DATA, SACK and FORWARD-TSN, has to be what the records have; associations are taken not to share
 a tag. What `--messages` prints of associations whose INIT was captured has to be each message of which every fragment was, put together by TSNs
 alone, but for those that a FORWARD-TSN or a reset stream cut off; and those of a stream in the order of their TSNs. Prints a line for each capture, and one for each fault; the exit status is 0 where there is none.
 """
@@ -141,6 +141,9 @@ def check_summary(capture, records, summary):
         "chunks": (kinds, Counter(c["name"] for r in kept for c in r["chunks"])),
         "packets": (sum(way["packets"] for way in ways), len(kept)),
         "bytes": (sum(way["bytes"] for way in ways), sum(len(datagram(r)) + r.get("missing", 0) for r in kept)),
+        "bytes by kind": ([sum(way["bytes_by_kind"].values()) for way in ways], [way["bytes"] for way in ways]),
+        "bytes of user data": ([way["bytes_by_kind"]["first_sent"] + way["bytes_by_kind"]["sent_again"] for way in ways], [way.get("data_bytes", 0) for way in ways]),
+        "bytes of control chunks": (sum(way["bytes_by_kind"]["control"] for way in ways), sum(c["length"] for r in kept for c in r["chunks"] if c["type"] not in (0, 64))),
         "packets of none": (summary[-1]["others"], len(records) - len(kept)),
         "facts": ({tag: it for tag, it in told.items() if it}, {tag: it for tag, it in want.items() if it}),
     }

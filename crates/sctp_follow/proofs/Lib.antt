@@ -1,5 +1,6 @@
 pub mod Counting
 pub mod Halving
+pub mod Loads
 pub mod Nearest
 pub mod Reading
 pub mod Rounding

@@ -1,7 +1,9 @@
 pub mod Flow
+pub mod Load
 pub mod Outstanding
 pub mod Blocks
 pub mod Channels
+pub mod Handshake
 pub mod Interleave
 pub mod Lanes
 pub mod Ladder

@@ -1,5 +1,5 @@
 -- Which chunks of a way are outstanding, and what acknowledges each.
-use Rattle.std.specs.Prelude.{◌≡◌, ℕ, ◌+◌, Bool, false, ◌&&◌, ◌||◌, not, leb, nat_lt, if◌then◌else◌, List, length, ◌==◌, map, filter, Option, Some, None, is_some}
+use Rattle.std.specs.Prelude.{◌≡◌, ℕ, ◌+◌, Bool, false, ◌&&◌, ◌||◌, not, leb, nat_lt, if◌then◌else◌, List, length, drop, sum_by, ◌==◌, map, filter, Option, Some, None, is_some}
 use Rattle.std.specs.List.{list_any}
 use Rattle.sctp_util.specs.Serial.{distance, comes_before, at_or_before}
 use Rattle.sctp_util.specs.Field.{u32_at}
@@ -76,22 +76,24 @@ sending_of None None = First
 
 -- ---- what is known of a chunk
 
--- once it is sent for the first time, or again
-abbrev pub sent_with : ℕ → ℕ → Arrived → Option Sent → Sent
-sent_with tsn stream arrived None =
+-- once it is sent for the first time, with so many bytes of user data, or again
+abbrev pub sent_with : ℕ → ℕ → ℕ → Arrived → Option Sent → Sent
+sent_with tsn stream bytes arrived None =
     record {
       tsn = tsn;
       stream = stream;
+      bytes = bytes;
       first = arrived;
       last = arrived;
       sends = 1;
       reports = 0;
       acknowledged = None;
     }
-sent_with tsn stream arrived (Some sent) =
+sent_with tsn stream bytes arrived (Some sent) =
     record {
       tsn = sent.tsn;
       stream = sent.stream;
+      bytes = sent.bytes;
       first = sent.first;
       last = arrived;
       sends = counted sent.sends 1;
@@ -105,6 +107,7 @@ after_sack sack newly arrived sent =
     record {
       tsn = sent.tsn;
       stream = sent.stream;
+      bytes = sent.bytes;
       first = sent.first;
       last = sent.last;
       sends = sent.sends;
@@ -124,6 +127,18 @@ forward_of bytes =
 -- no SACK acknowledged the chunk
 abbrev pub is_left : Sent → Bool
 is_left sent = not (is_some sent.acknowledged)
+
+-- the user data of a chunk that is outstanding: no SACK acknowledged it, neither cumulatively nor by a gap ack block
+abbrev pub bytes_of : Sent → ℕ
+bytes_of sent = if is_left sent then sent.bytes else 0
+
+-- how many bytes of user data are outstanding, of these chunks
+abbrev pub outstanding_bytes : List Sent → ℕ
+outstanding_bytes chunks = sum_by bytes_of chunks
+
+-- of as many chunks as are kept at most, the lowest one is let go
+abbrev pub with_room : List (ℕ × Sent) → List (ℕ × Sent)
+with_room entries = if leb 4096 (length entries) then drop 1 entries else entries
 
 -- the chunk has a TSN up to this one
 abbrev pub is_passed : ℕ → Sent → Bool

@@ -1,6 +1,6 @@
 //! What went one way in an association.
 
-ghost use Rattle.std.specs.Prelude.{◌≡◌, ◌≤◌, ◌<◌, ◌+◌, true, false, if◌then◌else◌, length, slice_index, slice_set, OnOk, IfOk};
+ghost use Rattle.std.specs.Prelude.{◌≡◌, ◌≤◌, ◌<◌, ◌+◌, true, false, if◌then◌else◌, [], length, map, slice_index, slice_set, OnOk, IfOk};
 ghost use Rattle.std.specs.BTreeSet.{contains, Updates};
 ghost use Rattle.std.specs.Ordering.{nat_cmp};
 ghost use Rattle.sctp_show.specs.Filter as filters;
@@ -8,8 +8,11 @@ ghost use Rattle.sctp_util.specs.Field.{u32_at};
 ghost use Rattle.sctp_chunks.specs.Framing.{type_at};
 ghost use Rattle.sctp_follow.specs.Flow as flows;
 ghost use Rattle.sctp_follow.specs.Flow.{counted, base_after};
+ghost use Rattle.sctp_dissect.specs.Dissection.{item_bytes};
+ghost use Rattle.sctp_follow.specs.Load.{total, behind};
 ghost use Rattle.sctp_follow.specs.Sack as sacks;
 
+use crate::load::{Kind, Load};
 use crate::sack::said_of;
 use sctp_capture::record::Time;
 use sctp_dissect::dissection::Item;
@@ -37,8 +40,8 @@ pub struct Flow {
     /// The verification tag of its packets, as far as it is known.
     pub tag: Option<u32>,
     pub packets: u64,
-    /// The bytes of these packets, without the headers below SCTP.
-    pub bytes: u64,
+    /// The bytes of these packets, without the headers below SCTP, by what they are.
+    pub load: Load,
     /// How many of these packets are cut off: their frames do not hold them to their ends.
     pub cut: u64,
     /// When the first and the last one that has a time was captured.
@@ -121,7 +124,7 @@ impl Flow {
         Ok(Flow {
             tag,
             packets: 0,
-            bytes: 0,
+            load: Load::new(),
             cut: 0,
             start: None,
             end: None,
@@ -141,16 +144,16 @@ impl Flow {
         })
     }
 
-    /// Counts a packet, its bytes, and whether it is cut off.
+    /// Counts a packet, and whether it is cut off.
     pub fn note_packet(&mut self, time: &Option<Time>, extent: Extent)
         ensures packets { self.new.packets ≡ counted self.old.packets 1 }
-        ensures bytes { self.new.bytes ≡ counted self.old.bytes extent.length }
+        ensures load { self.new.load ≡ self.old.load }
+        ensures tsns { self.new.tsns ≡ self.old.tsns }
         ensures cut { self.new.cut ≡ counted self.old.cut (if extent.is_cut then 1 else 0) }
         ensures kinds { self.new.kinds ≡ self.old.kinds }
         ensures data { self.new.data_chunks ≡ self.old.data_chunks }
     {
         self.packets = counted(self.packets, 1);
-        self.bytes = counted(self.bytes, extent.length);
         self.cut = counted(self.cut, if extent.is_cut { 1 } else { 0 });
         if self.start.is_none() {
             self.start = *time;
@@ -292,7 +295,8 @@ impl Flow {
 
     /// Keeps the TSN that those of this way are counted from: what an INIT or INIT-ACK says, or else the first TSN of DATA or I-DATA.
     fn note_base(&mut self, bytes: &[u8])
-        ensures { self.new.base ≡ base_after self.old.base bytes.now }
+        ensures base { self.new.base ≡ base_after self.old.base bytes.now }
+        ensures tsns { self.new.tsns ≡ self.old.tsns }
     {
         if is_init(bytes) {
             self.base = Some(read_u32(bytes, 16));
@@ -301,19 +305,37 @@ impl Flow {
         }
     }
 
-    /// Notes a packet and its chunks. Refuses only for memory.
+    /// Whether the TSN of DATA or I-DATA came before.
+    fn has_come(&self, bytes: &[u8]) -> bool
+        ensures { filters.is_data bytes.now ≡ true
+            → result ≡ contains nat_cmp self.now.tsns (u32_at bytes.now 4) }
+    {
+        is_data(bytes) && self.tsns.contains(&read_u32(bytes, 4))
+    }
+
+    /// Notes a packet and its chunks: each of its bytes counts once, as user data, as control chunks or as headers. Refuses only for memory.
     pub fn note(
         &mut self,
         items: &[Item],
         time: &Option<Time>,
         extent: Extent,
-    ) -> Result<(), AllocError> {
+    ) -> Result<(), AllocError>
+        ensures load { OnOk result (self.new.load ≡ behind self.old.tsns [] extent.length
+            (map item_bytes items.now) self.old.load) }
+        ensures bytes { OnOk result
+            (total self.new.load ≡ counted (total self.old.load) extent.length) }
+    {
         self.note_packet(time, extent);
         let before = self.repeated;
+        let (mut load, mut left) = (self.load, extent.length);
         for item in items {
-            self.note_base(item.bytes.as_slice());
-            self.note_chunk(item.bytes.as_slice())?;
+            let bytes = item.bytes.as_slice();
+            left = load.note_chunk(bytes, self.has_come(bytes), left);
+            self.note_base(bytes);
+            self.note_chunk(bytes)?;
         }
+        load.note(Kind::Headers, left);
+        self.load = load;
         self.is_repeating = self.repeated > before;
         Ok(())
     }

@@ -1,6 +1,6 @@
 //! Which chunks of a way are outstanding, and what acknowledges each.
 
-ghost use Rattle.std.specs.Prelude.{◌≡◌, ◌<◌, None, Some, map, filter, not, IsSome, IfOk, IfSome, OnOk, OnErr};
+ghost use Rattle.std.specs.Prelude.{◌≡◌, ◌<◌, None, Some, map, filter, min, not, IsSome, IfOk, IfSome, OnOk, OnErr};
 ghost use Rattle.std.specs.BTreeMap as trees;
 ghost use Rattle.std.specs.List.{list_any};
 ghost use Rattle.std.specs.Ordering.{nat_cmp};
@@ -35,6 +35,8 @@ const FAST_REPORTS: u64 = 3;
 pub struct Sent {
     pub tsn: u32,
     pub stream: u16,
+    /// How many bytes of user data it has.
+    pub bytes: u64,
     /// With which record it was sent first, and last.
     pub first: Arrived,
     pub last: Arrived,
@@ -184,13 +186,14 @@ impl Sent {
 }
 
 /// A chunk as it is known once it is sent with this record: for the first time, or again.
-fn sent_with(tsn: u32, stream: u16, arrived: Arrived, before: &Option<Sent>) -> Sent
-    ensures { result ≡ acks.sent_with tsn stream arrived before.now }
+fn sent_with(tsn: u32, stream: u16, bytes: u64, arrived: Arrived, before: &Option<Sent>) -> Sent
+    ensures { result ≡ acks.sent_with tsn stream bytes arrived before.now }
 {
     match before {
         None => Sent {
             tsn,
             stream,
+            bytes,
             first: arrived,
             last: arrived,
             sends: 1,
@@ -245,23 +248,32 @@ impl Outstanding {
         }
     }
 
-    /// Lets a chunk go, where as many are kept as may be.
-    pub fn make_room(&mut self) {
+    /// Lets the chunk with the lowest TSN go, where as many are kept as may be: 4,096.
+    pub fn make_room(&mut self)
+        ensures room { self.new.chunks.entries ≡ acks.with_room self.old.chunks.entries }
+        ensures passed { self.new.passed ≡ self.old.passed }
+    {
         if self.chunks.len() >= MAX_OUTSTANDING {
             let _lowest = self.chunks.pop_first();
         }
     }
 
-    /// Notes that a chunk is sent with a record, and answers what that is. Of one that was acknowledged cumulatively nothing is noted.
+    /// Notes that a chunk with so many bytes of user data is sent with a record, and answers what that is. Of one that was acknowledged cumulatively nothing is noted.
     /// Refuses only for memory.
-    pub fn send(&mut self, tsn: u32, stream: u16, arrived: Arrived) -> Result<Sending, AllocError>
+    pub fn send(
+        &mut self,
+        tsn: u32,
+        stream: u16,
+        bytes: u64,
+        arrived: Arrived,
+    ) -> Result<Sending, AllocError>
         ensures sending { IfOk result (λ sending. sending ≡ acks.sending_of
             (acks.passed_with self.old.passed tsn) (trees.get nat_cmp self.old.chunks tsn)) }
         ensures late { OnOk result (IsSome (acks.passed_with self.old.passed tsn)
             → self.new ≡ self.old) }
         ensures sent { OnOk result (acks.passed_with self.old.passed tsn ≡ None
             → trees.Updates nat_cmp self.old.chunks self.new.chunks tsn
-            (Some (acks.sent_with tsn stream arrived
+            (Some (acks.sent_with tsn stream bytes arrived
             (trees.get nat_cmp self.old.chunks tsn)))) }
         ensures passed { self.new.passed ≡ self.old.passed }
         ensures err { OnErr result (trees.IsUnchanged self.old.chunks self.new.chunks) }
@@ -270,7 +282,7 @@ impl Outstanding {
             return Ok(Sending::Late(acknowledged));
         }
         let before = self.chunks.get(&tsn).copied();
-        let sent = sent_with(tsn, stream, arrived, &before);
+        let sent = sent_with(tsn, stream, bytes, arrived, &before);
         if self.chunks.insert(tsn, sent).is_err() {
             return Err(AllocError);
         }
@@ -383,6 +395,19 @@ impl Outstanding {
             .copied()
             .filter(|sent| sna32lte(sent.tsn, tsn) && sent.acknowledged.is_none())
             .collect(alloc)
+    }
+
+    /// How many bytes of user data are outstanding: of the chunks that no SACK acknowledged.
+    pub fn bytes(&self) -> u64
+        ensures { result ≡ min (acks.outstanding_bytes (trees.values self.now.chunks)) u64.MAX }
+    {
+        let mut bytes = 0u64;
+        for sent in self.chunks.values() {
+            if sent.acknowledged.is_none() {
+                bytes = counted(bytes, sent.bytes);
+            }
+        }
+        bytes
     }
 
     /// Whether there is a chunk that no SACK acknowledged.

@@ -1,6 +1,8 @@
 //! What the packets of an input are summed up to, with the round trips of each way.
 
 use crate::associations::{Associations, Way};
+use crate::flow::payload_length;
+use crate::handshake::Handshake;
 use crate::outstanding::{Outstanding, forward_of};
 use crate::packet::{Arrived, Packet, refused_sack};
 use crate::summarize::Take;
@@ -24,9 +26,10 @@ struct Side {
     trips: Trips,
 }
 
-/// Both ways of an association.
+/// Both ways of an association, and its handshake.
 #[derive(Drop)]
 struct Pair {
+    handshake: Handshake,
     forth: Side,
     back: Side,
 }
@@ -72,7 +75,8 @@ impl Side {
         }
         self.outstanding.make_room();
         let (tsn, stream) = (read_u32(bytes, 4), read_u16(bytes, 8));
-        let _sending = self.outstanding.send(tsn, stream, arrived)?;
+        let length = payload_length(bytes);
+        let _sending = self.outstanding.send(tsn, stream, length, arrived)?;
         Ok(())
     }
 }
@@ -81,6 +85,7 @@ impl Pair {
     /// Nothing was sent yet.
     fn new(alloc: Global) -> Self {
         Pair {
+            handshake: Handshake::new(),
             forth: Side::new(alloc),
             back: Side::new(alloc),
         }
@@ -102,6 +107,7 @@ impl Pair {
         item: &Item,
         arrived: Arrived,
     ) -> Result<(), AllocError> {
+        self.handshake.note(item.bytes.as_slice(), arrived);
         if let Reading::Strict(ChunkKind::SelectiveAck(sack)) = &item.reading {
             return self.side(way.other()).take_sack(alloc, sack, arrived);
         }
@@ -199,7 +205,16 @@ impl Take for Sums {
         let mut number = 1u64;
         for (association, sent) in self.associations.items.iter().zip(self.pairs.iter()) {
             let (forth, back) = (sent.forth.trips.spread(), sent.back.trips.spread());
-            put_association(&mut text, &style, number, association, forth, back)?;
+            let handshake = &sent.handshake;
+            put_association(
+                &mut text,
+                &style,
+                number,
+                association,
+                handshake,
+                forth,
+                back,
+            )?;
             number = number.saturating_add(1);
         }
         put_end(&mut text, style.form, counts, &self.associations)?;

@@ -2,6 +2,9 @@
 
 use crate::associations::{Association, Associations};
 use crate::flow::Flow;
+use crate::handshake::Handshake;
+use crate::load::Load;
+use crate::packet::Arrived;
 use crate::sack::{NR_SACK, SACK};
 use crate::trips::Spread;
 use itoa::Buffer;
@@ -9,7 +12,7 @@ use sctp_capture::record::Time;
 use sctp_show::names::ChunkName;
 use sctp_show::page::Form;
 use sctp_show::run::Counts;
-use sctp_show::time::{Clock, put_clock};
+use sctp_show::time::{Clock, Elapsed, put_clock};
 use std::alloc::AllocError;
 
 /// How a summary is printed.
@@ -164,6 +167,22 @@ fn put_reports(text: &mut String, form: Form, flow: &Flow) -> Result<(), AllocEr
     put_number(text, form, "Skipped to TSN", "skipped_to", flow.skipped_to)
 }
 
+/// How many bytes there are: all, and those of each kind.
+fn put_load(text: &mut String, form: Form, load: &Load) -> Result<(), AllocError> {
+    put_count(text, form, "Bytes", "bytes", load.total())?;
+    let (first, again, control, headers) = (load.first, load.again, load.control, load.headers);
+    match form {
+        Form::Text => write!(
+            text,
+            "        Bytes by kind: user data first sent {first}, sent again {again}, control chunks {control}, headers {headers}\n"
+        ),
+        Form::Json => write!(
+            text,
+            ",\"bytes_by_kind\":{{\"first_sent\":{first},\"sent_again\":{again},\"control\":{control},\"headers\":{headers}}}"
+        ),
+    }
+}
+
 /// How many packets are cut off, if any are.
 fn put_cut(text: &mut String, form: Form, cut: u64) -> Result<(), AllocError> {
     if cut == 0 {
@@ -199,7 +218,7 @@ fn put_flow(
 ) -> Result<(), AllocError> {
     let form = style.form;
     put_count(text, form, "Packets", "packets", flow.packets)?;
-    put_count(text, form, "Bytes", "bytes", flow.bytes)?;
+    put_load(text, form, &flow.load)?;
     put_cut(text, form, flow.cut)?;
     put_time(text, style, "First", "first", &flow.start)?;
     put_time(text, style, "Last", "last", &flow.end)?;
@@ -257,12 +276,88 @@ pub fn put_ends(
     }
 }
 
-/// An association, and the round trips of its ways.
+/// A chunk of a handshake: with which record it came first, and how long after the INIT, or that it was not seen. JSON has none that was not.
+fn put_step(
+    text: &mut String,
+    form: Form,
+    lead: &str,
+    name: &str,
+    key: &str,
+    seen: &Option<Arrived>,
+    after: Option<Elapsed>,
+) -> Result<(), AllocError> {
+    match (form, seen) {
+        (Form::Text, Some(arrived)) => {
+            let number = arrived.number;
+            write!(text, "{lead}{name} in {number}")?;
+        }
+        (Form::Text, None) => write!(text, "{lead}no {name}")?,
+        (Form::Json, Some(arrived)) => {
+            let number = arrived.number;
+            write!(text, ",\"{key}\":{{\"record\":{number}")?;
+        }
+        (Form::Json, None) => return Ok(()),
+    }
+    match (form, after) {
+        (Form::Text, Some(after)) => write!(text, " after {after}"),
+        (Form::Json, Some(after)) => write!(text, ",\"after\":\"{after}\"}}"),
+        (Form::Text, None) => Ok(()),
+        (Form::Json, None) => text.push_str("}"),
+    }
+}
+
+/// How long a handshake took, from INIT to COOKIE-ACK, and with which record each of its chunks came first.
+fn put_handshake(text: &mut String, form: Form, seen: &Handshake) -> Result<(), AllocError> {
+    let is_complete = seen.is_complete();
+    match form {
+        Form::Text => text.push_str("    Handshake: ")?,
+        Form::Json => write!(text, ",\"handshake\":{{\"complete\":{is_complete}")?,
+    }
+    if let Some(took) = seen.after(&seen.cookie_ack) {
+        match form {
+            Form::Text => write!(text, "took {took}; ")?,
+            Form::Json => write!(text, ",\"took\":\"{took}\"")?,
+        }
+    }
+    let (ack, echo, done) = (&seen.init_ack, &seen.cookie_echo, &seen.cookie_ack);
+    put_step(text, form, "", "INIT", "init", &seen.init, None)?;
+    put_step(
+        text,
+        form,
+        ", ",
+        "INIT-ACK",
+        "init_ack",
+        ack,
+        seen.after(ack),
+    )?;
+    put_step(
+        text,
+        form,
+        ", ",
+        "COOKIE-ECHO",
+        "cookie_echo",
+        echo,
+        seen.after(echo),
+    )?;
+    put_step(
+        text,
+        form,
+        ", ",
+        "COOKIE-ACK",
+        "cookie_ack",
+        done,
+        seen.after(done),
+    )?;
+    put_edge(text, form, "\n", "}")
+}
+
+/// An association, its handshake, and the round trips of its ways.
 pub fn put_association(
     text: &mut String,
     style: &Style,
     number: u64,
     association: &Association,
+    handshake: &Handshake,
     forth: Option<Spread>,
     back: Option<Spread>,
 ) -> Result<(), AllocError> {
@@ -271,6 +366,7 @@ pub fn put_association(
         Form::Json => write!(text, "{{\"association\":{number}")?,
     }
     put_ends(text, style.form, association)?;
+    put_handshake(text, style.form, handshake)?;
     put_way(text, style, ">", "forth", &association.forth, forth)?;
     put_way(text, style, "<", "back", &association.back, back)?;
     match style.form {

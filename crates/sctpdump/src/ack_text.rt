@@ -42,6 +42,30 @@ fn put_sendings(text: &mut String, form: Form, sent: &Sent) -> Result<(), AllocE
     }
 }
 
+/// What is outstanding behind a packet.
+#[derive(Clone, Copy)]
+pub struct Flight {
+    /// How many bytes of user data were sent and not acknowledged.
+    pub bytes: u64,
+    /// The window of a SACK: its a_rwnd.
+    pub credit: Option<u32>,
+}
+
+/// What is outstanding behind a packet, and the end of its line.
+fn put_flight(text: &mut String, form: Form, flight: Flight) -> Result<(), AllocError> {
+    let bytes = flight.bytes;
+    match form {
+        Form::Text => write!(text, "; outstanding {bytes}")?,
+        Form::Json => write!(text, ",\"outstanding\":{bytes}")?,
+    }
+    match (form, flight.credit) {
+        (_, None) => {}
+        (Form::Text, Some(credit)) => write!(text, ", rwnd {credit}")?,
+        (Form::Json, Some(credit)) => write!(text, ",\"credit\":{credit}")?,
+    }
+    put_end(text, form)
+}
+
 /// The end of a line.
 fn put_end(text: &mut String, form: Form) -> Result<(), AllocError> {
     match form {
@@ -57,6 +81,7 @@ pub fn put_acknowledged(
     moment: &Moment,
     sent: &Sent,
     is_cumulative: bool,
+    flight: Flight,
 ) -> Result<(), AllocError> {
     put_chunk(text, style, moment, sent.stream, sent.tsn)?;
     match (style.form, is_cumulative) {
@@ -72,7 +97,7 @@ pub fn put_acknowledged(
             Form::Json => write!(text, ",\"round_trip\":\"{elapsed}\"")?,
         }
     }
-    put_end(text, style.form)
+    put_flight(text, style.form, flight)
 }
 
 /// How long after a record another one was captured, if both have a time.
@@ -131,6 +156,7 @@ pub fn put_again(
     style: Style,
     moment: &Moment,
     before: &Sent,
+    flight: Flight,
 ) -> Result<(), AllocError> {
     put_chunk(text, style, moment, before.stream, before.tsn)?;
     let first = before.first.number;
@@ -141,30 +167,31 @@ pub fn put_again(
     put_after(text, style.form, &before.first.time, &moment.time)?;
     put_cause(text, style.form, before.cause(), before.reports)?;
     put_before(text, style.form, &before.acknowledged)?;
-    put_end(text, style.form)
+    put_flight(text, style.form, flight)
 }
 
-/// Appends that a chunk was sent that a SACK had acknowledged cumulatively.
+/// Appends that a chunk, by its stream and TSN, was sent that a SACK had acknowledged cumulatively.
 pub fn put_late(
     text: &mut String,
     style: Style,
     moment: &Moment,
-    stream: u16,
-    tsn: u32,
+    (stream, tsn): (u16, u32),
     acknowledged: Arrived,
+    flight: Flight,
 ) -> Result<(), AllocError> {
     put_chunk(text, style, moment, stream, tsn)?;
     let number = acknowledged.number;
     match style.form {
         Form::Text => write!(
             text,
-            " sent, and acknowledged before, in {number} or earlier\n"
-        ),
+            " sent, and acknowledged before, in {number} or earlier"
+        )?,
         Form::Json => write!(
             text,
-            ",\"cause\":\"acknowledged\",\"acknowledged_before\":{number}}}\n"
-        ),
+            ",\"cause\":\"acknowledged\",\"acknowledged_before\":{number}"
+        )?,
     }
+    put_flight(text, style.form, flight)
 }
 
 /// Appends that a FORWARD-TSN abandoned a chunk.
@@ -173,6 +200,7 @@ pub fn put_abandoned(
     style: Style,
     moment: &Moment,
     sent: &Sent,
+    flight: Flight,
 ) -> Result<(), AllocError> {
     put_chunk(text, style, moment, sent.stream, sent.tsn)?;
     text.push_str(if style.form == Form::Text {
@@ -181,7 +209,7 @@ pub fn put_abandoned(
         ",\"abandoned\":true"
     })?;
     put_sendings(text, style.form, sent)?;
-    put_end(text, style.form)
+    put_flight(text, style.form, flight)
 }
 
 /// Why nothing was acknowledged.
@@ -224,8 +252,7 @@ fn put_length(text: &mut String, form: Form, stall: &Stall) -> Result<(), AllocE
             ",\"stalled\":\"{length}\",\"since\":{since},\"reason\":"
         )?,
     }
-    put_reason(text, form, stall.reason)?;
-    put_end(text, form)
+    put_reason(text, form, stall.reason)
 }
 
 /// Appends that a stall ends.
@@ -234,9 +261,11 @@ pub fn put_stall(
     style: Style,
     moment: &Moment,
     stall: &Stall,
+    flight: Flight,
 ) -> Result<(), AllocError> {
     put_lead(text, style, moment)?;
-    put_length(text, style.form, stall)
+    put_length(text, style.form, stall)?;
+    put_flight(text, style.form, flight)
 }
 
 /// Appends that a stall lasts to the end of the input.
@@ -249,7 +278,8 @@ pub fn put_last_stall(
 ) -> Result<(), AllocError> {
     text.push_str(if form == Form::Text { "" } else { "{" })?;
     put_way(text, form, association, way)?;
-    put_length(text, form, stall)
+    put_length(text, form, stall)?;
+    put_end(text, form)
 }
 
 /// Appends that no SACK acknowledged a chunk.

@@ -1,7 +1,8 @@
 //! What acknowledged each chunk of an input, and which chunks were sent again.
 
 use crate::ack_text::{
-    put_abandoned, put_acknowledged, put_again, put_last_stall, put_late, put_left, put_stall,
+    Flight, put_abandoned, put_acknowledged, put_again, put_last_stall, put_late, put_left,
+    put_stall,
 };
 use crate::text::{Moment, Style, put_name, put_wrong_checksum};
 use sctp_capture::record::Time;
@@ -9,7 +10,7 @@ use sctp_chunks::chunk::chunk_kind::ChunkKind;
 use sctp_data::chunk::chunk_selective_ack::ChunkSelectiveAck;
 use sctp_dissect::dissection::{Item, Reading};
 use sctp_follow::associations::{Associations, Way};
-use sctp_follow::flow::counted;
+use sctp_follow::flow::{counted, payload_length};
 use sctp_follow::outstanding::{Cause, Outstanding, Passed, Sending, Sent, forward_of};
 use sctp_follow::packet::{Arrived, Packet, refused_sack};
 use sctp_follow::stall::{NO_WAIT, Report, Stall, Wait};
@@ -72,15 +73,29 @@ impl Side {
         }
     }
 
-    /// Takes DATA or I-DATA, and answers what sending it is.
-    fn send(&mut self, tsn: u32, stream: u16, arrived: Arrived) -> Result<Sending, AllocError> {
+    /// Takes DATA or I-DATA with so many bytes of user data, and answers what sending it is.
+    fn send(
+        &mut self,
+        tsn: u32,
+        stream: u16,
+        bytes: u64,
+        arrived: Arrived,
+    ) -> Result<Sending, AllocError> {
         self.outstanding.make_room();
-        let sending = self.outstanding.send(tsn, stream, arrived)?;
+        let sending = self.outstanding.send(tsn, stream, bytes, arrived)?;
         match sending {
             Sending::Late(_) => {}
             Sending::First | Sending::Again(_) => self.wait.note_sent(arrived),
         }
         Ok(sending)
+    }
+
+    /// What is outstanding now, and the window that a SACK said.
+    fn flight(&self, credit: Option<u32>) -> Flight {
+        Flight {
+            bytes: self.outstanding.bytes(),
+            credit,
+        }
     }
 
     /// Takes a SACK, and answers what it is the first one to acknowledge, and the stall that it ends, if it ends one.
@@ -230,6 +245,7 @@ impl Acks {
             return Ok(());
         }
         let (tsn, stream) = (read_u32(bytes, 4), read_u16(bytes, 8));
+        let length = payload_length(bytes);
         let arrived = Arrived {
             number: moment.number,
             time: moment.time,
@@ -238,15 +254,27 @@ impl Acks {
             return Ok(());
         };
         let side = pair.side(moment.way);
-        match side.send(tsn, stream, arrived)? {
+        let sending = side.send(tsn, stream, length, arrived)?;
+        let flight = match sending {
+            Sending::First => return Ok(()),
+            Sending::Again(_) | Sending::Late(_) => side.flight(None),
+        };
+        match sending {
             Sending::First => Ok(()),
             Sending::Again(before) => {
                 self.count_again(before.cause());
-                put_again(text, self.style, moment, &before)
+                put_again(text, self.style, moment, &before, flight)
             }
             Sending::Late(acknowledged) => {
                 self.count_again(Cause::Acknowledged);
-                put_late(text, self.style, moment, stream, tsn, acknowledged)
+                put_late(
+                    text,
+                    self.style,
+                    moment,
+                    (stream, tsn),
+                    acknowledged,
+                    flight,
+                )
             }
         }
     }
@@ -269,15 +297,16 @@ impl Acks {
         };
         let side = pair.side(moment.way);
         let Answer { newly, stall } = side.take_sack(alloc, sack, arrived)?;
+        let flight = side.flight(Some(sack.advertised_receiver_window_credit));
         let mut newly = newly;
         sort_sent(&mut newly)?;
         for sent in &newly {
             let is_cumulative = sna32lte(sent.tsn, sack.cumulative_tsn_ack);
             self.tally.acknowledged = counted(self.tally.acknowledged, 1);
-            put_acknowledged(text, self.style, moment, sent, is_cumulative)?;
+            put_acknowledged(text, self.style, moment, sent, is_cumulative, flight)?;
         }
         match stall {
-            Some(stall) => put_stall(text, self.style, moment, &stall),
+            Some(stall) => put_stall(text, self.style, moment, &stall, flight),
             None => Ok(()),
         }
     }
@@ -301,10 +330,11 @@ impl Acks {
             time: moment.time,
         };
         side.wait.note_forward(tsn, arrived);
+        let flight = side.flight(None);
         sort_sent(&mut abandoned)?;
         for sent in &abandoned {
             self.tally.abandoned = counted(self.tally.abandoned, 1);
-            put_abandoned(text, self.style, moment, sent)?;
+            put_abandoned(text, self.style, moment, sent, flight)?;
         }
         Ok(())
     }

@@ -15,6 +15,7 @@ use sctp_data::chunk::chunk_selective_ack::ChunkSelectiveAck;
 use sctp_dissect::dissection::{Item, Reading};
 use sctp_follow::associations::{Associations, Way};
 use sctp_follow::channels::{Channels as Rows, Closing, Event, first_of, opening_of};
+use sctp_follow::flow::payload_length;
 use sctp_follow::outstanding::{Outstanding, Sending, forward_of};
 use sctp_follow::packet::{Arrived, Packet, refused_sack};
 use sctp_follow::summarize::Take;
@@ -116,7 +117,7 @@ impl Pair {
         let (tsn, stream) = (read_u32(bytes, 4), read_u16(bytes, 8));
         let side = self.side(way);
         side.make_room();
-        match side.send(tsn, stream, arrived)? {
+        match side.send(tsn, stream, payload_length(bytes), arrived)? {
             Sending::First => self.take_first(alloc, way, stream, bytes, arrived),
             Sending::Again(_) | Sending::Late(_) => {
                 self.rows.note(alloc, way, stream, Event::Again)
