@@ -23,3 +23,4 @@ pub mod Named
 pub mod HostSteps
 pub mod Hosts
 pub mod Asked
+pub mod HostCalls

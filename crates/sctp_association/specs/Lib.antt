@@ -10,6 +10,7 @@ pub mod Events
 pub mod Failing
 pub mod Halves
 pub mod Held
+pub mod HostCalls
 pub mod Hosts
 pub mod Once
 pub mod Packets

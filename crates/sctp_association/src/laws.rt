@@ -2,6 +2,7 @@
 
 ghost use Rattle.sctp_association.specs.Delivered.{EachBringsOnly, EachCarriesOnly, EachComes};
 ghost use Rattle.sctp_association.specs.Held.{CostsLittle, HoldsFewChunks, KeepsFewTsns, NotesFewDuplicates, OfEach, OpensFewStreams};
+ghost use Rattle.sctp_association.specs.HostCalls.{EachAskActs, EachBegins, EachDatagramActs, EachOtherIsQuiet, EachPollActs, EachReadActs, EachSizeActs, EachTimeoutActs};
 ghost use Rattle.sctp_association.specs.Hosts.{EachDelivers};
 ghost use Rattle.sctp_association.specs.Sessions.{EachIsSent};
 
@@ -38,4 +39,17 @@ pub fn what_comes_was_made()
 /// In the end each other write was read.
 pub fn what_is_read_was_written()
     ensures { EachDelivers }
+{}
+
+/// What the clauses of its calls say of an association is what one does of which `what_is_read_was_written` speaks: so that law is applied call
+/// by call.
+pub fn each_call_is_what_a_host_does()
+    ensures begun { EachBegins }
+    ensures asked { EachAskActs }
+    ensures sized { EachSizeActs }
+    ensures timed { EachTimeoutActs }
+    ensures read { EachReadActs }
+    ensures polled { EachPollActs }
+    ensures handled { EachDatagramActs }
+    ensures quiet { EachOtherIsQuiet }
 {}
