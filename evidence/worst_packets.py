@@ -73,6 +73,7 @@ def rows():
         [f"FORWARD-TSN cum={5002 + 2 * k}" for k in range(200)])
     names = ",".join(f"{k}:{k and 1}" for k in range(340))
     yield "one FORWARD-TSN past all, with 340 names", bundled(incomplete(INCOMPLETE, STREAMS)), f"tag=10 FORWARD-TSN cum={5002 + 2 * INCOMPLETE} skips={names}"
+    yield "one FORWARD-TSN with 340 names, of streams that are not open", [], "tag=10 FORWARD-TSN cum=5001 skips=" + ",".join(f"{k}:0" for k in range(340))
     yield "DATA, each between two TSNs that came", bundled([data(5001 + 2 * k, 1, k) for k in range(1200)]), packed(
         [data(5102 + 2 * k, 2, k) for k in range(80)])
     yield "DATA in the gap before them", bundled([data(5001 + k, 1, k) for k in range(INCOMPLETE)]), packed([data(5000, 2, 0)])
