@@ -22,5 +22,4 @@ pub mod Cut
 pub mod Named
 pub mod HostSteps
 pub mod Hosts
-pub mod Asked
 pub mod HostCalls
