@@ -41,8 +41,8 @@ pub fn what_is_read_was_written()
     ensures { EachDelivers }
 {}
 
-/// What the clauses of its calls say of an association is what one does of which `what_is_read_was_written` speaks: so that law is applied call
-/// by call.
+/// What the clauses of a call ensure of an association is what acts of a `Host` do, of which `what_is_read_was_written` speaks. Not said: which acts
+/// those of `read`, `set_mtu` and `handle_timeout` are, nor how many calls of the sender `poll_transmit` makes.
 pub fn each_call_is_what_a_host_does()
     ensures begun { EachBegins }
     ensures asked { EachAskActs }
