@@ -27,6 +27,7 @@ pub mod ordered_skips;
 mod outward;
 mod pool;
 mod resets;
+mod room;
 mod sizes;
 mod skips;
 pub mod unassembled;
@@ -499,7 +500,8 @@ impl ReassemblyQueue {
     }
 
     /// The same, and what it looks at is added: four turns at most where the sets of ordered messages are in order (`IsOrderly`) and
-    /// fewer than 2^64 - 1 chunks are held, and `read_walk` whatever is held.
+    /// fewer than 2^64 - 1 chunks are held, and `read_walk` whatever is held. A list of which few are left gives room back, as after
+    /// skips and resets (`room::give_back`); sets that move by it are no turns.
     pub fn read_counted(&mut self, turns: &mut Turns) -> Option<Chunks>
         ensures message { result ≡ option_map at_start (message_read self.old.held) }
         ensures rest { self.new ≡ state_read self.old }

@@ -1,5 +1,5 @@
 -- How many chunks sets have.
-use Rattle.std.specs.Prelude.{ℕ, List, length}
+use Rattle.std.specs.Prelude.{◌≡◌, ℕ, ◌≤◌, List, [], length}
 use Rattle.std.specs.List.{sum_by}
 use Rattle.sctp_data.specs.ChunkSet.{ChunkSet}
 
@@ -7,6 +7,10 @@ use Rattle.sctp_data.specs.ChunkSet.{ChunkSet}
 pub record SetDeque : Type 0 where
   pub items : List ChunkSet
   pub capacity : ℕ
+
+-- without sets it keeps room for four at most
+abbrev pub KeepsFew : SetDeque → Type 0
+KeepsFew s = s.items ≡ [] → s.capacity ≤ 4
 
 abbrev pub set_chunks : List ChunkSet → ℕ
 set_chunks sets = sum_by (λ s. length s.chunks) sets

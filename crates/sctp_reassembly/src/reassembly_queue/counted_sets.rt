@@ -5,7 +5,7 @@ ghost use Rattle.std.specs.List.{All, insert, filter};
 ghost use Rattle.sctp_data.specs.ChunkSet.{ChunkSet};
 ghost use Rattle.sctp_util.specs.declared.error.Error.TheVariants.{ErrOutOfMemory};
 ghost use Rattle.sctp_reassembly.specs.reassembly_queue.Orders.{digits, IsInOrder};
-ghost use Rattle.sctp_reassembly.specs.reassembly_queue.Counts.{set_chunks};
+ghost use Rattle.sctp_reassembly.specs.reassembly_queue.Counts.{KeepsFew, set_chunks};
 ghost use Rattle.sctp_util.specs.Lists.{change_at};
 ghost use Rattle.sctp_reassembly.specs.declared.reassembly_queue.chunks.Placed.{Placed};
 ghost use Rattle.sctp_reassembly.specs.reassembly_queue.Fragments.{with_chunk, without_chunk, answer_with};
@@ -17,6 +17,7 @@ ghost use Rattle.sctp_reassembly.specs.reassembly_queue.Undo.{IsNotedOf};
 use crate::reassembly_queue::chunks::{Fragments, Noted, Placed};
 use crate::reassembly_queue::fragment::Fragment;
 use crate::reassembly_queue::ordered_skips::SsnSpan;
+use crate::reassembly_queue::room::give_back;
 use crate::reassembly_queue::{resets, skips};
 use sctp_serial::turns::Turns;
 use sctp_util::error::Result;
@@ -81,7 +82,8 @@ impl CountedSets {
         self.n_chunks
     }
 
-    /// Takes out the first set. Its turns are added: one at most while fewer than 2^64 - 1 chunks are held, else one for each set.
+    /// Takes out the first set, and gives room back (`KeepsFew`). Its turns are added: one at most while fewer than 2^64 - 1 chunks are
+    /// held, else one for each set.
     pub(crate) fn pop_front(&mut self, turns: &mut Turns) -> Option<Fragments>
         ensures some { IfSome result (λ s. self.old.items ≡ s ∷ self.new.items) }
         ensures none { IfNone result ((self.old.items ≡ []) × (self.new.items ≡ self.old.items)) }
@@ -89,10 +91,12 @@ impl CountedSets {
         ensures not_back { turns.old ≤ turns.new }
         ensures cost { turns.new ≤ turns.old + length self.old.items }
         ensures few { set_chunks self.old.items < 2 ^ 64 - 1 → turns.new ≤ turns.old + 1 }
+        ensures room { IfSome result (λ s. KeepsFew self.new) }
     {
         let set = self.sets.pop_front()?;
         turns.tick();
         self.n_chunks = chunks_without(self.n_chunks, set.fragments().len(), &self.sets, turns);
+        give_back(&mut self.sets);
         Some(set)
     }
 
@@ -228,8 +232,8 @@ impl CountedSets {
     }
 
     /// Removes the sets that a skip discards: the incomplete ones, those alone whose numbers are in the stretch where there is
-    /// one, and those alone that miss a TSN where there is a bound. Counts their bytes up to the greatest number. Its turns are added:
-    /// four for each set at most where there is no bound and TSNs ascend in each.
+    /// one, and those alone that miss a TSN where there is a bound. Counts their bytes up to the greatest number, and gives room back
+    /// (`KeepsFew`). Its turns are added: four for each set at most where there is no bound and TSNs ascend in each.
     pub(crate) fn discard(
         &mut self,
         passed: Option<SsnSpan>,
@@ -245,14 +249,16 @@ impl CountedSets {
             → turns.new ≤ turns.old + 4 * length self.old.items }
         ensures walk { turns.new
             ≤ turns.old + 4 * length self.old.items + 2 * set_chunks self.old.items }
+        ensures room { KeepsFew self.new }
     {
         let gone = skips::discard(&mut self.sets, passed, bound, turns);
         self.n_chunks = chunks_in(&self.sets, turns);
+        give_back(&mut self.sets);
         gone
     }
 
     /// Moves the complete messages of the old use, which ends with the TSN, behind others, and keeps of the rest what is of
-    /// the new use. Counts the bytes that are dropped up to the greatest number. It takes no memory.
+    /// the new use. Counts the bytes that are dropped up to the greatest number, and gives room back (`KeepsFew`). It takes no memory.
     /// Precondition: there is room for those that are moved.
     pub(crate) fn end_use(&mut self, last_tsn: u32, moved: &mut CountedSets) -> usize
         requires { length moved.old.items + length (filter (is_old_message last_tsn) self.old.items)
@@ -261,10 +267,12 @@ impl CountedSets {
         ensures moved { moved.new.items
             ≡ moved.old.items ++ filter (is_old_message last_tsn) self.old.items }
         ensures bytes { result ≡ min (dropped_bytes last_tsn self.old.items) (2 ^ 64 - 1) }
+        ensures room { KeepsFew self.new }
     {
         let gone = resets::end_use(&mut self.sets, last_tsn, moved);
         let left = chunks_in(&self.sets, &mut Turns::new());
         self.n_chunks = left;
+        give_back(&mut self.sets);
         gone
     }
 }
