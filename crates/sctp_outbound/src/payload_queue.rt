@@ -13,6 +13,7 @@ ghost use Rattle.sctp_serial.specs.Window.{IsSerial, IsPlaceFor, IsHeldAt, IsWin
 ghost use Rattle.sctp_serial.specs.DataChunks.{has_tsn, bytes_of};
 ghost use Rattle.sctp_outbound.specs.Stored.{NoneBefore};
 ghost use Rattle.sctp_outbound.specs.Marks.{IsBetween, is_outstanding};
+ghost use Rattle.sctp_outbound.specs.payload_queue.PayloadQueue.{IsLatestPlace};
 ghost use Rattle.sctp_outbound.specs.payload_queue.Blocks.{IsFirstAfter, IsRunUntil, Reports, gap_offsets, ends_of, gap_text};
 
 mod arrival;
@@ -66,7 +67,21 @@ impl Model for PayloadQueue {
     } };
 }
 
-// Where a TSN is held, with its chunk, or where it would go: a binary search.
+// A place at which, as behind it, no chunk comes before the TSN: the one that it has where TSNs follow each other. It takes no turn.
+#[inline]
+fn latest_place(held: &Held, tsn: u32) -> usize
+    requires { IsSerial held.now.chunks }
+    ensures latest { IsLatestPlace held.now.chunks tsn result }
+    ensures fits { tsn < 2 ^ 32 }
+{
+    match held.front_tsn() {
+        Some(front) => distance(front, tsn) as usize,
+        None => 0,
+    }
+}
+
+// Where a TSN is held, with its chunk, or where it would go: a binary search that looks at no place behind the latest. So where TSNs
+// follow each other, a TSN of their first half is found by a look.
 fn search<'a>(
     held: &'a Held,
     tsn: u32,
@@ -80,10 +95,11 @@ fn search<'a>(
     ensures not_back { turns.old ≤ turns.new }
     ensures cost { IsWithinDigits (length held.now.chunks) (turns.new - turns.old) }
 {
+    let latest = latest_place(held, tsn);
     let mut low = 0;
     let mut high = held.len();
     while low < high {
-        let middle = low + (high - low) / 2;
+        let middle = (low + (high - low) / 2).min(latest);
         let seen = held.see(middle, turns);
         let here = seen.tsn();
         if here == tsn {

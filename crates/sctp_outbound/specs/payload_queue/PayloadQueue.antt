@@ -3,7 +3,7 @@ use Rattle.std.specs.Prelude.{◌≡◌, ℕ, ◌-◌, ◌<◌, ◌++◌, ◌∷
 use Rattle.std.specs.List.{filter}
 use Rattle.sctp_data.specs.declared.chunk.chunk_payload_data.ChunkPayloadData.{ChunkPayloadData}
 use Rattle.sctp_util.specs.Lists.{insert_before}
-use Rattle.sctp_util.specs.Serial.{at_or_before}
+use Rattle.sctp_util.specs.Serial.{at_or_before, comes_before}
 use Rattle.sctp_serial.specs.DataChunks.{has_tsn, chunk_before}
 
 -- the chunks in serial order, the duplicates in the order in which they came, and how many pushes take no memory
@@ -58,3 +58,9 @@ abbrev pub FirstStays : ℕ → List ChunkPayloadData → Type 0
 FirstStays tsn chunks =
     0 < length chunks → (d : ChunkPayloadData) → at_or_before (slice_index_or chunks 0 d).tsn tsn
     ≡ false
+
+-- the chunk at the place, where there is one, does not come before the TSN
+abbrev pub IsLatestPlace : List ChunkPayloadData → ℕ → ℕ → Type 0
+IsLatestPlace chunks tsn place =
+    place < length chunks → (d : ChunkPayloadData)
+    → comes_before (slice_index_or chunks place d).tsn tsn ≡ false

@@ -19,6 +19,13 @@ use std::alloc::Global;
 use std::collections::VecDeque;
 use std::marker::Model;
 
+// Lists with memory for more than so many chunks give memory back when they get empty. Others keep theirs, so that few chunks at a
+// time take no memory over and over.
+pub(crate) const MUCH: usize = 64;
+
+// For how many chunks they keep memory then.
+pub(crate) const KEPT: usize = 16;
+
 /// What is noted of a chunk in flight, for its sender alone.
 #[derive(Clone, Copy, PartialEq, Eq)]
 pub(crate) enum Mark {
@@ -378,6 +385,30 @@ impl Held {
         ensures { self.new ≡ record self.old { room = min room self.old.room } }
     {
         self.room = self.room.min(room);
+        self.give_back();
+    }
+
+    // Gives back memory where it is much, there is no chunk, and no room.
+    fn give_back(&mut self)
+        ensures { self.new ≡ self.old }
+    {
+        if self.places.capacity() > MUCH && self.places.is_empty() && self.room == 0 {
+            self.shrink();
+        }
+    }
+
+    // Gives back memory: all of the slab, and all but that for `KEPT` places.
+    // Precondition: there is no chunk, and no room.
+    #[cold]
+    #[inline(never)]
+    fn shrink(&mut self)
+        requires empty { length self.old.chunks ≡ 0 }
+        requires room { self.old.room ≡ 0 }
+        ensures { self.new ≡ self.old }
+    {
+        self.places.shrink_to(KEPT);
+        self.slab.clear();
+        self.slab.shrink_to_fit();
     }
 
     /// Takes out the chunk at a place, which is room then.
@@ -406,7 +437,7 @@ impl Held {
     {
         let room = self.room;
         let chunk = self.remove_leaving_room(place);
-        self.room = room;
+        self.limit_room(room);
         chunk
     }
 

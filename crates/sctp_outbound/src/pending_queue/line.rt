@@ -12,6 +12,7 @@ ghost use Rattle.sctp_outbound.specs.pending_queue.PendingQueue.{removed_bytes, 
 ghost use Rattle.sctp_outbound.specs.pending_queue.Whole.{AreWhole, NumbersAscend, begins_with, begun, stand_in_front, until_end};
 ghost use Rattle.sctp_serial.specs.DataChunks.{bytes_of, is_on};
 
+use crate::payload_queue::held::{KEPT, MUCH};
 use sctp_data::chunk::chunk_payload_data::{
     ChunkPayloadData, PayloadProtocolIdentifier, ReliabilityType,
 };
@@ -19,9 +20,6 @@ use sctp_util::error::Result;
 use std::alloc::Global;
 use std::collections::VecDeque;
 use std::marker::Model;
-
-// For how many chunks a line that gets empty keeps memory, where its room does not ask for more: 122,880 bytes.
-const MOST_KEPT: usize = 1024;
 
 /// Chunks in the order in which they came. The next `room` pushes take no memory.
 #[derive(Drop)]
@@ -293,23 +291,24 @@ impl Line {
         (before - self.get_num_bytes(), last)
     }
 
-    // Gives back memory where at most one chunk waits: all but that for `MOST_KEPT` chunks, and for that one and the room.
+    // Gives back memory where at most one chunk waits, and memory is much: also for more than four times the room.
     fn give_back(&mut self)
         ensures { self.new ≡ self.old }
     {
-        if self.chunks.len() <= 1 && self.chunks.capacity() > MOST_KEPT {
+        let capacity = self.chunks.capacity();
+        if capacity > MUCH && self.chunks.len() <= 1 && capacity / 4 > self.room {
             self.shrink();
         }
     }
 
-    // Gives back memory: all but that for `MOST_KEPT` chunks, and for those that wait and the room.
+    // Gives back memory: all but that for `KEPT` chunks, and for those that wait and the room.
     #[cold]
     #[inline(never)]
     fn shrink(&mut self)
         ensures { self.new ≡ self.old }
     {
         let least = self.chunks.len() + self.room;
-        self.chunks.shrink_to(MOST_KEPT.max(least));
+        self.chunks.shrink_to(KEPT.max(least));
     }
 
     /// Removes what waits of a message, and answers its bytes and the last of it.

@@ -74,6 +74,18 @@ module _ (xs : List ChunkPayloadData) (serial : IsSerial xs) (i : ℕ) (d : Chun
       let s : far i + (k - i) ≤ far k = subst (λ j. far i + (k - i) ≤ far j) {x = i + (k - i)} (omega arith) (spread i (k - i) (omega arith) (omega arith)) in
       omega (arith, p)
 
+  -- a place lies at least as far after i as places are between, and less than half a circle
+  pub far_enough : (k : ℕ) → i ≤ k → k < length xs → (k - i ≤ far k) × (far k < 2 ^ 31)
+  far_enough k le short =
+      let own : far i ≡ 0 = distance_self (get_or xs i d).tsn (serial.in_range i d (omega arith)) in
+      let s : far i + (k - i) ≤ far k = subst (λ j. far i + (k - i) ≤ far j) {x = i + (k - i)} (omega arith) (spread i (k - i) (omega arith) (omega arith)) in (
+        omega arith,
+        elim (cases_lt i k) [
+          | inl later ↦ (before_is (get_or xs i d).tsn (get_or xs k d).tsn (serial.ascending i k d later short)).1
+          | inr at ↦ subst (λ j. far j < 2 ^ 31) {x = i} (omega arith) (omega arith)
+        ],
+      )
+
   -- as far as the places are apart, so is each between
   pub rising_from_distance : (s : ℕ) → i + s < length xs → far (i + s) ≡ s → IsRising xs i (i + s)
   rising_from_distance s short e k c le lt =

@@ -4,10 +4,12 @@ use Rattle.std.specs.Prelude.{Some, unwrap_or}
 use Rattle.std.specs.List.{All, slice_get}
 use Rattle.std.specs.Option.{option_map}
 use Rattle.std.proofs.lemmas.Option.{slice_get-get_or}
-use Rattle.std.proofs.lemmas.Bool.{cases_lt, false≢true}
+use Rattle.std.proofs.lemmas.Bool.{cases_lt, false≢true, false_from_ne_true}
 use Rattle.sctp_data.specs.declared.chunk.chunk_payload_data.ChunkPayloadData.{ChunkPayloadData}
-use Rattle.sctp_util.specs.Serial.{comes_before}
-use Rattle.sctp_util.proofs.Distances.{before_asym, before_irrefl, before_total, before_trans}
+use Rattle.sctp_util.specs.Serial.{comes_before, distance}
+use Rattle.sctp_util.proofs.Distances.{before_asym, before_irrefl, before_is, before_total, before_trans, distance_cases}
+use Rattle.sctp_outbound.specs.payload_queue.PayloadQueue.{IsLatestPlace}
+use Rattle.sctp_outbound.proofs.lemmas.payload_queue.Gaps.{far_enough}
 use Rattle.sctp_outbound.proofs.lemmas.payload_queue.Marked.{any_chunk}
 use Rattle.sctp_serial.specs.Window.{IsSerial, IsPlaceFor, IsWindow, IsWithinHalf}
 
@@ -117,3 +119,38 @@ behind_last chunks serial tsn last fits some read h =
     subst (λ n. Narrowed chunks tsn n (length chunks)) {x = length chunks - 1 + 1} (omega arith)
     (narrowed_right chunks serial tsn 0 (length chunks) (length chunks - 1) fits (narrowed_none chunks tsn) last (omega arith) (omega arith) read
     (λ e. false≢true (sym (before_irrefl tsn fits) ∙ subst (λ t. IsTrue (comes_before t tsn)) e h)) h)
+
+-- ## The latest place
+
+-- what lies farther after f than y, but less than half a circle, does not come before y
+not_before : (f x y : ℕ) → f < 2 ^ 32 → x < 2 ^ 32 → y < 2 ^ 32 → distance f y ≤ distance f x → distance f x < 2 ^ 31 → comes_before x y ≡ false
+not_before f x y hf hx hy le near = false_from_ne_true (comes_before x y) (λ h. let p = before_is x y h in elim (distance_cases f x hf hx) [
+  | inl a ↦ elim (distance_cases f y hf hy) [
+    | inl b ↦ elim (distance_cases x y hx hy) [ inl r ↦ omega (arith, p) | inr r ↦ omega (arith, p) ]
+    | inr b ↦ elim (distance_cases x y hx hy) [ inl r ↦ omega (arith, p) | inr r ↦ omega (arith, p) ]
+  ]
+  | inr a ↦ elim (distance_cases f y hf hy) [
+    | inl b ↦ elim (distance_cases x y hx hy) [ inl r ↦ omega (arith, p) | inr r ↦ omega (arith, p) ]
+    | inr b ↦ elim (distance_cases x y hx hy) [ inl r ↦ omega (arith, p) | inr r ↦ omega (arith, p) ]
+  ]
+])
+
+-- as far after the first as the TSN
+pub latest_found : (chunks : List ChunkPayloadData) → IsSerial chunks → (tsn front : ℕ) → tsn < 2 ^ 32
+    → ((d : ChunkPayloadData) → (0 < length chunks) × ((get_or chunks 0 d).tsn ≡ front)) → IsLatestPlace chunks tsn (distance front tsn)
+latest_found chunks serial tsn front fits read short d =
+    let place = distance front tsn in
+    let far = far_enough chunks serial 0 d place (omega arith) short in
+    subst (λ f. distance f tsn ≤ distance f (get_or chunks place d).tsn → comes_before (get_or chunks place d).tsn tsn ≡ false) (read d).1
+    (λ le. not_before (get_or chunks 0 d).tsn (get_or chunks place d).tsn tsn (serial.in_range 0 d (read d).0) (serial.in_range place d short) fits le far.1)
+    (subst (λ f. distance front tsn ≤ distance f (get_or chunks place d).tsn) (read d).1 (omega (arith, far)))
+
+-- a chunk before the TSN is not at the latest place
+pub before_latest : (chunks : List ChunkPayloadData) (tsn latest place here : ℕ) → IsLatestPlace chunks tsn latest
+    → ((d : ChunkPayloadData) → (get_or chunks place d).tsn ≡ here) → IsTrue (comes_before here tsn) → place < length chunks → place ≤ latest
+    → place < latest
+before_latest chunks tsn latest place here is number h short le = elim (cases_lt place latest) [
+  | inl lt ↦ lt
+  | inr at ↦ absurd (false≢true (sym (is (omega arith) any_chunk) ∙ subst (λ t. IsTrue (comes_before t tsn))
+      (sym (number any_chunk) ∙ ap (λ i. (get_or chunks i any_chunk).tsn) (omega arith)) h))
+]

@@ -4,6 +4,7 @@ use Rattle.sctp_outbound.proofs.payload_queue.search.Given as goal
 
 abbrev pub invariant-loop-low : goal.invariant-loop-low
 invariant-loop-low l = record {
+  latest : l.low ≤ l.latest;
   narrowed : Narrowed l.held.chunks l.tsn l.low l.high;
   not_back : l.initial.turns ≤ l.turns;
   cost_left : 2 ^ (l.turns - l.initial.turns) * (l.high - l.low) ≤ length l.held.chunks;
