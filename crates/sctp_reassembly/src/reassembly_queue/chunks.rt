@@ -25,6 +25,9 @@ use sctp_util::util::sna32lte;
 use std::alloc::Global;
 use std::marker::Model;
 
+/// For how many fragments a set has room at first.
+pub(crate) const FEW: usize = 8;
+
 /// The fragments that share one stream sequence number, or those of one unordered message.
 #[derive(Drop)]
 pub struct Fragments {
@@ -221,7 +224,8 @@ impl Fragments {
         self.ascending = noted.ascending;
     }
 
-    /// Keeps the fragments past the TSN, and counts the bytes of the others up to the greatest number. It takes no memory.
+    /// Keeps the fragments past the TSN, and counts the bytes of the others up to the greatest number. It takes no memory. By no clause
+    /// it gives back room for more than `FEW`, and for more than twice what is left.
     pub(crate) fn keep_past(&mut self, tsn: u32) -> usize
         ensures rest { self.new ≡ rest_past tsn self.old }
         ensures bytes { result
@@ -232,6 +236,7 @@ impl Fragments {
         self.chunks.retain(|c| !sna32lte(c.tsn, tsn));
         self.n_bytes = bytes_in(&self.chunks, &mut turns);
         self.ascending = still_ascending(self.ascending, &self.chunks, &mut turns);
+        self.chunks.shrink_to(FEW.max(self.chunks.len() * 2));
         gone
     }
 }

@@ -18,7 +18,7 @@ ghost use Rattle.sctp_data.specs.ChunkSet.{ChunkSet};
 ghost use Rattle.sctp_reassembly.specs.reassembly_queue.Orders.{digits, IsOffOnlyOutOfOrder, IsOrderly};
 ghost use Rattle.sctp_util.specs.declared.error.Error.TheVariants.{ErrOutOfMemory};
 
-use crate::reassembly_queue::chunks::{Fragments, Noted};
+use crate::reassembly_queue::chunks::{FEW, Fragments, Noted};
 use crate::reassembly_queue::counted_sets::CountedSets;
 use crate::reassembly_queue::fragment::Fragment;
 use crate::reassembly_queue::ordered_skips::SsnSpan;
@@ -30,9 +30,6 @@ use std::alloc::Global;
 use std::collections::VecDeque;
 use std::marker::Model;
 use std::result;
-
-// For how many fragments a set has room at first.
-const FEW: usize = 8;
 
 /// The sets of ordered messages.
 #[derive(Drop)]

@@ -14,10 +14,11 @@ use Rattle.sctp_reassembly.proofs.reassembly_queue.chunks.Fragments.keep_past.Go
 pub invariant_of-self : goal.invariant_of-self
 invariant_of-self c =
     let num = (λ (x : ChunkPayloadData). x.tsn) in
+    let same = sym c.shrink_to.ensures.items in
     record {
-      counted = c.bytes_in-self-inside.ensures.value ∙ ap (λ cs. min (bytes_of cs) (2 ^ 64 - 1)) c.deref-2.ensures.value;
-      order = subst (λ ys. IsOrder c.still_ascending-self-inside.result (map num ys)) c.deref-3.ensures.value c.still_ascending-self-inside.ensures.order;
-      exact = subst (λ ys. IsOffOnlyOutOfOrder c.still_ascending-self-inside.result (map num ys)) c.deref-3.ensures.value
+      counted = c.bytes_in-self-inside.ensures.value ∙ ap (λ cs. min (bytes_of cs) (2 ^ 64 - 1)) (c.deref-2.ensures.value ∙ same);
+      order = subst (λ ys. IsOrder c.still_ascending-self-inside.result (map num ys)) (c.deref-3.ensures.value ∙ same) c.still_ascending-self-inside.ensures.order;
+      exact = subst (λ ys. IsOffOnlyOutOfOrder c.still_ascending-self-inside.result (map num ys)) (c.deref-3.ensures.value ∙ same)
           c.still_ascending-self-inside.ensures.exact;
     }
 
@@ -34,4 +35,4 @@ pub returns-clause-rest : goal.returns-clause-rest
 returns-clause-rest c =
     let kept : c.retain.new.self.items ≡ chunks_past c.args.tsn c.self.inside.chunks.items =
     filter_same _ _ _ (λ x b f' k. search rules) _ _ c.retain.ensures.filtered in
-    rw (← c.self.view_is) (same_but_chunks kept)
+    rw (← c.self.view_is) (same_but_chunks (c.shrink_to.ensures.items ∙ kept))
