@@ -156,8 +156,12 @@ fn first_after(held: &Held, cumulative_tsn: u32, turns: &mut Turns) -> usize
     }
 }
 
-// The last place before `end` up to which TSNs rise by one, from a place behind which two do, up to this TSN; and the TSN behind it
-// where it was seen. It looks as far ahead as the run reaches, then between: fewer turns than twice the run's binary logarithm.
+// Behind how many places of a run it is looked for with leaps.
+const WALKED: usize = 4;
+
+// The last place before `end` up to which TSNs rise by one, from a place behind which four do, up to this TSN; and the TSN behind it
+// where it was seen. It looks as far ahead as the run reaches, then between: fewer turns than twice the run's binary logarithm, and
+// at most 29.
 fn run_end(
     held: &Held,
     place: usize,
@@ -166,9 +170,10 @@ fn run_end(
     turns: &mut Turns,
 ) -> (usize, Option<u32>)
     requires serial { IsSerial held.now.chunks }
-    requires rising { IsRising held.now.chunks place (place + 2) }
-    requires number { (d : _) → (slice_index_or held.now.chunks (place + 2) d).tsn ≡ tsn }
-    requires some { place + 2 < end }
+    requires rising { IsRising held.now.chunks place (place + 4) }
+    requires number { (d : _) → (slice_index_or held.now.chunks (place + 4) d).tsn ≡ tsn }
+    requires some { place + 4 < end }
+    requires near { end < place + 2 ^ 16 }
     requires in_range { end ≤ length held.now.chunks }
     ensures run { IsRunUntil held.now.chunks end place result.0 }
     ensures seen { IfSome result.1 (λ tsn. (d : _)
@@ -176,10 +181,11 @@ fn run_end(
     ensures not_back { turns.old ≤ turns.new }
     ensures cost { 2 ^ (turns.new - turns.old)
         < (result.0 + 1 - place) * (result.0 + 1 - place) }
+    ensures most { turns.new ≤ turns.old + 29 }
 {
-    let mut last = place + 2;
+    let mut last = place + WALKED;
     let mut tsn = tsn;
-    let mut step = 2;
+    let mut step = WALKED;
     while step < end - last {
         let ahead = held.tsn_at(last + step, turns);
         if distance(tsn, ahead) as usize != step {

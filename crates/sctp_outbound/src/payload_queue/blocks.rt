@@ -5,12 +5,13 @@ ghost use Rattle.std.specs.Vec.{vec_len, vec_capacity};
 ghost use Rattle.sctp_util.specs.declared.error.Error.TheVariants.{ErrOutOfMemory};
 ghost use Rattle.sctp_util.specs.Kept.{runs_of};
 ghost use Rattle.sctp_util.specs.Serial.{distance};
+ghost use Rattle.sctp_serial.specs.Runs.{IsRising};
 ghost use Rattle.sctp_serial.specs.Turns.{IsWithinDigits};
 ghost use Rattle.sctp_serial.specs.Window.{IsSerial};
 ghost use Rattle.sctp_outbound.specs.payload_queue.Blocks.{IsAtOffset, IsRunFrom, Reports, gap_offsets, ends_of, is_offset, offset_at};
 
 use super::held::{Held, Tsns};
-use super::{PayloadQueue, first_after, run_end};
+use super::{PayloadQueue, WALKED, first_after, run_end};
 use sctp_data::chunk::chunk_selective_ack::GapAckBlock;
 use sctp_serial::serial::distance;
 use sctp_serial::turns::Turns;
@@ -65,8 +66,8 @@ fn offset_behind(
     }
 }
 
-// The run from a place on, as far as a block can hold it. Runs of one TSN and of two are found here, with a look at each and at the
-// one behind.
+// The run from a place on, as far as a block can hold it. Runs of up to four TSNs are found here, with a look at each and at the one
+// behind.
 #[inline]
 fn run_from(
     held: &Held,
@@ -83,23 +84,13 @@ fn run_from(
     ensures not_back { turns.old ≤ turns.new }
     ensures cost { turns.new ≤ turns.old + 34 }
 {
-    let next = place + 1;
-    let second = offset_at(tsns, cumulative_tsn, next, turns);
-    if second != offset + 1 {
-        return Run {
-            end: offset,
-            next,
-            behind: second,
-        };
-    }
-    let next = place + 2;
-    let third = offset_at(tsns, cumulative_tsn, next, turns);
-    if third != offset + 2 && offset < 65534 {
-        return Run {
-            end: second,
-            next,
-            behind: third,
-        };
+    for walked in 0..WALKED {
+        let next = place + walked + 1;
+        let end = offset + walked as u32;
+        let behind = offset_at(tsns, cumulative_tsn, next, turns);
+        if behind != end + 1 || !is_offset(behind) {
+            return Run { end, next, behind };
+        }
     }
     let (next, behind) = long_run_from(held, cumulative_tsn, place, offset, turns);
     Run {
@@ -109,8 +100,7 @@ fn run_from(
     }
 }
 
-// The place behind a run of three TSNs or more, or of two of which a block can hold no more, and the distance there. It stands
-// apart, so that what short runs take stays small.
+// The place behind a run of five TSNs or more, and the distance there. It stands apart, so that what short runs take stays small.
 #[cold]
 #[inline(never)]
 fn long_run_from(
@@ -122,22 +112,16 @@ fn long_run_from(
 ) -> (usize, u32)
     requires serial { IsSerial held.now.chunks }
     requires at { IsAtOffset cumulative_tsn held.now.chunks place offset }
-    requires second { offset + 1 ≡ offset_at cumulative_tsn held.now.chunks (place + 1) }
-    requires third { offset < 65534
-        → offset + 2 ≡ offset_at cumulative_tsn held.now.chunks (place + 2) }
+    requires rising { IsRising held.now.chunks place (place + 4) }
+    requires fifth { IsAtOffset cumulative_tsn held.now.chunks (place + 4) (offset + 4) }
     ensures run { IsRunFrom cumulative_tsn held.now.chunks place offset
         (record { end = offset + (result.0 - 1 - place); next = result.0; behind = result.1 }) }
     ensures not_back { turns.old ≤ turns.new }
-    ensures cost { turns.new ≤ turns.old + 32 }
+    ensures cost { turns.new ≤ turns.old + 30 }
 {
     // a block cannot reach past 65,535
     let reach = (held.len() - place).min(65536 - offset as usize);
-    if reach < 3 {
-        let next = place + reach;
-        let behind = offset_behind(held, cumulative_tsn, next, None, turns);
-        return (next, behind);
-    }
-    let tsn = cumulative_tsn.wrapping_add(offset + 2);
+    let tsn = cumulative_tsn.wrapping_add(offset + 4);
     let (last, seen) = run_end(held, place, tsn, place + reach, turns);
     let next = last + 1;
     let behind = offset_behind(held, cumulative_tsn, next, seen, turns);

@@ -8,7 +8,7 @@ use Rattle.sctp_util.proofs.Distances.{distance_cases}
 use Rattle.sctp_serial.specs.Runs.{IsRising}
 use Rattle.sctp_serial.specs.Window.{IsSerial}
 use Rattle.sctp_serial.proofs.lemmas.AscendingEdits.{distance_self}
-use Rattle.sctp_outbound.proofs.lemmas.payload_queue.Gaps.{few, next_of, out_from, rising_on}
+use Rattle.sctp_outbound.proofs.lemmas.payload_queue.Gaps.{few, next_of, out_from}
 use Rattle.sctp_outbound.proofs.lemmas.payload_queue.Marked.{any_chunk}
 use Rattle.sctp_outbound.specs.declared.payload_queue.blocks.Run.{Run}
 use Rattle.sctp_outbound.specs.payload_queue.Blocks.{AscendsFrom, IsAtOffset, IsRunFrom, IsRunUntil, is_offset, offset_at}
@@ -77,16 +77,6 @@ module _ (cumulative : ℕ) (xs : List ChunkPayloadData) (fits : cumulative < 2 
         (next_of cumulative (get_or xs i d).tsn (get_or xs (i + 1) d).tsn fits (serial.in_range i d p.in_range) (serial.in_range (i + 1) d q.in_range)
         (offset_here cumulative xs (i + 1) (offset + 1) q d ∙ ap (λ o. o + 1) (sym (offset_here cumulative xs i offset p d))))
 
-    pub rises_two : (i offset : ℕ) → IsAtOffset cumulative xs i offset → IsAtOffset cumulative xs (i + 1) (offset + 1)
-        → IsAtOffset cumulative xs (i + 2) (offset + 2) → IsRising xs i (i + 2)
-    rises_two i offset p q r = rising_on xs i (i + 1) (i + 2) (rises_one i offset p q)
-        (subst (λ j. IsRising xs (i + 1) j) {x = i + 1 + 1} (omega arith) (rises_one (i + 1) (offset + 1) q (record {
-          in_range = omega (arith, r);
-          positive = omega arith;
-          small = omega (arith, r);
-          here = subst (λ j. offset + 1 + 1 ≡ offset_at cumulative xs j) {x = i + 2} (omega arith) (omega (arith, r));
-        })))
-
     -- a run that ends where the next distance is not next to its last one, or no block can hold it
     pub run_ended : (place offset last far : ℕ) (run : Run) → IsAtOffset cumulative xs place offset → place ≤ last → far ≡ offset + (last - place)
         → IsRising xs place last → IsAtOffset cumulative xs last far → run.next ≡ last + 1 → run.end ≡ far
@@ -107,14 +97,4 @@ module _ (cumulative : ℕ) (xs : List ChunkPayloadData) (fits : cumulative < 2 
       });
       ends = omega arith;
       goes_on = behind ∙ ap (offset_at cumulative xs) (sym next);
-    }
-
-    -- a run of which a block can hold two at most
-    pub run_cut_off : (place offset reach : ℕ) → IsAtOffset cumulative xs place offset → offset + 1 ≡ offset_at cumulative xs (place + 1)
-        → reach ≡ min (length xs - place) (2 ^ 16 - offset) → reach < 3 → IsRunUntil xs (place + reach) place (place + reach - 1)
-    run_cut_off place offset reach at next e short = record {
-      from = omega (arith, at);
-      to = omega (arith, at);
-      rising = λ k d le lt. rises_one place offset at (at_offset (place + 1) (offset + 1) next (omega arith) (omega arith)) k d le (omega arith);
-      stops = λ within. absurd (omega (arith, at));
     }

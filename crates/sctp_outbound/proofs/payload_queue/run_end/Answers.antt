@@ -30,6 +30,23 @@ turns_of_both t u v l tu uv first second =
     subst (λ n. 2 ^ n < l * l) {x = u - t + (v - u)} (omega arith)
     (subst (λ n. n < l * l) (sym (pow-add 2 (u - t) (v - u))) (product (2 ^ (u - t)) (2 ^ (v - u)) l first second))
 
+-- the turns of the leaps that reach so far, and how far a power of two reaches
+leaps : (t n : ℕ) → 4 * 2 ^ t ≡ n → n < 2 ^ 16 → (t ≤ 13) × (n ≤ 2 ^ 15)
+leaps t n e small = elim (cases_lt t 14) [
+  | inl low ↦
+      let few : t ≤ 13 = omega arith in
+      let most : 2 ^ t ≤ 2 ^ 13 = pow-le-pow_right {n = 2} (omega arith) few in
+      (few, omega arith)
+  | inr high ↦ let less : 2 ^ 14 ≤ 2 ^ t = pow-le-pow_right {n = 2} (omega arith) high in absurd (omega arith)
+]
+
+-- the turns between
+halves : (t n : ℕ) → 2 ^ t ≤ 2 * n + 1 → n < 2 ^ 15 → t ≤ 15
+halves t n h small = elim (cases_lt t 16) [
+  | inl low ↦ omega arith
+  | inr high ↦ let less : 2 ^ 16 ≤ 2 ^ t = pow-le-pow_right {n = 2} (omega arith) high in absurd (omega arith)
+]
+
 pub returns-then-distance-step-clause-run : goal.returns-then-distance-step-clause-run
 returns-then-distance-step-clause-run c =
     let xs = c.args.held.now.chunks in
@@ -52,16 +69,24 @@ returns-then-distance-step-clause-cost c =
     turns_of_both c.args.turns.now c.tsn_at-ahead.new.turns c.run_end_between.new.turns _ (omega arith) c.run_end_between.ensures.not_back
     (omega (arith, more, inv.cost, inv.from, run.from)) (omega (arith, second, inv.known, inv.from, run.from))
 
+pub returns-then-distance-step-clause-most : goal.returns-then-distance-step-clause-most
+returns-then-distance-step-clause-most c =
+    let inv = c.loop-step.invariant in
+    let reached = leaps (c.loop-step.turns - c.args.turns.now) (c.loop-step.last - c.args.place) inv.cost (omega (arith, c.requires.near, inv.in_range)) in
+    let between = halves (c.run_end_between.new.turns - c.tsn_at-ahead.new.turns) (c.loop-step.last + c.loop-step.step - c.loop-step.last - 1)
+    c.run_end_between.ensures.cost (omega (arith, reached, inv.known, inv.from)) in
+    omega (arith, reached, between, inv.not_back, c.tsn_at-ahead.ensures.turn, c.run_end_between.ensures.not_back)
+
 pub loop-step-init : goal.loop-step-init
 loop-step-init c = record {
   from = omega arith;
   in_range = omega arith;
   known = omega arith;
-  power = (1, omega arith);
+  power = (2, omega arith);
   number = c.requires.number;
   rising = c.requires.rising;
   not_back = omega arith;
-  cost = subst (λ n. 2 * 2 ^ n ≤ c.args.place + 2 - c.args.place) {x = 0} (omega arith) (omega arith);
+  cost = subst (λ n. 4 * 2 ^ n ≡ c.args.place + 4 - c.args.place) {x = 0} (omega arith) (omega arith);
 }
 
 pub loop-step-preserved : goal.loop-step-preserved
@@ -93,3 +118,11 @@ returns-clause-cost c =
     (omega (arith, c.run_end_between-2.ensures.cost, inv.known)) in
     turns_of_both c.args.turns.now c.loop-step.turns c.run_end_between-2.new.turns _ inv.not_back c.run_end_between-2.ensures.not_back
     (omega (arith, inv.cost, inv.from, run.from)) (omega (arith, second, inv.known, inv.from, run.from))
+
+pub returns-clause-most : goal.returns-clause-most
+returns-clause-most c =
+    let inv = c.loop-step.invariant in
+    let reached = leaps (c.loop-step.turns - c.args.turns.now) (c.loop-step.last - c.args.place) inv.cost (omega (arith, c.requires.near, inv.in_range)) in
+    let between = halves (c.run_end_between-2.new.turns - c.loop-step.turns) (c.args.end - c.loop-step.last - 1)
+    c.run_end_between-2.ensures.cost (omega (arith, reached, inv.known, inv.from)) in
+    omega (arith, reached, between, inv.not_back, c.run_end_between-2.ensures.not_back)

@@ -1,52 +1,64 @@
-use Rattle.std.proofs.Common.{inl, inr, ◌≡◌, ◌+◌, ℕ, List, map, get_or, refl, sym, ap, ◌∙◌, subst, arith}
+use Rattle.std.proofs.Common.{◌≡◌, ◌+◌, ◌<◌, ◌^◌, true, ℕ, List, map, get_or, refl, sym, ap, ◌∙◌, subst, arith}
+use Rattle.std.proofs.lemmas.Bool.{false≢true}
+use Rattle.std.proofs.lemmas.Bool.Decides.{nat_tests}
 use Rattle.sctp_data.specs.declared.chunk.chunk_payload_data.ChunkPayloadData.{ChunkPayloadData}
 use Rattle.sctp_util.specs.Serial.{distance}
-use Rattle.sctp_outbound.specs.payload_queue.Blocks.{offset_at}
+use Rattle.sctp_serial.specs.Runs.{IsRising}
+use Rattle.sctp_outbound.specs.payload_queue.Blocks.{IsAtOffset, is_offset, offset_at}
+use Rattle.sctp_outbound.proofs.lemmas.payload_queue.Gaps.{rising_on}
 use Rattle.sctp_outbound.proofs.lemmas.payload_queue.Offsets.{at_offset, place_small, rises_one, run_ended}
 use Rattle.sctp_outbound.proofs.payload_queue.blocks.run_from.Goals as goal
+use Rattle.sctp_outbound.proofs.payload_queue.blocks.run_from.Goals.{then-behind-end-via-then-behind-end, then-behind-end-via-else-behind-end+then-not-is_offset}
 
 -- what was read is the distance of the place
 read : (cumulative : ℕ) (xs : List ChunkPayloadData) (tsns : List ℕ) (place far : ℕ) → tsns ≡ map (λ (x : ChunkPayloadData). x.tsn) xs
     → far ≡ distance cumulative (get_or tsns place cumulative) → far ≡ offset_at cumulative xs place
 read cumulative xs tsns place far same e = e ∙ ap (λ ns. distance cumulative (get_or ns place cumulative)) same
 
+small_offset : (n : ℕ) → is_offset n ≡ true → n < 2 ^ 16
+small_offset n h = grind (arith, nat_tests)
+
+is_small : (n : ℕ) → 0 < n → n < 2 ^ 16 → is_offset n ≡ true
+is_small n some small = grind (arith, nat_tests)
+
 -- there are fewer places than a word can count
 pub overflow_add-next : goal.overflow_add-next
 overflow_add-next c = let few = place_small c.args.held.now.chunks c.requires.serial c.args.place c.requires.at.in_range in omega arith
 
-pub overflow_add-next-2 : goal.overflow_add-next-2
-overflow_add-next-2 c = let few = place_small c.args.held.now.chunks c.requires.serial c.args.place c.requires.at.in_range in omega arith
+pub overflow_add-next-in-loop-walked : goal.overflow_add-next-in-loop-walked
+overflow_add-next-in-loop-walked c = let few = place_small c.args.held.now.chunks c.requires.serial c.args.place c.requires.at.in_range in omega arith
 
-pub returns-then-second-offset-clause-run : goal.returns-then-second-offset-clause-run
-returns-then-second-offset-clause-run c =
-    let xs = c.args.held.now.chunks in
-    let told = read c.args.cumulative_tsn xs c.args.tsns.now (c.args.place + 1) c.offset_at-second.result c.requires.tsns c.offset_at-second.ensures.value in
-    run_ended c.args.cumulative_tsn xs c.ranges.cumulative_tsn.fits c.requires.serial c.args.place c.args.offset c.args.place c.args.offset _ c.requires.at
-    (omega arith) (omega arith) (λ k d ge below. absurd (omega arith)) c.requires.at refl refl told (λ e small. c.if-second-offset.true e)
+pub returns-then-behind-end-clause-run : goal.returns-then-behind-end-clause-run
+returns-then-behind-end-clause-run c =
+    let walked = c.loop-walked.walked in
+    let inv = c.loop-walked.invariant in
+    let behind = c.offset_at-behind.result in
+    let told = read c.args.cumulative_tsn c.args.held.now.chunks c.args.tsns.now (c.args.place + walked + 1) behind c.requires.tsns c.offset_at-behind.ensures.value in
+    run_ended c.args.cumulative_tsn c.args.held.now.chunks c.ranges.cumulative_tsn.fits c.requires.serial c.args.place c.args.offset (c.args.place + walked)
+    (c.args.offset + walked) _ c.requires.at (omega arith) (omega arith) inv.rising inv.at refl refl told
+    (λ e small. elim c.then-behind-end.branch [
+      | then-behind-end-via-then-behind-end w ↦ w.if-behind-end.true e
+      | then-behind-end-via-else-behind-end+then-not-is_offset w ↦ absurd (false≢true (sym w.if-not-is_offset.true ∙ w.is_offset.ensures
+          ∙ is_small behind (omega arith) small))
+    ])
 
-pub returns-then-offset-lt65534-clause-run : goal.returns-then-offset-lt65534-clause-run
-returns-then-offset-lt65534-clause-run c =
+pub loop-walked-preserved : goal.loop-walked-preserved
+loop-walked-preserved c =
     let xs = c.args.held.now.chunks in
     let cumulative = c.args.cumulative_tsn in
-    let place = c.args.place in
-    let offset = c.args.offset in
     let fits = c.ranges.cumulative_tsn.fits in
-    let second = read cumulative xs c.args.tsns.now (place + 1) c.offset_at-second.result c.requires.tsns c.offset_at-second.ensures.value in
-    let third = read cumulative xs c.args.tsns.now (place + 2) c.offset_at-third.result c.requires.tsns c.offset_at-third.ensures.value in
-    let at = at_offset cumulative xs fits (place + 1) (offset + 1) (sym c.if-second-offset.false ∙ second) (omega arith) (omega arith) in
-    run_ended cumulative xs fits c.requires.serial place offset (place + 1) (offset + 1) _ c.requires.at
-    (omega arith) (omega arith) (rises_one cumulative xs fits c.requires.serial place offset c.requires.at at) at (omega arith) c.if-second-offset.false
-    (subst (λ j. c.offset_at-third.result ≡ offset_at cumulative xs j) {x = place + 2} (omega arith) third)
-    (λ e small. c.if-third-offset.true (e ∙ omega arith))
-
-pub long_run_from-next-requires-clause-second : goal.long_run_from-next-requires-clause-second
-long_run_from-next-requires-clause-second c = sym c.if-second-offset.false
-    ∙ read c.args.cumulative_tsn c.args.held.now.chunks c.args.tsns.now
-    (c.args.place + 1) c.offset_at-second.result c.requires.tsns c.offset_at-second.ensures.value
-
-pub long_run_from-next-requires-clause-third : goal.long_run_from-next-requires-clause-third
-long_run_from-next-requires-clause-third c below = elim c.else-third-offset.either [
-  | inl reached ↦ absurd (omega (arith, reached.1))
-  | inr same ↦ sym same ∙ read c.args.cumulative_tsn c.args.held.now.chunks c.args.tsns.now (c.args.place + 2) c.offset_at-third.result c.requires.tsns
-      c.offset_at-third.ensures.value
-]
+    let place = c.args.place in
+    let walked = c.loop-walked.walked in
+    let far = c.args.offset + walked in
+    let inv = c.loop-walked.invariant in
+    let told = read cumulative xs c.args.tsns.now (place + walked + 1) c.offset_at-behind.result c.requires.tsns c.offset_at-behind.ensures.value in
+    let small = small_offset c.offset_at-behind.result (sym c.is_offset.ensures ∙ c.if-not-is_offset.false) in
+    let at = at_offset cumulative xs fits (place + walked + 1) (far + 1) (sym c.if-behind-end.false ∙ told) (omega arith) (omega (arith, small)) in
+    let rising = rising_on xs place (place + walked) (place + walked + 1) inv.rising
+    (rises_one cumulative xs fits c.requires.serial (place + walked) far inv.at at) in
+    record {
+      rising = subst (IsRising xs place) {x = place + walked + 1} {y = place + (walked + 1)} (omega arith) rising;
+      at = subst (λ k. IsAtOffset cumulative xs k (c.args.offset + (walked + 1))) {x = place + walked + 1} {y = place + (walked + 1)} (omega arith)
+          (subst (IsAtOffset cumulative xs (place + walked + 1)) {x = far + 1} {y = c.args.offset + (walked + 1)} (omega arith) at);
+      turns = omega arith;
+    }
