@@ -8,9 +8,9 @@ pub record SetDeque : Type 0 where
   pub items : List ChunkSet
   pub capacity : ℕ
 
--- without sets it keeps room for four at most
+-- without sets it keeps room for sixteen at most
 abbrev pub KeepsFew : SetDeque → Type 0
-KeepsFew s = s.items ≡ [] → s.capacity ≤ 4
+KeepsFew s = s.items ≡ [] → s.capacity ≤ 16
 
 abbrev pub set_chunks : List ChunkSet → ℕ
 set_chunks sets = sum_by (λ s. length s.chunks) sets

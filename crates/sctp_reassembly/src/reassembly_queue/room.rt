@@ -5,8 +5,8 @@ ghost use Rattle.std.specs.VecDeque.{deque_capacity};
 
 use std::collections::VecDeque;
 
-// For how many a list keeps room in any case: so much the first one takes.
-const FEW: usize = 4;
+// For how many a list keeps room in any case, so that it neither takes nor gives back memory for the messages of a few datagrams.
+const FEW: usize = 16;
 
 /// Gives back room where a list has it for more than `FEW`, and at most a quarter of it is used: all where nothing is left; else all
 /// but that for twice what is left, or for `FEW`. By no clause each that is left moves three times at most, at least so many have left
@@ -14,7 +14,7 @@ const FEW: usize = 4;
 pub(crate) fn give_back<T>(list: &mut VecDeque<T>)
     ensures items { list.new.items ≡ list.old.items }
     ensures room { deque_capacity list.new ≤ deque_capacity list.old }
-    ensures empty { list.old.items ≡ [] → deque_capacity list.new ≤ 4 }
+    ensures empty { list.old.items ≡ [] → deque_capacity list.new ≤ 16 }
 {
     let room = list.capacity();
     if room <= FEW || room / 4 < list.len() {
