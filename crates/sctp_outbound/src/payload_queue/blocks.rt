@@ -84,11 +84,24 @@ fn run_from(
     ensures not_back { turns.old ≤ turns.new }
     ensures cost { turns.new ≤ turns.old + 34 }
 {
-    for walked in 0..WALKED {
+    let next = place + 1;
+    let behind = offset_at(tsns, cumulative_tsn, next, turns);
+    if behind != offset + 1 {
+        return Run {
+            end: offset,
+            next,
+            behind,
+        };
+    }
+    // a block may end before the fifth TSN
+    if offset > 65531 {
+        return last_run_from(held, cumulative_tsn, place, offset, turns);
+    }
+    for walked in 1..WALKED {
         let next = place + walked + 1;
         let end = offset + walked as u32;
         let behind = offset_at(tsns, cumulative_tsn, next, turns);
-        if behind != end + 1 || !is_offset(behind) {
+        if behind != end + 1 {
             return Run { end, next, behind };
         }
     }
@@ -98,6 +111,35 @@ fn run_from(
         next,
         behind,
     }
+}
+
+// The run from a place on that ends at the greatest distance that a block can hold, or up to three before: a look at each TSN. It
+// stands apart, so that other runs test no distance.
+#[cold]
+#[inline(never)]
+fn last_run_from(
+    held: &Held,
+    cumulative_tsn: u32,
+    place: usize,
+    offset: u32,
+    turns: &mut Turns,
+) -> Run
+    requires serial { IsSerial held.now.chunks }
+    requires at { IsAtOffset cumulative_tsn held.now.chunks place offset }
+    requires near { 65531 < offset }
+    ensures run { IsRunFrom cumulative_tsn held.now.chunks place offset result }
+    ensures not_back { turns.old ≤ turns.new }
+    ensures cost { turns.new ≤ turns.old + 4 }
+{
+    for walked in 0..WALKED {
+        let next = place + walked + 1;
+        let end = offset + walked as u32;
+        let behind = offset_behind(held, cumulative_tsn, next, None, turns);
+        if behind != end + 1 || !is_offset(behind) {
+            return Run { end, next, behind };
+        }
+    }
+    unreachable!()
 }
 
 // The place behind a run of five TSNs or more, and the distance there. It stands apart, so that what short runs take stays small.

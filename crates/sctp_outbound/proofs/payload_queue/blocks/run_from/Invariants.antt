@@ -7,5 +7,5 @@ abbrev pub invariant-loop-walked : goal.invariant-loop-walked
 invariant-loop-walked l = record {
   rising : IsRising l.held.chunks l.place (l.place + l.walked);
   at : IsAtOffset l.cumulative_tsn l.held.chunks (l.place + l.walked) (l.offset + l.walked);
-  turns : l.turns ≡ l.initial.turns + l.walked;
+  turns : l.turns + 1 ≡ l.initial.turns + l.walked;
 }
