@@ -74,7 +74,7 @@ impl PayloadQueue {
         }
     }
 
-    /// The room is no more than this from here on. The memory is kept.
+    /// The room is no more than this from here on. The memory is kept, unless nothing is held and the room is 0.
     pub fn limit_room(&mut self, room: usize)
         ensures { self.new ≡ record self.old { room = min room self.old.room } }
     {

@@ -6,7 +6,8 @@ use Rattle.sctp_outbound.specs.payload_queue.Blocks.{IsAtOffset, is_offset}
 use Rattle.sctp_outbound.proofs.lemmas.payload_queue.Gaps.{rising_on}
 use Rattle.sctp_outbound.proofs.lemmas.payload_queue.Offsets.{at_offset, place_small, rises_one, run_ended}
 use Rattle.sctp_outbound.proofs.payload_queue.blocks.last_run_from.Goals as goal
-use Rattle.sctp_outbound.proofs.payload_queue.blocks.last_run_from.Goals.{then-behind-end-via-then-behind-end, then-behind-end-via-else-behind-end+then-not-is_offset}
+use Rattle.sctp_outbound.proofs.payload_queue.blocks.last_run_from.Goals.{then-behind-end-via-then-behind-end}
+use Rattle.sctp_outbound.proofs.payload_queue.blocks.last_run_from.Goals.{then-behind-end-via-else-behind-end+then-not-is_offset}
 
 small_offset : (n : ℕ) → is_offset n ≡ true → n < 2 ^ 16
 small_offset n h = grind (arith, nat_tests)

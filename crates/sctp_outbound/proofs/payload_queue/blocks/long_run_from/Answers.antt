@@ -18,7 +18,8 @@ run_to cumulative xs place offset last reach next behind e r is told = record {
 
 pub run_end-last-requires-clause-number : goal.run_end-last-requires-clause-number
 run_end-last-requires-clause-number c =
-    number_of c.args.cumulative_tsn c.args.held.now.chunks c.ranges.cumulative_tsn.fits c.requires.serial (c.args.place + 4) (c.args.offset + 4) c.requires.fifth
+    number_of c.args.cumulative_tsn c.args.held.now.chunks c.ranges.cumulative_tsn.fits c.requires.serial (c.args.place + 4)
+    (c.args.offset + 4) c.requires.fifth
 
 pub returns-clause-run : goal.returns-clause-run
 returns-clause-run c =

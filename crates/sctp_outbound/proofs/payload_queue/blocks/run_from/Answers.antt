@@ -62,7 +62,8 @@ loop-walked-preserved c =
     let walked = c.loop-walked.walked in
     let far = c.args.offset + walked in
     let inv = c.loop-walked.invariant in
-    let told = read cumulative xs c.args.tsns.now (place + walked + 1) c.offset_at-behind-in-loop-walked.result c.requires.tsns c.offset_at-behind-in-loop-walked.ensures.value in
+    let told = read cumulative xs c.args.tsns.now
+    (place + walked + 1) c.offset_at-behind-in-loop-walked.result c.requires.tsns c.offset_at-behind-in-loop-walked.ensures.value in
     let at = at_offset cumulative xs fits (place + walked + 1) (far + 1) (sym c.if-behind-end.false ∙ told) (omega arith) (omega arith) in
     let rising = rising_on xs place (place + walked) (place + walked + 1) inv.rising
     (rises_one cumulative xs fits c.requires.serial (place + walked) far inv.at at) in
