@@ -1,11 +1,12 @@
 /* What the worst that a peer may send within the limits takes of the heap, against the bound of SECURITY.md:
  *
- *     h + 700 v + 96 m + 16 b + 256 KiB
+ *     h + 700 v + 96 m + 16 f + 16 b + 256 KiB
  *
- * `h`: bytes that count as held; `v`: most streams open at once; `m`: most messages and unassembled fragments of each stream at once, in sum;
- * `b`: most runs of TSNs past the cumulative one. Most states have one element more than a power of two, so that rooms that double are half
- * empty. Then all is read or skipped, and given back. And what a sender takes, whatever SACKs report: user data, 450 bytes for each of the most
- * chunks that waited or were in flight at once, 700 for a stream, and 256 KiB. */
+ * `h`: bytes that count as held; `v`: most streams open at once; `m`: for each list of messages of an open stream min(most, max(8, 2 now)),
+ * where `most` is how many it held at once and `now` how many it holds, in sum; `f`: most unassembled fragments of each stream at once, in
+ * sum; `b`: most runs of TSNs past the cumulative one. Most states have one element more than a power of two, so that rooms that double are
+ * half empty. Then all is read or skipped, and given back. And what a sender takes, whatever SACKs report: user data, 450 bytes for each of the
+ * most chunks that waited or were in flight at once, 700 for a stream, and 256 KiB. */
 #include "check.h"
 #include "peer.h"
 #include <stdlib.h>
@@ -13,7 +14,7 @@
 enum { MANY = 8193, REACH = 20000, LONGEST = 65536, MTU = 1400 };
 
 static sctpr_receiver receiver;
-static size_t open_streams, messages, runs;
+static size_t open_streams, messages, fragments, runs;
 
 static void must(sctpr_code code, sctpr_code wanted) {
     if (code != wanted) CHECK(code == wanted);
@@ -24,7 +25,7 @@ static void begin(size_t window, uint32_t streams) {
     for (uint32_t i = 0; i < streams; i++)
         must(sctpr_receiver_open(&receiver, (uint16_t)i), SCTPR_OK);
     open_streams = streams;
-    messages = runs = 0;
+    messages = fragments = runs = 0;
 }
 
 static sctpr_code give(uint32_t tsn, uint16_t stream, uint16_t ssn, uint8_t flags, uint32_t length) {
@@ -35,7 +36,7 @@ static sctpr_code give(uint32_t tsn, uint16_t stream, uint16_t ssn, uint8_t flag
 }
 
 static size_t bound(void) {
-    return sctpr_receiver_held_bytes(&receiver) + 700 * open_streams + 96 * messages + 16 * runs + (256 << 10);
+    return sctpr_receiver_held_bytes(&receiver) + 700 * open_streams + 96 * messages + 16 * fragments + 16 * runs + (256 << 10);
 }
 
 static void weigh(const char *state) {
@@ -44,7 +45,8 @@ static void weigh(const char *state) {
     CHECK(in_use <= bound());
 }
 
-/* Reads and closes all: what stays is within the bound with nothing held, and without a stream's room once it is closed. */
+/* Reads and closes all: what stays is within the bound with nothing held, where a list has room for 16, and without a stream's room once it is
+ * closed. */
 static void end(void) {
     static uint8_t bytes[LONGEST];
     size_t length = 0;
@@ -56,10 +58,11 @@ static void end(void) {
         while (sctpr_receiver_read(&receiver, (uint16_t)i, bytes, sizeof bytes, &length, &type) == SCTPR_OK) {
         }
     runs = 0;
+    if (messages > 16 * open_streams) messages = 16 * open_streams;
     CHECK(sctpr_receiver_held_bytes(&receiver) == 0 && in_use <= bound());
     if (open_streams <= 100) {
         for (size_t i = 0; i < open_streams; i++) sctpr_receiver_close(&receiver, (uint16_t)i);
-        messages = 0;
+        messages = fragments = 0;
         CHECK(in_use <= bound());
     }
     sctpr_receiver_free(&receiver);
@@ -73,6 +76,7 @@ static void one_byte_each(const char *state, uint8_t flags, uint32_t from, uint3
     begin(8 << 20, 1);
     for (uint32_t i = 0; i < MANY; i++) must(give(from + i * apart, 0, (uint16_t)i, flags, 1), SCTPR_OK);
     messages = MANY;
+    if (flags == (FIRST | UNORDERED)) messages = 0, fragments = MANY;
     runs = from == 1 ? 0 : apart == 1 ? 1 : MANY;
     weigh(state);
     end();
@@ -81,7 +85,8 @@ static void one_byte_each(const char *state, uint8_t flags, uint32_t from, uint3
 static void one_message(const char *state, uint8_t flags, uint32_t from) {
     begin(8 << 20, 1);
     for (uint32_t i = 0; i < MANY; i++) must(give(from + i, 0, 0, i == 0 ? flags | FIRST : flags, 1), SCTPR_OK);
-    messages = flags & UNORDERED ? MANY : 1;
+    messages = flags & UNORDERED ? 0 : 1;
+    fragments = flags & UNORDERED ? MANY : 0;
     runs = 1;
     weigh(state);
     end();
@@ -90,7 +95,8 @@ static void one_message(const char *state, uint8_t flags, uint32_t from) {
 static void one_on_each(const char *state, uint32_t streams, uint8_t flags) {
     begin(64 << 20, streams);
     for (uint32_t i = 0; i < streams; i++) must(give(1 + i, (uint16_t)i, 0, flags, 1), SCTPR_OK);
-    messages = streams;
+    if (flags == (FIRST | UNORDERED)) fragments = streams;
+    else messages = streams;
     weigh(state);
     end();
 }
@@ -131,7 +137,7 @@ static void discarded(void) {
     end();
 }
 
-/* A stream keeps the room of what it held at most, until it is closed. */
+/* One stream after another is filled and read: a list that is read gives its room back. In the end each holds one message, and then none. */
 static void was_read(void) {
     uint8_t byte;
     size_t length;
@@ -139,10 +145,12 @@ static void was_read(void) {
     begin(8 << 20, 100);
     for (uint32_t i = 0; i < 100; i++) {
         for (uint32_t k = 0; k < 1025; k++) must(give(tsn++, (uint16_t)i, (uint16_t)k, WHOLE, 1), SCTPR_OK);
-        for (uint32_t k = 0; k < 1025; k++) must(sctpr_receiver_read(&receiver, (uint16_t)i, &byte, 1, &length, &type), SCTPR_OK);
+        for (uint32_t k = 0; k < 1024; k++) must(sctpr_receiver_read(&receiver, (uint16_t)i, &byte, 1, &length, &type), SCTPR_OK);
     }
-    messages = 100 * 1025;
-    weigh("1,025 messages of each of 100 streams, read");
+    messages = 100 * 8;
+    weigh("1,025 messages of each of 100 streams, all but one read");
+    for (uint32_t i = 0; i < 100; i++) must(sctpr_receiver_read(&receiver, (uint16_t)i, &byte, 1, &length, &type), SCTPR_OK);
+    weigh("the last one read");
     end();
 }
 
