@@ -579,8 +579,9 @@ sctpr_code sctpr_receiver_next_length(const sctpr_receiver *receiver, uint16_t s
  * memory. */
 sctpr_code sctpr_receiver_read(sctpr_receiver *receiver, uint16_t stream, uint8_t *out, size_t room, size_t *size, uint32_t *payload_type);
 
-/* Writes the numbers of the streams with a message to read, in the order in which they were opened; `count` becomes how many there are.
- * SCTPR_SHORT_BUFFER, where there is room for fewer: `count` is told, and nothing is written. SCTPR_NO_MEMORY, and both stay. */
+/* Writes the numbers of the streams with a message to read, in the order in which they were opened; where one was closed, the last one
+ * stands in its place. `count` becomes how many there are. SCTPR_SHORT_BUFFER, where there is room for fewer: `count` is told, and nothing
+ * is written. SCTPR_NO_MEMORY, and both stay. */
 sctpr_code sctpr_receiver_readable_streams(const sctpr_receiver *receiver, uint16_t *streams, size_t room, size_t *count);
 
 /* Writes the SACK of what came (RFC 4960 3.3.4), with the window as its credit: first as many gap ack blocks as there is room for, then

@@ -181,7 +181,8 @@ func (r *Receiver) Read(stream uint16) (*Message, error) {
 	return &Message{bytes, payloadType}, nil
 }
 
-// ReadableStreams are the streams with a message to read, in the order in which they were opened.
+// ReadableStreams are the streams with a message to read, in the order in which they were opened; where one was closed, the last one
+// stands in its place.
 func (r *Receiver) ReadableStreams() ([]uint16, error) {
 	if !r.isOpen() {
 		return nil, ErrClosed

@@ -1,8 +1,9 @@
 -- The sum of what the streams of a receiver hold, each up to the greatest usize.
 use Rattle.sctp_receiver.proofs.Names.{◌≡◌, ℕ, ◌+◌, ◌-◌, ◌<◌, ◌≤◌, ◌^◌, List, [], ◌∷◌, ◌++◌, length, refl, ap, sym, ◌∙◌, arith, length-set, min, slice_index_or}
-use Rattle.sctp_receiver.proofs.Names.{slice_set, All, sum_by, remove, sum_by-cons, sum_by-append, sum_by-set, InboundStream, new_stream, cost_of, cost_within}
+use Rattle.sctp_receiver.proofs.Names.{slice_set, All, sum_by, sum_by-cons, sum_by-append, sum_by-set, InboundStream, new_stream, cost_of, cost_within}
 use Rattle.sctp_receiver.proofs.Names.{held_cost}
-use Rattle.std.proofs.lemmas.List.Sums.{sum_by-le, sum_by-remove, get_or-le-sum_by}
+use Rattle.std.proofs.lemmas.List.Sums.{sum_by-le, sum_by-swap_remove, get_or-le-sum_by}
+use Rattle.std.specs.List.{swap_remove}
 
 capped : (m a b c : ℕ) → min b m ≡ min c m → min (a + b) m ≡ min (min a m + c) m
 capped m a b c e = omega arith
@@ -38,5 +39,5 @@ module _ (ls : List InboundStream) (k : ℕ) (x : InboundStream) (lt : k < lengt
   pub changed-fits : length ls < 2 ^ 64 → (y : InboundStream) → sum_by cost_within ls - cost_within x + cost_within y < 2 ^ 128
   changed-fits few y = let h = sum-fits (slice_set ls k y) (omega (arith, few, length-set ls k y)) in let e = changed-sum y in omega (arith, h, e)
 
-  pub removed-sum : sum_by cost_within ls - cost_within x ≡ sum_by cost_within (remove ls k)
-  removed-sum = let h = sum_by-remove cost_within ls k x lt in let e = ap cost_within at in omega (arith, h, e)
+  pub removed-sum : sum_by cost_within ls - cost_within x ≡ sum_by cost_within (swap_remove ls k x)
+  removed-sum = let h = sum_by-swap_remove cost_within ls k x lt in let e = ap cost_within at in omega (arith, h, e)

@@ -1,6 +1,6 @@
 -- What is held after each run of calls, and what a SACK tells of it.
 use Rattle.sctp_receiver.proofs.Names.{◌≡◌, ℕ, ◌+◌, ◌*◌, ◌<◌, ◌≤◌, ◌^◌, Bool, true, false, List, [], ◌∷◌, ◌++◌, map, length, Option, Some, None, refl, ap, sym}
-use Rattle.sctp_receiver.proofs.Names.{◌∙◌, arith, subst, if◌then◌else◌, find, ⊤, sum_by, filter, sum_by-cons, change_where, ChunkPayloadData}
+use Rattle.sctp_receiver.proofs.Names.{◌∙◌, arith, subst, if◌then◌else◌, find, sum_by, sum_by-cons, change_where, ChunkPayloadData}
 use Rattle.sctp_receiver.proofs.Names.{ChunkForwardTsnStream, ChunkSet, ForwardTsn, set_chunks, ReassemblyState, message_read, New, Repeat, InboundStream}
 use Rattle.sctp_receiver.proofs.Names.{Limits, number, numbers_of, has_number, new_stream, with_queue, Pushes, PushesAs, stream_read, ssn_forwarded}
 use Rattle.sctp_receiver.proofs.Names.{named_forwarded, unassembled_forwarded, chunk_cost, cost_of, Reception, Accepts, filter_of, with_filter, repeat_tsn}
@@ -19,15 +19,18 @@ use Rattle.sctp_receiver.proofs.DataEach.{takes-keeps}
 use Rattle.sctp_receiver.proofs.Forwarded.{followed-numbers}
 use Rattle.sctp_receiver.proofs.Inbounds.{stays-mapped, stays-changed}
 use Rattle.sctp_receiver.proofs.Receptions.{read-numbers}
-use Rattle.sctp_receiver.proofs.StreamCosts.{are_apart, changed-cost, mapped-cost, named-cost, kept-cost, opened-cost, one-changed, kept-apart, more-apart}
+use Rattle.sctp_receiver.proofs.StreamCosts.{are_apart, changed-cost, mapped-cost, named-cost, opened-cost, one-changed, more-apart}
+use Rattle.sctp_receiver.proofs.Closed.{closed-apart, closed-cost}
+use Rattle.sctp_stream.proofs.Removals.{out-each}
+use Rattle.sctp_stream.specs.Numbers.{swapped_out}
+use Rattle.std.specs.List.{AllByRecursion}
 use Rattle.sctp_receiver.proofs.Weights as weights
 use Rattle.sctp_receiver.proofs.Weights.{weight, message_weight}
 
 -- ## Streams that count the bytes which they hold
 
 abbrev AllCounted : List InboundStream → Type 0
-AllCounted [] = ⊤
-AllCounted (l ∷ ls) = IsCounted l.queue × AllCounted ls
+AllCounted ls = AllByRecursion (λ l. IsCounted l.queue) ls
 
 changed-counted : (p : InboundStream → Bool) (f : InboundStream → InboundStream) → ((l : InboundStream) → IsCounted l.queue → IsCounted (f l).queue)
     → (ls : List InboundStream) → AllCounted ls → AllCounted (change_where p f ls)
@@ -48,14 +51,6 @@ named-counted [] ls a = a
 named-counted (n ∷ ns) ls a =
     named-counted ns (change_where (has_number n.identifier) (ssn_forwarded n.sequence) ls)
     (changed-counted (has_number n.identifier) (ssn_forwarded n.sequence) (λ l h. skip_counted n.sequence l.queue h) ls a)
-
-kept-counted : (p : InboundStream → Bool) (ls : List InboundStream) → AllCounted ls → AllCounted (filter p ls)
-kept-counted p [] a = tt
-kept-counted p (l ∷ ls) a = by (p l) (kept-counted p ls a.1)
-  where
-    by : (b : Bool) → AllCounted (filter p ls) → AllCounted (if b then l ∷ filter p ls else filter p ls)
-    by true rest = (a.0, rest)
-    by false rest = rest
 
 opened-counted : (ls : List InboundStream) (x : InboundStream) → IsCounted x.queue → AllCounted ls → AllCounted (ls ++ x ∷ [])
 opened-counted [] x h a = (h, tt)
@@ -290,7 +285,8 @@ module _ (limits : Option Limits) where
       (λ w. let e = opened-cost (on w) old.streams x refl in omega (arith, e)) (opened-counted old.streams x refl))
   made (closes stream) old new cs ms k m =
       subst (λ r. IsKept limits r cs ms) (sym m)
-      (quiet old _ cs ms k (kept-apart _ old.streams k.apart) (λ w. kept-cost (on w) _ old.streams) (kept-counted _ old.streams))
+      (quiet old (swapped_out (has_number stream) old.streams) cs ms k (closed-apart stream old.streams k.apart)
+      (λ w. closed-cost (on w) stream old.streams) (out-each (has_number stream) (λ (l : InboundStream). IsCounted l.queue) old.streams))
   made (takes c (New complete)) old new cs ms k m = accepts c complete old new cs ms k m
   made (takes c Repeat) old new cs ms k m =
       still old new cs ms k (ap (λ (r : Reception). r.streams) m) (ap (λ (r : Reception). r.limits) m)

@@ -1,6 +1,6 @@
 -- What a receiver hands out, in every run of calls.
 use Rattle.sctp_receiver.proofs.Names.{◌≡◌, ℕ, ◌+◌, ◌≤◌, Bool, true, false, List, [], ◌∷◌, ◌++◌, Option, Some, None, refl, ap, sym, ◌∙◌, arith, subst, ◌==◌}
-use Rattle.sctp_receiver.proofs.Names.{◌&&◌, if◌then◌else◌, find, not, option_map, option_or, list_all, sum_by, filter, eq-eqb, find-append, sum_by-cons}
+use Rattle.sctp_receiver.proofs.Names.{◌&&◌, if◌then◌else◌, find, option_map, option_or, list_all, sum_by, filter, eq-eqb, find-append, sum_by-cons}
 use Rattle.sctp_receiver.proofs.Names.{sum_by-append, change_where, same-is, and, both, fails, not_both, ChunkPayloadData, ChunkForwardTsnStream, ChunkSet}
 use Rattle.sctp_receiver.proofs.Names.{ForwardTsn, is_complete, ReassemblyState, message_read, New, Repeat, Limits, InboundStream, number, has_number}
 use Rattle.sctp_receiver.proofs.Names.{new_stream, with_queue, Pushes, stream_read, ssn_forwarded, named_forwarded, unassembled_forwarded, Reception, filter_of}
@@ -18,6 +18,11 @@ use Rattle.sctp_receiver.proofs.CompleteMessages.{all_complete, message_complete
 use Rattle.sctp_receiver.proofs.OneMessage.{is_unmixed, message_one, pushed-unmixed, read-one, rest-unmixed, named-unmixed, unassembled-unmixed}
 use Rattle.sctp_receiver.proofs.OneMessage.{incomplete-unmixed, reset-unmixed}
 use Rattle.sctp_receiver.proofs.Forwarded.{found-mapped}
+use Rattle.sctp_receiver.proofs.Closed.{others-left, stays-apart}
+use Rattle.sctp_receiver.proofs.Names.{numbers_of}
+use Rattle.sctp_receiver.proofs.StreamCosts.{are_apart}
+use Rattle.sctp_stream.proofs.Removals.{out-none}
+use Rattle.sctp_stream.specs.Numbers.{swapped_out}
 
 -- ## A stream, by its number
 
@@ -173,34 +178,19 @@ opened-less st s max ls =
     by None false = same-held None
     by (Some l) b = same-held (Some l)
 
-none-left : (s : ℕ) (ls : List InboundStream) → find (has_number s) (filter (λ l. not (has_number s l)) ls) ≡ None
-none-left s [] = refl
-none-left s (l ∷ ls) = by (number l == s) refl (none-left s ls)
+closed-less : (st s : ℕ) (ls : List InboundStream) → are_apart (numbers_of ls) ≡ true
+    → IsNoMore (find (has_number st) ls) (find (has_number st) (swapped_out (has_number s) ls))
+closed-less st s ls apart = by (s == st) refl
   where
-    by : (b : Bool) → (number l == s) ≡ b → find (has_number s) (filter (λ l. not (has_number s l)) ls) ≡ None
-        → find (has_number s) (if not b then l ∷ filter (λ l. not (has_number s l)) ls else filter (λ l. not (has_number s l)) ls) ≡ None
-    by true h ih = ih
-    by false h ih = ap (λ b. if b then Some l else find (has_number s) (filter (λ l. not (has_number s l)) ls)) h ∙ ih
+    gone : (o : Option InboundStream) → IsNoMore o None
+    gone o = record { weighs = λ w. omega arith; orderly = λ h. refl }
 
-closed-less : (st s : ℕ) (ls : List InboundStream) → IsNoMore (find (has_number st) ls) (find (has_number st) (filter (λ l. not (has_number s l)) ls))
-closed-less st s [] = same-held None
-closed-less st s (l ∷ ls) = by (number l == s) refl (number l == st) refl (closed-less st s ls)
-  where
-    gone : IsNoMore (Some l) None
-    gone = record { weighs = λ w. omega arith; orderly = λ h. refl }
-
-    by : (b : Bool) → (number l == s) ≡ b → (c : Bool) → (number l == st) ≡ c → IsNoMore (find (has_number st) ls)
-        (find (has_number st) (filter (λ l. not (has_number s l)) ls)) → IsNoMore (if c then Some l else find (has_number st) ls)
-        (find (has_number st) (if not b then l ∷ filter (λ l. not (has_number s l)) ls else filter (λ l. not (has_number s l)) ls))
-    by true h true g ih =
-        let same : st ≡ s = sym (same-is (number l) st g) ∙ same-is (number l) s h in
-        subst (λ n. IsNoMore (Some l) (find (has_number n) (filter (λ l. not (has_number s l)) ls))) (sym same)
-        (subst (IsNoMore (Some l)) (sym (none-left s ls)) gone)
-    by true h false g ih = ih
-    by false h true g ih =
-        subst (λ b. IsNoMore (Some l) (if b then Some l else find (has_number st) (filter (λ l. not (has_number s l)) ls))) (sym g) (same-held (Some l))
-    by false h false g ih =
-        subst (λ b. IsNoMore (find (has_number st) ls) (if b then Some l else find (has_number st) (filter (λ l. not (has_number s l)) ls))) (sym g) ih
+    by : (b : Bool) → (s == st) ≡ b → IsNoMore (find (has_number st) ls) (find (has_number st) (swapped_out (has_number s) ls))
+    by true e =
+        let none : find (has_number st) (swapped_out (has_number s) ls) ≡ None
+        = ap (λ n. find (has_number n) (swapped_out (has_number s) ls)) (sym (same-is s st e)) ∙ out-none (has_number s) ls in
+        subst (IsNoMore (find (has_number st) ls)) (sym none) (gone (find (has_number st) ls))
+    by false e = subst (IsNoMore (find (has_number st) ls)) (sym (others-left s st e ls apart)) (same-held (find (has_number st) ls))
 
 -- ## What holds of a stream, and of all that was read
 
@@ -420,37 +410,39 @@ discard-streams tsn r = by (has_come tsn (filter_of r))
     by true = refl
     by false = refl
 
-step : (c : Call) (old new : Stand) → IsValid old → Follows c old new → IsValid new
-step (opens stream) old new s f = quiet old new s f.accepted f.read (λ st. subst (λ (r : Reception). IsNoMore (stream_of st old.receiver) (stream_of st r))
+step : (c : Call) (old new : Stand) → IsValid old → are_apart (numbers_of old.receiver.streams) ≡ true → Follows c old new → IsValid new
+step (opens stream) old new s apart f =
+    quiet old new s f.accepted f.read (λ st. subst (λ (r : Reception). IsNoMore (stream_of st old.receiver) (stream_of st r))
     (sym f.receiver.1) (opened-less st stream old.receiver.max_message_size old.receiver.streams))
-step (closes stream) old new s f = quiet old new s f.accepted f.read
-    (λ st. subst (λ (r : Reception). IsNoMore (stream_of st old.receiver) (stream_of st r)) (sym f.receiver) (closed-less st stream old.receiver.streams))
-step (takes c (New answered)) old new s f = taken-valid c answered old new s f.receiver f.accepted f.read
-step (takes c Repeat) old new s f = still old new s (ap (λ (r : Reception). r.streams) f.receiver) f.accepted f.read
-step (discards tsn) old new s f = still old new s (ap (λ (r : Reception). r.streams) f.receiver ∙ discard-streams tsn old.receiver) f.accepted f.read
-step (reports_within bytes) old new s f = still old new s (ap (λ (r : Reception). r.streams) f.receiver) f.accepted f.read
-step reports old new s f = quiet old new s f.accepted f.read
+step (closes stream) old new s apart f = quiet old new s f.accepted f.read
+    (λ st. subst (λ (r : Reception). IsNoMore (stream_of st old.receiver) (stream_of st r)) (sym f.receiver) (closed-less st stream old.receiver.streams apart))
+step (takes c (New answered)) old new s apart f = taken-valid c answered old new s f.receiver f.accepted f.read
+step (takes c Repeat) old new s apart f = still old new s (ap (λ (r : Reception). r.streams) f.receiver) f.accepted f.read
+step (discards tsn) old new s apart f = still old new s (ap (λ (r : Reception). r.streams) f.receiver ∙ discard-streams tsn old.receiver) f.accepted f.read
+step (reports_within bytes) old new s apart f = still old new s (ap (λ (r : Reception). r.streams) f.receiver) f.accepted f.read
+step reports old new s apart f = quiet old new s f.accepted f.read
     (λ st. subst (λ (r : Reception). IsNoMore (stream_of st old.receiver) (stream_of st r)) (sym f.receiver) (same-held (stream_of st old.receiver)))
-step (reads stream) old new s f = read-valid stream old new s f.receiver f.accepted f.read
-step (resets stream last) old new s f = quiet old new s f.accepted f.read
+step (reads stream) old new s apart f = read-valid stream old new s f.receiver f.accepted f.read
+step (resets stream last) old new s apart f = quiet old new s f.accepted f.read
     (λ st. subst (λ (r : Reception). IsNoMore (stream_of st old.receiver) (stream_of st r)) (sym f.receiver) (reset-less st stream last old.receiver.streams))
-step (forwards g) old new s f = quiet old new s f.accepted f.read
+step (forwards g) old new s apart f = quiet old new s f.accepted f.read
     (λ st. subst (λ (r : Reception). IsNoMore (stream_of st old.receiver) (stream_of st r)) (sym f.receiver) (skipped-less st g old.receiver))
-step (forwards_by_names g) old new s f = quiet old new s f.accepted f.read
+step (forwards_by_names g) old new s apart f = quiet old new s f.accepted f.read
     (λ st. subst (λ (r : Reception). IsNoMore (stream_of st old.receiver) (stream_of st r)) (sym f.receiver) (followed-less st g old.receiver))
 
-run : (calls : List Call) (old new : Stand) → IsValid old → RunsTo old calls new → IsValid new
-run [] old new s e = subst IsValid (sym e) s
-run (c ∷ cs) old new s r = run cs r.0 new (step c old r.0 s r.1.0) r.1.1
+run : (calls : List Call) (old new : Stand) → IsValid old → are_apart (numbers_of old.receiver.streams) ≡ true → RunsTo old calls new → IsValid new
+run [] old new s apart e = subst IsValid (sym e) s
+run (c ∷ cs) old new s apart r =
+    run cs r.0 new (step c old r.0 s apart r.1.0) (stays-apart c old.receiver r.0.receiver r.1.0.receiver apart) r.1.1
 
 start : (tsn max : ℕ) (limits : Option Limits) → IsValid (at_start tsn max limits)
 start tsn max limits = record { holds = λ st. record { weighs = λ w. omega arith; orderly = refl }; read = refl; one = refl }
 
 pub complete : AfterEachRun AreComplete
-complete tsn max limits calls s r = (run calls (at_start tsn max limits) s (start tsn max limits) r).read
+complete tsn max limits calls s r = (run calls (at_start tsn max limits) s (start tsn max limits) refl r).read
 
 pub alike : AfterEachRun AreOfOneMessage
-alike tsn max limits calls s r = (run calls (at_start tsn max limits) s (start tsn max limits) r).one
+alike tsn max limits calls s r = (run calls (at_start tsn max limits) s (start tsn max limits) refl r).one
 
 pub accepted : AfterEachRun WereAccepted
-accepted tsn max limits calls s r = λ st w. let h = ((run calls (at_start tsn max limits) s (start tsn max limits) r).holds st).weighs w in omega arith
+accepted tsn max limits calls s r = λ st w. let h = ((run calls (at_start tsn max limits) s (start tsn max limits) refl r).holds st).weighs w in omega arith

@@ -1,6 +1,6 @@
 -- What a receiver with limits holds, in every run of calls of which none is refused.
 use Rattle.sctp_receiver.proofs.Names.{◌≡◌, ℕ, suc, ◌+◌, ◌*◌, ◌<◌, ◌≤◌, ◌^◌, Bool, true, false, List, [], ◌∷◌, ◌++◌, map, length, Option, Some, None, refl, ap}
-use Rattle.sctp_receiver.proofs.Names.{sym, ◌∙◌, inl, inr, arith, subst, if◌then◌else◌, not, ⊤, ◌&&◌, nat_lt, nat_le, All, sum_by, filter, option_or, cases_lt}
+use Rattle.sctp_receiver.proofs.Names.{sym, ◌∙◌, inl, inr, arith, subst, if◌then◌else◌, ⊤, ◌&&◌, nat_lt, nat_le, All, sum_by, option_or, cases_lt}
 use Rattle.sctp_receiver.proofs.Names.{nat_tests, length-append, length-drop, sum_by-cons, change_where, distance, comes_before, ChunkPayloadData, ForwardTsn}
 use Rattle.sctp_receiver.proofs.Names.{held_chunks, New, Repeat, InboundStream, Limits, ReceiverRefusal, TsnOpposite, TsnTooFar, WindowFull, number, numbers_of}
 use Rattle.sctp_receiver.proofs.Names.{has_number, new_stream, with_queue, stream_read, named_forwarded, unassembled_forwarded, chunk_cost, cost_of, held_cost}
@@ -21,8 +21,10 @@ use Rattle.sctp_receiver.proofs.DataEach.{takes-keeps}
 use Rattle.sctp_receiver.proofs.Forwarded.{followed-numbers}
 use Rattle.sctp_receiver.proofs.GapCounts.{IsAscending, far_in, few-beyond, past-highest, lies-beyond, next-with, next-skipped, reached-with, reached-skipped}
 use Rattle.sctp_receiver.proofs.Receptions.{after, read-numbers}
-use Rattle.sctp_receiver.proofs.StreamCosts.{IsCost, chunks_cost, chunks-cost, all-cost, are_apart, changed-cost, mapped-cost, named-cost, kept-cost}
-use Rattle.sctp_receiver.proofs.StreamCosts.{opened-cost, one-changed, kept-apart, more-apart}
+use Rattle.sctp_receiver.proofs.StreamCosts.{IsCost, chunks_cost, chunks-cost, all-cost, are_apart, changed-cost, mapped-cost, named-cost}
+use Rattle.sctp_receiver.proofs.StreamCosts.{opened-cost, one-changed, more-apart}
+use Rattle.sctp_receiver.proofs.Closed.{closed-apart, closed-cost}
+use Rattle.sctp_stream.specs.Numbers.{swapped_out}
 
 -- ## Numbers
 
@@ -297,8 +299,8 @@ module _ (m : InboundStream → ℕ) (fits : ChunkPayloadData → Type 0) (most 
           (let e = opened-cost m old.receiver.streams (new_stream stream old.receiver.max_message_size) (is.fresh stream old.receiver.max_message_size) in
           omega (arith, e)))
       by (closes stream) u made = subst (λ r. IsBounded r old.accepted) (sym made)
-          (quiet old.receiver (filter (λ x. not (has_number stream x)) old.receiver.streams) old.accepted b
-          (kept-apart (λ x. not (has_number stream x)) old.receiver.streams b.apart) (kept-cost m (λ x. not (has_number stream x)) old.receiver.streams))
+          (quiet old.receiver (swapped_out (has_number stream) old.receiver.streams) old.accepted b
+          (closed-apart stream old.receiver.streams b.apart) (closed-cost m stream old.receiver.streams))
       by (takes c (New answered)) u made = accepts c answered old.receiver new.receiver old.accepted b u made
       by (takes c Repeat) u made = subst (λ r. IsBounded r old.accepted) (sym made) (repeated c.tsn old.receiver old.accepted b)
       by (discards tsn) u made = subst (λ r. IsBounded r old.accepted) (sym made) (discarded tsn old.receiver old.accepted b u.0 u.1)

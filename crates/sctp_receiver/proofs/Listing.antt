@@ -2,7 +2,10 @@
 use Rattle.sctp_receiver.proofs.Names.{◌≡◌, ℕ, ◌+◌, ◌<◌, Bool, true, false, List, [], ◌∷◌, ◌++◌, length, ap, sym, ◌∙◌, arith, ◌==◌, ◌&&◌, ◌||◌, slice_get}
 use Rattle.sctp_receiver.proofs.Names.{slice_index_or, slice_set, slice_get_past, by_same, some-same, not_both, InboundStream, VisitOrder, is_spot_before}
 use Rattle.sctp_receiver.proofs.Names.{is_visited, holds_any, holds_incomplete, IsListing}
+use Rattle.sctp_receiver.proofs.Names.{◌-◌, Some, if◌then◌else◌, same-yes, slice_get_within}
 use Rattle.std.proofs.Common.{length-append}
+use Rattle.std.specs.List.{swap_remove}
+use Rattle.sctp_stream.proofs.Removals.{out-length, stays-there, last-here}
 use Rattle.sctp_receiver.proofs.Settled.{none-incomplete}
 use Rattle.sctp_receiver.proofs.VisitOrders.{end-here, end-there}
 use Rattle.sctp_receiver.proofs.Visiting.{others-renewed, visited-renewed}
@@ -55,3 +58,33 @@ one-opened v w ls l listing places same none = record {
   where
     past : (p : ℕ) → p ≡ length ls → is_visited p v ≡ false
     past p z = ap (is_spot_before v.count) (slice_get_past v.spots p (omega (arith, z, listing.listed.places)))
+
+-- one is closed, and the last one takes its place
+pub one-closed : (v w : VisitOrder) (ls : List InboundStream) (k : ℕ) (d : InboundStream) → k < length ls → IsListing v ls
+    → length w.spots + 1 ≡ length v.spots → ((p : ℕ) → p < length w.spots → is_visited p w ≡ is_visited (if p == k then length w.spots else p) v)
+    → IsListing w (swap_remove ls k d)
+one-closed v w ls k d lt listing places visited = record {
+  listed = record {
+    places = omega (arith, count, places, listing.listed.places);
+    others = λ p x e h. listing.listed.others (was p) x (stood p x e) (sym (visited p (within p x e)) ∙ h);
+  };
+  visited = λ p x e h. listing.visited (was p) x (stood p x e) (sym (visited p (within p x e)) ∙ h);
+}
+  where
+    count : length (swap_remove ls k d) + 1 ≡ length ls
+    count = out-length ls k d lt
+
+    was : ℕ → ℕ
+    was p = if p == k then length w.spots else p
+
+    within : (p : ℕ) (x : InboundStream) → slice_get (swap_remove ls k d) p ≡ Some x → p < length w.spots
+    within p x e = omega (arith, slice_get_within (swap_remove ls k d) p x e, count, places, listing.listed.places)
+
+    stood : (p : ℕ) (x : InboundStream) → slice_get (swap_remove ls k d) p ≡ Some x → slice_get ls (was p) ≡ Some x
+    stood p x e = by_same p k
+        (λ z. let end : length w.spots ≡ length ls - 1 = omega (arith, places, listing.listed.places) in
+        let same : was p ≡ length w.spots = ap (λ n. if n == k then length w.spots else n) z ∙ ap (λ b. if b then length w.spots else k) (same-yes k) in
+        ap (slice_get ls) (same ∙ end) ∙ sym (last-here ls k d lt (omega (arith, within p x e, z, places, listing.listed.places)))
+        ∙ ap (slice_get (swap_remove ls k d)) (sym z) ∙ e)
+        (λ ne t. ap (λ b. slice_get ls (if b then length w.spots else p)) t
+        ∙ sym (stays-there ls k d lt p ne (omega (arith, within p x e, places, listing.listed.places))) ∙ e)

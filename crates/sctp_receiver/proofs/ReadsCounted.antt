@@ -1,6 +1,6 @@
 -- What the counters of a receiver's streams say.
 use Rattle.sctp_receiver.proofs.Names.{◌≡◌, ℕ, ◌+◌, Bool, true, false, List, [], ◌∷◌, ◌++◌, map, length, Option, Some, None, refl, ap, sym, ◌∙◌, arith, subst}
-use Rattle.sctp_receiver.proofs.Names.{if◌then◌else◌, find, not, ◌==◌, is_some, option_map, IfSome, option_or, filter, sum_by, eq-eqb, find-append, sum_by-cons}
+use Rattle.sctp_receiver.proofs.Names.{if◌then◌else◌, find, ◌==◌, is_some, option_map, IfSome, option_or, filter, sum_by, eq-eqb, find-append, sum_by-cons}
 use Rattle.sctp_receiver.proofs.Names.{change_where, same-is, fails, not_both, ChunkPayloadData, ChunkForwardTsnStream, ChunkSet, ForwardTsn, message_read, New}
 use Rattle.sctp_receiver.proofs.Names.{Repeat, InboundStream, number, has_number, new_stream, with_queue, stream_read, ssn_forwarded, named_forwarded}
 use Rattle.sctp_receiver.proofs.Names.{unassembled_forwarded, Reception, Accepts, filter_of, with_filter, repeat_tsn, after_discard, message_of, message_on}
@@ -15,9 +15,14 @@ use Rattle.sctp_stream.specs.Stats.{with_received}
 use Rattle.sctp_receiver.specs.Inbound.{count_read}
 use Rattle.sctp_receiver.specs.Counters.{is_of_channel, channel_bytes, with_read, read_since, stats_on, Count, CountersAreSums}
 use Rattle.sctp_receiver.proofs.BesideRuns.{kept}
+use Rattle.sctp_receiver.proofs.Closed.{others-left, stays-apart}
 use Rattle.sctp_receiver.proofs.Forwarded.{found-mapped}
 use Rattle.sctp_receiver.proofs.Handed.{found-changed}
 use Rattle.sctp_receiver.proofs.Inbounds.{pushed-number}
+use Rattle.sctp_receiver.proofs.Names.{numbers_of}
+use Rattle.sctp_receiver.proofs.StreamCosts.{are_apart}
+use Rattle.sctp_stream.proofs.Removals.{out-none}
+use Rattle.sctp_stream.specs.Numbers.{swapped_out}
 
 -- ## One message
 
@@ -73,29 +78,6 @@ found-number s (l ∷ ls) x e = by (number l == s) refl e (found-number s ls x)
         → number x ≡ s
     by true h f rest = let same : l ≡ x = cc in sym (ap number same) ∙ same-is (number l) s h
     by false h f rest = rest f
-
-none-left : (s : ℕ) (ls : List InboundStream) → find (has_number s) (filter (λ l. not (has_number s l)) ls) ≡ None
-none-left s [] = refl
-none-left s (l ∷ ls) = by (number l == s) refl (none-left s ls)
-  where
-    by : (b : Bool) → (number l == s) ≡ b → find (has_number s) (filter (λ l. not (has_number s l)) ls) ≡ None
-        → find (has_number s) (if not b then l ∷ filter (λ l. not (has_number s l)) ls else filter (λ l. not (has_number s l)) ls) ≡ None
-    by true h ih = ih
-    by false h ih = ap (λ b. if b then Some l else find (has_number s) (filter (λ l. not (has_number s l)) ls)) h ∙ ih
-
-others-left : (s st : ℕ) → (s == st) ≡ false → (ls : List InboundStream)
-    → find (has_number st) (filter (λ l. not (has_number s l)) ls) ≡ find (has_number st) ls
-others-left s st differ [] = refl
-others-left s st differ (l ∷ ls) = by (number l == s) refl (others-left s st differ ls)
-  where
-    by : (b : Bool) → (number l == s) ≡ b → find (has_number st) (filter (λ l. not (has_number s l)) ls) ≡ find (has_number st) ls
-        → find (has_number st) (if not b then l ∷ filter (λ l. not (has_number s l)) ls else filter (λ l. not (has_number s l)) ls)
-        ≡ (if number l == st then Some l else find (has_number st) ls)
-    by true h ih =
-        let off : (number l == st) ≡ false = fails (number l == st)
-        (λ t. not_both (sym differ ∙ eq-eqb s st (sym (same-is (number l) s h) ∙ same-is (number l) st t))) in
-        ih ∙ sym (ap (λ b. if b then Some l else find (has_number st) ls) off)
-    by false h ih = ap (λ o. if number l == st then Some l else o) ih
 
 module _ (stream : ℕ) where
   abbrev stats_in : List InboundStream → Option DataChannelStats
@@ -194,15 +176,15 @@ module _ (stream : ℕ) where
           (counts-none r.max_message_size s)
       by false e = rest (stream_of stream r) k
 
-  closed : (s : ℕ) (r : Reception) (ms : List ChunkSet) → Counted r ms
-      → IfSome (stats_in (filter (λ l. not (has_number s l)) r.streams)) (Count (if s == stream then [] else ms))
-  closed s r ms k = by (s == stream) refl
+  closed : (s : ℕ) (r : Reception) (ms : List ChunkSet) → are_apart (numbers_of r.streams) ≡ true → Counted r ms
+      → IfSome (stats_in (swapped_out (has_number s) r.streams)) (Count (if s == stream then [] else ms))
+  closed s r ms apart k = by (s == stream) refl
     where
-      by : (b : Bool) → (s == stream) ≡ b → IfSome (stats_in (filter (λ l. not (has_number s l)) r.streams)) (Count (if b then [] else ms))
+      by : (b : Bool) → (s == stream) ≡ b → IfSome (stats_in (swapped_out (has_number s) r.streams)) (Count (if b then [] else ms))
       by true e =
-          subst (λ n. IfSome (stats_in (filter (λ l. not (has_number n l)) r.streams)) (Count [])) (sym (same-is s stream e))
-          (subst (λ o. IfSome (option_map (λ l. l.stats) o) (Count [])) (sym (none-left stream r.streams)) tt)
-      by false e = subst (λ o. IfSome (option_map (λ l. l.stats) o) (Count ms)) (sym (others-left s stream e r.streams)) k
+          subst (λ n. IfSome (stats_in (swapped_out (has_number n) r.streams)) (Count [])) (sym (same-is s stream e))
+          (subst (λ o. IfSome (option_map (λ l. l.stats) o) (Count [])) (sym (out-none (has_number stream) r.streams)) tt)
+      by false e = subst (λ o. IfSome (option_map (λ l. l.stats) o) (Count ms)) (sym (others-left s stream e r.streams apart)) k
 
   read : (s : ℕ) (r : Reception) (ms : List ChunkSet) → Counted r ms
       → IfSome (stats_in (change_where (has_number s) stream_read r.streams)) (Count (if s == stream then with_read (message_on s r) ms else ms))
@@ -235,21 +217,28 @@ module _ (stream : ℕ) where
           (Count (with_read m ms))) (ap (λ n. message_on n r) (sym same)) (here same (stream_of stream r) refl k)
       by false e = elsewhere e (stream_of stream r) refl k
 
-  step : (c : Call) (old new : Reception) (ms : List ChunkSet) → Makes c old new → Counted old ms → Counted new (read_since stream c old ms)
-  step (opens s) old new ms m k = subst (λ r. Counted r (if s == stream then [] else ms)) (sym m.1) (opened s old ms m.0 k)
-  step (closes s) old new ms m k = subst (λ r. Counted r (if s == stream then [] else ms)) (sym m) (closed s old ms k)
-  step (takes c (New complete)) old new ms m k = stays old new ms (accepted-stats c complete old new m) k
-  step (takes c Repeat) old new ms m k = stays old new ms (ap (λ (r : Reception). stats_in r.streams) m) k
-  step (discards tsn) old new ms m k = stays old new ms (ap (λ (r : Reception). stats_in r.streams) m ∙ discarded-stats tsn old) k
-  step reports old new ms m k = stays old new ms (ap (λ (r : Reception). stats_in r.streams) m) k
-  step (reports_within bytes) old new ms m k = stays old new ms (ap (λ (r : Reception). stats_in r.streams) m) k
-  step (reads s) old new ms m k =
+  step : (c : Call) (old new : Reception) (ms : List ChunkSet) → Makes c old new → are_apart (numbers_of old.streams) ≡ true → Counted old ms
+      → Counted new (read_since stream c old ms)
+  step (opens s) old new ms m apart k = subst (λ r. Counted r (if s == stream then [] else ms)) (sym m.1) (opened s old ms m.0 k)
+  step (closes s) old new ms m apart k = subst (λ r. Counted r (if s == stream then [] else ms)) (sym m) (closed s old ms apart k)
+  step (takes c (New complete)) old new ms m apart k = stays old new ms (accepted-stats c complete old new m) k
+  step (takes c Repeat) old new ms m apart k = stays old new ms (ap (λ (r : Reception). stats_in r.streams) m) k
+  step (discards tsn) old new ms m apart k = stays old new ms (ap (λ (r : Reception). stats_in r.streams) m ∙ discarded-stats tsn old) k
+  step reports old new ms m apart k = stays old new ms (ap (λ (r : Reception). stats_in r.streams) m) k
+  step (reports_within bytes) old new ms m apart k = stays old new ms (ap (λ (r : Reception). stats_in r.streams) m) k
+  step (reads s) old new ms m apart k =
       subst (λ r. Counted r (if s == stream then with_read (message_on s old) ms else ms)) (sym m) (read s old ms k)
-  step (resets s last) old new ms m k =
+  step (resets s last) old new ms m apart k =
       stays old new ms (ap (λ (r : Reception). stats_in r.streams) m
       ∙ changed-stats s (stream_reset last) (λ l e. refl) (λ l. refl) old.streams) k
-  step (forwards g) old new ms m k = stays old new ms (ap (λ (r : Reception). stats_in r.streams) m ∙ skipped-stats g old) k
-  step (forwards_by_names g) old new ms m k = stays old new ms (ap (λ (r : Reception). stats_in r.streams) m ∙ forwarded-stats g old) k
+  step (forwards g) old new ms m apart k = stays old new ms (ap (λ (r : Reception). stats_in r.streams) m ∙ skipped-stats g old) k
+  step (forwards_by_names g) old new ms m apart k = stays old new ms (ap (λ (r : Reception). stats_in r.streams) m ∙ forwarded-stats g old) k
+
+  abbrev Keeps : Reception → List ChunkSet → Type 0
+  Keeps r ms = (are_apart (numbers_of r.streams) ≡ true) × Counted r ms
+
+  keeps : (c : Call) (old new : Reception) (ms : List ChunkSet) → Makes c old new → Keeps old ms → Keeps new (read_since stream c old ms)
+  keeps c old new ms m k = (stays-apart c old new m k.0, step c old new ms m k.0 k.1)
 
 pub sums : CountersAreSums
-sums stream tsn max limits calls s ms r = kept (read_since stream) (Counted stream) (step stream) calls _ s [] ms r tt
+sums stream tsn max limits calls s ms r = (kept (read_since stream) (Keeps stream) (keeps stream) calls _ s [] ms r (refl, tt)).1

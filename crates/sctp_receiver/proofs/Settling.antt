@@ -1,6 +1,6 @@
 -- Following the advice at a refusal settles the next chunk to come.
 use Rattle.sctp_receiver.proofs.Names.{◌≡◌, ℕ, ◌<◌, ◌≤◌, ◌^◌, Bool, true, false, List, [], ◌∷◌, ◌++◌, Option, Some, None, refl, ap, sym, ◌∙◌, subst, arith, ⊤}
-use Rattle.sctp_receiver.proofs.Names.{if◌then◌else◌, ◌==◌, ◌&&◌, ◌||◌, not, nat_lt, nat_le, find, is_some, list_any, filter, option_or, nat_tests, distance}
+use Rattle.sctp_receiver.proofs.Names.{if◌then◌else◌, ◌==◌, ◌&&◌, ◌||◌, not, nat_lt, nat_le, find, is_some, list_any, option_or, nat_tests, distance}
 use Rattle.sctp_receiver.proofs.Names.{same-yes, same-is, both, not_both, ChunkPayloadData, ForwardTsn, is_too_large, message_read, after_one, following_tsn}
 use Rattle.sctp_receiver.proofs.Names.{InboundStream, Limits, ReceiverRefusal, StreamUnknown, TsnOpposite, MessageTooLarge, TsnTooFar, WindowFull, SsnTooFar}
 use Rattle.sctp_receiver.proofs.Names.{NamedStreamUnknown, NamedSsnTooFar, has_number, new_stream, cost_of, held_cost, refusal_by, Reception, filter_of}
@@ -19,7 +19,9 @@ use Rattle.sctp_receiver.specs.Receiver.{close_stream}
 use Rattle.sctp_receiver.specs.Receiver.{is_duplicates_full}
 use Rattle.sctp_receiver.specs.Skips.{is_ahead, names_closed, names_too_far}
 use Rattle.sctp_receiver.specs.Ssns.{is_too_far_on}
-use Rattle.sctp_receiver.proofs.StreamCosts.{kept-cost}
+use Rattle.sctp_receiver.proofs.Closed.{closed-cost}
+use Rattle.sctp_stream.proofs.Removals.{out-none}
+use Rattle.sctp_stream.specs.Numbers.{swapped_out}
 
 -- ## Streams
 
@@ -58,17 +60,11 @@ less-refused (Some l) t f ls ls' less h = far (nat_lt l.reach (distance f.cumula
     far false h = full (comes_before (highest_tsn f) t) (nat_le l.window (held_cost ls)) (nat_le l.window (held_cost ls')) refl refl h
 
 -- a stream that is closed is not open
-not-open : (s : ℕ) (ls : List InboundStream) → is_some (find (has_number s) (filter (λ l. not (has_number s l)) ls)) ≡ false
-not-open s [] = refl
-not-open s (l ∷ ls) = by (has_number s l) refl (not-open s ls)
-  where
-    by : (b : Bool) → has_number s l ≡ b → is_some (find (has_number s) (filter (λ l. not (has_number s l)) ls)) ≡ false
-        → is_some (find (has_number s) (if not b then l ∷ filter (λ l. not (has_number s l)) ls else filter (λ l. not (has_number s l)) ls)) ≡ false
-    by true e ih = ih
-    by false e ih = ap (λ b. is_some (if b then Some l else find (has_number s) (filter (λ l. not (has_number s l)) ls))) e ∙ ih
+not-open : (s : ℕ) (ls : List InboundStream) → is_some (find (has_number s) (swapped_out (has_number s) ls)) ≡ false
+not-open s ls = ap is_some (out-none (has_number s) ls)
 
 closed-less : (s : ℕ) (r : Reception) → held_cost (close_stream s r).streams ≤ held_cost r.streams
-closed-less s r = let h = kept-cost cost_of (λ l. not (has_number s l)) r.streams in omega (arith, h)
+closed-less s r = let h = closed-cost cost_of s r.streams in omega (arith, h)
 
 -- ## Why the next chunk is refused
 

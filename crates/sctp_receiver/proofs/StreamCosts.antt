@@ -120,7 +120,7 @@ turned : (b : Bool) → not b ≡ true → b ≡ false
 turned true h = absurd (not_both h)
 turned false h = refl
 
-apart-of : (n : ℕ) (ns : List ℕ) → are_apart (n ∷ ns) ≡ true → (list_any (λ k. k == n) ns ≡ false) × (are_apart ns ≡ true)
+pub apart-of : (n : ℕ) (ns : List ℕ) → are_apart (n ∷ ns) ≡ true → (list_any (λ k. k == n) ns ≡ false) × (are_apart ns ≡ true)
 apart-of n ns h = let p = both (not (list_any (λ k. k == n) ns)) (are_apart ns) h in (turned (list_any (λ k. k == n) ns) p.0, p.1)
 
 module _ (m : InboundStream → ℕ) where
@@ -191,10 +191,10 @@ module _ (m : InboundStream → ℕ) where
 
 -- ## Numbers stay apart
 
-or_false : (a b : Bool) → a ≡ false → b ≡ false → (a || b) ≡ false
+pub or_false : (a b : Bool) → a ≡ false → b ≡ false → (a || b) ≡ false
 or_false a b x y = rw (x, y) refl
 
-any-kept : (n : ℕ) (p : InboundStream → Bool) (ls : List InboundStream) → list_any (λ k. k == n) (numbers_of ls) ≡ false
+pub any-kept : (n : ℕ) (p : InboundStream → Bool) (ls : List InboundStream) → list_any (λ k. k == n) (numbers_of ls) ≡ false
     → list_any (λ k. k == n) (numbers_of (filter p ls)) ≡ false
 any-kept n p [] h = refl
 any-kept n p (l ∷ ls) h = by (p l) (any-kept n p ls others.1)

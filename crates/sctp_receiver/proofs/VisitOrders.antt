@@ -2,6 +2,8 @@
 use Rattle.sctp_receiver.proofs.Names.{◌≡◌, ℕ, zero, suc, ◌+◌, ◌<◌, ◌≤◌, true, false, List, [], ◌∷◌, ◌++◌, length, length-set, Some, None, refl, ap, sym, ◌∙◌}
 use Rattle.sctp_receiver.proofs.Names.{arith, ◌==◌, nat_lt, if◌then◌else◌, slice_get, slice_index_or, slice_set, option_map, lt-ltb, le-ltb, nat_tests}
 use Rattle.sctp_receiver.proofs.Names.{slice_get_within, slice_get_past, slice_get_read, by_same, same-yes, some-same, AreInverse, is_spot_before, swapped}
+use Rattle.sctp_receiver.proofs.Names.{length-take, take}
+use Rattle.sctp_stream.proofs.Removals.{taken-at}
 use Rattle.std.specs.Prelude.{Option}
 
 -- ## What stands at a place of a list
@@ -159,3 +161,32 @@ pub more-visited : (order spots : List ℕ) (count : ℕ) → count ≤ length o
 more-visited order spots count within p = by_same p (length spots)
     (λ e. rw (e, end-here spots (length order), slice_get_past spots (length spots) (omega arith)) (le-ltb (length order) count within))
     (λ ne t. ap (is_spot_before count) (end-there spots (length order) p ne))
+
+-- ## The last place is no more
+
+-- spots behind those that are visited change places
+pub behind-swapped : (s n count : ℕ) → count ≤ s → count ≤ n → (o : Option ℕ) → is_spot_before count (option_map (swapped s n) o) ≡ is_spot_before count o
+behind-swapped s n count ls ln None = refl
+behind-swapped s n count ls ln (Some k) = by_same k s
+    (λ e. rw (e, first-swapped s n) (le-ltb n count ln ∙ sym (le-ltb s count ls)))
+    (λ ns t. by_same k n
+    (λ e. rw (e, second-swapped s n) (le-ltb s count ls ∙ sym (le-ltb n count ln)))
+    (λ nn u. rw (other-swapped s n k ns nn) refl))
+
+one-way-off : (order spots : List ℕ) (n : ℕ) → length spots ≡ n + 1 → ((i p : ℕ) → slice_get order i ≡ Some p → slice_get spots p ≡ Some i)
+    → slice_get spots n ≡ Some n → (i p : ℕ) → slice_get (take n order) i ≡ Some p → slice_get (take n spots) p ≡ Some i
+one-way-off order spots n count forth last i p at =
+    let less = slice_get_within (take n order) i p at in
+    let lt : i < n = omega (arith, less, length-take n order) in
+    let there = forth i p (sym (taken-at order n i lt) ∙ at) in
+    let inside = slice_get_within spots p i there in
+    let differs : p ≡ n → ⊥ = λ z. (let same : n ≡ i = some-same (sym last ∙ ap (slice_get spots) (sym z) ∙ there) in omega (arith, same, lt)) in
+    taken-at spots n p (omega (arith, inside, count, differs)) ∙ there
+
+-- where the last place stands at the last spot, both are taken off
+pub last-off : (order spots : List ℕ) (n : ℕ) → length order ≡ n + 1 → length spots ≡ n + 1 → AreInverse order spots → slice_get spots n ≡ Some n
+    → AreInverse (take n order) (take n spots)
+last-off order spots n os ss inverse last i p = (
+  one-way-off order spots n ss (λ i p. (inverse i p).0) last i p,
+  one-way-off spots order n os (λ p i. (inverse i p).1) ((inverse n n).1 last) p i,
+)

@@ -1,7 +1,7 @@
 -- What a FORWARD-TSN makes of the streams that it visits, and of those that it does not.
 use Rattle.sctp_receiver.proofs.Names.{◌≡◌, ℕ, zero, suc, ◌+◌, ◌<◌, ◌≤◌, Bool, true, false, List, [], ◌∷◌, length, map, Some, None, refl, ap, sym, ◌∙◌, arith}
 use Rattle.sctp_receiver.proofs.Names.{◌==◌, ◌&&◌, ◌||◌, nat_lt, if◌then◌else◌, slice_get, slice_index_or, slice_set, sum_by, filter, lt-ltb, le-ltb, nat_tests}
-use Rattle.sctp_receiver.proofs.Names.{sum_by-cons, sum_by-set, slice_get_within, get_or_from_slice_get, by_same, same-yes, some-same, AreInverse, VisitOrder}
+use Rattle.sctp_receiver.proofs.Names.{sum_by-cons, sum_by-set, slice_get_within, get_or_from_slice_get, by_same, some-same, AreInverse, VisitOrder}
 use Rattle.sctp_receiver.proofs.Names.{is_spot_before, is_visited, swapped}
 use Rattle.std.specs.Prelude.{Option}
 use Rattle.std.proofs.lemmas.Bool.{ltb-true}
@@ -208,29 +208,3 @@ module _ {X : Type 0} (any inc : X → Bool) where
           (sym (ap (slice_get v.order) (ap (swapped left w.count) s ∙ first-swapped left w.count)) ∙ from) e)
           (λ ne t. behind i p z (omega (arith, le, ne)) (omega (arith, n, less))
           (sym (ap (slice_get v.order) (other-swapped left w.count i ne (λ q. omega (arith, q, less)))) ∙ from) e)
-
-  -- so many of them are visited where they hold any
-  abbrev pub FirstAsTheyHold : ℕ → VisitOrder → List X → Type 0
-  FirstAsTheyHold n v xs = (p : ℕ) (x : X) → p < n → slice_get xs p ≡ Some x → is_visited p v ≡ any x
-
-  pub first-others : (v : VisitOrder) (xs : List X) → ((x : X) → any x ≡ false → inc x ≡ false) → FirstAsTheyHold (length xs) v xs → OthersHoldNone v xs
-  first-others v xs none first p x e h = none x (sym (first p x (slice_get_within xs p x e) e) ∙ h)
-
-  pub first-visited : (v : VisitOrder) (xs : List X) → FirstAsTheyHold (length xs) v xs → VisitedHoldAny v xs
-  first-visited v xs first p x e h = sym (first p x (slice_get_within xs p x e) e) ∙ h
-
-  module _ (v : VisitOrder) (xs : List X) (k : ℕ) (x : X) (here : slice_get xs k ≡ Some x) (first : FirstAsTheyHold k v xs)
-      (rest : (p : ℕ) → k ≤ p → is_visited p v ≡ false) where
-    pub first-passed : any x ≡ false → FirstAsTheyHold (k + 1) v xs
-    first-passed none p z less e = by_same p k
-        (λ s. rest p (omega (arith, s)) ∙ sym (ap any (some-same (sym e ∙ ap (slice_get xs) s ∙ here)) ∙ none))
-        (λ ne t. first p z (omega (arith, less, ne)) e)
-
-    module _ (w : VisitOrder) (visited : (p : ℕ) → is_visited p w ≡ (if p == k then true else is_visited p v)) where
-      pub first-taken : any x ≡ true → FirstAsTheyHold (k + 1) w xs
-      first-taken holds p z less e = visited p ∙ by_same p k
-          (λ s. rw (s, same-yes k) (sym (ap any (some-same (sym e ∙ ap (slice_get xs) s ∙ here)) ∙ holds)))
-          (λ ne t. rw t (first p z (omega (arith, less, ne)) e))
-
-      pub rest-stays : (p : ℕ) → k + 1 ≤ p → is_visited p w ≡ false
-      rest-stays p le = visited p ∙ by_same p k (λ s. absurd (omega (arith, le, s))) (λ ne t. rw t (rest p (omega (arith, le))))

@@ -23,9 +23,11 @@ use Rattle.sctp_receiver.specs.Limits.{refusal_by, window_left}
 use Rattle.sctp_receiver.specs.Ssns.{is_too_far_on}
 use Rattle.sctp_receiver.specs.TsnFilter.{Filter, has_come, is_opposite, with_tsn, skipped_to, gap_ack_blocks}
 use Rattle.sctp_serial.specs.DataChunks.{following_tsn, preceding_tsn}
+use Rattle.sctp_stream.specs.Numbers.{swapped_out}
 
--- the open streams in the order in which they were opened; the cumulative TSN, the TSNs that came beyond it, and those that
--- came again since the last SACK; how long a message may be, and the limits of what is taken, if there are any
+-- the open streams in the order in which they were opened, but that where one was closed, the last one stands in its place; the
+-- cumulative TSN, the TSNs that came beyond it, and those that came again since the last SACK; how long a message may be, and
+-- the limits of what is taken, if there are any
 pub record Reception : Type 0 where
   pub streams : List InboundStream
   pub cumulative_tsn : ℕ
@@ -71,9 +73,9 @@ is_open s r = is_some (stream_of s r)
 abbrev pub open_stream : ℕ → Reception → Reception
 open_stream s r = record r { streams = r.streams ++ new_stream s r.max_message_size ∷ [] }
 
--- the stream is open no more: what came on it and was not read is dropped
+-- the stream is open no more, and the last one takes its place; what came on it and was not read is dropped
 abbrev pub close_stream : ℕ → Reception → Reception
-close_stream s r = record r { streams = filter (λ l. not (has_number s l)) r.streams }
+close_stream s r = record r { streams = swapped_out (has_number s) r.streams }
 
 -- ## DATA
 
@@ -264,7 +266,7 @@ message_of (Some l) = message_read l.queue.held
 abbrev pub message_on : ℕ → Reception → Option ChunkSet
 message_on s r = message_of (stream_of s r)
 
--- the streams with a message to read, in the order in which they were opened
+-- the streams with a message to read, in the order of the open streams
 abbrev pub readable_streams : List InboundStream → List ℕ
 readable_streams ls = map number (filter (λ l. is_some (message_read l.queue.held)) ls)
 

@@ -98,8 +98,8 @@ impl Receiver {
         self.streams.open(self.alloc, stream, self.max_message_size)
     }
 
-    /// Closes a stream, where it is open: it drops what came on it and was not read, and its counters. The TSNs stay as they are. It takes
-    /// no memory.
+    /// Closes a stream, where it is open: it drops what came on it and was not read, and its counters. The TSNs stay as they are. Other
+    /// streams do not move, but the last one takes its place. It takes no memory.
     pub fn close(&mut self, stream: u16)
         ensures { self.new ≡ close_stream stream self.old }
     {
@@ -188,7 +188,7 @@ impl Receiver {
         self.streams.read(stream)
     }
 
-    // The open streams, in the order in which they were opened.
+    // The open streams, in the order in which they were opened; where one was closed, the last one stands in its place.
     pub(crate) fn open_streams(&self) -> &[InboundStream]
         ensures { result.now ≡ self.now.streams }
     {
@@ -207,8 +207,8 @@ impl Receiver {
         }
     }
 
-    /// The numbers of the streams with a message to read, in the order in which they were opened. It looks at each open stream once;
-    /// of one chunk `data` answers it at no cost. Refuses only for memory.
+    /// The numbers of the streams with a message to read, in the order in which they were opened; where one was closed, the last one
+    /// stands in its place. It looks at each open stream once; of one chunk `data` answers it at no cost. Refuses only for memory.
     pub fn readable_streams(&self) -> Result<Vec<u16>, ReceiverRefusal>
         ensures ok { IfOk result
             (λ numbers. numbers.items ≡ readable_streams self.now.streams) }

@@ -68,7 +68,8 @@ pub fn reassembly(receiver: &Receiver, stream: u16) -> Option<&ReassemblyQueue>
     receiver.reassembly(stream)
 }
 
-/// The open streams, in the order in which they were opened: what came on each and was not read, and its counters.
+/// The open streams, in the order in which they were opened; where one was closed, the last one stands in its place. Of each what came
+/// and was not read, and its counters.
 pub fn open_streams(receiver: &Receiver) -> &[InboundStream]
     ensures { result.now ≡ receiver.now.streams }
 {

@@ -1,7 +1,7 @@
 -- The sending half of a link as callers see it (RFC 4960 6.1, 6.2.1, 6.9).
 use Rattle.std.specs.Prelude.{ℕ, ◌+◌, ◌^◌, Bool, not, ◌&&◌, ◌||◌, nat_lt, if◌then◌else◌, List, [], ◌∷◌, ◌++◌, Option, Some, None, is_some}
 use Rattle.std.specs.Option.{option_map}
-use Rattle.std.specs.List.{find, filter}
+use Rattle.std.specs.List.{find}
 use Rattle.sctp_util.specs.Lists.{change_where}
 use Rattle.sctp_data.specs.declared.chunk.chunk_payload_data.ChunkPayloadData.{ChunkPayloadData}
 use Rattle.sctp_data.specs.declared.chunk.chunk_payload_data.PayloadProtocolIdentifier.{PayloadProtocolIdentifier}
@@ -17,10 +17,12 @@ use Rattle.sctp_sender.specs.declared.sender.refusal.SenderRefusal.TheVariants.{
 use Rattle.sctp_sender.specs.Flight.{Flight, with_queue, at_first, after_sack, released_by, is_outdated, sack_refusal, next_after_send, after_abandonment}
 use Rattle.sctp_sender.specs.Keeping.{after_returns, bytes_back, coming_back, kept_after, answered_back, with_restored}
 use Rattle.sctp_sender.specs.Outgoing.{has_number, with_mode, fragments_with_mode, wrote, after_releases, less_by, after_expiries, after_expiry}
+use Rattle.sctp_stream.specs.Numbers.{swapped_out}
 use Rattle.sctp_stream.specs.Stream.{new_stream}
 
--- the open streams in the order in which they were opened; what waits and what is in flight; how long a fragment is, and how
--- long a message may be; and what is kept of the chunks in flight that gap ack blocks reported, where the sender keeps them
+-- the open streams in the order in which they were opened, but that where one was closed, the last one stands in its place; what
+-- waits and what is in flight; how long a fragment is, and how long a message may be; and what is kept of the chunks in flight
+-- that gap ack blocks reported, where the sender keeps them
 pub record Transmission : Type 0 where
   pub streams : List OutboundStream
   pub flight : Flight
@@ -59,9 +61,9 @@ abbrev pub open_stream : ℕ → Transmission → Transmission
 open_stream s t =
     with_streams (t.streams ++ new_stream s t.fragment_size ∷ []) t
 
--- the stream is open no more; what waits and is in flight stays
+-- the stream is open no more, and the last one takes its place; what waits and is in flight stays
 abbrev pub close_stream : ℕ → Transmission → Transmission
-close_stream s t = with_streams (filter (λ l. not (has_number s l)) t.streams) t
+close_stream s t = with_streams (swapped_out (has_number s) t.streams) t
 
 abbrev pub with_mode_on : ℕ → Bool → ReliabilityType → ℕ → Transmission → Transmission
 with_mode_on s unordered reliability value t =

@@ -152,7 +152,7 @@ pub fn advanced_ack_point(sender: &Sender) -> u32
     sender.advanced_ack_point()
 }
 
-/// The open streams, in the order in which they were opened.
+/// The open streams, in the order in which they were opened; where one was closed, the last one stands in its place.
 pub fn open_streams(sender: &Sender) -> &[OutboundStream]
     ensures { result.now ≡ sender.now.streams }
 {

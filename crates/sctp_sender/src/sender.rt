@@ -186,7 +186,8 @@ impl Sender {
     }
 
     /// Closes a stream, where it is open: its state, its amount and its counters go. What waits and is in flight of it stays, and
-    /// goes on as before. Where it is not open nothing changes. It takes no memory.
+    /// goes on as before. Other streams do not move, but the last one takes its place. Where it is not open nothing changes. It takes no
+    /// memory.
     /// Open it again only once `outbound().contains_stream` is false: what then leaves would else lower the new amount.
     pub fn close(&mut self, stream: u16)
         ensures { self.new ≡ close_stream stream self.old }

@@ -28,12 +28,12 @@ module _ (places ns : List ℕ) (placed : IsPlaced places ns) where
 
 -- ## An element set, and one taken out
 
-pub set-same : (xs : List ℕ) (i y : ℕ) → i < length xs → slice_get (slice_set xs i y) i ≡ Some y
+pub set-same : {A : Type 0} (xs : List A) (i : ℕ) (y : A) → i < length xs → slice_get (slice_set xs i y) i ≡ Some y
 set-same [] i y lt = absurd (omega arith)
 set-same (x ∷ xs) zero y lt = refl
 set-same (x ∷ xs) (suc i) y lt = set-same xs i y (omega arith)
 
-pub set-other : (xs : List ℕ) (i j y : ℕ) → (i ≡ j → ⊥) → slice_get (slice_set xs i y) j ≡ slice_get xs j
+pub set-other : {A : Type 0} (xs : List A) (i j : ℕ) (y : A) → (i ≡ j → ⊥) → slice_get (slice_set xs i y) j ≡ slice_get xs j
 set-other [] i j y ne = refl
 set-other (x ∷ xs) zero zero y ne = absurd (ne refl)
 set-other (x ∷ xs) zero (suc j) y ne = refl

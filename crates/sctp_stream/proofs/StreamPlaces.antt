@@ -1,14 +1,14 @@
 -- Streams that are found by their numbers: the one at a place, and what its change makes of them all.
 use Rattle.std.proofs.Common.{◌≡◌, ℕ, zero, suc, ◌<◌, Bool, true, false, List, [], ◌∷◌, ◌++◌, length, get_or, map, Some, None, refl, ap, sym, ◌∙◌, arith}
-use Rattle.std.proofs.lemmas.List.{append-nil}
-use Rattle.std.specs.List.{remove, filter}
+use Rattle.std.specs.List.{filter, slice_rotate_right, swap_remove}
 use Rattle.std.specs.Prelude.{◌==◌, not, if◌then◌else◌, find, slice_get, slice_index_or, slice_set}
 use Rattle.std.proofs.lemmas.Bool.{eq-eqb, ne_eqb}
 use Rattle.std.proofs.lemmas.Option.{slice_get_within}
 use Rattle.sctp_util.specs.Lists.{change_where}
-use Rattle.sctp_util.proofs.Edits.{OnlyAt, change_where-only, change_where-none, find-none, those-append, those-only, those-none}
+use Rattle.sctp_util.proofs.Edits.{OnlyAt, change_where-only, change_where-none, find-none}
 use Rattle.sctp_util.proofs.Getting.{length-mapped}
-use Rattle.sctp_stream.specs.Numbers.{IsOnlyPlace, IsAbsent, is_other}
+use Rattle.sctp_stream.specs.Numbers.{IsOnlyPlace, IsAbsent, swapped_out}
+use Rattle.sctp_stream.proofs.Removals.{only-out, out-stay, rotated-map}
 use Rattle.sctp_util.proofs.Cases.{some-same}
 
 module _ {X : Type 0} (p : X → Bool) where
@@ -31,13 +31,24 @@ module _ {X : Type 0} (num : X → ℕ) where
   number-at (l ∷ ls) (suc k) d lt = number-at ls k d (omega (arith, lt))
 
   -- the numbers of those with another number
-  others : (s : ℕ) (ls : List X) → filter (is_other s) (map num ls) ≡ map num (filter (λ l. not (num l == s)) ls)
+  others : (s : ℕ) (ls : List X) → map num (filter (λ l. not (num l == s)) ls) ≡ filter (λ n. not (n == s)) (map num ls)
   others s [] = refl
-  others s (l ∷ ls) = by (not (num l == s)) (filter (is_other s) (map num ls)) (filter (λ l. not (num l == s)) ls) (others s ls)
+  others s (l ∷ ls) = by (not (num l == s)) (filter (λ n. not (n == s)) (map num ls)) (filter (λ l. not (num l == s)) ls) (others s ls)
     where
-      by : (b : Bool) (ms : List ℕ) (ks : List X) → ms ≡ map num ks → (if b then num l ∷ ms else ms) ≡ map num (if b then l ∷ ks else ks)
+      by : (b : Bool) (ms : List ℕ) (ks : List X) → map num ks ≡ ms → map num (if b then l ∷ ks else ks) ≡ (if b then num l ∷ ms else ms)
       by true ms ks e = ap (λ ns. num l ∷ ns) e
       by false ms ks e = e
+
+  -- the numbers of the streams without one are the numbers without it
+  pub numbers-out : (s : ℕ) (ls : List X) → map num (swapped_out (λ l. num l == s) ls) ≡ swapped_out (λ n. n == s) (map num ls)
+  numbers-out s [] = refl
+  numbers-out s (l ∷ ls) = by (num l == s) (numbers-out s ls)
+    where
+      by : (b : Bool) → map num (swapped_out (λ l. num l == s) ls) ≡ swapped_out (λ n. n == s) (map num ls)
+          → map num (if b then slice_rotate_right (filter (λ l. not (num l == s)) ls) 1 else l ∷ swapped_out (λ l. num l == s) ls)
+          ≡ (if b then slice_rotate_right (filter (λ n. not (n == s)) (map num ls)) 1 else num l ∷ swapped_out (λ n. n == s) (map num ls))
+      by true ih = rotated-map num (filter (λ l. not (num l == s)) ls) ∙ ap (λ ms. slice_rotate_right ms 1) (others s ls)
+      by false ih = ap (λ ms. num l ∷ ms) ih
 
   module _ (ls : List X) (ns : List ℕ) (is : ns ≡ map num ls) (s : ℕ) where
     -- no stream has the number
@@ -50,8 +61,8 @@ module _ {X : Type 0} (num : X → ℕ) where
     pub absent-change : (f : X → X) → IsAbsent s ns → ls ≡ change_where (λ l. num l == s) f ls
     absent-change f absent = sym (change_where-none (λ l. num l == s) f ls (differs absent))
 
-    pub absent-those : IsAbsent s ns → ls ≡ filter (λ l. not (num l == s)) ls
-    absent-those absent = sym (those-none (λ l. num l == s) ls (differs absent))
+    pub absent-out : IsAbsent s ns → ls ≡ swapped_out (λ l. num l == s) ls
+    absent-out absent = out-stay (λ l. num l == s) ls (differs absent)
 
     module _ (k : ℕ) (p : IsOnlyPlace s ns k) where
       pub inside : k < length ls
@@ -76,26 +87,21 @@ module _ {X : Type 0} (num : X → ℕ) where
       numbers-stay x y e same = is ∙ sym (map-set_same num ls k y x (same ∙ ap num e))
 
       -- the one at the place is taken out, and no other
-      pub without : remove ls k ≡ filter (λ l. not (num l == s)) ls
-      without = sym (those-only (λ l. num l == s) ls k only)
+      pub without : (d : X) → swap_remove ls k d ≡ swapped_out (λ l. num l == s) ls
+      without d = only-out (λ l. num l == s) ls k d only
 
-      pub numbers-without : filter (is_other s) ns ≡ map num (remove ls k)
-      numbers-without = ap (filter (is_other s)) is ∙ others s ls ∙ ap (map num) (sym without)
+      pub numbers-without : (d : X) → swapped_out (λ n. n == s) ns ≡ map num (swap_remove ls k d)
+      numbers-without d = ap (swapped_out (λ n. n == s)) is ∙ sym (numbers-out s ls) ∙ ap (map num) (sym (without d))
 
 -- ## One that is opened and closed again
 
 module _ {X : Type 0} (p : X → Bool) where
-  -- where none is found, all fail
-  none-found : (xs : List X) → find p xs ≡ None → filter (λ x. not (p x)) xs ≡ xs
-  none-found [] e = refl
-  none-found (x ∷ xs) e = by (p x) e (none-found xs)
+  -- one more that passes is taken out again
+  pub taken-back : (xs : List X) (y : X) → p y ≡ true → find p xs ≡ None → swapped_out p (xs ++ y ∷ []) ≡ xs
+  taken-back [] y passes none = rw passes refl
+  taken-back (x ∷ xs) y passes none = by (p x) none (taken-back xs y passes)
     where
-      by : (b : Bool) → (if b then Some x else find p xs) ≡ None → (find p xs ≡ None → filter (λ y. not (p y)) xs ≡ xs)
-          → (if not b then x ∷ filter (λ y. not (p y)) xs else filter (λ y. not (p y)) xs) ≡ x ∷ xs
+      by : (b : Bool) → (if b then Some x else find p xs) ≡ None → (find p xs ≡ None → swapped_out p (xs ++ y ∷ []) ≡ xs)
+          → (if b then slice_rotate_right (filter (λ x. not (p x)) (xs ++ y ∷ [])) 1 else x ∷ swapped_out p (xs ++ y ∷ [])) ≡ x ∷ xs
       by true e rest = absurd (cc)
       by false e rest = ap (λ ys. x ∷ ys) (rest e)
-
-  -- one more that passes is taken out again
-  pub taken-back : (xs : List X) (y : X) → p y ≡ true → find p xs ≡ None → filter (λ x. not (p x)) (xs ++ y ∷ []) ≡ xs
-  taken-back xs y passes none = those-append (λ x. not (p x)) xs (y ∷ []) ∙ ap (λ b. filter (λ x. not (p x)) xs ++ (if not b then y ∷ [] else [])) passes
-      ∙ append-nil (filter (λ x. not (p x)) xs) ∙ none-found xs none

@@ -1,16 +1,16 @@
 //! The numbers of the open streams, and where each stands.
 
-ghost use Rattle.std.specs.Prelude.{◌≡◌, ◌++◌, ◌∷◌, [], OnOk, OnErr, IsOkUnless, MatchOption, Some, ℕ, length, slice_get, vec_len, vec_capacity, ◌<◌, ◌≤◌, ◌^◌};
-ghost use Rattle.std.specs.List.{filter};
+ghost use Rattle.std.specs.Prelude.{◌≡◌, ◌++◌, ◌∷◌, [], OnOk, OnErr, IsOkUnless, MatchOption, Some, ℕ, length, slice_get, vec_len, vec_capacity, ◌<◌, ◌≤◌, ◌^◌, ◌==◌};
 ghost use Rattle.sctp_util.specs.declared.error.Error.TheVariants.{ErrOutOfMemory};
-ghost use Rattle.sctp_stream.specs.Numbers.{IsOnlyPlace, IsAbsent, is_other};
+ghost use Rattle.sctp_stream.specs.Numbers.{IsOnlyPlace, IsAbsent, swapped_out};
 
 use sctp_util::error::Result;
 use std::alloc::Global;
 use std::marker::Model;
 
-/// The numbers of the open streams, in the order in which they were opened. The place of each is found in two steps, whatever their
-/// count: in a table with two bytes for each number up to the greatest that was put, so in at most 128 KiB.
+/// The numbers of the open streams, in the order in which they were opened; where one was closed, the last one stands in its place.
+/// The place of each is found in two steps, whatever their count: in a table with two bytes for each number up to the greatest that
+/// was put, so in at most 128 KiB.
 #[derive(Drop)]
 pub struct StreamNumbers {
     numbers: Vec<u16>,
@@ -71,16 +71,16 @@ impl StreamNumbers {
         Ok(())
     }
 
-    /// Takes a number out, where it is among them; the later ones move up by one. It takes no memory.
+    /// Takes a number out, where it is among them: the last one takes its place. It takes no memory.
     pub fn remove(&mut self, stream: u16)
-        ensures { self.new ≡ filter (is_other stream) self.old }
+        ensures { self.new ≡ swapped_out (λ n. n == stream) self.old }
     {
         let Some(place) = self.place_of(stream) else {
             return;
         };
-        self.numbers.remove(place);
-        for later in place..self.numbers.len() {
-            self.places[self.numbers[later] as usize] = later as u16;
+        self.numbers.swap_remove(place);
+        if place < self.numbers.len() {
+            self.places[self.numbers[place] as usize] = place as u16;
         }
     }
 }

@@ -135,9 +135,9 @@ pub extern "C" fn sctpr_receiver_read(
     }
 }
 
-/// Writes the numbers of the streams with a message to read to the front of `streams`, in the order in which they were opened; `count`
-/// becomes how many there are. Refuses with `SCTPR_SHORT_BUFFER`, where there is room for fewer: `count` is told then, and nothing is
-/// written; and with `SCTPR_NO_MEMORY`, and both stay.
+/// Writes the numbers of the streams with a message to read to the front of `streams`, in the order in which they were opened; where one
+/// was closed, the last one stands in its place. `count` becomes how many there are. Refuses with `SCTPR_SHORT_BUFFER`, where there is
+/// room for fewer: `count` is told then, and nothing is written; and with `SCTPR_NO_MEMORY`, and both stay.
 #[unsafe(no_mangle)]
 pub extern "C" fn sctpr_receiver_readable_streams(
     receiver: &mut SctpReceiver,

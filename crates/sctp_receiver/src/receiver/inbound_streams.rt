@@ -1,10 +1,10 @@
 //! The streams of a receiver.
 
-ghost use Rattle.std.specs.Prelude.{◌≡◌, ◌==◌, ◌<◌, ◌≤◌, ◌+◌, ◌-◌, ◌^◌, ◌++◌, ◌∷◌, ◌⊎◌, [], not, true, false, Some, None, OnOk, OnErr, IfOk, IfErr, IsOk, MatchOption, length, map, find, option_map, option_copied, is_some, if◌then◌else◌};
-ghost use Rattle.std.specs.List.{filter, sum_by};
+ghost use Rattle.std.specs.Prelude.{◌≡◌, ◌==◌, ◌<◌, ◌≤◌, ◌+◌, ◌-◌, ◌^◌, ◌++◌, ◌∷◌, ◌⊎◌, [], true, false, Some, None, OnOk, OnErr, IfOk, IfErr, IsOk, MatchOption, length, map, find, option_map, option_copied, is_some, if◌then◌else◌};
+ghost use Rattle.std.specs.List.{sum_by};
 ghost use Rattle.sctp_util.specs.Lists.{change_where};
 ghost use Rattle.sctp_receiver.specs.declared.receiver.refusal.ReceiverRefusal.TheVariants.{MessageTooLarge, OutOfMemory, StreamUnknown};
-ghost use Rattle.sctp_stream.specs.Numbers.{IsOnlyPlace, IsAbsent};
+ghost use Rattle.sctp_stream.specs.Numbers.{IsOnlyPlace, IsAbsent, swapped_out};
 ghost use Rattle.sctp_reassembly.specs.reassembly_queue.ReassemblyQueue.{is_too_large};
 ghost use Rattle.sctp_reassembly.specs.reassembly_queue.Undo.{CanUndo};
 ghost use Rattle.sctp_receiver.specs.Costs.{IsWithinPush, IsWithinPushOn, unassembled_on};
@@ -18,7 +18,7 @@ ghost use Rattle.sctp_receiver.specs.Visited.{skip_forwarded, to_visit};
 use crate::receiver::limits::cost_of;
 use crate::receiver::names::{make_each, make_room, note_each};
 use crate::receiver::refusal::ReceiverRefusal;
-use crate::receiver::visit::{Skip, forward_each, renew, settle, visit_all};
+use crate::receiver::visit::{Skip, forward_each, renew, settle};
 use crate::receiver::visits::Visits;
 use bytes::Bytes;
 use sctp_data::chunk::chunk_forward_tsn::ChunkForwardTsnStream;
@@ -123,10 +123,11 @@ impl InboundStream {
     }
 }
 
-/// The streams of a receiver, in the order in which they were opened. Each is found at once by its number, and the sum of what they
-/// hold is kept: of each stream up to the greatest usize, so that it can be lowered again. So are the places of the streams that a
-/// FORWARD-TSN visits: of each that holds something incomplete, and of none that holds neither ordered messages nor unassembled
-/// fragments. There is room to note what a FORWARD-TSN names on each stream. What is held is copied, where there is an allocator for that.
+/// The streams of a receiver, in the order in which they were opened; where one was closed, the last one stands in its place. Each is
+/// found at once by its number, and the sum of what they hold is kept: of each stream up to the greatest usize, so that it can be
+/// lowered again. So are the places of the streams that a FORWARD-TSN visits: of each that holds something incomplete, and of none that
+/// holds neither ordered messages nor unassembled fragments. There is room to note what a FORWARD-TSN names on each stream. What is held
+/// is copied, where there is an allocator for that.
 #[derive(Drop)]
 pub struct InboundStreams {
     numbers: StreamNumbers,
@@ -243,17 +244,18 @@ impl InboundStreams {
         Ok(())
     }
 
-    /// Closes a stream, where it is open: what came on it and was not read is dropped. It takes no memory.
+    /// Closes a stream, where it is open: the last one takes its place, and what came on it and was not read is dropped. It takes no
+    /// memory.
     pub(crate) fn close(&mut self, stream: u16)
-        ensures { self.new ≡ filter (λ l. not (has_number stream l)) self.old }
+        ensures { self.new ≡ swapped_out (has_number stream) self.old }
     {
         let Some(place) = self.numbers.place_of(stream) else {
             return;
         };
-        let closed = self.items.remove(place);
+        let closed = self.items.swap_remove(place);
         self.cost -= cost_of(&closed.queue) as u128;
         self.numbers.remove(stream);
-        visit_all(&mut self.visits, &self.items);
+        self.visits.swap_remove(place);
     }
 
     /// The same, and its turns are added: those of a push in the queue of that stream.

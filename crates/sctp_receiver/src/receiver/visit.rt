@@ -90,21 +90,6 @@ pub(crate) fn renew(visits: &mut Visits, place: usize, queue: &ReassemblyQueue, 
     }
 }
 
-/// From here on each stream that has unassembled fragments or ordered messages is visited, and no other. It takes no memory.
-/// Precondition: there are as many places at least as streams.
-pub(crate) fn visit_all(visits: &mut Visits, streams: &[InboundStream])
-    requires { length streams.now ≤ length visits.old.spots }
-    ensures { IsListing visits.new streams.now }
-{
-    visits.clear(streams.len());
-    for place in 0..streams.len() {
-        if !holds_any(&streams[place].queue) {
-            continue;
-        }
-        visits.insert(place);
-    }
-}
-
 /// Discards, as the skip says, on each stream that is visited; on the others there is nothing to discard. Answers what all streams count
 /// for then. A turn is taken for each that is visited, and those of the skips are added to `skips`.
 /// Precondition: the cost is what all streams count for; those that are visited, and those that are not, are as `IsListing` says.

@@ -77,18 +77,6 @@ impl Visits {
         put(&mut self.spots, spot);
     }
 
-    /// From here on there are so many places, of which none is visited. It takes no memory.
-    /// Precondition: there were no fewer.
-    pub(crate) fn clear(&mut self, places: usize)
-        requires { places ≤ length self.old.spots }
-        ensures visited { (p : ℕ) → is_visited p self.new ≡ false }
-        ensures places { length self.new.spots ≡ places }
-    {
-        count_up(&mut self.order, places);
-        count_up(&mut self.spots, places);
-        self.count = 0;
-    }
-
     /// How many are visited.
     pub(crate) fn len(&self) -> usize
         ensures count { result ≡ self.now.count }
@@ -156,18 +144,60 @@ impl Visits {
         swap(&mut self.order, &mut self.spots, spot, last);
         self.count = last;
     }
-}
 
-// So many numbers from 0 on.
-// Precondition: there were no fewer.
-fn count_up(numbers: &mut Vec<usize>, count: usize)
-    requires { count ≤ length numbers.old.items }
-    ensures count { length numbers.new.items ≡ count }
-    ensures each { (i : ℕ) → i < count → slice_get numbers.new.items i ≡ Some i }
-{
-    numbers.truncate(count);
-    for i in 0..count {
-        numbers[i] = i;
+    // Whether a place is visited.
+    // Precondition: it is a place.
+    fn is_visited(&self, place: usize) -> bool
+        requires { place < length self.now.spots }
+        ensures { result ≡ is_visited place self.now }
+    {
+        self.spot_of(place) < self.count
+    }
+
+    /// A place is no more: the last one takes it, and it is visited from here on where that was. It takes no memory.
+    /// Precondition: it is a place.
+    pub(crate) fn swap_remove(&mut self, place: usize)
+        requires { place < length self.old.spots }
+        ensures visited { (p : ℕ) → p < length self.new.spots → is_visited p self.new
+            ≡ is_visited (if p == place then length self.new.spots else p) self.old }
+        ensures places { length self.new.spots + 1 ≡ length self.old.spots }
+    {
+        let last = self.spots.len() - 1;
+        let visited = self.is_visited(last);
+        self.set(place, visited);
+        self.remove(last);
+        self.pop();
+    }
+
+    // From here on a place is visited, or it is not. It takes no memory.
+    // Precondition: it is a place.
+    fn set(&mut self, place: usize, visited: bool)
+        requires { place < length self.old.spots }
+        ensures visited { (p : ℕ) → is_visited p self.new
+            ≡ (if p == place then visited else is_visited p self.old) }
+        ensures places { length self.new.spots ≡ length self.old.spots }
+    {
+        if visited {
+            self.insert(place);
+        } else {
+            self.remove(place);
+        }
+    }
+
+    // The last place is no more. It takes no memory.
+    // Precondition: there is one, and it is not visited.
+    fn pop(&mut self)
+        requires some { 0 < length self.old.spots }
+        requires rest { is_visited (length self.old.spots - 1) self.old ≡ false }
+        ensures visited { (p : ℕ) → p < length self.new.spots
+            → is_visited p self.new ≡ is_visited p self.old }
+        ensures places { length self.new.spots + 1 ≡ length self.old.spots }
+    {
+        let end = self.spots.len() - 1;
+        let spot = self.spots[end];
+        swap(&mut self.order, &mut self.spots, spot, end);
+        let _ = self.order.pop();
+        let _ = self.spots.pop();
     }
 }
 

@@ -1,13 +1,12 @@
 //! The streams of a sender.
 
-ghost use Rattle.std.specs.Prelude.{◌≡◌, ◌<◌, ◌≤◌, ◌^◌, ◌++◌, ◌∷◌, [], ℕ, List, not, true, false, Some, None, OnOk, OnErr, IfOk, IfErr, IsOkUnless, MatchOption, length, map, find, option_copied};
-ghost use Rattle.std.specs.List.{filter};
+ghost use Rattle.std.specs.Prelude.{◌≡◌, ◌<◌, ◌≤◌, ◌^◌, ◌++◌, ◌∷◌, [], ℕ, List, true, false, Some, None, OnOk, OnErr, IfOk, IfErr, IsOkUnless, MatchOption, length, map, find, option_copied};
 ghost use Rattle.sctp_util.specs.declared.error.Error.TheVariants.{ErrOutOfMemory};
 ghost use Rattle.sctp_data.specs.declared.chunk.chunk_payload_data.PayloadProtocolIdentifier.TheVariants.{Unknown};
 ghost use Rattle.sctp_util.specs.Lists.{change_where};
 ghost use Rattle.sctp_serial.specs.DataChunks.{bytes_of};
 ghost use Rattle.sctp_sender.specs.declared.sender.refusal.SenderRefusal.TheVariants.{OutOfMemory};
-ghost use Rattle.sctp_stream.specs.Numbers.{IsOnlyPlace, IsAbsent};
+ghost use Rattle.sctp_stream.specs.Numbers.{IsOnlyPlace, IsAbsent, swapped_out};
 ghost use Rattle.sctp_stream.specs.Stream.{falls_low};
 ghost use Rattle.sctp_sender.specs.Keeping.{more_by};
 ghost use Rattle.sctp_sender.specs.Outgoing.{fragments_with_mode, with_reliability, with_size, wrote, after_expiries, less_by};
@@ -23,7 +22,8 @@ use sctp_util::error::Result;
 use std::alloc::Global;
 use std::marker::Model;
 
-/// The streams of a sender, in the order in which they were opened. Each is found at once by its number.
+/// The streams of a sender, in the order in which they were opened; where one was closed, the last one stands in its place. Each is
+/// found at once by its number.
 #[derive(Drop)]
 pub struct OutboundStreams {
     numbers: StreamNumbers,
@@ -98,14 +98,14 @@ impl OutboundStreams {
         Ok(())
     }
 
-    /// Closes a stream, where it is open. It takes no memory.
+    /// Closes a stream, where it is open: the last one takes its place. It takes no memory.
     pub(crate) fn close(&mut self, stream: u16)
-        ensures { self.new ≡ filter (λ l. not (has_number stream l)) self.old }
+        ensures { self.new ≡ swapped_out (has_number stream) self.old }
     {
         let Some(place) = self.numbers.place_of(stream) else {
             return;
         };
-        self.items.remove(place);
+        self.items.swap_remove(place);
         self.numbers.remove(stream);
     }
 

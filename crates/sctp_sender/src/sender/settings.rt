@@ -68,7 +68,7 @@ impl Sender {
         Ok(())
     }
 
-    /// The open streams, in the order in which they were opened.
+    /// The open streams, in the order in which they were opened; where one was closed, the last one stands in its place.
     pub(crate) fn open_streams(&self) -> &[OutboundStream]
         ensures { result.now ≡ self.now.streams }
     {

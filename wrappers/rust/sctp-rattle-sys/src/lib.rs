@@ -617,8 +617,9 @@ extern "C" {
     /// memory.
     pub fn sctpr_receiver_read(receiver: *mut sctpr_receiver, stream: u16, out: *mut u8, room: usize, size: *mut usize, payload_type: *mut u32) -> sctpr_code;
 
-    /// Writes the numbers of the streams with a message to read, in the order in which they were opened; `count` becomes how many there are.
-    /// SCTPR_SHORT_BUFFER, where there is room for fewer: `count` is told, and nothing is written. SCTPR_NO_MEMORY, and both stay.
+    /// Writes the numbers of the streams with a message to read, in the order in which they were opened; where one was closed, the last one
+    /// stands in its place. `count` becomes how many there are. SCTPR_SHORT_BUFFER, where there is room for fewer: `count` is told, and nothing
+    /// is written. SCTPR_NO_MEMORY, and both stay.
     pub fn sctpr_receiver_readable_streams(receiver: *const sctpr_receiver, streams: *mut u16, room: usize, count: *mut usize) -> sctpr_code;
 
     /// Writes the SACK of what came (RFC 4960 3.3.4), with the window as its credit: first as many gap ack blocks as there is room for, then

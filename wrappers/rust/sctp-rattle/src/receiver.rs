@@ -168,7 +168,8 @@ impl Receiver {
         Messages { receiver: Some(self), stream }
     }
 
-    /// The streams with a message to read, in the order in which they were opened: the front of `rows`.
+    /// The streams with a message to read, in the order in which they were opened; where one was closed, the last one stands in its place.
+    /// They are the front of `rows`.
     pub fn readable_streams<'r>(&self, rows: &'r mut [u16]) -> Result<&'r [u16]> {
         let mut n = 0;
         // SAFETY: as in `open`; pointer and length are those of a slice that is borrowed exclusively, and n is a value of this function.

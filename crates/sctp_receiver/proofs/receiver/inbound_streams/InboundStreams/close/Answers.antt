@@ -1,36 +1,63 @@
 use Rattle.sctp_receiver.proofs.Names.{rules, length, ◌≡◌, ap, ◌∙◌, sym, subst, arith, slice_index_or, sum_by, cost_within, IsListing, number, numbers_of}
 use Rattle.sctp_receiver.proofs.Names.{inside}
-use Rattle.sctp_receiver.proofs.CostSums.{removed-sum}
-use Rattle.sctp_receiver.proofs.SkipCosts.{fewer-length}
-use Rattle.sctp_stream.specs.Numbers.{is_other}
-use Rattle.sctp_stream.proofs.StreamPlaces.{absent-those, without, numbers-without}
+use Rattle.std.specs.List.{swap_remove}
+use Rattle.sctp_util.proofs.Getting.{length-mapped}
+use Rattle.sctp_receiver.proofs.CostSums.{is-part, removed-sum}
+use Rattle.sctp_receiver.proofs.Listing.{one-closed}
+use Rattle.sctp_stream.proofs.Removals.{out-length}
+use Rattle.sctp_stream.proofs.StreamPlaces.{absent-out, without, numbers-without}
 use Rattle.sctp_receiver.proofs.receiver.inbound_streams.InboundStreams.close.Goals as goal
 
 pub returns-in_default : goal.returns-in_default
 returns-in_default c =
-    rw (← c.self.view_is) (absent-those number c.self.inside.items.items c.self.inside.numbers c.self.invariant.numbers c.args.stream c.in_default.ensures)
+    rw (← c.self.view_is) (absent-out number c.self.inside.items.items c.self.inside.numbers c.self.invariant.numbers c.args.stream c.in_default.ensures)
 
-pub remove-closed-requires : goal.remove-closed-requires
-remove-closed-requires c = let lt =
+pub swap_remove-closed-requires : goal.swap_remove-closed-requires
+swap_remove-closed-requires c = let lt =
     inside number c.self.inside.items.items c.self.inside.numbers c.self.invariant.numbers c.args.stream c.in-Some.place c.in-Some.ensures in search rules
+
+pub overflow_sub-self : goal.overflow_sub-self
+overflow_sub-self c =
+    let ls = c.self.inside.items.items in
+    let x = c.swap_remove-closed.result in
+    let lt = inside number ls c.self.inside.numbers c.self.invariant.numbers c.args.stream c.in-Some.place c.in-Some.ensures in
+    let at : x ≡ slice_index_or ls c.in-Some.place x = search rules in
+    let h = is-part ls c.in-Some.place x lt at in
+    omega (arith, h, c.self.invariant.cost, c.cost_of.ensures)
+
+pub swap_remove-requires : goal.swap_remove-requires
+swap_remove-requires c = let lt =
+    inside number c.self.inside.items.items c.self.inside.numbers c.self.invariant.numbers c.args.stream c.in-Some.place c.in-Some.ensures in
+    omega (arith, lt, c.self.invariant.visits.listed.places)
 
 pub invariant_of-self : goal.invariant_of-self
 invariant_of-self c =
     let ls = c.self.inside.items.items in
-    let lt = inside number ls c.self.inside.numbers c.self.invariant.numbers c.args.stream c.in-Some.place c.in-Some.ensures in
-    let at : c.remove-closed.result ≡ slice_index_or ls c.in-Some.place c.remove-closed.result = search rules in
-    let h = removed-sum ls c.in-Some.place c.remove-closed.result lt at in
-    let items = ap (sum_by cost_within) c.remove-closed.ensures.items in
+    let k = c.in-Some.place in
+    let x = c.swap_remove-closed.result in
+    let lt = inside number ls c.self.inside.numbers c.self.invariant.numbers c.args.stream k c.in-Some.ensures in
+    let at : x ≡ slice_index_or ls k x = search rules in
+    let h = removed-sum ls k x lt at in
+    let is = c.swap_remove-closed.ensures.items in
+    let numbers = c.remove.ensures ∙ numbers-without number ls c.self.inside.numbers c.self.invariant.numbers c.args.stream k c.in-Some.ensures x in
     record {
-      numbers = c.remove.ensures
-          ∙ numbers-without number c.self.inside.items.items c.self.inside.numbers c.self.invariant.numbers c.args.stream c.in-Some.place c.in-Some.ensures
-          ∙ ap numbers_of (sym c.remove-closed.ensures.items);
-      cost = omega (arith, h, items, c.self.invariant.cost, c.cost_of.ensures);
-      visits = subst (IsListing c.visit_all.new.visits) c.deref.ensures.value c.visit_all.ensures;
-      places = omega (arith, c.self.invariant.places, ap length c.remove.ensures, fewer-length (is_other c.args.stream) c.self.inside.numbers);
+      numbers = numbers ∙ ap numbers_of (sym is);
+      cost = omega (arith, h, ap (sum_by cost_within) is, c.self.invariant.cost, c.cost_of.ensures);
+      visits = subst (IsListing c.swap_remove.new.self) (sym is)
+          (one-closed c.self.inside.visits c.swap_remove.new.self ls k x lt c.self.invariant.visits c.swap_remove.ensures.places c.swap_remove.ensures.visited);
+      places = omega (
+        arith,
+        c.self.invariant.places,
+        ap length numbers,
+        length-mapped number (swap_remove ls k x),
+        out-length ls k x lt,
+        ap length c.self.invariant.numbers,
+        length-mapped number ls,
+      );
       none = c.self.invariant.none;
     }
 
 pub returns : goal.returns
-returns c = rw (← c.self.view_is) (c.remove-closed.ensures.items
-    ∙ without number c.self.inside.items.items c.self.inside.numbers c.self.invariant.numbers c.args.stream c.in-Some.place c.in-Some.ensures)
+returns c = rw (← c.self.view_is) (c.swap_remove-closed.ensures.items
+    ∙ without number c.self.inside.items.items c.self.inside.numbers c.self.invariant.numbers c.args.stream c.in-Some.place c.in-Some.ensures
+    c.swap_remove-closed.result)
