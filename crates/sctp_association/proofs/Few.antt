@@ -1,14 +1,13 @@
 -- Numbers of which none is there twice, all below a number, are no more than that.
 use Rattle.std.proofs.Common.{◌≡◌, ℕ, zero, suc, ◌+◌, ◌<◌, ◌≤◌, Bool, true, false, List, [], ◌∷◌, length, refl, ap, sym, subst, arith}
-use Rattle.std.specs.Prelude.{⊤, not, ◌&&◌, ◌||◌, ◌==◌, if◌then◌else◌}
-use Rattle.std.specs.List.{list_any, filter}
+use Rattle.std.specs.Prelude.{not, ◌&&◌, ◌||◌, ◌==◌, if◌then◌else◌}
+use Rattle.std.specs.List.{AllByRecursion, list_any, filter}
 use Rattle.std.proofs.lemmas.Bool.{false≢true}
 use Rattle.std.proofs.lemmas.Bool.Decides.{nat_tests}
 use Rattle.sctp_receiver.proofs.StreamCosts.{are_apart}
 
 abbrev pub AreBelow : ℕ → List ℕ → Type 0
-AreBelow n [] = ⊤
-AreBelow n (k ∷ ks) = (k < n) × AreBelow n ks
+AreBelow n ns = AllByRecursion (λ k. k < n) ns
 
 abbrev others : ℕ → List ℕ → List ℕ
 others n ns = filter (λ k. not (k == n)) ns

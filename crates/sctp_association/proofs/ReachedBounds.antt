@@ -1,18 +1,19 @@
 -- What calls lead to is within bounds.
 use Rattle.std.proofs.Common.{◌≡◌, ℕ, zero, suc, ◌+◌, ◌*◌, ◌<◌, ◌≤◌, Bool, true, false, List, [], ◌∷◌, ◌++◌, length, All, refl, ap, sym, ◌∙◌, subst, arith}
 use Rattle.std.proofs.lemmas.List.{length-map}
-use Rattle.std.specs.Prelude.{not, if◌then◌else◌, Some}
-use Rattle.std.specs.List.{filter, sum_by}
+use Rattle.std.specs.Prelude.{◌==◌, if◌then◌else◌, Some}
+use Rattle.std.specs.List.{sum_by}
 use Rattle.sctp_association.proofs.Few.{AreBelow, no-more}
 use Rattle.sctp_association.specs.Reached.{AreUsual, IsReached, IsUsual, most_user_data}
 use Rattle.sctp_data.specs.declared.chunk.chunk_payload_data.ChunkPayloadData.{ChunkPayloadData}
 use Rattle.sctp_data.specs.ForwardTsn.{ForwardTsn}
+use Rattle.sctp_receiver.proofs.Closed.{closed-apart}
 use Rattle.sctp_receiver.proofs.DataEach.{takes-keeps}
 use Rattle.sctp_receiver.proofs.Forwarded.{followed-numbers}
 use Rattle.sctp_receiver.proofs.HeldBound.{few-chunks, few-duplicates, few-tsns, little}
 use Rattle.sctp_receiver.proofs.Inbounds.{stays-changed, stays-mapped}
 use Rattle.sctp_receiver.proofs.Receptions.{read-numbers}
-use Rattle.sctp_receiver.proofs.StreamCosts.{are_apart, kept-apart, more-apart}
+use Rattle.sctp_receiver.proofs.StreamCosts.{are_apart, more-apart}
 use Rattle.sctp_receiver.specs.declared.receiver.arrival.Arrival.TheVariants.{New, Repeat}
 use Rattle.sctp_receiver.specs.declared.receiver.inbound_streams.InboundStream.{InboundStream}
 use Rattle.sctp_receiver.specs.declared.receiver.limits.Limits.{Limits}
@@ -25,6 +26,9 @@ use Rattle.sctp_receiver.specs.ReceiverRuns.{opens, closes, takes, discards, rep
 use Rattle.sctp_receiver.specs.Resets.{stream_reset}
 use Rattle.sctp_receiver.specs.Skips.{after_forward_tsn, incomplete_forwarded, without_incomplete}
 use Rattle.sctp_receiver.specs.TsnFilter.{has_come, with_tsn}
+use Rattle.sctp_stream.proofs.Removals.{out-each}
+use Rattle.sctp_stream.proofs.StreamPlaces.{numbers-out}
+use Rattle.sctp_stream.specs.Numbers.{swapped_out}
 
 -- ## Chunks have few bytes
 
@@ -66,13 +70,8 @@ below-more : (n : ℕ) (ls : List InboundStream) (x : InboundStream) → AreBelo
 below-more n [] x h lt = (lt, tt)
 below-more n (l ∷ ls) x h lt = (h.0, below-more n ls x h.1 lt)
 
-below-kept : (n : ℕ) (p : InboundStream → Bool) (ls : List InboundStream) → AreBelow n (numbers_of ls) → AreBelow n (numbers_of (filter p ls))
-below-kept n p [] h = tt
-below-kept n p (l ∷ ls) h = by (p l) (below-kept n p ls h.1)
-  where
-    by : (b : Bool) → AreBelow n (numbers_of (filter p ls)) → AreBelow n (numbers_of (if b then l ∷ filter p ls else filter p ls))
-    by true ih = (h.0, ih)
-    by false ih = ih
+below-closed : (n s : ℕ) (ls : List InboundStream) → AreBelow n (numbers_of ls) → AreBelow n (numbers_of (swapped_out (has_number s) ls))
+below-closed n s ls h = subst (AreBelow n) (sym (numbers-out number s ls)) (out-each (λ k. k == s) (λ k. k < n) (numbers_of ls) h)
 
 dropped-numbers : (tsn : ℕ) (r : Reception) → numbers_of (after_discard tsn r).streams ≡ numbers_of r.streams
 dropped-numbers tsn r = by (has_come tsn (filter_of r))
@@ -111,8 +110,8 @@ few-after n c old new usual made few = by c usual made
       below-more n old.streams (new_stream s old.max_message_size) few.1 usual,
     )
     by (closes s) usual made = subst (Few n) (sym made) (
-      kept-apart (λ l. not (has_number s l)) old.streams few.0,
-      below-kept n (λ l. not (has_number s l)) old.streams few.1,
+      closed-apart s old.streams few.0,
+      below-closed n s old.streams few.1,
     )
     by (takes c a) usual made = same (takes-keeps c a old new made).0
     by (discards t) usual made = same (ap numbers made ∙ dropped-numbers t old)
