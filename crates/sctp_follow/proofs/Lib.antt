@@ -1,6 +1,10 @@
+pub mod Columns
 pub mod Counting
+pub mod Forgetting
 pub mod Halving
+pub mod Leaving
 pub mod Loads
+pub mod Looking
 pub mod Nearest
 pub mod Reading
 pub mod Rounding

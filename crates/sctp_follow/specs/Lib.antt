@@ -1,13 +1,17 @@
 pub mod Flow
 pub mod Load
 pub mod Outstanding
+pub mod Band
 pub mod Blocks
 pub mod Channels
 pub mod Handshake
 pub mod Interleave
 pub mod Lanes
+pub mod Passing
+pub mod Spots
 pub mod Ladder
 pub mod Sack
 pub mod Plot
 pub mod Stall
+pub mod Strip
 pub mod Trips

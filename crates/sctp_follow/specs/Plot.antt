@@ -1,6 +1,7 @@
 -- Where the marks of a picture stand.
-use Rattle.std.specs.Prelude.{◌≡◌, ℕ, ◌+◌, ◌-◌, ◌*◌, ◌/◌, ◌%◌, min, max, List, [], ◌∷◌, ◌++◌, leb, if◌then◌else◌}
+use Rattle.std.specs.Prelude.{◌≡◌, ℕ, Bool, ◌+◌, ◌-◌, ◌*◌, ◌/◌, ◌%◌, min, max, List, [], ◌∷◌, ◌++◌, leb, if◌then◌else◌}
 use Rattle.sctp_util.specs.Serial.{distance}
+use Rattle.sctp_follow.specs.declared.plot.Instant.{Instant}
 use Rattle.sctp_follow.specs.declared.plot.Mark.{Mark}
 
 -- how high a TSN stands: 2^31 and how far it lies after the base, or before it (RFC 1982)
@@ -18,3 +19,7 @@ within low high value = min (max low value) high
 abbrev pub scaled : ℕ → ℕ → ℕ → ℕ → ℕ
 scaled low high room value =
     if leb high low then room / 2 else (within low high value - low) * room / (high - low)
+
+-- how far right an instant stands: by its time, or by the number of its record
+abbrev pub place_at : Bool → Instant → ℕ
+place_at is_timed instant = if is_timed then instant.nanoseconds else instant.number

@@ -6,8 +6,11 @@ ghost use Rattle.std.specs.Ordering.{nat_cmp};
 ghost use Rattle.sctp_util.specs.Serial.{at_or_before};
 ghost use Rattle.sctp_follow.specs.Interleave.{FitEach, IsMessage};
 ghost use Rattle.sctp_follow.specs.Lanes as lanes;
+ghost use Rattle.sctp_follow.specs.Passing as passing;
+ghost use Rattle.sctp_follow.specs.Spots as noted;
 
 use crate::interleave::{Fragment, Name, Whole, fits};
+use crate::keys::first_up_to;
 use crate::spots::{Spot, Spots};
 use sctp_util::util::{sna32lt, sna32lte};
 use std::alloc::{AllocError, Global};
@@ -26,6 +29,13 @@ pub struct Amount {
 pub struct Passing {
     pub messages: Vec<Whole>,
     pub dropped: Vec<Amount>,
+}
+
+/// What is gained of one lane where a fragment is looked at.
+#[derive(Drop)]
+struct Seen {
+    messages: Vec<Whole>,
+    dropped: Amount,
 }
 
 /// The fragments of a message that came so far, by their places.
@@ -49,6 +59,18 @@ pub struct Interleaved {
     spots: Spots,
     /// Whether the way was captured from its initial TSN on: then the first number of each stream is 0 (RFC 8260 2.1).
     is_whole: bool,
+}
+
+impl Seen {
+    /// Nothing of a stream.
+    fn nothing(alloc: Global, stream: u16) -> Self
+        ensures { result.messages.items ≡ [] }
+    {
+        Seen {
+            messages: Vec::new(alloc),
+            dropped: Amount::none(stream),
+        }
+    }
 }
 
 impl Part {
@@ -253,40 +275,6 @@ impl Lane {
         }
     }
 
-    /// The nearest message that is held before a number or at it, or else the last one of all.
-    fn nearest(&self, number: u32) -> Option<u32>
-        ensures some { IfSome result (λ k. IsSome (trees.get nat_cmp self.now.parts k)) }
-        ensures below { IfSome result (λ k. (n : ℕ) → IsSome (trees.get nat_cmp self.now.parts n)
-            → n ≤ number → (n ≤ k) × (k ≤ number)) }
-        ensures above { IfSome result (λ k. (n : ℕ) → IsSome (trees.get nat_cmp self.now.parts n)
-            → number < n → (k ≤ number) ⊎ (n ≤ k)) }
-        ensures few { IfSome result (λ k. k < 4294967296) }
-        ensures none { IfNone result ((n : ℕ) → trees.get nat_cmp self.now.parts n ≡ None) }
-    {
-        if let Some((nearest, _)) = self.parts.range(..=number).next_back() {
-            return Some(*nearest);
-        }
-        match self.parts.last_key_value() {
-            Some((last, _)) => Some(*last),
-            None => None,
-        }
-    }
-
-    /// The last message that is held up to a number, if there is one.
-    fn last_up_to(&self, number: u32) -> Option<u32>
-        ensures some { IfSome result (λ n. IsSome (trees.get nat_cmp self.now.parts n)) }
-        ensures up_to { IfSome result (λ n. at_or_before n number ≡ true) }
-        ensures none { IfNone result ((n : ℕ) → n < 4294967296
-            → IsSome (trees.get nat_cmp self.now.parts n) → at_or_before n number ≡ false) }
-    {
-        let nearest = self.nearest(number)?;
-        if sna32lte(nearest, number) {
-            Some(nearest)
-        } else {
-            None
-        }
-    }
-
     /// Drops what is held of a message and of those before it. Each step drops one.
     fn lose_each(&mut self, name: Name, spots: &mut Spots) -> Amount
         ensures gone { (n : ℕ) → n < 4294967296 → lanes.held_at self.new n
@@ -294,7 +282,7 @@ impl Lane {
         ensures next { self.new.next ≡ self.old.next }
     {
         let mut dropped = Amount::none(name.stream);
-        'losing: while let Some(number) = self.last_up_to(name.number) {
+        'losing: while let Some(number) = first_up_to(&self.parts, name.number) {
             dropped.add(self.lose(number, spots));
         }
         dropped
@@ -315,92 +303,106 @@ impl Lane {
         })
     }
 
-    /// The first ordered message that is held from the next one on, if it comes before a number.
-    fn first_before(&self, number: u32) -> Option<u32>
-        ensures { IfSome result (λ n. IsSome (trees.get nat_cmp self.now.parts n)) }
-    {
-        let next = self.next?;
-        let first = match self.parts.range(next..).next() {
-            Some((first, _)) => *first,
-            None => *self.parts.first_key_value()?.0,
-        };
-        if sna32lt(first, number) {
-            Some(first)
-        } else {
-            None
-        }
-    }
-
-    /// Takes an ordered message out: it is read if it is complete, or else dropped.
-    fn end(
-        &mut self,
-        name: Name,
-        spots: &mut Spots,
-        messages: &mut Vec<Whole>,
-        dropped: &mut Amount,
-    ) -> Result<(), AllocError>
-        ensures { IsSome (trees.get nat_cmp self.old.parts name.number)
+    /// Takes an ordered message out: it is answered if it is complete, or else dropped.
+    fn end(&mut self, name: Name, spots: &mut Spots, dropped: &mut Amount) -> Option<Whole>
+        ensures read { IfSome result (λ m. lanes.IsRead name m self.old self.new) }
+        ensures lost { IfNone result (IsMessage (lanes.came self.old name.number) → ⊥) }
+        ensures held { (n : ℕ) → lanes.held_at self.new n
+            ≡ (if n == name.number then [] else lanes.held_at self.old n) }
+        ensures next { self.new.next ≡ self.old.next }
+        ensures fewer { IsSome (trees.get nat_cmp self.old.parts name.number)
             → trees.btree_map_len self.new.parts < trees.btree_map_len self.old.parts }
     {
-        match self.read(name) {
-            Some(message) => {
-                messages.push(message)?;
-                Ok(())
-            }
-            None => {
-                dropped.add(self.lose(name.number, spots));
-                Ok(())
-            }
+        let read = self.read(name);
+        if read.is_none() {
+            dropped.add(self.lose(name.number, spots));
         }
+        read
     }
 
-    /// Ends each ordered message before this one, the first one first.
+    /// Ends the ordered messages up to one: those that are complete are read, and the others are dropped. Refuses only for memory.
     fn end_each(
         &mut self,
-        name: Name,
+        alloc: Global,
+        stream: u16,
+        last: u32,
         spots: &mut Spots,
-        messages: &mut Vec<Whole>,
-        dropped: &mut Amount,
-    ) -> Result<(), AllocError> {
-        'ending: while let Some(number) = self.first_before(name.number) {
-            self.end(ordered(name.stream, number), spots, messages, dropped)?;
+    ) -> Result<Seen, AllocError>
+        ensures { IfOk result (λ seen.
+            passing.Ends stream last seen.messages.items self.old self.new) }
+    {
+        let mut messages = Vec::new(alloc);
+        let mut dropped = Amount::none(stream);
+        'ending: while let Some(number) = first_up_to(&self.parts, last) {
+            if let Some(message) = self.end(ordered(stream, number), spots, &mut dropped) {
+                messages.push(message)?;
+            }
         }
-        self.next = passed_next(self.next, name.number.wrapping_sub(1));
-        Ok(())
+        self.next = passed_next(self.next, last);
+        Ok(Seen { messages, dropped })
     }
 
-    /// Whether the fragment before a place did not come, of a message that is held.
-    fn lacks_before(&self, number: u32, place: u32) -> bool {
+    /// Ends the ordered messages before one; unordered ones have no order. Refuses only for memory.
+    fn end_before(
+        &mut self,
+        alloc: Global,
+        name: Name,
+        spots: &mut Spots,
+    ) -> Result<Seen, AllocError>
+        ensures unordered { IfOk result (λ seen. name.unordered ≡ true
+            → (seen.messages.items ≡ []) × (self.new ≡ self.old)) }
+        ensures ordered { IfOk result (λ seen. name.unordered ≡ false
+            → passing.Ends name.stream (passing.before name.number) seen.messages.items
+            self.old self.new) }
+    {
+        if !name.unordered {
+            return self.end_each(alloc, name.stream, name.number.wrapping_sub(1), spots);
+        }
+        Ok(Seen::nothing(alloc, name.stream))
+    }
+
+    /// Whether a fragment before a place did not come, of a message that is held.
+    fn lacks_before(&self, number: u32, place: u32) -> bool
+        ensures { result
+            ≡ passing.lacks_before (trees.get nat_cmp self.now.parts number) place }
+    {
         match self.parts.get(&number) {
             Some(part) => place > 0 && !part.fragments.contains_key(&(place - 1)),
             None => false,
         }
     }
 
+    /// Drops a message and passes it, where the fragment before this one did not come.
+    fn lose_lacking(&mut self, spot: &Spot, spots: &mut Spots, dropped: &mut Amount)
+        ensures lost { passing.lacks_before
+            (trees.get nat_cmp self.old.parts spot.now.name.number) spot.now.place ≡ true
+            → passing.IsLost spot.now.name.number self.old self.new }
+        ensures kept { passing.lacks_before
+            (trees.get nat_cmp self.old.parts spot.now.name.number) spot.now.place ≡ false
+            → self.new ≡ self.old }
+    {
+        let number = spot.name.number;
+        if self.lacks_before(number, spot.place) {
+            dropped.add(self.lose(number, spots));
+            self.next = passed_next(self.next, number);
+        }
+    }
+
     /// Looks at a fragment where no TSN before its own one will come. Ordered messages before its message are over. So is that one, if the fragment
     /// before it did not come. The messages that waited for them are read. Refuses only for memory.
-    fn see(
-        &mut self,
-        alloc: Global,
-        spot: &Spot,
-        spots: &mut Spots,
-        messages: &mut Vec<Whole>,
-    ) -> Result<Amount, AllocError> {
+    fn see(&mut self, alloc: Global, spot: &Spot, spots: &mut Spots) -> Result<Seen, AllocError>
+        ensures { IfOk result (λ seen.
+            passing.Looks spot.now seen.messages.items self.old self.new) }
+    {
         let name = spot.name;
-        let mut dropped = Amount::none(name.stream);
         if !self.parts.contains_key(&name.number) {
-            return Ok(dropped);
+            return Ok(Seen::nothing(alloc, name.stream));
         }
-        if !name.unordered {
-            self.end_each(name, spots, messages, &mut dropped)?;
-        }
-        if self.lacks_before(name.number, spot.place) {
-            dropped.add(self.lose(name.number, spots));
-            self.next = passed_next(self.next, name.number);
-        }
+        let mut seen = self.end_before(alloc, name, spots)?;
+        self.lose_lacking(spot, spots, &mut seen.dropped);
         let mut read = self.read_each(alloc, name.stream)?;
-        messages.append(&mut read)?;
-        Ok(dropped)
+        seen.messages.append(&mut read)?;
+        Ok(seen)
     }
 
     /// How much is held.
@@ -485,6 +487,8 @@ impl Interleaved {
             (trees.get nat_cmp self.new.lanes (lanes.key_of name))) }
         ensures others { OnOk result ((k : ℕ) → nat_eq k (lanes.key_of name) ≡ false
             → trees.get nat_cmp self.new.lanes k ≡ trees.get nat_cmp self.old.lanes k) }
+        ensures notes { IfOk result (λ answer. noted.Notes name fragment
+            (option_map (λ messages. messages.items) answer) self.old.spots self.new.spots) }
         ensures whole { self.new.is_whole ≡ self.old.is_whole }
     {
         let tsn = fragment.tsn;
@@ -510,6 +514,7 @@ impl Interleaved {
             (trees.get nat_cmp self.new.lanes (lanes.key_of name))) }
         ensures others { OnOk result ((k : ℕ) → nat_eq k (lanes.key_of name) ≡ false
             → trees.get nat_cmp self.new.lanes k ≡ trees.get nat_cmp self.old.lanes k) }
+        ensures spots { self.new.spots ≡ self.old.spots }
         ensures whole { self.new.is_whole ≡ self.old.is_whole }
     {
         let key = key_of(name.stream, name.unordered);
@@ -562,36 +567,33 @@ impl Interleaved {
         }
     }
 
-    /// Looks at a fragment as `Lane::see` does, and adds what is dropped to what was dropped of its lane.
-    fn see(
-        &mut self,
-        alloc: Global,
-        spot: &Spot,
-        messages: &mut Vec<Whole>,
-        amounts: &mut BTreeMap<u32, Amount>,
-    ) -> Result<(), AllocError> {
+    /// Looks at a fragment as `Lane::see` does; there may be no such lane any more.
+    fn see(&mut self, alloc: Global, spot: &Spot) -> Result<Seen, AllocError>
+        ensures looks { IfOk result (λ seen.
+            passing.LooksAt spot.now seen.messages.items self.old.lanes self.new.lanes) }
+        ensures whole { self.new.is_whole ≡ self.old.is_whole }
+    {
         let key = key_of(spot.name.stream, spot.name.unordered);
-        let Some(lane) = self.lanes.get_mut(&key) else {
-            return Ok(());
-        };
-        let mut dropped = lane.see(alloc, spot, &mut self.spots, messages)?;
-        if let Some(before) = amounts.get(&key) {
-            dropped.add((before.chunks, before.bytes));
-        }
-        match amounts.insert(key, dropped) {
-            Ok(_) => Ok(()),
-            Err(_) => Err(AllocError),
+        match self.lanes.get_mut(&key) {
+            Some(lane) => lane.see(alloc, spot, &mut self.spots),
+            None => Ok(Seen::nothing(alloc, spot.name.stream)),
         }
     }
 
     /// Passes what cannot become complete any more where no TSN up to this one will come: each fragment up to right behind it is looked at, once.
     /// Refuses only for memory.
-    pub fn pass(&mut self, alloc: Global, tsn: u32) -> Result<Passing, AllocError> {
+    pub fn pass(&mut self, alloc: Global, tsn: u32) -> Result<Passing, AllocError>
+        ensures passes { IfOk result (λ gained.
+            passing.Passes tsn gained.messages.items self.old self.new) }
+        ensures whole { self.new.is_whole ≡ self.old.is_whole }
+    {
         let mut messages = Vec::new(alloc);
         let mut amounts = BTreeMap::new(alloc);
         let due = self.spots.pop_each(alloc, tsn.wrapping_add(1))?;
-        for spot in due.iter().rev() {
-            self.see(alloc, spot, &mut messages, &mut amounts)?;
+        for (_, spot) in &due {
+            let mut seen = self.see(alloc, spot)?;
+            note_dropped(&mut amounts, &spot.name, seen.dropped)?;
+            messages.append(&mut seen.messages)?;
         }
         self.spots.forget_read(&messages);
         Ok(Passing {
@@ -652,6 +654,23 @@ impl Amount {
             list.push(*self)?;
         }
         Ok(list)
+    }
+}
+
+/// Adds what is dropped to what was dropped before of the lane of a message. Refuses only for memory.
+fn note_dropped(
+    amounts: &mut BTreeMap<u32, Amount>,
+    name: &Name,
+    dropped: Amount,
+) -> Result<(), AllocError> {
+    let key = key_of(name.stream, name.unordered);
+    let mut sum = dropped;
+    if let Some(before) = amounts.get(&key) {
+        sum.add((before.chunks, before.bytes));
+    }
+    match amounts.insert(key, sum) {
+        Ok(_) => Ok(()),
+        Err(_) => Err(AllocError),
     }
 }
 

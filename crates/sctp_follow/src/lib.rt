@@ -2,12 +2,14 @@
 #![tactic(auto)]
 
 pub mod associations;
+pub mod band;
 pub mod blocks;
 pub mod channels;
 pub mod flow;
 pub mod handshake;
 pub mod index;
 pub mod interleave;
+mod keys;
 pub mod ladder;
 pub mod lanes;
 pub mod load;
@@ -17,6 +19,7 @@ pub mod plot;
 pub mod sack;
 mod spots;
 pub mod stall;
+mod strip;
 pub mod summarize;
 pub mod sums;
 pub mod svg;

@@ -38,18 +38,29 @@ pub enum Sign {
 #[derive(Clone, Copy, Debug, PartialEq, Eq)]
 pub struct Mark {
     pub sign: Sign,
-    /// The number of the packet's record, and when it was captured, in nanoseconds since the first record.
-    pub number: u64,
-    pub nanoseconds: u64,
+    pub instant: Instant,
     pub low: u32,
     pub high: u32,
 }
 
-/// When a packet was captured.
-#[derive(Clone, Copy)]
+/// When a packet was captured: the number of its record, and how many nanoseconds behind the first record.
+#[derive(Clone, Copy, Debug, PartialEq, Eq)]
 pub struct Instant {
     pub number: u64,
     pub nanoseconds: u64,
+}
+
+impl Instant {
+    /// How far right it stands: by its time, or by the number of its record.
+    pub fn place(&self, is_timed: bool) -> u64
+        ensures { result ≡ plots.place_at is_timed self.now }
+    {
+        if is_timed {
+            self.nanoseconds
+        } else {
+            self.number
+        }
+    }
 }
 
 /// The TSNs that went one way, and what the other way says of them.
@@ -93,13 +104,12 @@ impl Panel {
     fn add(&mut self, sign: Sign, instant: Instant, first: u32, last: u32) -> Result<(), AllocError>
         ensures tsns { self.new.tsns ≡ self.old.tsns }
         ensures sign { OnOk result (plots.HasLast self.new.marks.items
-            (λ mark. (mark.sign ≡ sign) × (mark.number ≡ instant.number))) }
+            (λ mark. (mark.sign ≡ sign) × (mark.instant ≡ instant))) }
     {
         let base = self.begin(first);
         self.marks.push(Mark {
             sign,
-            number: instant.number,
-            nanoseconds: instant.nanoseconds,
+            instant,
             low: height_of(base, first),
             high: height_of(base, last),
         })?;
@@ -217,15 +227,6 @@ impl Walk {
     }
 }
 
-/// Where a mark stands from left to right: by its time, or by the number of its packet.
-pub fn place_of(mark: &Mark, is_timed: bool) -> u64 {
-    if is_timed {
-        mark.nanoseconds
-    } else {
-        mark.number
-    }
-}
-
 /// The longest time that the cumulative TSN stood while DATA past it was captured.
 pub fn longest_stand(panel: &Panel, is_timed: bool) -> Stand {
     let mut walk = Walk {
@@ -236,7 +237,7 @@ pub fn longest_stand(panel: &Panel, is_timed: bool) -> Stand {
     };
     let mut end = 0u64;
     for mark in &panel.marks {
-        end = place_of(mark, is_timed);
+        end = mark.instant.place(is_timed);
         walk.step(mark.sign, mark.high, end);
     }
     walk.close(end);

@@ -168,7 +168,7 @@ fn take_record<T: Take, W: Write>(
 
 /// Reads each record of an input, has its packet taken, and writes what is written of it, until as many as are to be shown at most have
 /// what is asked for. Records are counted on from those of the inputs before. What was written is sent off before more of the input is waited
-/// for. An input of a kind that is known, but not read, is refused.
+/// for. An input of a kind that is known, but not read, is refused, and so are one of `u64::MAX` pieces and a count past `u64::MAX` (`TooMany`).
 pub fn take_each<R: Read + Drop, T: Take, W: Write>(
     alloc: Global,
     options: &Options,
@@ -197,7 +197,7 @@ pub fn take_each<R: Read + Drop, T: Take, W: Write>(
             Taken::End => return Ok(()),
         }
     }
-    Err(RunFault::Input(None))
+    Err(RunFault::TooMany)
 }
 
 /// Writes what is written at the end of the inputs.

@@ -4,11 +4,14 @@ ghost use Rattle.std.specs.Prelude.{◌≡◌, ◌≤◌};
 ghost use Rattle.sctp_follow.specs.Plot as plots;
 
 use crate::associations::{Association, Associations, Way};
-use crate::packet::Packet;
-use crate::plot::{Instant, Mark, ORIGIN, Panel, Sign, add_packet, longest_stand, place_of};
+use crate::band::{Band, Moment, take_packet};
+use crate::packet::{Arrived, Packet};
+use crate::plot::{Instant, Mark, ORIGIN, Panel, Sign, add_packet, longest_stand};
+use crate::strip::{Look, put_strip};
 use crate::summarize::Take;
 use crate::text::put_ends;
 use sctp_capture::record::Time;
+use sctp_dissect::dissection::Item;
 use sctp_show::page::Form;
 use sctp_show::run::Counts;
 use sctp_show::time::{Elapsed, time_since};
@@ -16,15 +19,15 @@ use std::alloc::{AllocError, Global};
 use std::collections::BTreeSet;
 
 /// How wide and how high a panel is, in tenths of a unit.
-const WIDTH: u32 = 10_500;
+pub(crate) const WIDTH: u32 = 10_500;
 
 const HEIGHT: u32 = 2_600;
 
 /// How wide and how high a cell is, in the same: in it one mark of a kind is drawn.
-const CELL: u64 = 20;
+pub(crate) const CELL: u64 = 20;
 
 /// How many units a panel takes with what stands around it, and the head of an association.
-const PANEL_STEP: u64 = 340;
+const PANEL_STEP: u64 = 470;
 
 const HEAD_STEP: u64 = 36;
 
@@ -35,6 +38,7 @@ const STYLE: &str = "<style>\
     .d{stroke:#1f6feb;stroke-width:36}.r{stroke:#d1242f;stroke-width:52}\
     .s{stroke:#1a7f37;stroke-width:16}.g{stroke:#e8a317;stroke-width:28}\
     .f{stroke:#8250df;stroke-width:90;stroke-linecap:butt}.w{fill:#d1242f;fill-opacity:.12}\
+    .o{stroke:#1f6feb;fill:#1f6feb;fill-opacity:.2;stroke-width:10}.c{stroke:#1a7f37;fill:#1a7f37;fill-opacity:.2;stroke-width:10}\
     </style>\n";
 
 /// Which color means what.
@@ -46,11 +50,18 @@ const LEGEND: &str = "<g transform=\"translate(110 44)\">\
     <text x=\"368\">SACK, gap block</text><text x=\"510\">FORWARD-TSN</text>\
     <text x=\"656\">longest stall: nothing more acknowledged, DATA outstanding</text></g>\n";
 
+/// What is drawn of a way.
+#[derive(Drop)]
+struct Side {
+    panel: Panel,
+    band: Band,
+}
+
 /// What is drawn of an association.
 #[derive(Drop)]
 struct Plot {
-    forth: Panel,
-    back: Panel,
+    forth: Side,
+    back: Side,
     /// Whether each of its packets has a time.
     is_timed: bool,
 }
@@ -64,21 +75,21 @@ pub struct Pictures {
 
 /// The lowest and the highest of what is drawn.
 #[derive(Clone, Copy)]
-struct Range {
-    low: u64,
-    high: u64,
+pub(crate) struct Range {
+    pub low: u64,
+    pub high: u64,
 }
 
 /// Where the marks of a panel stand.
 #[derive(Clone, Copy)]
-struct Frame {
-    places: Range,
-    heights: Range,
-    is_timed: bool,
+pub(crate) struct Frame {
+    pub places: Range,
+    pub heights: Range,
+    pub is_timed: bool,
 }
 
 /// A number of a range, as one from 0 to `room`; what lies outside of the range stands at the nearer end, and a range of one number in the middle.
-fn scaled(range: Range, room: u32, value: u64) -> u64
+pub(crate) fn scaled(range: Range, room: u32, value: u64) -> u64
     ensures is { result ≡ plots.scaled range.low range.high room value }
     ensures few { result ≤ room }
 {
@@ -111,11 +122,11 @@ impl Range {
 /// Where the marks of both ways stand from left to right.
 fn places_of(plot: &Plot) -> Range {
     let mut places = Range::none();
-    for mark in &plot.forth.marks {
-        places = places.with(place_of(mark, plot.is_timed));
+    for mark in &plot.forth.panel.marks {
+        places = places.with(mark.instant.place(plot.is_timed));
     }
-    for mark in &plot.back.marks {
-        places = places.with(place_of(mark, plot.is_timed));
+    for mark in &plot.back.panel.marks {
+        places = places.with(mark.instant.place(plot.is_timed));
     }
     places
 }
@@ -131,8 +142,9 @@ fn heights_of(panel: &Panel) -> Range {
 
 impl Frame {
     /// How far right a place stands.
-    fn across(&self, place: u64) -> u64
-        ensures { result ≤ 10500 }
+    pub(crate) fn across(&self, place: u64) -> u64
+        ensures is { result ≡ plots.scaled self.now.places.low self.now.places.high 10500 place }
+        ensures few { result ≤ 10500 }
     {
         scaled(self.places, WIDTH, place)
     }
@@ -146,7 +158,7 @@ impl Frame {
 
     /// Where a mark stands: how far right, and how far down its highest TSN and its lowest one.
     fn corner(&self, mark: &Mark) -> (u64, u64, u64) {
-        let across = self.across(place_of(mark, self.is_timed));
+        let across = self.across(mark.instant.place(self.is_timed));
         (
             across,
             self.down(mark.high as u64),
@@ -292,22 +304,23 @@ fn put_places(text: &mut String, frame: &Frame) -> Result<(), AllocError> {
             continue;
         }
         let x = frame.across(place) / 10;
-        write!(text, "<text class=\"m\" x=\"{x}\" y=\"278\">")?;
+        write!(text, "<text class=\"m\" x=\"{x}\" y=\"412\">")?;
         put_span(text, frame.is_timed, place)?;
         text.push_str("</text>\n")?;
     }
     Ok(())
 }
 
-/// Draws a panel, its title above it.
+/// Draws a panel, its title above it, and the bytes and windows of its way below it.
 fn put_panel(
     alloc: Global,
     text: &mut String,
     frame: &Frame,
-    panel: &Panel,
+    side: &Side,
     arrow: &str,
     y: u64,
 ) -> Result<(), AllocError> {
+    let panel = &side.panel;
     let base = panel.base.unwrap_or(0);
     let top = y.saturating_add(24);
     write!(
@@ -328,7 +341,10 @@ fn put_panel(
     ] {
         put_marks(alloc, text, frame, panel, sign)?;
     }
-    text.push_str("</g></g>\n")
+    text.push_str("</g>\n")?;
+    put_strip(alloc, text, frame, Look::Bytes, &side.band.bytes)?;
+    put_strip(alloc, text, frame, Look::Window, &side.band.windows)?;
+    text.push_str("</g>\n")
 }
 
 /// Draws an association that has marks, from here down, and answers where the next one begins.
@@ -340,7 +356,7 @@ fn put_plot(
     plot: &Plot,
     y: u64,
 ) -> Result<u64, AllocError> {
-    if plot.forth.marks.is_empty() && plot.back.marks.is_empty() {
+    if plot.forth.panel.marks.is_empty() && plot.back.panel.marks.is_empty() {
         return Ok(y);
     }
     let top = y.saturating_add(28);
@@ -352,29 +368,60 @@ fn put_plot(
     text.push_str("</text>\n")?;
     let places = places_of(plot);
     let mut next = y.saturating_add(HEAD_STEP);
-    for (arrow, panel) in [("&gt;", &plot.forth), ("&lt;", &plot.back)] {
-        if panel.marks.is_empty() {
+    for (arrow, side) in [("&gt;", &plot.forth), ("&lt;", &plot.back)] {
+        if side.panel.marks.is_empty() {
             continue;
         }
         let frame = Frame {
             places,
-            heights: heights_of(panel),
+            heights: heights_of(&side.panel),
             is_timed: plot.is_timed,
         };
-        put_panel(alloc, text, &frame, panel, arrow, next)?;
+        put_panel(alloc, text, &frame, side, arrow, next)?;
         next = next.saturating_add(PANEL_STEP);
     }
     Ok(next)
 }
 
+impl Side {
+    /// Nothing was seen.
+    fn new(alloc: Global) -> Self {
+        Side {
+            panel: Panel::new(alloc),
+            band: Band::new(alloc),
+        }
+    }
+}
+
+/// Adds what a packet says, of its own way and of the other one: marks, if it is shown.
+fn add_to(
+    alloc: Global,
+    own: &mut Side,
+    other: &mut Side,
+    moment: Moment,
+    items: &[Item],
+) -> Result<(), AllocError> {
+    if moment.is_shown {
+        add_packet(&mut own.panel, &mut other.panel, moment.instant, items)?;
+    }
+    take_packet(alloc, &mut own.band, &mut other.band, moment, items)
+}
+
 impl Plot {
-    /// Adds the marks of a packet that goes this way.
-    fn add(&mut self, way: Way, instant: Instant, packet: &Packet<'_>) -> Result<(), AllocError> {
-        self.is_timed = self.is_timed && packet.time.is_some();
-        let items = packet.seen.items.as_slice();
+    /// Adds what a packet says that goes this way.
+    fn add(
+        &mut self,
+        alloc: Global,
+        way: Way,
+        moment: Moment,
+        items: &[Item],
+    ) -> Result<(), AllocError> {
+        if moment.is_shown {
+            self.is_timed = self.is_timed && moment.arrived.time.is_some();
+        }
         match way {
-            Way::Forth => add_packet(&mut self.forth, &mut self.back, instant, items),
-            Way::Back => add_packet(&mut self.back, &mut self.forth, instant, items),
+            Way::Forth => add_to(alloc, &mut self.forth, &mut self.back, moment, items),
+            Way::Back => add_to(alloc, &mut self.back, &mut self.forth, moment, items),
         }
     }
 }
@@ -392,8 +439,8 @@ impl Pictures {
     fn grow(&mut self, alloc: Global, count: usize) -> Result<(), AllocError> {
         for _more in self.plots.len()..count {
             self.plots.push(Plot {
-                forth: Panel::new(alloc),
-                back: Panel::new(alloc),
+                forth: Side::new(alloc),
+                back: Side::new(alloc),
                 is_timed: true,
             })?;
         }
@@ -424,14 +471,18 @@ impl Take for Pictures {
         packet: &Packet<'_>,
         is_shown: bool,
     ) -> Result<String, AllocError> {
-        let place = self.associations.note_packet(alloc, packet)?;
-        if let Some((at, way)) = place
-            && is_shown
-        {
+        if let Some((at, way)) = self.associations.note_packet(alloc, packet)? {
             self.grow(alloc, at.saturating_add(1))?;
-            let instant = self.instant_of(packet);
+            let moment = Moment {
+                arrived: Arrived {
+                    number: packet.number,
+                    time: packet.time,
+                },
+                instant: self.instant_of(packet),
+                is_shown,
+            };
             if let Some(plot) = self.plots.get_mut(at) {
-                plot.add(way, instant, packet)?;
+                plot.add(alloc, way, moment, packet.seen.items.as_slice())?;
             }
         }
         Ok(String::new(alloc))

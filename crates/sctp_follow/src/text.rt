@@ -319,35 +319,14 @@ fn put_handshake(text: &mut String, form: Form, seen: &Handshake) -> Result<(), 
             Form::Json => write!(text, ",\"took\":\"{took}\"")?,
         }
     }
-    let (ack, echo, done) = (&seen.init_ack, &seen.cookie_echo, &seen.cookie_ack);
     put_step(text, form, "", "INIT", "init", &seen.init, None)?;
-    put_step(
-        text,
-        form,
-        ", ",
-        "INIT-ACK",
-        "init_ack",
-        ack,
-        seen.after(ack),
-    )?;
-    put_step(
-        text,
-        form,
-        ", ",
-        "COOKIE-ECHO",
-        "cookie_echo",
-        echo,
-        seen.after(echo),
-    )?;
-    put_step(
-        text,
-        form,
-        ", ",
-        "COOKIE-ACK",
-        "cookie_ack",
-        done,
-        seen.after(done),
-    )?;
+    for (name, member, step) in [
+        ("INIT-ACK", "init_ack", &seen.init_ack),
+        ("COOKIE-ECHO", "cookie_echo", &seen.cookie_echo),
+        ("COOKIE-ACK", "cookie_ack", &seen.cookie_ack),
+    ] {
+        put_step(text, form, ", ", name, member, step, seen.after(step))?;
+    }
     put_edge(text, form, "\n", "}")
 }
 

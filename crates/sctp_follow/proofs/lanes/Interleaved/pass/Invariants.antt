@@ -1,0 +1,9 @@
+use Rattle.std.proofs.Common.{◌≡◌, take}
+use Rattle.sctp_follow.specs.Passing.{LooksAtEach}
+use Rattle.sctp_follow.proofs.lanes.Interleaved.pass.Given as goal
+
+abbrev pub invariant-loop-spot : goal.invariant-loop-spot
+invariant-loop-spot l = record {
+  look : LooksAtEach (take l.spot-index l.spot-items) l.messages.items l.initial.self.lanes l.self.lanes;
+  whole : l.self.is_whole ≡ l.initial.self.is_whole;
+}
