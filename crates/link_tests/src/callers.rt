@@ -18,9 +18,11 @@ pub fn give<C: Checksum + Drop>(link: &mut Link<C>, events: Vec<Event>) -> usize
 {
     let mut taken = 0usize;
     for event in events {
-        if link.step(event).is_ok() {
+        let reply = link.step(event);
+        if reply.is_ok() {
             taken = taken.saturating_add(1);
         }
+        drop(reply);
     }
     taken
 }

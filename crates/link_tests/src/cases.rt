@@ -2,10 +2,10 @@
 //!
 //! The link of a case is under a checksum that is always 0. Its events are also run as one script, under CRC-32C, and print the same replies.
 
-use linkscript::run::run_under;
-use linkscript::script::{Play, print_reply, read_event, read_link};
+use crate::lines::prints;
+use linkscript::script::{LineFault, Play, print_reply, read_event, read_link};
+use sctp_link::event::Event;
 use sctp_link::link::Link;
-use sctp_packets::checksum::Crc32c;
 use sctp_util::util::Checksum;
 use std::alloc::Global;
 use std::cell::Cell;
@@ -56,9 +56,9 @@ pub(crate) fn play_case(alloc: Global, case: &str, log: &mut Vec<u8>) {
 
 /// Puts to the log what a line of a case was answered.
 fn note(log: &mut Vec<u8>, name: &str, line: &str, answer: &[u8]) {
-    let _ = write!(log, "{name}: {line}: ");
+    drop(write!(log, "{name}: {line}: "));
     let _ = log.extend_from_slice(answer);
-    let _ = write!(log, "\n");
+    put_word("\n", log);
 }
 
 /// Plays the lines behind the first one.
@@ -79,12 +79,18 @@ fn play_lines<'a>(
         replies: Vec::new(alloc),
         status: 0,
     };
+    play_each(alloc, &mut run, name, text, log);
+    drop(run);
+}
+
+fn play_each(alloc: Global, run: &mut Run, name: &str, text: (&str, &str), log: &mut Vec<u8>) {
     let (first, lines) = text;
-    let _ = write!(run.script, "{first}\n");
+    put_line(first, &mut run.script);
     for line in lines.lines() {
-        play_line(alloc, &mut run, name, line, log);
+        play_line(alloc, run, name, line, log);
     }
-    if !prints_the_same(alloc, &run) {
+    // the events so far, as one script under CRC-32C, print the replies so far
+    if !prints(alloc, &run.script, &run.replies, Ok(run.status)) {
         note(log, name, "as one script", b"prints something else");
     }
 }
@@ -96,14 +102,7 @@ fn play_line(alloc: Global, run: &mut Run, name: &str, line: &str, log: &mut Vec
     if out.as_slice() != want.as_bytes() {
         note(log, name, asked, &out);
     }
-}
-
-/// Whether the events so far, as one script under CRC-32C, print the replies so far.
-fn prints_the_same(alloc: Global, run: &Run) -> bool {
-    let mut input = run.script.as_slice();
-    let mut output = Vec::new(alloc);
-    run_under(alloc, Crc32c, &mut input, &mut output) == Ok(run.status)
-        && output.as_slice() == run.replies.as_slice()
+    drop(out);
 }
 
 /// Puts the answer to a line.
@@ -120,18 +119,24 @@ fn put_answer(alloc: Global, run: &mut Run, asked: &str, want: &str, out: &mut V
 fn put_reply(alloc: Global, run: &mut Run, line: &str, out: &mut Vec<u8>) {
     run.before = run.calls.get();
     run.lines = run.lines.saturating_add(1);
-    let _ = write!(run.script, "{line}\n");
-    match read_event(alloc, line) {
+    put_line(line, &mut run.script);
+    put_step(alloc, run, read_event(alloc, line), out);
+    let _ = run.replies.extend_from_slice(out);
+    out.pop();
+}
+
+fn put_step(alloc: Global, run: &mut Run, event: Result<Event, LineFault>, out: &mut Vec<u8>) {
+    match event {
         Ok(event) => {
-            let _ = print_reply(alloc, out, &run.play.link.step(event), run.play.counts);
+            let reply = run.play.link.step(event);
+            let _ = print_reply(alloc, out, &reply, run.play.counts);
+            drop(reply);
         }
         Err(_) => {
             run.status = 2;
-            let _ = write!(out, "bad line {}\n", run.lines);
+            drop(write!(out, "bad line {}\n", run.lines));
         }
     }
-    let _ = run.replies.extend_from_slice(out);
-    out.pop();
 }
 
 /// Gives events, as `1 2 9 arrive #; read 1`, nine times, with 1, 3, .. in the place of `#`. Puts the first reply that does not
@@ -145,7 +150,7 @@ fn put_each(alloc: Global, run: &mut Run, field: &str, want: &str, out: &mut Vec
         k = k.wrapping_add(step);
     }
     if out.is_empty() {
-        let _ = write!(out, "{want}");
+        put_word(want, out);
     }
 }
 
@@ -165,13 +170,15 @@ fn put_turn(alloc: Global, run: &mut Run, k: u64, events: &str, wants: &str, out
         if out.is_empty() && !reply.starts_with(want.as_bytes()) {
             let _ = out.extend_from_slice(&reply);
         }
+        drop(reply);
     }
 }
 
 fn put_numbered(alloc: Global, run: &mut Run, stem: &str, k: u64, out: &mut Vec<u8>) {
-    if let Ok(line) = format!(in alloc; "{stem}{k}") {
-        put_reply(alloc, run, line.as_str(), out);
-    }
+    let mut line = String::new(alloc);
+    let _ = write!(line, "{stem}{k}");
+    put_reply(alloc, run, line.as_str(), out);
+    drop(line);
 }
 
 /// Puts the answer to a question about the link; false where the word asks none.
@@ -208,15 +215,27 @@ fn put_told(run: &Run, word: &str, number: u64, out: &mut Vec<u8>) -> bool {
 }
 
 fn put_word(word: &str, out: &mut Vec<u8>) {
-    let _ = write!(out, "{word}");
+    let _ = out.extend_from_slice(word.as_bytes());
+}
+
+fn put_line(line: &str, out: &mut Vec<u8>) {
+    put_word(line, out);
+    put_word("\n", out);
 }
 
 fn put_number(number: Option<u64>, out: &mut Vec<u8>) {
     match number {
-        Some(number) => {
-            let _ = write!(out, "{number}");
-        }
+        Some(number) => put_numbers(&[number], out),
         None => put_word("none", out),
+    }
+}
+
+/// Puts numbers, one space apart.
+fn put_numbers(numbers: &[u64], out: &mut Vec<u8>) {
+    let mut gap = "";
+    for number in numbers {
+        drop(write!(out, "{gap}{number}"));
+        gap = " ";
     }
 }
 
@@ -230,26 +249,24 @@ fn earliest(link: &Link<Counted>) -> Option<u64> {
 
 fn put_ledger(link: &Link<Counted>, out: &mut Vec<u8>) {
     let it = link.ledger();
-    let _ = write!(
-        out,
-        "{} {} {} {}",
-        it.written, it.pending, it.in_flight, it.released
-    );
+    put_numbers(&[it.written, it.pending, it.in_flight, it.released], out);
 }
 
 fn put_stats(link: &Link<Counted>, stream: u16, out: &mut Vec<u8>) {
     let Some(it) = link.stats(stream) else {
         return put_word("none", out);
     };
-    let _ = write!(out, "{} {} ", it.stream_identifier, it.generation);
-    let _ = write!(out, "{} {} ", it.messages_sent, it.bytes_sent);
-    let _ = write!(out, "{} {}", it.messages_received, it.bytes_received);
+    let stream = u64::from(it.stream_identifier);
+    let sent = [stream, it.generation, it.messages_sent, it.bytes_sent];
+    put_numbers(&sent, out);
+    put_word(" ", out);
+    put_numbers(&[it.messages_received, it.bytes_received], out);
 }
 
 fn put_noted(link: &Link<Counted>, tsn: u32, out: &mut Vec<u8>) {
     match link.outbound().get(tsn) {
         Some(chunk) => {
-            let _ = write!(out, "{} {}", chunk.nsent, chunk.since.unwrap_or(0));
+            put_numbers(&[u64::from(chunk.nsent), chunk.since.unwrap_or(0)], out);
         }
         None => put_word("none", out),
     }
@@ -265,7 +282,7 @@ fn put_datagram(link: &Link<Counted>, k: u64, most: usize, out: &mut Vec<u8>) {
     let (head, tail) = chunks.split_at(most.min(chunks.len()));
     put_word("H", out);
     for byte in head {
-        let _ = write!(out, " {byte:02x}");
+        drop(write!(out, " {byte:02x}"));
     }
     put_runs(tail, out);
 }
@@ -298,6 +315,6 @@ fn word_of(bytes: &[u8]) -> u32 {
 
 fn put_run(first: u32, step: u32, count: u32, out: &mut Vec<u8>) {
     if count > 0 {
-        let _ = write!(out, " {first:08x} +{step:08x} *{count}");
+        drop(write!(out, " {first:08x} +{step:08x} *{count}"));
     }
 }

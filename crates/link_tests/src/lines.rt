@@ -4,15 +4,22 @@ use crate::cases::play_case;
 use linkscript::field::{FieldFault, field_bytes, field_text};
 use linkscript::run::{RunFault, run_under};
 use sctp_packets::checksum::Crc32c;
-use std::alloc::Global;
+use std::alloc::{AllocError, Global};
 use std::io::{self, ErrorKind, Read, Write};
 
 /// Whether a script prints this, and ends so.
-fn prints(alloc: Global, script: &[u8], printed: &str, status: Result<u8, RunFault>) -> bool {
+pub(crate) fn prints(
+    alloc: Global,
+    script: &[u8],
+    printed: &[u8],
+    status: Result<u8, RunFault>,
+) -> bool {
     let mut input = script;
     let mut output = Vec::new(alloc);
-    run_under(alloc, Crc32c, &mut input, &mut output) == status
-        && output.as_slice() == printed.as_bytes()
+    let ended = run_under(alloc, Crc32c, &mut input, &mut output);
+    let same = ended == status && output.as_slice() == printed;
+    drop(output);
+    same
 }
 
 const FIRST_LINES: [&str; 18] = [
@@ -37,15 +44,16 @@ const FIRST_LINES: [&str; 18] = [
 ];
 
 fn is_no_first_line(alloc: Global, line: &str) -> bool {
-    prints(alloc, line.as_bytes(), "bad line 1\n", Ok(2))
+    prints(alloc, line.as_bytes(), b"bad line 1\n", Ok(2))
 }
 
 /// Whether a script whose third line this is ends there.
 fn ends_a_script(alloc: Global, line: &str) -> bool {
-    match format!(in alloc; "link 10 3 100\nopen 1\n{line}\nopen 1\n") {
-        Ok(script) => prints(alloc, script.as_bytes(), "opened\nbad line 3\n", Ok(2)),
-        Err(_) => false,
-    }
+    let mut script = String::new(alloc);
+    let _ = write!(script, "link 10 3 100\nopen 1\n{line}\nopen 1\n");
+    let ends = prints(alloc, script.as_bytes(), b"opened\nbad line 3\n", Ok(2));
+    drop(script);
+    ends
 }
 
 const LINES: [&str; 50] = [
@@ -102,7 +110,7 @@ const LINES: [&str; 50] = [
 ];
 
 fn is_refused_as_input(alloc: Global, script: &[u8]) -> bool {
-    prints(alloc, script, "", Err(RunFault::Input))
+    prints(alloc, script, b"", Err(RunFault::Input))
 }
 
 const NO_UTF8: [&[u8]; 2] = [b"link 10 3 100\nopen 1\n\xff\n", b"bad\n\x80"];
@@ -159,7 +167,9 @@ fn each_input_fails(alloc: Global, script: &[u8]) -> bool {
     for taken in 0..script.len() {
         well = well && input_fails(alloc, &script[..taken], &mut output);
     }
-    well && output.is_empty()
+    well = well && output.is_empty();
+    drop(output);
+    well
 }
 
 /// Whether a script ends so where the output has this room, and all of it is filled.
@@ -185,14 +195,22 @@ fn streams_fail(alloc: Global) -> bool {
 
 fn is_shown(alloc: Global, bytes: &[u8], text: &str) -> bool {
     match field_text(alloc, bytes) {
-        Ok(shown) => shown.as_str() == text,
+        Ok(shown) => {
+            let same = shown.as_str() == text;
+            drop(shown);
+            same
+        }
         Err(_) => false,
     }
 }
 
 fn is_told(alloc: Global, text: &str, bytes: &[u8]) -> bool {
     match field_bytes(alloc, text) {
-        Ok(told) => told.as_slice() == bytes,
+        Ok(told) => {
+            let same = told.as_slice() == bytes;
+            drop(told);
+            same
+        }
         Err(_) => false,
     }
 }
@@ -214,14 +232,19 @@ fn are_fields_so(alloc: Global) -> bool {
 
 /// Plays the case of the longest fragment, which has 65,519 bytes.
 fn play_longest(alloc: Global, log: &mut Vec<u8>) {
-    let case = match "00".repeat(alloc, 65_520) {
-        Ok(zeros) => format!(in alloc; "{LONGEST} {zeros}: wrote 0 2\n{LONGEST_READ} {zeros}"),
-        Err(e) => Err(e),
-    };
-    match case {
-        Ok(case) => play_case(alloc, case.as_str(), log),
+    let mut case = String::new(alloc);
+    match put_longest(alloc, &mut case) {
+        Ok(()) => play_case(alloc, case.as_str(), log),
         Err(_) => tell(log, "no memory", "for the longest fragment"),
     }
+    drop(case);
+}
+
+fn put_longest(alloc: Global, case: &mut String) -> Result<(), AllocError> {
+    let zeros = "00".repeat(alloc, 65_520)?;
+    let put = write!(case, "{LONGEST} {zeros}: wrote 0 2\n{LONGEST_READ} {zeros}");
+    drop(zeros);
+    put
 }
 
 const LONGEST: &str =
@@ -231,21 +254,29 @@ const LONGEST_READ: &str =
     "send 0: sent 0 10 0\nsend 0: sent 1 11 0\narrive 1: new\narrive 0: new\nread 1: message 1 53";
 
 fn tell(log: &mut Vec<u8>, what: &str, of: &str) {
-    let _ = write!(log, "{what}: {of:?}\n");
+    drop(write!(log, "{what}: {of:?}\n"));
 }
 
-/// Puts to the log each row of the tables that is not as it ought to be.
-pub(crate) fn read_tables(alloc: Global, log: &mut Vec<u8>) {
+fn read_first_lines(alloc: Global, log: &mut Vec<u8>) {
     for line in FIRST_LINES {
         if !is_no_first_line(alloc, line) {
             tell(log, "a first line that cannot be read", line);
         }
     }
+}
+
+fn read_lines(alloc: Global, log: &mut Vec<u8>) {
     for line in LINES {
         if !ends_a_script(alloc, line) {
             tell(log, "a line that cannot be read", line);
         }
     }
+}
+
+/// Puts to the log each row of the tables that is not as it ought to be.
+pub(crate) fn read_tables(alloc: Global, log: &mut Vec<u8>) {
+    read_first_lines(alloc, log);
+    read_lines(alloc, log);
     if !is_refused_as_input(alloc, NO_UTF8[0]) || !is_refused_as_input(alloc, NO_UTF8[1]) {
         tell(log, "input", "that is not UTF-8");
     }

@@ -33,24 +33,33 @@ fn play_blocks(alloc: Global, blocks: &str, state: &mut State, log: &mut Vec<u8>
     count
 }
 
-fn main(rt: HostRuntime) -> ExitCode {
-    let alloc = rt.alloc();
-    let mut input = Vec::new(alloc);
-    if rt.reader().read_to_end(&mut input).is_err() {
-        return ExitCode::FAILURE;
-    }
-    let text = str::from_utf8(&input).unwrap_or("").trim_end();
+/// Plays what standard input says, and prints what came of it. Answers whether all is as it ought to be.
+fn play_input(rt: &HostRuntime, alloc: Global, input: &[u8], log: &mut Vec<u8>) -> bool {
+    let text = str::from_utf8(input).unwrap_or("").trim_end();
     let (number, blocks) = text.split_once("\n\n").unwrap_or((text, ""));
     take_memory(alloc, number);
     let mut state = State::new();
-    let mut log = Vec::new(alloc);
-    let count = play_blocks(alloc, blocks, &mut state, &mut log);
-    let _ = rt.eprint(str::from_utf8(&log).unwrap_or(""));
+    let count = play_blocks(alloc, blocks, &mut state, log);
+    drop(rt.eprint(str::from_utf8(log).unwrap_or("")));
     if let Some(what) = state.fault {
-        let _ = eprintln!(rt; "differs at line {}: {what}", state.line);
+        drop(eprintln!(rt; "differs at line {}: {what}", state.line));
     }
-    match print(&mut io::writer(&rt), &state, count, &log) {
-        Ok(()) if state.fault.is_none() && log.is_empty() => ExitCode::SUCCESS,
-        _ => ExitCode::FAILURE,
+    let printed = print(&mut io::writer(rt), &state, count, log);
+    printed && state.fault.is_none() && log.is_empty()
+}
+
+fn main(rt: HostRuntime) -> ExitCode {
+    let alloc = rt.alloc();
+    let mut input = Vec::new(alloc);
+    let mut log = Vec::new(alloc);
+    let read = rt.reader().read_to_end(&mut input);
+    let is_well = read.is_ok() && play_input(&rt, alloc, &input, &mut log);
+    drop(read);
+    drop(input);
+    drop(log);
+    if is_well {
+        ExitCode::SUCCESS
+    } else {
+        ExitCode::FAILURE
     }
 }

@@ -20,9 +20,30 @@ use std::io::{self, Write};
 pub(crate) fn play_script(alloc: Global, script: &str, state: &mut State) {
     let (first, lines) = script.split_once('\n').unwrap_or((script, ""));
     state.line = state.line.saturating_add(2);
-    match (read_link(alloc, Zero, first), read_link(alloc, Zero, first)) {
-        (Some(mut play), Some(mut twin)) => play_lines(alloc, &mut play, &mut twin, lines, state),
-        _ => state.fault = state.fault.or(Some("a first line")),
+    match read_link(alloc, Zero, first) {
+        Some(play) => play_with(alloc, play, read_link(alloc, Zero, first), lines, state),
+        None => state.fault = state.fault.or(Some("a first line")),
+    }
+}
+
+/// Plays the lines to a link and to its twin, where there is one, and drops both.
+fn play_with(
+    alloc: Global,
+    mut play: Play<Zero>,
+    twin: Option<Play<Zero>>,
+    lines: &str,
+    state: &mut State,
+) {
+    match twin {
+        Some(mut twin) => {
+            play_lines(alloc, &mut play, &mut twin, lines, state);
+            drop(play);
+            drop(twin);
+        }
+        None => {
+            state.fault = state.fault.or(Some("a first line"));
+            drop(play);
+        }
     }
 }
 
@@ -42,29 +63,26 @@ fn play_lines(
     }
 }
 
-/// Prints what came of the scripts, and then what came of the cases, if there were any.
-pub(crate) fn print<W: Write>(
-    output: &mut W,
-    state: &State,
-    count: u32,
-    log: &[u8],
-) -> io::Result<()> {
-    match (state.fault, state.refused) {
-        (Some(what), _) => write!(output, "differs at line {}: {what}\n", state.line)?,
-        (None, Refused::Nowhere) => write!(output, "same\n")?,
-        (None, Refused::Line(line)) => write!(output, "same, line {line} refused\n")?,
-        (None, Refused::Beside) => write!(output, "same, refused beside the link\n")?,
-    }
-    output.write_all(log)?;
-    if count > 0 {
-        write!(output, "{count} cases\n")?;
-    }
-    Ok(())
+/// Prints what came of the scripts, and then what came of the cases, if there were any. Answers whether all was printed.
+pub(crate) fn print<W: Write>(output: &mut W, state: &State, count: u32, log: &[u8]) -> bool {
+    let printed = match (state.fault, state.refused) {
+        (Some(what), _) => write!(output, "differs at line {}: {what}\n", state.line),
+        (None, Refused::Nowhere) => write!(output, "same\n"),
+        (None, Refused::Line(line)) => write!(output, "same, line {line} refused\n"),
+        (None, Refused::Beside) => write!(output, "same, refused beside the link\n"),
+    };
+    is_done(printed)
+        && is_done(output.write_all(log))
+        && (count == 0 || is_done(write!(output, "{count} cases\n")))
+}
+
+fn is_done(written: io::Result<()>) -> bool {
+    written.is_ok()
 }
 
 /// Takes memory so often, and gives it back.
 pub(crate) fn take_memory(alloc: Global, number: &str) {
     for _ in 0..number.parse::<u32>().unwrap_or(0) {
-        let _ = Vec::from_elem(alloc, 0u8, 1);
+        drop(Vec::from_elem(alloc, 0u8, 1));
     }
 }

@@ -64,13 +64,13 @@ enum Came {
 
 /// Reads an event, again where memory was refused.
 fn read(alloc: Global, line: &str, state: &mut State) -> Result<Event, LineFault> {
-    match read_event(alloc, line) {
-        Err(LineFault::Memory) => {
-            state.refused = Refused::Beside;
-            read_event(alloc, line)
-        }
-        other => other,
+    let event = read_event(alloc, line);
+    if !matches!(event, Err(LineFault::Memory)) {
+        return event;
     }
+    drop(event);
+    state.refused = Refused::Beside;
+    read_event(alloc, line)
 }
 
 /// Whether an event may be refused memory.
@@ -159,7 +159,12 @@ fn judged(
 fn given(alloc: Global, play: &mut Play<Zero>, line: &str, state: &mut State) -> Came {
     let (asked, want) = line.split_once(": ").unwrap_or((line, ""));
     match read(alloc, asked, state) {
-        Ok(event) => judged(alloc, &play.link.step(event), play.counts, want, state),
+        Ok(event) => {
+            let reply = play.link.step(event);
+            let came = judged(alloc, &reply, play.counts, want, state);
+            drop(reply);
+            came
+        }
         Err(_) => Came::Wrong("an event was not read"),
     }
 }
