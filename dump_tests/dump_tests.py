@@ -8,7 +8,7 @@ datagram behind the headers that the RFCs named below give, or none; with --tsha
 addresses. A capture that is cut between two records has to print in each view what it prints as a whole. The lines of JSON of each capture have to be what docs/sctpdump.schema.json says. Two large captures have to be shown within bounds. The
 records that are chosen with -w have to be in the capture that is written, whose blocks are read here; with --tshark, tshark has to read it, too. The
 runs are those of dump_tests/runs.txt: a line '$ sctpdump ..', run in crates/sctpdump/data and examples, and the lines that it prints.
-A summary has to be printed where an interrupt that the shell ignores came before the end. The last line is 'N passed, M failed'; the status is 0 where nothing failed.
+A summary has to be printed where an interrupt that the shell ignores came before the end, and each view where an interrupt ended the writer. The last line is 'N passed, M failed'; the status is 0 where nothing failed.
 """
 import ipaddress
 import json
@@ -270,6 +270,21 @@ def ends_uninterrupted(program):
     return told == wanted
 
 
+def ends_with_its_writer(program):
+    """Whether each view that is printed at the end is printed where an interrupt ends the program that writes into the pipe."""
+    path, is_right = f"{ROOT}/examples/usrsctp-partial.log", True
+    for view in ("--summary", "--messages", "--acks", "--channels", "--flow", "--svg -"):
+        writer = subprocess.Popen(["sh", "-c", 'cat "$0"; kill -INT $$; sleep 60', path], stdout=subprocess.PIPE)
+        told = subprocess.run([program, *view.split()], stdin=writer.stdout, capture_output=True).stdout
+        writer.stdout.close()
+        is_right = writer.wait() == -signal.SIGINT and is_right
+        wanted = subprocess.run([program, *view.split(), path], capture_output=True).stdout
+        if told != wanted:
+            print(f"{view} behind an interrupt of its writer: {told}, not {wanted}")
+            is_right = False
+    return is_right
+
+
 def tells_version(program):
     """Whether `--version` says the version of include/sctpr.h."""
     with open(f"{ROOT}/include/sctpr.h", encoding="utf-8") as header:
@@ -453,7 +468,7 @@ def main(words):
     program = os.path.abspath(words[0] if words else f"{ROOT}/crates/sctpdump/out/sctpdump")
     runs = run_tests(program, f"{ROOT}/dump_tests/runs.txt")
     passed, failed = (sum(counts) for counts in zip(frame_tests(program, has_tshark), runs, save_tests(program, has_tshark), json_tests(program), seam_tests(program), bound_tests(program)))
-    for is_right in (tells_version(program), ends_uninterrupted(program)):
+    for is_right in (tells_version(program), ends_uninterrupted(program), ends_with_its_writer(program)):
         passed += is_right
         failed += not is_right
     print(f"{passed} passed, {failed} failed")

@@ -1,3 +1,4 @@
 pub mod Runs
 pub mod Texts
+mod Causes
 mod Examples

@@ -87,10 +87,16 @@ abbrev pub breaks : Reading → Bool
 breaks (Strict k) = false
 breaks (Raw r) = breaks_rule r
 
--- such a chunk is refused that is there to its end, or where no bytes are missing
+-- DATA or I-DATA without user data, by the length that it declares (RFC 9260 6.2)
+abbrev pub is_empty_data : List ℕ → Bool
+is_empty_data bytes =
+    is_data bytes && (u16_at bytes 2 == (if type_at bytes == 0 then 16 else 20))
+
+-- a chunk that breaks a rule is refused where it is there to its end, or no bytes are missing
 abbrev pub is_bad : ℕ → Item → Bool
 is_bad missing item =
-    breaks item.reading && (missing == 0 || missing_of item.bytes == 0)
+    (breaks item.reading || is_empty_data item.bytes)
+    && (missing == 0 || missing_of item.bytes == 0)
 
 -- Bytes are left over that begin no chunk. Where bytes are missing, fewer than a header takes are a header that is cut off.
 abbrev pub is_left_over : ℕ → Option Fault → Bool

@@ -12,3 +12,15 @@ payload_name identifier =
     else if identifier == 56 then codes "String Empty"
     else if identifier == 57 then codes "Binary Empty"
     else []
+
+-- what a Re-configuration Response answers (RFC 6525 4.4)
+abbrev pub result_name : ℕ → List ℕ
+result_name answer =
+    if answer == 0 then codes "Success - Nothing to do"
+    else if answer == 1 then codes "Success - Performed"
+    else if answer == 2 then codes "Denied"
+    else if answer == 3 then codes "Error - Wrong SSN"
+    else if answer == 4 then codes "Error - Request already in progress"
+    else if answer == 5 then codes "Error - Bad Sequence Number"
+    else if answer == 6 then codes "In progress"
+    else codes "unknown"

@@ -5,23 +5,22 @@ ghost use Rattle.std.specs.String.{string_bytes};
 ghost use Rattle.sctp_util.specs.Field;
 ghost use Rattle.sctp_show.specs.ChunkText.{IsCutData, data_text, init_text, i_data_text, payload_text, block_lines, block_object, block_text};
 
-use crate::brief::{DCEP, has_text};
+use crate::brief::DCEP;
+use crate::cause_text::put_causes;
 use crate::cut::missing_of;
 use crate::dcep::put_message;
-use crate::fields::{has_kind, param_rule_of, put_chunk_fields, put_param_fields};
+use crate::fields::{has_kind, param_rule_of, put_chunk_fields, put_nr_sack, put_param_fields};
 use crate::filter::is_bad;
 use crate::follow::Bases;
 use crate::names::{ChunkName, parameter_name, payload_name};
-use crate::page::{Form, Page, put_quoted};
-use crate::rules::rule_of;
+use crate::page::{Form, Page};
+use crate::rules::rule_in;
 use bytes::Bytes;
 use sctp_chunks::chunk::chunk_forward_tsn::ChunkForwardTsn;
 use sctp_chunks::chunk::chunk_i_forward_tsn::ChunkIForwardTsn;
 use sctp_chunks::chunk::chunk_kind::ChunkKind;
 use sctp_chunks::chunk::chunk_payload_data::{ChunkPayloadData, PayloadProtocolIdentifier};
 use sctp_chunks::chunk::chunk_selective_ack::{ChunkSelectiveAck, GapAckBlock};
-use sctp_chunks::chunk::error_cause::{ErrorCause, ErrorCauseCode};
-use sctp_dissect::causes::{CauseItem, dissect_causes};
 use sctp_dissect::dissection::{Item, RawChunk, Reading};
 use sctp_dissect::params::{ParamItem, ParamReading, dissect_params};
 use sctp_serial::serial::distance;
@@ -229,7 +228,7 @@ fn put_chunk_types(
     page.words("Chunk types", "chunk_types", &names)
 }
 
-/// A parameter: its type and name, what it is read as or why it is refused, its value, and the chunk types that this lists.
+/// A parameter: its type and name, what it is read as or why it is refused, its value, and its fields.
 fn put_param(
     alloc: Global,
     page: &mut Page,
@@ -238,13 +237,15 @@ fn put_param(
 ) -> Result<(), AllocError> {
     let typ = u16_at(item.bytes.as_slice(), 0);
     page.row(is_first, "Parameter type", "type", typ as u32)?;
-    put_parameter_name(page, typ)?;
-    put_reading(alloc, page, typ, &item.reading)?;
+    let mut row = Page::new(alloc, page.form);
+    put_parameter_name(&mut row, typ)?;
+    put_reading(alloc, &mut row, typ, &item.reading)?;
     let length = u16_at(item.bytes.as_slice(), 2) as usize;
     let value = item.bytes.as_slice().get(4..length).unwrap_or(b"");
-    page.bytes(alloc, "Parameter value", "value", value)?;
-    put_param_fields(alloc, page, typ, value)?;
-    put_chunk_types(alloc, page, typ, value)?;
+    row.bytes(alloc, "Parameter value", "value", value)?;
+    put_param_fields(alloc, &mut row, typ, value)?;
+    put_chunk_types(alloc, &mut row, typ, value)?;
+    page.inner(&row)?;
     page.in_json("}")
 }
 
@@ -258,7 +259,7 @@ fn put_each_param(alloc: Global, page: &mut Page, items: &[ParamItem]) -> Result
 }
 
 /// The end of a list, and the bytes behind it that begin no other item of it.
-fn put_list_end(alloc: Global, page: &mut Page, rest: &[u8]) -> Result<(), AllocError> {
+pub(crate) fn put_list_end(alloc: Global, page: &mut Page, rest: &[u8]) -> Result<(), AllocError> {
     page.in_json("]")?;
     if rest.is_empty() {
         return Ok(());
@@ -267,83 +268,11 @@ fn put_list_end(alloc: Global, page: &mut Page, rest: &[u8]) -> Result<(), Alloc
 }
 
 /// Parameters, read or raw, one behind the other.
-fn put_params(alloc: Global, page: &mut Page, raw: Bytes) -> Result<(), AllocError> {
+pub(crate) fn put_params(alloc: Global, page: &mut Page, raw: Bytes) -> Result<(), AllocError> {
     page.in_json(",\"parameters\":[")?;
     let params = dissect_params(alloc, raw)?;
     put_each_param(alloc, page, &params.items)?;
     put_list_end(alloc, page, params.rest.as_slice())
-}
-
-/// The name of a cause.
-fn put_name(alloc: Global, page: &mut Page, code: &ErrorCauseCode) -> Result<(), AllocError> {
-    let words = code.to_string(alloc)?;
-    page.words("Cause", "is", &words)
-}
-
-/// The type of the chunk that a cause has in it, where it has one: Unrecognized Chunk Type (RFC 4960 3.3.10.6).
-fn put_cause_chunk(alloc: Global, page: &mut Page, cause: &ErrorCause) -> Result<(), AllocError> {
-    match cause.raw.as_slice().first() {
-        Some(typ) if cause.code.0 == 6 => {
-            let mut name = String::new(alloc);
-            ChunkName(*typ).put(&mut name)?;
-            page.words("Unrecognized chunk", "chunk", &name)
-        }
-        _ => Ok(()),
-    }
-}
-
-/// The text of a cause, where it has one.
-fn put_cause_text(page: &mut Page, cause: &ErrorCause) -> Result<(), AllocError> {
-    if !has_text(cause) {
-        return Ok(());
-    }
-    page.in_text("        Cause text: ")?;
-    page.in_json(",\"text\":")?;
-    put_quoted(&mut page.text, cause.raw.as_slice())?;
-    page.in_text("\n")
-}
-
-/// A cause: its code, its name, its value and its text, and the type of the chunk in it.
-fn put_cause(
-    alloc: Global,
-    page: &mut Page,
-    cause: &ErrorCause,
-    is_first: bool,
-) -> Result<(), AllocError> {
-    page.row(is_first, "Cause code", "code", cause.code.0 as u32)?;
-    put_name(alloc, page, &cause.code)?;
-    page.bytes(alloc, "Cause value", "value", cause.raw.as_slice())?;
-    put_cause_text(page, cause)?;
-    put_cause_chunk(alloc, page, cause)?;
-    page.in_json("}")
-}
-
-/// The causes of an ABORT or ERROR that is read.
-fn put_causes(alloc: Global, page: &mut Page, causes: &[ErrorCause]) -> Result<(), AllocError> {
-    page.in_json(",\"causes\":[")?;
-    let mut is_first = true;
-    for cause in causes {
-        put_cause(alloc, page, cause, is_first)?;
-        is_first = false;
-    }
-    page.in_json("]")
-}
-
-fn put_each_cause(alloc: Global, page: &mut Page, items: &[CauseItem]) -> Result<(), AllocError> {
-    let mut is_first = true;
-    for item in items {
-        put_cause(alloc, page, &item.cause, is_first)?;
-        is_first = false;
-    }
-    Ok(())
-}
-
-/// The causes of an ABORT or ERROR that is refused, by their declared lengths.
-fn put_raw_causes(alloc: Global, page: &mut Page, raw: Bytes) -> Result<(), AllocError> {
-    page.in_json(",\"causes\":[")?;
-    let causes = dissect_causes(alloc, raw)?;
-    put_each_cause(alloc, page, &causes.items)?;
-    put_list_end(alloc, page, causes.rest.as_slice())
 }
 
 fn put_forward_tsn(page: &mut Page, base: u32, c: &ChunkForwardTsn) -> Result<(), AllocError> {
@@ -443,12 +372,12 @@ fn put_strict(
         ChunkKind::Heartbeat(_) | ChunkKind::HeartbeatAck(_) | ChunkKind::Reconfig(_) => {
             put_params(alloc, page, value_in(item)?)
         }
-        ChunkKind::Abort(c) => {
+        ChunkKind::Abort(_) => {
             put_reflected(page, bytes)?;
-            put_causes(alloc, page, &c.error_causes)
+            put_causes(alloc, page, bases.other, value_in(item)?)
         }
         ChunkKind::ShutdownComplete(_) => put_reflected(page, bytes),
-        ChunkKind::Error(c) => put_causes(alloc, page, &c.error_causes),
+        ChunkKind::Error(_) => put_causes(alloc, page, bases.other, value_in(item)?),
         ChunkKind::Shutdown(c) => {
             let cumulative = distance(bases.other, c.cumulative_tsn_ack);
             page.number("Cumulative TSN ack", "cumulative", cumulative)
@@ -460,16 +389,8 @@ fn put_strict(
     }
 }
 
-/// The rule that a chunk breaks, if it does, and why the reader of packets does not read it.
-fn put_refusal(
-    alloc: Global,
-    page: &mut Page,
-    raw: &RawChunk,
-    is_bad: bool,
-) -> Result<(), AllocError> {
-    if is_bad {
-        page.words("Refused", "refused", rule_of(raw.typ.0, raw.refusal))?;
-    }
+/// Why the reader of packets does not read a chunk.
+fn put_refusal(alloc: Global, page: &mut Page, raw: &RawChunk) -> Result<(), AllocError> {
     let words = raw.refusal.to_string(alloc)?;
     page.words("Not read by the codec", "codec", &words)
 }
@@ -540,8 +461,8 @@ fn cut_data(raw: &RawChunk) -> Result<ChunkPayloadData, AllocError>
 }
 
 /// What is there of a chunk that is cut off, but for how many bytes are missing.
-fn put_cut(alloc: Global, page: &mut Page, base: u32, raw: &RawChunk) -> Result<(), AllocError> {
-    let value = raw.value.as_slice();
+fn put_cut(alloc: Global, page: &mut Page, bases: Bases, raw: &RawChunk) -> Result<(), AllocError> {
+    let (base, value) = (bases.own, raw.value.as_slice());
     match raw.typ.0 {
         0 if value.len() >= 12 => {
             let data = cut_data(raw)?;
@@ -550,7 +471,8 @@ fn put_cut(alloc: Global, page: &mut Page, base: u32, raw: &RawChunk) -> Result<
         64 if value.len() >= 16 => put_i_data(alloc, page, base, value),
         1 | 2 => put_whole_init(alloc, page, base, raw.value.clone()?),
         4 | 5 | 130 => put_params(alloc, page, raw.value.clone()?),
-        6 | 9 => put_raw_causes(alloc, page, raw.value.clone()?),
+        6 | 9 => put_causes(alloc, page, bases.other, raw.value.clone()?),
+        16 if value.len() >= 16 => put_nr_sack(page, bases.other, value),
         _ => page.bytes(alloc, "Value", "value", value),
     }
 }
@@ -559,28 +481,28 @@ fn put_cut(alloc: Global, page: &mut Page, base: u32, raw: &RawChunk) -> Result<
 fn put_raw(
     alloc: Global,
     page: &mut Page,
-    base: u32,
+    bases: Bases,
     missing: usize,
     item: &Item,
     raw: &RawChunk,
 ) -> Result<(), AllocError> {
-    let is_bad = is_bad(missing, item);
-    if !is_bad && missing > 0 && missing_of(item) > 0 {
+    if !is_bad(missing, item) && missing > 0 && missing_of(item) > 0 {
         page.number(
             "Missing bytes",
             "missing",
             u32::try_from(missing_of(item)).unwrap_or(u32::MAX),
         )?;
-        return put_cut(alloc, page, base, raw);
+        return put_cut(alloc, page, bases, raw);
     }
-    put_refusal(alloc, page, raw, is_bad)?;
+    put_refusal(alloc, page, raw)?;
     let value = raw.value.as_slice();
     match raw.typ.0 {
-        I_DATA => put_whole_i_data(alloc, page, base, raw),
-        12 | 13 | 15 | 128 | 193 => put_fields(alloc, page, raw),
-        1 | 2 => put_whole_init(alloc, page, base, raw.value.clone()?),
+        I_DATA => put_whole_i_data(alloc, page, bases.own, raw),
+        12 | 13 | 15 | 128 | 129 | 193 => put_fields(alloc, page, raw),
+        1 | 2 => put_whole_init(alloc, page, bases.own, raw.value.clone()?),
         4 | 5 | 130 => put_params(alloc, page, raw.value.clone()?),
-        6 | 9 => put_raw_causes(alloc, page, raw.value.clone()?),
+        6 | 9 => put_causes(alloc, page, bases.other, raw.value.clone()?),
+        16 if value.len() >= 16 => put_nr_sack(page, bases.other, value),
         _ => page.bytes(alloc, "Value", "value", value),
     }
 }
@@ -597,9 +519,12 @@ fn body_of(
     if form == Form::Json {
         body.bytes(alloc, "Bytes", "bytes", item.bytes.as_slice())?;
     }
+    if is_bad(missing, item) {
+        body.words("Refused", "refused", rule_in(item))?;
+    }
     match &item.reading {
         Reading::Strict(chunk) => put_strict(alloc, &mut body, bases, chunk, item)?,
-        Reading::Raw(raw) => put_raw(alloc, &mut body, bases.own, missing, item, raw)?,
+        Reading::Raw(raw) => put_raw(alloc, &mut body, bases, missing, item, raw)?,
     }
     Ok(body)
 }

@@ -208,11 +208,19 @@ fn breaks(item: &Item) -> bool
     }
 }
 
-/// Whether an item is such a chunk, and there to its end, or of a packet of which no bytes are missing: then it is refused.
+/// Whether the bytes of a chunk are DATA or I-DATA without user data, by the length that it declares (RFC 9260 6.2).
+fn is_empty_data(bytes: &[u8]) -> bool
+    ensures { result ≡ filters.is_empty_data bytes.now }
+{
+    is_data(bytes) && read_u16(bytes, 2) == if bytes[0] == 0 { 16 } else { 20 }
+}
+
+/// Whether an item breaks a rule, and is there to its end, or of a packet of which no bytes are missing: then it is refused.
 pub fn is_bad(missing: usize, item: &Item) -> bool
     ensures { result ≡ filters.is_bad missing item.now }
 {
-    breaks(item) && (missing == 0 || missing_of(item) == 0)
+    (breaks(item) || is_empty_data(item.bytes.as_slice()))
+        && (missing == 0 || missing_of(item) == 0)
 }
 
 /// Whether one of the items is such a chunk.

@@ -2,6 +2,7 @@
 #![tactic(auto)]
 
 pub mod brief;
+mod cause_text;
 pub mod checksum;
 pub mod choice;
 pub mod chunk_text;

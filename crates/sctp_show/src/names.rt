@@ -93,6 +93,41 @@ pub fn payload_name(identifier: u32) -> &'static str
     }
 }
 
+/// The name of a cause of an ABORT or ERROR (RFC 9260 3.3.10, RFC 5061 4.3, RFC 4895 4.1), or nothing where it has none.
+pub fn cause_name(code: u16) -> &'static str {
+    match code {
+        1 => "Invalid Stream Identifier",
+        2 => "Missing Mandatory Parameter",
+        3 => "Stale Cookie Error",
+        4 => "Out Of Resource",
+        5 => "Unresolvable IP",
+        6 => "Unrecognized Chunk Type",
+        7 => "Invalid Mandatory Parameter",
+        8 => "Unrecognized Parameters",
+        9 => "No User Data",
+        10 => "Cookie Received While Shutting Down",
+        11 => "Restart Of An Association With New Addresses",
+        12 => "User Initiated Abort",
+        13 => "Protocol Violation",
+        160 => "Request to Delete Last Remaining IP Address",
+        161 => "Operation Refused Due to Resource Shortage",
+        162 => "Request to Delete Source IP Address",
+        163 => "Association Aborted Due to Illegal ASCONF-ACK",
+        164 => "Request Refused - No Authorization",
+        261 => "Unsupported HMAC Identifier",
+        _ => "",
+    }
+}
+
+/// Appends the name of a cause, or `cause-` and its code.
+pub fn put_cause_name(text: &mut String, code: u16) -> Result<(), AllocError> {
+    let name = cause_name(code);
+    if name.is_empty() {
+        return put_all(text, &["cause-", Buffer::new().format(code)]);
+    }
+    text.push_str(name)
+}
+
 /// The name of a parameter of INIT, INIT-ACK, HEARTBEAT and RE-CONFIG (RFC 4960 3.3.2 and 3.3.3, RFC 3758 3.1, RFC 4895 3, RFC 4820 3.2,
 /// RFC 5061 4.2, RFC 6525 4), or nothing where it has none.
 pub fn parameter_name(typ: u16) -> &'static str {

@@ -2,6 +2,7 @@
 
 ghost use Rattle.std.specs.Prelude.{◌≡◌, ◌<◌, ◌++◌, flat_map, OnOk};
 ghost use Rattle.std.specs.String.{string_bytes};
+ghost use Rattle.sctp_show.specs.declared.page.Form.TheVariants.{Json};
 ghost use Rattle.sctp_show.specs.Page.{plain, escaped, led_text, number_text, row_text, truth_text, bytes_text, words_text};
 
 use itoa::Buffer;
@@ -66,6 +67,14 @@ pub fn put_all(text: &mut String, parts: &[&str]) -> Result<(), AllocError>
 {
     for part in parts {
         text.push_str(part)?;
+    }
+    Ok(())
+}
+
+/// Appends lines, each behind four blanks.
+fn put_indented(text: &mut String, lines: &str) -> Result<(), AllocError> {
+    for line in lines.lines() {
+        put_all(text, &["    ", line, "\n"])?;
     }
     Ok(())
 }
@@ -148,6 +157,18 @@ impl Page {
             Form::Text => Ok(()),
             Form::Json => self.text.push_str(text),
         }
+    }
+
+    /// What stands in a row: in text, each of its lines is indented.
+    pub fn inner(&mut self, row: &Page) -> Result<(), AllocError>
+        ensures form { self.new.form ≡ self.old.form }
+        ensures json { self.old.form ≡ Json → OnOk result (string_bytes self.new.text
+            ≡ string_bytes self.old.text ++ string_bytes row.now.text) }
+    {
+        if self.form == Form::Json {
+            return self.text.push_str(&row.text);
+        }
+        put_indented(&mut self.text, &row.text)
     }
 
     /// A fact whose value stands as it is, behind what JSON begins it with.

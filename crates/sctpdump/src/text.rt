@@ -6,7 +6,7 @@ use sctp_capture::record::Time;
 use sctp_dissect::dissection::Item;
 use sctp_follow::associations::{Association, Way};
 use sctp_follow::text::put_ends;
-use sctp_show::brief::{DCEP, put_brief, put_payload_type, put_tsn};
+use sctp_show::brief::{DCEP, put_brief, put_chunk, put_payload_type, put_tsn};
 use sctp_show::dcep::{put_brief_message, put_message};
 use sctp_show::follow::Bases;
 use sctp_show::names::payload_name;
@@ -231,7 +231,10 @@ pub fn put_unread(
         Form::Json => (",\"chunk\":\"", "\",\"not_read\":\"", "\"}\n"),
     };
     text.push_str(before)?;
-    put_brief(text, moment.bases, moment.missing, item)?;
+    match why {
+        Unread::NoUserData => put_chunk(text, moment.bases, item)?,
+        _ => put_brief(text, moment.bases, moment.missing, item)?,
+    }
     text.push_str(between)?;
     put_why(text, why)?;
     text.push_str(after)
