@@ -1,24 +1,19 @@
 -- What comes in a datagram: calls of both halves, each for a chunk of it.
-use Rattle.std.proofs.Common.{◌≡◌, ◌≤◌, ℕ, Bool, true, false, List, [], ◌∷◌, ◌++◌, length, drop, take, Option, Some, None, refl, ap, sym, subst, ◌∙◌, inl, inr}
-use Rattle.std.specs.Prelude.{◌⊎◌, Contains, nat_lt, if◌then◌else◌}
-use Rattle.std.specs.List.{AllByRecursion}
+use Rattle.std.proofs.Common.{◌≡◌, ℕ, List, [], ◌∷◌, length, drop, take, Option, Some, None, refl, ap, sym, subst, ◌∙◌, inl, inr}
+use Rattle.std.specs.Prelude.{◌⊎◌, Contains}
 use Rattle.sctp_association.proofs.Arriving.{follows_of, follows_one, follows_same, follows_then}
-use Rattle.sctp_association.specs.Arrivals.{Arrival, Arrives, Asks, AsksFor, AsksToHear, Begins, BeginsAnew, BeginsBy, Does, Follows, Halves, HasType}
+use Rattle.sctp_association.specs.Arrivals.{Arrival, Arrives, Asks, AsksFor, AsksToHear, Does, Follows, Halves}
 use Rattle.sctp_association.specs.Arrivals.{Hearing, Hears, HearsBy, IsBrought, IsReset, IsResetAt, IsRestart, ParamAsks, ParamAsksIn, Received, ReceivedIn}
 use Rattle.sctp_association.specs.Arrivals.{Receives, Steps}
-use Rattle.sctp_association.specs.Arrivals.{begins, by_chunk, by_param, by_type, halves, hears, new_sender, receives, renews, restarts}
+use Rattle.sctp_association.specs.Arrivals.{by_chunk, by_param, halves, hears, receives, restarts}
 use Rattle.sctp_association.specs.declared.association.Association.{Association}
 use Rattle.sctp_association.specs.declared.inbound.Inbound.{Inbound}
 use Rattle.sctp_association.specs.Halves.{HalvesAlike, halves_of, receiver_of}
-use Rattle.sctp_chunks.specs.Framing.{declared_length}
 use Rattle.sctp_chunks.specs.Wire.{ReadsChunk, Wire, sack_chunk}
 use Rattle.sctp_data.specs.SelectiveAck.{Sack}
 use Rattle.sctp_datagram.specs.Carried.{IsChunkOf}
 use Rattle.sctp_datagram.specs.declared.datagram.ChunkPlace.{ChunkPlace}
-use Rattle.sctp_datagram.specs.Places.{TellsAll, place_at}
-use Rattle.sctp_handshake.specs.declared.answer.Answer.{Answer}
 use Rattle.sctp_handshake.specs.declared.answer.Told.{Told}
-use Rattle.sctp_handshake.specs.declared.answer.Told.TheVariants.{Closed, Connected, Failed, Restarted, ShutdownBegun}
 use Rattle.sctp_params.specs.Param.{Parameter, outgoing_reset_request, reconfig_response}
 use Rattle.sctp_params.specs.ParamKind.{ReadsParam}
 use Rattle.sctp_params.specs.ResetRequest.{ResetRequest}

@@ -1,5 +1,5 @@
 -- Calls go on where others end; each call of a half is one that a chunk asks for.
-use Rattle.std.proofs.Common.{◌≡◌, ℕ, ◌^◌, ◌<◌, false, List, [], ◌∷◌, ◌++◌, Option, Some, None, Result, Ok, Err, refl, ap, sym, subst, ◌∙◌, inl, inr}
+use Rattle.std.proofs.Common.{◌≡◌, ℕ, ◌^◌, ◌<◌, false, List, [], ◌∷◌, ◌++◌, None, Result, Ok, Err, refl, sym, subst}
 use Rattle.std.specs.Global.{Global}
 use Rattle.std.specs.Prelude.{◌⊎◌, IsOk, OnErr, OnOk, Vec}
 use Rattle.sctp_association.proofs.Reaching.{not-named-too-far, not-too-far}

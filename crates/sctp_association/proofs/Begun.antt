@@ -1,6 +1,6 @@
 -- An association begins by a COOKIE-ECHO or a COOKIE-ACK of a datagram, and by nothing else.
-use Rattle.std.proofs.Common.{◌≡◌, ℕ, Bool, true, false, List, Option, Some, None, refl, ap, sym, subst, ◌∙◌, inl, inr}
-use Rattle.std.specs.Prelude.{◌⊎◌, nat_lt, if◌then◌else◌}
+use Rattle.std.proofs.Common.{◌≡◌, ℕ, true, List, Option, Some, None, refl, ap, sym, subst, ◌∙◌, inl, inr}
+use Rattle.std.specs.Prelude.{◌⊎◌}
 use Rattle.sctp_association.proofs.Arrived.{came_same, came_then}
 use Rattle.sctp_association.proofs.Arriving.{follows_one}
 use Rattle.sctp_association.specs.Arrivals.{Arrives, Begins, BeginsAnew, BeginsBy, Does, Halves, HasType, IsBrought}
@@ -9,12 +9,10 @@ use Rattle.sctp_association.specs.declared.association.Association.{Association}
 use Rattle.sctp_association.specs.Halves.{HalvesAlike, halves_of}
 use Rattle.sctp_datagram.specs.Carried.{IsChunkOf}
 use Rattle.sctp_datagram.specs.declared.datagram.ChunkPlace.{ChunkPlace}
-use Rattle.sctp_handshake.specs.Answers.{both, noticed, replied, silent}
 use Rattle.sctp_handshake.specs.Beginnings.{init_ack_checked, init_ack_row, on_init_ack}
-use Rattle.sctp_handshake.specs.Cookies.{begun_again, cookie_ack_row, on_cookie_ack, on_stale_cookie, stale_cookie_row}
+use Rattle.sctp_handshake.specs.Cookies.{cookie_ack_row, on_cookie_ack}
 use Rattle.sctp_handshake.specs.Endings.{on_shutdown, on_shutdown_ack, on_shutdown_asked, on_shutdown_complete, shutdown_ack_row, shutdown_asked_row}
 use Rattle.sctp_handshake.specs.Endings.{shutdown_complete_row, shutdown_row}
-use Rattle.sctp_handshake.specs.Machines.{Step, failed}
 use Rattle.sctp_handshake.specs.Offers.{offer_fault}
 use Rattle.sctp_handshake.specs.Timeouts.{on_packet_arrived, packet_arrived_row}
 use Rattle.sctp_handshake.specs.declared.answer.Answer.{Answer}
@@ -23,10 +21,9 @@ use Rattle.sctp_handshake.specs.declared.answer.Told.TheVariants.{Connected, Res
 use Rattle.sctp_handshake.specs.declared.machine.Machine.{Machine}
 use Rattle.sctp_handshake.specs.declared.offer.Offer.{Offer}
 use Rattle.sctp_handshake.specs.declared.offer.OfferFault.{OfferFault}
-use Rattle.sctp_handshake.specs.declared.offer.OfferFault.TheVariants.{NoTag, NoStreams, SmallWindow}
+use Rattle.sctp_handshake.specs.declared.offer.OfferFault.TheVariants.{NoTag}
 use Rattle.sctp_handshake.specs.declared.state.State.{State}
 use Rattle.sctp_handshake.specs.declared.state.State.TheVariants.{Closed, CookieEchoed, CookieWait, ShutdownSent}
-use Rattle.sctp_receiver.specs.declared.receiver.limits.Limits.{Limits}
 use Rattle.sctp_sender.specs.Sender.{Transmission}
 
 -- ## What begins
@@ -92,14 +89,6 @@ complete-quiet : (s : State) (m : Machine) (x y : Halves) → BeginsBy (shutdown
 complete-quiet Closed m x y b = b
 complete-quiet _ m x y b = b
 
-retried-quiet : (more : Bool) (m : Machine) (x y : Halves) → BeginsBy (if more then begun_again m else failed m).answer.told x y → y ≡ x
-retried-quiet true m x y b = b
-retried-quiet false m x y b = b
-
-stale-quiet : (s : State) (m : Machine) (x y : Halves) → BeginsBy (stale_cookie_row s m).answer.told x y → y ≡ x
-stale-quiet CookieEchoed m x y b = retried-quiet (nat_lt m.stale m.limits.max_init_retransmits) m x y b
-stale-quiet _ m x y b = b
-
 checked-quiet : (f : Option OfferFault) (o : Offer) (m : Machine) (x y : Halves) → BeginsBy (init_ack_checked f o m).answer.told x y → y ≡ x
 checked-quiet None o m x y b = b
 checked-quiet (Some NoTag) o m x y b = b
@@ -128,9 +117,6 @@ module _ (m : Machine) (x y : Halves) (a : Answer) (begun : BeginsBy a.told x y)
 
   pub quiet_complete : a ≡ (on_shutdown_complete m).answer → y ≡ x
   quiet_complete e = complete-quiet m.state m x y (told-as (on_shutdown_complete m).answer e)
-
-  pub quiet_stale : a ≡ (on_stale_cookie m).answer → y ≡ x
-  quiet_stale e = stale-quiet m.state m x y (told-as (on_stale_cookie m).answer e)
 
   pub quiet_init_ack : (o : Offer) → a ≡ (on_init_ack o m).answer → y ≡ x
   quiet_init_ack o e = init-ack-quiet m.state o m x y (told-as (on_init_ack o m).answer e)

@@ -8,10 +8,10 @@ use Rattle.sctp_association.specs.Arrivals.{Arrival, Does, Follows, Halves, IsBr
 use Rattle.sctp_association.specs.Asked.{calls_on}
 use Rattle.sctp_association.specs.Halves.{expires_t3, fragment_size, halves_of, marked, receiver_of, sides_of}
 use Rattle.sctp_association.specs.HostCalls.{ActsEach, ArePlain, EachAskActs, EachBegins, EachDatagramActs, EachOtherIsQuiet, EachPollActs, EachReadActs, EachSizeActs}
-use Rattle.sctp_association.specs.HostCalls.{EachTimeoutActs, IsHostOf, Leads, LeadsTo}
-use Rattle.sctp_association.specs.Hosts.{Act, Acts, DoesPlainly, Host, Way, asks, handles, is_asking, polls, reads_on}
-use Rattle.sctp_association.specs.Packets.{Sides, Transmits, sides}
-use Rattle.sctp_association.specs.Reads.{AreReadOff, IsReadOff, read_off}
+use Rattle.sctp_association.specs.HostCalls.{EachTimeoutActs, IsHostOf, Leads}
+use Rattle.sctp_association.specs.Hosts.{Act, DoesPlainly, Host, Way, asks, is_asking, reads_on}
+use Rattle.sctp_association.specs.Packets.{Transmits, sides}
+use Rattle.sctp_association.specs.Reads.{AreReadOff}
 use Rattle.sctp_delivery.specs.SenderCalls.{SenderCall, SenderMakesEach, marks, opens, sets_size, written_after}
 use Rattle.sctp_receiver.specs.Receiver.{Reception, after_read, is_open, message_on}
 use Rattle.sctp_receiver.specs.ReceiverRuns.{with_message}

@@ -2,16 +2,15 @@
 use Rattle.std.proofs.Common.{◌≡◌, ◌+◌, ◌≤◌, ◌<◌, ◌^◌, ℕ, Bool, true, false, List, [], ◌∷◌, ◌++◌, length, refl, ap, sym, subst, ◌∙◌, inl, inr, arith}
 use Rattle.std.proofs.lemmas.Bool.{false≢true}
 use Rattle.std.proofs.lemmas.List.Elements.{All-contains, All-from_recursion, Contains-append_cases, Contains-append_left}
-use Rattle.std.specs.Prelude.{◌⊎◌, Contains, if◌then◌else◌}
+use Rattle.std.specs.Prelude.{◌⊎◌, Contains}
 use Rattle.std.specs.List.{sum_by}
-use Rattle.sctp_association.proofs.Delivered.{reports-more}
 use Rattle.sctp_association.proofs.Sessions.{made_more, none_taken}
 use Rattle.sctp_association.specs.Acks.{without_blocks}
-use Rattle.sctp_association.specs.Runs.{AcksBy, Runs, SendsBy, is_acking, is_sending, made_by, reported_by}
+use Rattle.sctp_association.specs.Runs.{AcksBy, Runs, SendsBy, is_sending, made_by, reported_by}
 use Rattle.sctp_data.specs.SelectiveAck.{Sack}
 use Rattle.sctp_delivery.proofs.StandsSo.{acked-steps-so, receiver-steps-so, sender-steps-so}
-use Rattle.sctp_delivery.specs.ReceiverCalls.{ReceiverCall, ReceiverMakes, forgets, makes_sack, reports_after}
-use Rattle.sctp_delivery.specs.SenderCalls.{Made, SenderCall, SenderMakes, TakesBackAndSack, Write, made_after, written_after}
+use Rattle.sctp_delivery.specs.ReceiverCalls.{ReceiverCall, ReceiverMakes, forgets, makes_sack}
+use Rattle.sctp_delivery.specs.SenderCalls.{Made, SenderCall, SenderMakes, TakesBackAndSack, Write, written_after}
 use Rattle.sctp_delivery.specs.SenderCalls.{expires, expires_late, expires_rexmit, expires_tail, forwards_within, resends, sends, starts}
 use Rattle.sctp_delivery.specs.Session.{IsReported, IsSent, ReceiverFollows, SenderFollows, Session}
 use Rattle.sctp_delivery.specs.Stand.{StandSo, given_so}
@@ -142,7 +141,8 @@ send-each (c ∷ cs) ms new st few r =
       own = λ m h.
           either (g.own m)
           (λ (b : Contains (made_by c st.session.sending.sender) m).
-          g.sent.more.made m (subst (λ (l : List Made). Contains l m) (sym made) (Contains-append_left (made_by c st.session.sending.sender) st.session.made m b)))
+          g.sent.more.made m
+          (subst (λ (l : List Made). Contains l m) (sym made) (Contains-append_left (made_by c st.session.sending.sender) st.session.made m b)))
           (Contains-append_cases r.later (made_by c st.session.sending.sender) m (subst (λ (l : List Made). Contains l m) r.order h));
     }
 
@@ -257,7 +257,8 @@ plain-sack k back gone t u h = record {
 pub ack-one : (k : Sack) (back : List TakenBack) (gone : List Released) (new : Transmission) (st : StandSo)
     → TakesBackAndSack k back gone st.session.sending.sender new → Contains st.session.sacks k → given_so st + 1 < 2 ^ 31 → Sent st 1 st.session.written new
 ack-one k back gone new st h handed room =
-    let x = acked-steps-so k back gone st.session.sending.sender new st.session.receiving.receiver st (record { sends = refl; receives = refl }) h handed room in
+    let x = acked-steps-so k back gone st.session.sending.sender new st.session.receiving.receiver st
+    (record { sends = refl; receives = refl }) h handed room in
     let a = x.1.step in
     let b = x.4.step in
     let first = x.1.given in

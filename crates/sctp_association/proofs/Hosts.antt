@@ -1,10 +1,10 @@
 -- Two associations stand in two sessions, one for each way.
-use Rattle.std.proofs.Common.{◌≡◌, ◌+◌, ◌≤◌, ◌<◌, ◌^◌, ℕ, Bool, true, false, List, [], ◌∷◌, ◌++◌, length, Option, Some, None, refl, ap, sym}
-use Rattle.std.proofs.Common.{subst, ◌∙◌, inl, inr, arith}
+use Rattle.std.proofs.Common.{◌≡◌, ◌+◌, ◌≤◌, ◌<◌, ◌^◌, ℕ, Bool, true, false, List, [], ◌∷◌, length, Option, Some, None, refl, ap, sym}
+use Rattle.std.proofs.Common.{subst, ◌∙◌, arith}
 use Rattle.std.proofs.lemmas.Bool.{false≢true}
 use Rattle.std.proofs.lemmas.List.Elements.{All-contains, All-from_recursion, Contains-append_cases}
 use Rattle.std.proofs.lemmas.List.Sums.{sum_by-cons}
-use Rattle.std.specs.Prelude.{◌⊎◌, Contains, if◌then◌else◌}
+use Rattle.std.specs.Prelude.{Contains, if◌then◌else◌}
 use Rattle.sctp_association.proofs.Delivered.{carries-only, of-call}
 use Rattle.sctp_association.proofs.HostSteps.{IsMore, IsThere, Sent, ack-one, bytes-of, contains-none, either, call-one, more-same, more-then}
 use Rattle.sctp_association.proofs.HostSteps.{plain-sack, report-each, send-each, send-one, there-more}
@@ -265,8 +265,8 @@ module _ (f b : Way) (x y z : Host) (j : Joined f b x z) where
       let before = j.goes.given in
       let room = few.0 in
       let same = ap (written_after call) j.goes.written ∙ sym (ap (λ (i : Host). i.written) h.after) in
-      let t = (send-one call y.sender j.forth (subst (λ t. SenderMakes call t y.sender) (sym j.goes.sends) h.makes) reported (omega (arith, calls, before, room))
-      (subst (λ (ws : List Write). bytes-of ws < 2 ^ 64) (sym same) few.1)).sent in
+      let t = (send-one call y.sender j.forth (subst (λ t. SenderMakes call t y.sender) (sym j.goes.sends) h.makes) reported
+      (omega (arith, calls, before, room)) (subst (λ (ws : List Write). bytes-of ws < 2 ^ 64) (sym same) few.1)).sent in
       joins 1 (written_after call j.forth.session.written) j.back.session.receiving.read t
       (led-same b j.back y.receiver
       (subst (λ o. IsReceiver b o j.back.session.receiving.receiver) (sym (ap (λ (i : Host). i.receiver) h.after)) j.comes.receives))

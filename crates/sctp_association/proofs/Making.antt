@@ -1,5 +1,5 @@
 -- Each chunk of a half that is put is what a call of it answered.
-use Rattle.std.proofs.Common.{◌≡◌, ℕ, List, [], ◌∷◌, Bool, true, false, Option, Some, None, refl, ap, sym, subst, ◌∙◌, arith}
+use Rattle.std.proofs.Common.{◌≡◌, ◌≢◌, ℕ, List, [], ◌∷◌, Bool, true, false, Option, Some, None, refl, ap, sym, subst, ◌∙◌, arith}
 use Rattle.std.specs.Prelude.{Contains, IfSome, find}
 use Rattle.std.specs.Option.{option_map}
 use Rattle.sctp_association.proofs.Putting.{adds_none, and_then, kept, puts_made, puts_none, puts_reported, there}
@@ -18,6 +18,7 @@ use Rattle.sctp_delivery.specs.Amounts.{Drops}
 use Rattle.sctp_delivery.specs.ReceiverCalls.{forgets, makes_sack}
 use Rattle.sctp_delivery.specs.SenderCalls.{forwards_within, next_chunk, resends, sends, with_chunk}
 use Rattle.sctp_delivery.specs.SenderCalls as made
+use Rattle.sctp_outbound.specs.pending_queue.PendingQueue.{next_pending}
 use Rattle.sctp_receiver.specs.Receiver.{Reception, sack_within, without_duplicates}
 use Rattle.sctp_sender.specs.Abandonment.{Name, can_skip_to, is_end, named_up_to}
 use Rattle.sctp_sender.specs.declared.sender.Dropped.{Dropped}
@@ -95,6 +96,21 @@ module _ (now : ℕ) (t u : Transmission) (exact : u ≡ after_send now t) (held
 
   pub none_put : (x : List ℕ) → PutsOut t u x x
   none_put x = puts_none (sends now) t u x (refl, (held, (exact, (accepted, tt))))
+
+told-once : {X : Type 0} (n tsn : ℕ) (o : Option X) → Some tsn ≡ option_map (λ _. n) o → (tsn ≡ n) × (o ≢ None)
+told-once n tsn None e = absurd (cc)
+told-once n tsn (Some x) e = (of-some tsn n e, λ none. some-none x none)
+
+-- the same, where the chunk is lent by its TSN
+pub lent_put : (now : ℕ) (t u : Transmission) (tsn : ℕ) → Some tsn ≡ option_map (λ _. t.flight.next_tsn) (next_pending t.flight.queue.pending)
+    → (next_pending t.flight.queue.pending ≢ None → find (has_tsn t.flight.next_tsn) u.flight.queue.inflight.chunks ≡ next_chunk now t)
+    → u ≡ after_send now t → held_by_sender u ≡ held_by_sender t → send_refusal t.flight ≡ None
+    → (chunk : ChunkPayloadData) (b : Bool) (old new : List ℕ) → Some chunk ≡ find (has_tsn tsn) u.flight.queue.inflight.chunks
+    → Adds (put_where b (data_chunk (data_of chunk))) old new → PutsOut t u old new
+lent_put now t u tsn answer noted exact held accepted chunk b old new lent added =
+    let told = told-once t.flight.next_tsn tsn (next_pending t.flight.queue.pending) answer in
+    next_put now t u exact held accepted chunk b old new
+    (lent ∙ ap (λ n. find (has_tsn n) u.flight.queue.inflight.chunks) told.0 ∙ noted told.1) added
 
 -- what has expired is abandoned, and no chunk is made
 pub dropped_on : (now : ℕ) (d : Option Dropped) (s t u : Transmission) → Sends [] s t → Drops d now t u → Sends [] s u

@@ -4,13 +4,13 @@ use Rattle.std.proofs.lemmas.Bool.{false≢true}
 use Rattle.std.proofs.lemmas.List.Elements.{Contains-append_left}
 use Rattle.std.specs.List.{AllByRecursion}
 use Rattle.std.specs.Result.{IsErr}
-use Rattle.sctp_association.proofs.Putting.{shutdown_put, adds_none, adds_then, all_append, all_of_more, all_put, and_then, nothing}
+use Rattle.sctp_association.proofs.Putting.{shutdown_put, adds_none, adds_then, all_append, all_of_more, all_put, nothing}
 use Rattle.sctp_association.proofs.Running.{none_in, none_sent, reported_in, sent_then}
 use Rattle.sctp_association.specs.declared.association.Association.{Association}
 use Rattle.sctp_association.specs.declared.inbound.Inbound.{Inbound}
 use Rattle.sctp_association.specs.Halves.{HalvesAlike, PutsOthers, is_sent, receiver_of, sides_of}
 use Rattle.sctp_association.specs.declared.fault.Fault.{Fault}
-use Rattle.sctp_association.specs.Packets.{Adds, IsOf, IsWritten, Puts, PutsIn, PutsOut, Sides, Transmits, put_where, sides, sum_of, with_chunks}
+use Rattle.sctp_association.specs.Packets.{Adds, IsOf, IsWritten, Puts, PutsIn, Sides, Transmits, put_where, sides, sum_of, with_chunks}
 use Rattle.sctp_association.specs.Runs.{ReportsIn, Sends}
 use Rattle.sctp_chunks.specs.Wire.{Wire, shutdown_chunk}
 use Rattle.sctp_data.specs.SelectiveAck.{Sack}
@@ -20,9 +20,6 @@ use Rattle.sctp_packets.specs.Draft.{IsDraft, headed}
 use Rattle.sctp_packets.specs.Packet.{Parts, packet_encoding}
 use Rattle.sctp_receiver.specs.Receiver.{Reception}
 use Rattle.sctp_sender.specs.Sender.{Transmission}
-
-pub alike : (a : Association) → HalvesAlike a a
-alike a = record { sender = refl; receiver = refl }
 
 pub alike_then : (a b c : Association) → HalvesAlike a b → HalvesAlike b c → HalvesAlike a c
 alike_then a b c h k = record { sender = k.sender ∙ h.sender; receiver = k.receiver ∙ h.receiver }
@@ -78,9 +75,6 @@ module _ (a b : Association) where
 pub same_puts : (a b : Association) → b.draft.bytes ≡ a.draft.bytes → HalvesAlike a b → Puts (sides_of a) (sides_of b)
 same_puts a b e h = others_puts a b (others_none a b h e)
 
-pub puts_then : (a b c : Association) → Puts (sides_of a) (sides_of b) → Puts (sides_of b) (sides_of c) → Puts (sides_of a) (sides_of c)
-puts_then a b c p q = and_then (sides_of a) (sides_of b) (sides_of c) p q
-
 -- what a receiver puts, where there is one
 in_side : (t : Transmission) (o p : Option Inbound) (i j : Inbound) (x y : List ℕ) → o ≡ Some i → p ≡ Some j → PutsIn i.receiver j.receiver x y
     → Puts (sides t (receiver_of o) x) (sides t (receiver_of p) y)
@@ -105,10 +99,6 @@ shutdown_puts k n a b i added e own h =
     (shutdown_side n k a.outbound.sender a.inbound i a.draft.bytes b.draft.bytes e own added)
 
 -- what the sender puts
-pub data_puts : (a b : Association) → PutsOut a.outbound.sender b.outbound.sender a.draft.bytes b.draft.bytes
-    → receiver_of b.inbound ≡ receiver_of a.inbound → Puts (sides_of a) (sides_of b)
-data_puts a b h e = subst (λ r. Puts (sides_of a) (sides b.outbound.sender r b.draft.bytes)) (sym e) (h (receiver_of a.inbound))
-
 pub sends_puts : (ms : List Made) (t u : Transmission) (r : Option Reception) (x : List ℕ) → Sends ms t u → Puts (sides t r x) (sides u r x)
 sends_puts ms t u r x s = record { made = ms; sacks = []; chunks = []; sent = s; reported = none_in r; added = adds_none x; own = tt }
 

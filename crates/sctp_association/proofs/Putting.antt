@@ -1,5 +1,5 @@
 -- Chunks that are put behind others are of what calls answered.
-use Rattle.std.proofs.Common.{◌≡◌, ℕ, List, [], ◌∷◌, ◌++◌, Bool, true, false, Option, refl, sym, subst, append_assoc, arith}
+use Rattle.std.proofs.Common.{◌≡◌, ℕ, List, [], ◌∷◌, ◌++◌, Bool, true, false, refl, sym, subst, append_assoc, arith}
 use Rattle.std.proofs.lemmas.List.{append-nil}
 use Rattle.std.proofs.lemmas.List.Elements.{Contains-append_left, Contains-append_right}
 use Rattle.std.specs.Prelude.{Contains}
@@ -108,19 +108,6 @@ to_same t u v x y e p = subst (λ w. PutsOut t w x y) (sym e) p
 
 pub out_then : (t u v : Transmission) (x y z : List ℕ) → PutsOut t u x y → PutsOut u v y z → PutsOut t v x z
 out_then t u v x y z p q r = and_then (sides t r x) (sides u r y) (sides v r z) (p r) (q r)
-
--- a chunk that no call of a half answers
-pub puts_other : (b : Bool) (w : Wire) (t : Transmission) (r : Option Reception) (old new : List ℕ) → IsOf [] [] w → Adds (put_where b w) old new
-    → Puts (sides t r old) (sides t r new)
-puts_other b w t r old new of added = record {
-  made = [];
-  sacks = [];
-  chunks = put_where b w;
-  sent = none_sent t;
-  reported = none_in r;
-  added = added;
-  own = all_put (IsOf [] []) b w of;
-}
 
 -- a chunk that a call of the sender answers
 pub puts_made : (c : SenderCall) (b : Bool) (w : Wire) (t u : Transmission) (old new : List ℕ) → SendsBy c t u → IsOf (made_by c t) [] w

@@ -171,8 +171,27 @@ impl Inbound {
             → is_open n self.new.receiver ≡ true }
         ensures place { self.new.receiver.cumulative_tsn ≡ self.old.receiver.cumulative_tsn }
     {
-        let is_open = self.receiver.stats(stream).is_some();
-        if stream >= self.streams || is_open || self.discarded.contains(stream) {
+        if self.receiver.stats(stream).is_some() {
+            return Ok(());
+        }
+        self.open_agreed(stream, events)
+    }
+
+    // The same of a stream that is not open: seldom, and so apart.
+    #[tactic(auto, using(crate::proofs::Reaching::opened))]
+    #[inline(never)]
+    fn open_agreed(&mut self, stream: u16, events: &mut Events) -> Result<(), Fault>
+        ensures received { Received (IsOpening stream) self.old.receiver self.new.receiver }
+        ensures limits { (self.new.receiver.limits ≡ self.old.receiver.limits)
+            × (self.new.streams ≡ self.old.streams) }
+        ensures shut { is_in stream self.old.discarded ≡ true → self.new ≡ self.old }
+        ensures same { (n : ℕ) → is_in n self.new.discarded ≡ is_in n self.old.discarded }
+        ensures served { IsOk result → IsServed stream self.new }
+        ensures still { (n : ℕ) → is_open n self.old.receiver ≡ true
+            → is_open n self.new.receiver ≡ true }
+        ensures place { self.new.receiver.cumulative_tsn ≡ self.old.receiver.cumulative_tsn }
+    {
+        if stream >= self.streams || self.discarded.contains(stream) {
             return Ok(());
         }
         events.reserve_inbound(stream)?;

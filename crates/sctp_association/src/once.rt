@@ -31,6 +31,19 @@ impl Once {
         ensures value { result ≡ (not (has_seen typ self.old) && not (typ == 10)) }
         ensures noted { self.new ≡ seen typ self.old }
     {
+        // DATA is of no such kind.
+        if typ == 0 {
+            return true;
+        }
+        self.note(typ)
+    }
+
+    // The same of a chunk that is no DATA.
+    #[inline(never)]
+    fn note(&mut self, typ: u8) -> bool
+        ensures value { result ≡ (not (has_seen typ self.old) && not (typ == 10)) }
+        ensures noted { self.new ≡ seen typ self.old }
+    {
         let counts = match typ {
             3 => !self.sack,
             7 => !self.shutdown,

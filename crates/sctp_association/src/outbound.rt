@@ -415,7 +415,7 @@ impl Outbound {
           is_skip_due = self.new.is_skip_due;
         } }
     {
-        if !self.is_partial {
+        if !self.is_partial || self.is_drained() {
             return Ok(());
         }
         for _ in 0..MOST_DROPS {

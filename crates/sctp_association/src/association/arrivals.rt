@@ -152,7 +152,8 @@ impl Association {
         ensures dropped { (r : Reason) → result ≡ Ok (Dropped r) → self.new ≡ self.old }
         ensures accepted { result ≡ Ok Accepted
             → AdmitsFirst datagram.now chunks.entry.left self.old.key self.old.machine }
-        ensures foreign { (AdmitsFirst datagram.now chunks.entry.left self.old.key self.old.machine → ⊥)
+        ensures foreign { (AdmitsFirst datagram.now chunks.entry.left
+            self.old.key self.old.machine → ⊥)
             → self.new ≡ self.old }
         ensures init { FirstIs 1 chunks.entry.left
             → self.new ≡ record self.old { due = self.new.due } }
@@ -261,6 +262,9 @@ impl Association {
     fn admits(&self, chunk: ChunkPlace, tag: u32, count: usize) -> bool
         ensures { result ≡ is_admitted chunk tag count self.now.machine }
     {
+        if chunk.typ == 0 {
+            return tag == self.machine.own().tag;
+        }
         if chunk.typ == 1 {
             return tag == 0 && count == 1;
         }

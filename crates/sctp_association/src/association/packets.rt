@@ -352,7 +352,9 @@ impl Association {
     fn put_heartbeats(&mut self, now: u64) -> Result<(), Fault>
         ensures others { PutsOthers self.old self.new }
     {
-        self.put_heartbeat_ack()?;
+        if self.due.heartbeat.is_some() {
+            self.put_heartbeat_ack()?;
+        }
         match self.next_heartbeat() {
             Some(at) if at <= now => self.put_heartbeat(now),
             _ => Ok(()),

@@ -97,7 +97,9 @@ impl Association {
         }
         let request = self.next_request(now)?;
         let response = self.next_response();
-        self.put_reconfig(response, request, now);
+        if request.is_some() || response.is_some() {
+            self.put_reconfig(response, request, now);
+        }
         Ok(())
     }
 
@@ -133,13 +135,21 @@ impl Association {
     }
 
     // Begins the next request, where none is under way, and answers the one that is due.
-    #[inline(never)]
+    #[tactic(auto, using(crate::proofs::Others::others_one, crate::proofs::Others::others_none, crate::proofs::Others::others_then))]
     fn next_request(&mut self, now: u64) -> Result<Option<ParamOutgoingResetRequest>, Fault>
         ensures others { PutsOthers self.old self.new }
     {
         if self.requests.is_idle() {
             return Ok(None);
         }
+        self.next_asked(now)
+    }
+
+    // The same, where some stream is to be reset: seldom, and so apart.
+    #[inline(never)]
+    fn next_asked(&mut self, now: u64) -> Result<Option<ParamOutgoingResetRequest>, Fault>
+        ensures others { PutsOthers self.old self.new }
+    {
         self.begin_request(now)?;
         self.request_due(now)
     }

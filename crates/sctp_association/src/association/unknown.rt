@@ -126,8 +126,30 @@ impl Association {
     /// Puts the ERROR about what this side does not know, if it fits: it waits for a packet that is empty, into which it always fits. Refuses
     /// only for memory, and nothing has changed then.
     #[tactic(auto, using(crate::proofs::Others::others_one, crate::proofs::Others::others_none, crate::proofs::Others::others_then))]
-    #[inline(never)]
     pub(super) fn put_report(&mut self) -> Result<(), Fault>
+        ensures others { PutsOthers self.old self.new }
+        ensures once { OnOk result (self.new.due.report ≡ None
+            ⊎ ((self.new.draft ≡ self.old.draft) × (12 < length self.old.draft.bytes))) }
+        ensures due { self.new.due ≡ record self.old.due { report = self.new.due.report } }
+        ensures kept { self.new.due.report ≡ None ⊎ (self.new.due.report ≡ self.old.due.report) }
+        ensures none { self.old.due.report ≡ None → self.new ≡ self.old }
+        ensures limit { self.new.draft.limit ≡ self.old.draft.limit }
+        ensures rest { self.new ≡ record self.old {
+          due = self.new.due;
+          draft = self.new.draft;
+        } }
+        ensures err { OnErr result (self.new ≡ self.old) }
+    {
+        if self.due.report.is_none() {
+            return Ok(());
+        }
+        self.write_report()
+    }
+
+    // The same, where one is due: seldom, and so apart.
+    #[tactic(auto, using(crate::proofs::Others::others_one, crate::proofs::Others::others_none, crate::proofs::Others::others_then))]
+    #[inline(never)]
+    fn write_report(&mut self) -> Result<(), Fault>
         ensures others { PutsOthers self.old self.new }
         ensures once { OnOk result (self.new.due.report ≡ None
             ⊎ ((self.new.draft ≡ self.old.draft) × (12 < length self.old.draft.bytes))) }

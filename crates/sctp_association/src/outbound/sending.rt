@@ -10,6 +10,7 @@ ghost use Rattle.sctp_stream.specs.Stats.{count_up};
 use super::{DATA_HEADER, Outbound};
 use crate::draft::Draft;
 use crate::fault::Fault;
+use sctp_sender::replay;
 use sctp_sender::sender::refusal::SenderRefusal;
 
 // More chunks than a packet has room for.
@@ -121,11 +122,29 @@ impl Outbound {
         if !is_fast && !self.congestion.may_send(flight) {
             return Ok(false);
         }
+        // Where none is marked, what waits may go.
+        if self.sender.outstanding().marked == 0 {
+            self.has_lost = false;
+            return Ok(false);
+        }
+        self.put_first(packet, now)
+    }
+
+    // Sends the first chunk again that is marked, where it fits: seldom, and so apart.
+    #[inline(never)]
+    fn put_first(&mut self, packet: &mut Draft, now: u64) -> Result<bool, Fault>
+        ensures made { PutsOut self.old.sender self.new.sender packet.old.bytes packet.new.bytes }
+        ensures counted { IfOk result (λ sent. sent ≡ true
+            → self.new.resent ≡ count_up self.old.resent 1) }
+        ensures uncounted { IfOk result (λ sent. sent ≡ false
+            → self.new.resent ≡ self.old.resent) }
+        ensures counts { IsCountedOn self.old self.new }
+        ensures held { IfOk result (λ sent. sent ≡ false
+            → (self.new.sender ≡ self.old.sender) × (packet.new ≡ packet.old)) }
+        ensures err { OnErr result ((self.new ≡ self.old) × (packet.new ≡ packet.old)) }
+        ensures limit { packet.new.limit ≡ packet.old.limit }
+    {
         let Some(chunk) = self.sender.resend_next(now, packet.room())? else {
-            // Where none is marked, what waits may go.
-            if self.sender.outstanding().marked == 0 {
-                self.has_lost = false;
-            }
             return Ok(false);
         };
         self.is_fast = false;
@@ -272,7 +291,7 @@ impl Outbound {
             return Ok(false);
         }
         let flight = self.flight();
-        let sent = match self.sender.send_next(now) {
+        let sent = match replay::send_next_tsn(&mut self.sender, now) {
             Ok(sent) => sent,
             Err(SenderRefusal::SsnsUsedUp) => return Ok(false),
             Err(e) => return Err(Fault::from(e)),
@@ -282,8 +301,11 @@ impl Outbound {
             _ => flight,
         });
         self.used = now;
-        if let Some(chunk) = sent {
-            packet.put(&chunk);
+        if let Some(tsn) = sent {
+            // It is put as it is noted there: no copy of it is made.
+            if let Some(chunk) = self.sender.outbound().get(tsn) {
+                packet.put(chunk);
+            }
         }
         Ok(true)
     }

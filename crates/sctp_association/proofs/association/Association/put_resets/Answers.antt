@@ -1,7 +1,7 @@
 use Rattle.sctp_association.proofs.Others.{others_then}
 use Rattle.sctp_association.proofs.association.Association.put_resets.Goals as goal
 
-pub returns : goal.returns
-returns c = record {
+pub returns-then-is_some : goal.returns-then-is_some
+returns-then-is_some c = record {
   others = others_then _ _ _ (others_then _ _ _ c.next_request.ensures.others c.next_response-response.ensures.others) c.put_reconfig.ensures.others;
 }

@@ -1,4 +1,4 @@
-use Rattle.std.proofs.Common.{arith, rules, ◌≡◌, ◌+◌}
+use Rattle.std.proofs.Common.{arith, ◌≡◌, ◌+◌}
 use Rattle.sctp_association.proofs.Carrying.{place_within, read_there}
 use Rattle.sctp_association.proofs.association.Association.read_chunk.Goals as goal
 

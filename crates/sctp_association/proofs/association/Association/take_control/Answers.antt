@@ -1,4 +1,4 @@
-use Rattle.std.proofs.Common.{ap, refl, rules, ◌≡◌}
+use Rattle.std.proofs.Common.{ap, rules, ◌≡◌}
 use Rattle.sctp_association.proofs.Arrived.{came_alike, came_same}
 use Rattle.sctp_association.proofs.Begun.{ack_came, quiet_complete, quiet_shutdown_ack}
 use Rattle.sctp_association.specs.Halves.{halves_of}

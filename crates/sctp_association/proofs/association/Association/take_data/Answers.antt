@@ -1,4 +1,4 @@
-use Rattle.std.proofs.Common.{refl, sym}
+use Rattle.std.proofs.Common.{refl}
 use Rattle.sctp_association.proofs.Arrived.{came_alike, came_same, came_then, receiver_came}
 use Rattle.sctp_association.proofs.Begun.{quiet_arrived}
 use Rattle.sctp_association.proofs.Kept.{same_machine}

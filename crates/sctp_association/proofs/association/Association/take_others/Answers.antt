@@ -1,4 +1,4 @@
-use Rattle.std.proofs.Common.{refl, rules, ◌∙◌}
+use Rattle.std.proofs.Common.{refl, ◌∙◌}
 use Rattle.sctp_association.proofs.Arrived.{came_same, came_then}
 use Rattle.sctp_association.proofs.Carrying.{next_own}
 use Rattle.sctp_association.proofs.association.Association.take_others.Goals as goal

@@ -1,4 +1,4 @@
-use Rattle.std.proofs.Common.{refl, ◌∙◌}
+use Rattle.std.proofs.Common.{refl}
 use Rattle.sctp_association.proofs.Arriving.{acknowledged_restart_by, acknowledged_same, acknowledged_then}
 use Rattle.sctp_association.proofs.association.Association.take_response.Goals as goal
 

@@ -1,4 +1,4 @@
-use Rattle.std.proofs.Common.{refl, rules, subst}
+use Rattle.std.proofs.Common.{refl, rules}
 use Rattle.sctp_association.proofs.Arrived.{came_alike, came_same, came_then, sack_came}
 use Rattle.sctp_association.proofs.association.Association.take_sack.Goals as goal
 

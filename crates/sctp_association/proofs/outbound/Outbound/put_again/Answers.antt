@@ -1,24 +1,8 @@
-use Rattle.std.proofs.Common.{ap, refl, sym, ◌∙◌}
-use Rattle.sctp_association.proofs.Making.{again_put, none_again}
-use Rattle.sctp_association.proofs.Putting.{kept, nothing, to_same}
+use Rattle.sctp_association.proofs.Putting.{nothing}
 use Rattle.sctp_association.proofs.outbound.Outbound.put_again.Goals as goal
 
 pub returns-then-not-may_send-clause-made : goal.returns-then-not-may_send-clause-made
 returns-then-not-may_send-clause-made c = λ r. nothing _
 
-pub returns-in_err-chunk-clause-made : goal.returns-in_err-chunk-clause-made
-returns-in_err-chunk-clause-made c = kept _ _ _ _ c.in_err-chunk.ensures.err refl
-
 pub returns-then-outstanding-eq0-clause-made : goal.returns-then-outstanding-eq0-clause-made
-returns-then-outstanding-eq0-clause-made c =
-    none_again c.args.now c.room.result _ _ _ _ c.in_default.is c.in_ok-chunk.ensures.answer c.in_ok-chunk.ensures.none
-
-pub returns-else-outstanding-eq0-clause-made : goal.returns-else-outstanding-eq0-clause-made
-returns-else-outstanding-eq0-clause-made c =
-    none_again c.args.now c.room.result _ _ _ _ c.in_default.is c.in_ok-chunk.ensures.answer c.in_ok-chunk.ensures.none
-
-pub returns-clause-made : goal.returns-clause-made
-returns-clause-made c = to_same _ _ _ _ _ (ap (λ o. o.sender) c.stop_where_first.ensures) (
-    again_put c.args.now c.room.result c.in-Some.chunk _ c.args.self.now.sender c.resend_next.new.self _ _ (sym c.in-Some.is ∙ c.in_ok-chunk.ensures.answer)
-    c.in_ok-chunk.ensures.ok c.in_ok-chunk.ensures.marked c.put.ensures.added
-    )
+returns-then-outstanding-eq0-clause-made c = λ r. nothing _

@@ -1,0 +1,17 @@
+use Rattle.std.proofs.Common.{ap, refl, sym, ◌∙◌}
+use Rattle.sctp_association.proofs.Making.{again_put, none_again}
+use Rattle.sctp_association.proofs.Putting.{kept, to_same}
+use Rattle.sctp_association.proofs.outbound.Outbound.put_first.Goals as goal
+
+pub returns-in_err-chunk-clause-made : goal.returns-in_err-chunk-clause-made
+returns-in_err-chunk-clause-made c = kept _ _ _ _ c.in_err-chunk.ensures.err refl
+
+pub returns-in_default-clause-made : goal.returns-in_default-clause-made
+returns-in_default-clause-made c =
+    none_again c.args.now c.room.result _ _ _ _ c.in_default.is c.in_ok-chunk.ensures.answer c.in_ok-chunk.ensures.none
+
+pub returns-clause-made : goal.returns-clause-made
+returns-clause-made c = to_same _ _ _ _ _ (ap (λ o. o.sender) c.stop_where_first.ensures) (
+    again_put c.args.now c.room.result c.in-Some.chunk _ c.args.self.now.sender c.resend_next.new.self _ _ (sym c.in-Some.is ∙ c.in_ok-chunk.ensures.answer)
+    c.in_ok-chunk.ensures.ok c.in_ok-chunk.ensures.marked c.put.ensures.added
+    )
