@@ -274,7 +274,12 @@ def ends_with_its_writer(program):
     """Whether each view that is printed at the end is printed where an interrupt ends the program that writes into the pipe."""
     path, is_right = f"{ROOT}/examples/usrsctp-partial.log", True
     for view in ("--summary", "--messages", "--acks", "--channels", "--flow", "--svg -"):
-        writer = subprocess.Popen(["sh", "-c", 'cat "$0"; kill -INT $$; sleep 60', path], stdout=subprocess.PIPE)
+        # a command that a shell runs beside others, as tools/c_tests.sh runs this one, ignores interrupts: the writer does not
+        writer = subprocess.Popen(
+            ["sh", "-c", 'cat "$0"; kill -INT $$; sleep 60', path],
+            stdout=subprocess.PIPE,
+            preexec_fn=lambda: signal.signal(signal.SIGINT, signal.SIG_DFL),
+        )
         told = subprocess.run([program, *view.split()], stdin=writer.stdout, capture_output=True).stdout
         writer.stdout.close()
         is_right = writer.wait() == -signal.SIGINT and is_right
