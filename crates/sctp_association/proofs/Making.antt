@@ -1,6 +1,6 @@
 -- Each chunk of a half that is put is what a call of it answered.
 use Rattle.std.proofs.Common.{◌≡◌, ◌≢◌, ℕ, List, [], ◌∷◌, Bool, true, false, Option, Some, None, refl, ap, sym, subst, ◌∙◌, arith}
-use Rattle.std.specs.Prelude.{Contains, IfSome, find}
+use Rattle.std.specs.Prelude.{Contains, IfSome, find, is_some}
 use Rattle.std.specs.Option.{option_map}
 use Rattle.sctp_association.proofs.Putting.{adds_none, and_then, kept, puts_made, puts_none, puts_reported, there}
 use Rattle.sctp_association.proofs.Running.{dropped_each, none_sent, reported_once, sent_then}
@@ -18,6 +18,8 @@ use Rattle.sctp_delivery.specs.Amounts.{Drops}
 use Rattle.sctp_delivery.specs.ReceiverCalls.{forgets, makes_sack}
 use Rattle.sctp_delivery.specs.SenderCalls.{forwards_within, next_chunk, resends, sends, with_chunk}
 use Rattle.sctp_delivery.specs.SenderCalls as made
+use Rattle.sctp_outbound.proofs.lemmas.outbound_queue.Outbounds.{peeked_all_started}
+use Rattle.sctp_outbound.specs.outbound_queue.OutboundQueue.{all_started}
 use Rattle.sctp_outbound.specs.pending_queue.PendingQueue.{next_pending}
 use Rattle.sctp_receiver.specs.Receiver.{Reception, sack_within, without_duplicates}
 use Rattle.sctp_sender.specs.Abandonment.{Name, can_skip_to, is_end, named_up_to}
@@ -111,6 +113,21 @@ lent_put now t u tsn answer noted exact held accepted chunk b old new lent added
     let told = told-once t.flight.next_tsn tsn (next_pending t.flight.queue.pending) answer in
     next_put now t u exact held accepted chunk b old new
     (lent ∙ ap (λ n. find (has_tsn n) u.flight.queue.inflight.chunks) told.0 ∙ noted told.1) added
+
+is-none : {X : Type 0} (o : Option X) → is_some o ≡ false → o ≡ None
+is-none None h = refl
+is-none (Some x) h = absurd (cc)
+
+-- a TSN that a call answered is in flight
+pub sent_there : (now : ℕ) (t u : Transmission) (tsn : ℕ) → Some tsn ≡ option_map (λ _. t.flight.next_tsn) (next_pending t.flight.queue.pending)
+    → (next_pending t.flight.queue.pending ≢ None → find (has_tsn t.flight.next_tsn) u.flight.queue.inflight.chunks ≡ next_chunk now t)
+    → None ≡ find (has_tsn tsn) u.flight.queue.inflight.chunks → ⊥
+sent_there now t u tsn answer noted lent =
+    let q = t.flight.queue in
+    let told = told-once t.flight.next_tsn tsn (next_pending q.pending) answer in
+    let none = none-of _ (next_pending (all_started now q).pending)
+    (lent ∙ ap (λ n. find (has_tsn n) u.flight.queue.inflight.chunks) told.0 ∙ noted told.1) in
+    told.1 (is-none (next_pending q.pending) (sym (peeked_all_started now q) ∙ ap is_some none))
 
 -- what has expired is abandoned, and no chunk is made
 pub dropped_on : (now : ℕ) (d : Option Dropped) (s t u : Transmission) → Sends [] s t → Drops d now t u → Sends [] s u

@@ -303,9 +303,10 @@ impl Outbound {
         self.used = now;
         if let Some(tsn) = sent {
             // It is put as it is noted there: no copy of it is made.
-            if let Some(chunk) = self.sender.outbound().get(tsn) {
-                packet.put(chunk);
-            }
+            let Some(chunk) = self.sender.outbound().get(tsn) else {
+                unreachable!()
+            };
+            packet.put(chunk);
         }
         Ok(true)
     }

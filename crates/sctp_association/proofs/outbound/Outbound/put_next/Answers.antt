@@ -1,5 +1,5 @@
 use Rattle.std.proofs.Common.{ap, refl, sym, ◌∙◌}
-use Rattle.sctp_association.proofs.Making.{lent_put, none_put}
+use Rattle.sctp_association.proofs.Making.{lent_put, none_put, sent_there}
 use Rattle.sctp_association.proofs.Putting.{kept, nothing}
 use Rattle.sctp_association.proofs.outbound.Outbound.put_next.Goals as goal
 use Rattle.sctp_association.specs.declared.outbound.Outbound.{Outbound}
@@ -34,9 +34,12 @@ returns-in-Some-get-clause-made c =
     c.in-Ok.ensures.ok c.in-Ok.ensures.bytes (c.in-Ok.ensures.accepted refl) c.in-Some-get.chunk.now _ _ _
     (c.in-Some-get.ensures ∙ ap (λ (o : Queue). find (has_tsn c.in-Some-sent.tsn) o.inflight.chunks) c.outbound-in-Some-sent.ensures) c.put.ensures.added
 
-pub returns-in_default-get-clause-made : goal.returns-in_default-get-clause-made
-returns-in_default-get-clause-made c =
-    none_put c.args.now c.args.self.now.sender c.send_next_tsn.new.sender c.in-Ok.ensures.ok c.in-Ok.ensures.bytes (c.in-Ok.ensures.accepted refl) _
+pub unreachable-requires : goal.unreachable-requires
+unreachable-requires c =
+    absurd
+    (sent_there c.args.now c.args.self.now.sender c.send_next_tsn.new.sender c.in-Some-sent.tsn (sym c.in-Some-sent.is ∙ c.in-Ok.ensures.answer)
+    c.in-Ok.ensures.noted
+    (c.in_default-get.ensures ∙ ap (λ (o : Queue). find (has_tsn c.in-Some-sent.tsn) o.inflight.chunks) c.outbound-in-Some-sent.ensures))
 
 pub returns-in_default-sent-clause-made : goal.returns-in_default-sent-clause-made
 returns-in_default-sent-clause-made c =
