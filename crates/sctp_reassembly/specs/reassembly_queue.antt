@@ -4,6 +4,7 @@ pub mod Outward
 pub mod Chunks
 pub mod Costs
 pub mod Counts
+pub mod FragmentList
 pub mod Fragments
 pub mod Loose
 pub mod OrderedSkips

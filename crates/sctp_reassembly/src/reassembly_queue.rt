@@ -20,6 +20,7 @@ ghost use Rattle.sctp_util.specs.declared.error.Error.TheVariants.{ErrOutOfMemor
 pub mod chunks;
 mod counted_sets;
 pub mod fragment;
+mod fragment_list;
 mod fragment_places;
 mod incomplete;
 mod ordered_sets;
@@ -37,6 +38,7 @@ pub mod undo;
 use self::chunks::{Chunks, Fragments};
 use self::counted_sets::CountedSets;
 use self::fragment::Fragment;
+use self::fragment_list::FragmentList;
 use self::ordered_sets::OrderedSets;
 use self::ordered_skips::SsnSpan;
 use self::pool::Pool;
@@ -388,7 +390,7 @@ impl ReassemblyQueue {
         }
         let len = chunk.user_data.len();
         let fragment = Fragment::new(self.alloc, chunk)?;
-        let Some(put) = self.ordered.put(self.alloc, fragment, turns)? else {
+        let Some(put) = self.ordered.put(fragment, turns)? else {
             return Ok((false, PushUndo::of(PushChange::NotKept, before)));
         };
         self.n_bytes = before.saturating_add(len);
@@ -656,20 +658,22 @@ impl ReassemblyQueue {
 }
 
 // A complete message of these fragments. Its turns are added.
-fn set_of_run(chunks: Vec<Fragment>, turns: &mut Turns) -> Fragments
-    ensures value { result ≡ set_of_run chunks.items }
+fn set_of_run(chunks: FragmentList, turns: &mut Turns) -> Fragments
+    ensures value { result ≡ set_of_run chunks }
     ensures not_back { turns.old ≤ turns.new }
-    ensures cost { turns.new ≤ turns.old + 2 * length chunks.items + 1 }
+    ensures cost { turns.new ≤ turns.old + 2 * length chunks + 1 }
 {
     turns.tick();
-    let ppi = match chunks.first() {
+    let ppi = match chunks.as_slice().first() {
         Some(chunk) => chunk.payload_type,
         None => PayloadProtocolIdentifier::Unknown,
     };
     Fragments::new_counted(0, ppi, chunks, turns)
 }
 
-// How long the message of an unordered chunk would be with it, up to the greatest number. Its turns are added.
+// How long the message of an unordered chunk would be with it, up to the greatest number. Its turns are added. It stands apart, so
+// that what an ordered chunk takes stays small.
+#[inline(never)]
 fn unordered_size(
     chunk: &ChunkPayloadData,
     unassembled: &Loose,

@@ -15,6 +15,7 @@ ghost use Rattle.sctp_reassembly.specs.reassembly_queue.Undo.{IsNotedOf};
 ghost use Rattle.sctp_util.specs.declared.error.Error.TheVariants.{ErrOutOfMemory, ErrShortBuffer};
 
 use crate::reassembly_queue::fragment::Fragment;
+use crate::reassembly_queue::fragment_list::FragmentList;
 use crate::reassembly_queue::fragment_places::{insertion, tsn_of};
 use bytes::{Bytes, BytesMut};
 use sctp_data::chunk::chunk_payload_data::{ChunkPayloadData, PayloadProtocolIdentifier};
@@ -25,20 +26,20 @@ use sctp_util::util::sna32lte;
 use std::alloc::Global;
 use std::marker::Model;
 
-/// For how many fragments a set has room at first.
-pub(crate) const FEW: usize = 8;
-
 /// The fragments that share one stream sequence number, or those of one unordered message.
 #[derive(Drop)]
 pub struct Fragments {
     ssn: u16,
     ppi: PayloadProtocolIdentifier,
-    chunks: Vec<Fragment>,
-    // the length of their user data, up to the greatest usize
-    n_bytes: usize,
     // whether their TSNs ascend
     ascending: bool,
+    chunks: FragmentList,
+    // the length of their user data, up to the greatest usize
+    n_bytes: usize,
 }
+
+// A place in a list of messages is of this size, which SECURITY.md counts twice, as such a list may be half empty.
+const _: () = prove!(size_of::<Fragments>() == 48);
 
 impl Model for Fragments {
     ghost use Rattle.std.specs.Prelude.{◌≡◌, ◌-◌, ◌^◌, min, map};
@@ -49,13 +50,13 @@ impl Model for Fragments {
 
     ghost Value = { ChunkSet };
 
-    ghost view = { λ s. record { ssn = s.ssn; ppi = s.ppi; chunks = s.chunks.items } };
+    ghost view = { λ s. record { ssn = s.ssn; ppi = s.ppi; chunks = s.chunks } };
 
     ghost invariant = { λ s. record {
       counted : s.n_bytes
-          ≡ min (bytes_of s.chunks.items) (2 ^ 64 - 1);
-      order : IsOrder s.ascending (map (λ c. c.tsn) s.chunks.items);
-      exact : IsOffOnlyOutOfOrder s.ascending (map (λ c. c.tsn) s.chunks.items);
+          ≡ min (bytes_of s.chunks) (2 ^ 64 - 1);
+      order : IsOrder s.ascending (map (λ c. c.tsn) s.chunks);
+      exact : IsOffOnlyOutOfOrder s.ascending (map (λ c. c.tsn) s.chunks);
     } };
 }
 
@@ -64,28 +65,28 @@ impl Fragments {
     pub fn new(ssn: u16, ppi: PayloadProtocolIdentifier, chunks: Vec<Fragment>) -> Self
         ensures { result ≡ record { ssn = ssn; ppi = ppi; chunks = chunks.items } }
     {
-        Fragments::new_counted(ssn, ppi, chunks, &mut Turns::new())
+        Fragments::new_counted(ssn, ppi, FragmentList::of(chunks), &mut Turns::new())
     }
 
     /// The same, and its turns are added: two for each fragment at most.
     pub(crate) fn new_counted(
         ssn: u16,
         ppi: PayloadProtocolIdentifier,
-        chunks: Vec<Fragment>,
+        chunks: FragmentList,
         turns: &mut Turns,
     ) -> Self
-        ensures value { result ≡ record { ssn = ssn; ppi = ppi; chunks = chunks.items } }
+        ensures value { result ≡ record { ssn = ssn; ppi = ppi; chunks = chunks } }
         ensures not_back { turns.old ≤ turns.new }
-        ensures cost { turns.new ≤ turns.old + 2 * length chunks.items }
+        ensures cost { turns.new ≤ turns.old + 2 * length chunks }
     {
-        let n_bytes = bytes_in(&chunks, turns);
-        let ascending = is_ascending(&chunks, turns);
+        let n_bytes = bytes_in(chunks.as_slice(), turns);
+        let ascending = is_ascending(chunks.as_slice(), turns);
         Fragments {
             ssn,
             ppi,
+            ascending,
             chunks,
             n_bytes,
-            ascending,
         }
     }
 
@@ -107,12 +108,12 @@ impl Fragments {
     pub fn fragments(&self) -> &[Fragment]
         ensures { result.now ≡ self.now.chunks }
     {
-        &self.chunks
+        self.chunks.as_slice()
     }
 
     /// The fragments by themselves. It takes no memory.
-    pub(crate) fn into_fragments(self) -> Vec<Fragment>
-        ensures { result.items ≡ self.chunks }
+    pub(crate) fn into_fragments(self) -> FragmentList
+        ensures { result ≡ self.chunks }
     {
         let Fragments { chunks, .. } = self;
         chunks
@@ -123,7 +124,8 @@ impl Fragments {
         ensures ok { IfOk result (λ set. set ≡ self.now) }
         ensures memory { IfErr result (λ e. e ≡ ErrOutOfMemory) }
     {
-        Ok(Fragments::new(self.ssn, self.ppi, clone_chunks(alloc, &self.chunks)?))
+        let chunks = self.chunks.try_clone(alloc)?;
+        Ok(Fragments::new_counted(self.ssn, self.ppi, chunks, &mut Turns::new()))
     }
 
     /// Whether the first fragment begins, the last ends, and TSNs rise by one (RFC 4960 3.3.1). Where TSNs are known to ascend it
@@ -142,7 +144,7 @@ impl Fragments {
         ensures few { IsAscending (map (λ c. c.tsn) self.now.chunks)
             → turns.new ≤ turns.old + 2 }
     {
-        are_complete(self.ascending, &self.chunks, turns)
+        are_complete(self.ascending, self.chunks.as_slice(), turns)
     }
 
     /// How many bytes the fragments carry, or the greatest number where they are more.
@@ -160,7 +162,7 @@ impl Fragments {
         ensures err { OnErr result (self.new ≡ self.old) }
         ensures memory { IfErr result (λ e. e ≡ ErrOutOfMemory) }
     {
-        let fragment = Fragment::new(*self.chunks.allocator(), chunk)?;
+        let fragment = Fragment::new(self.chunks.alloc(), chunk)?;
         match self.put_placed(fragment, &mut Turns::new())? {
             Some(put) => Ok(Some(put.whole)),
             None => Ok(None),
@@ -188,11 +190,11 @@ impl Fragments {
             → IsAscending (map (λ c. c.tsn) self.new.chunks)
             → turns.new ≤ turns.old + digits (length self.old.chunks) + 5 }
     {
-        let Some(at) = insertion(self.ascending, &self.chunks, chunk.tsn, turns) else {
+        let Some(at) = insertion(self.ascending, self.chunks.as_slice(), chunk.tsn, turns) else {
             return Ok(None);
         };
         let len = chunk.user_data.len();
-        put_in(&mut self.chunks, at.place, chunk)?;
+        self.chunks.insert(at.place, chunk)?;
         self.n_bytes = self.n_bytes.saturating_add(len);
         self.ascending = at.ascending;
         let whole = self.is_complete_counted(turns);
@@ -224,19 +226,18 @@ impl Fragments {
         self.ascending = noted.ascending;
     }
 
-    /// Keeps the fragments past the TSN, and counts the bytes of the others up to the greatest number. It takes no memory. By no clause
-    /// it gives back room for more than `FEW`, and for more than twice what is left.
+    /// Keeps the fragments past the TSN, and counts the bytes of the others up to the greatest number. It takes no memory.
     pub(crate) fn keep_past(&mut self, tsn: u32) -> usize
         ensures rest { self.new ≡ rest_past tsn self.old }
         ensures bytes { result
             ≡ min (bytes_of (chunks_upto tsn self.old.chunks)) (2 ^ 64 - 1) }
     {
-        let gone = bytes_upto(&self.chunks, tsn);
+        let gone = bytes_upto(self.chunks.as_slice(), tsn);
         let mut turns = Turns::new();
-        self.chunks.retain(|c| !sna32lte(c.tsn, tsn));
-        self.n_bytes = bytes_in(&self.chunks, &mut turns);
-        self.ascending = still_ascending(self.ascending, &self.chunks, &mut turns);
-        self.chunks.shrink_to(FEW.max(self.chunks.len() * 2));
+        self.chunks.keep_past(tsn);
+        let left = self.chunks.as_slice();
+        self.n_bytes = bytes_in(left, &mut turns);
+        self.ascending = still_ascending(self.ascending, left, &mut turns);
         gone
     }
 }
@@ -447,21 +448,6 @@ impl Chunks {
     }
 }
 
-// Puts a fragment at a place, before the one that is there; most go to the end. Refuses only for memory, and nothing changes then.
-fn put_in(chunks: &mut Vec<Fragment>, place: usize, chunk: Fragment) -> Result<()>
-    requires { place ≤ length chunks.old.items }
-    ensures ok { OnOk result (chunks.new.items ≡ insert chunks.old.items place chunk) }
-    ensures err { OnErr result (chunks.new.items ≡ chunks.old.items) }
-    ensures memory { IfErr result (λ e. e ≡ ErrOutOfMemory) }
-{
-    if place == chunks.len() {
-        chunks.push(chunk)?;
-    } else {
-        chunks.insert(place, chunk)?;
-    }
-    Ok(())
-}
-
 // Writes bytes into a buffer from a place on.
 fn put_at(buf: &mut [u8], at: usize, bytes: &[u8])
     requires { at + length bytes.now ≤ length buf.old }
@@ -594,7 +580,9 @@ fn tsn_after(tsn: u32, places: usize) -> u32
     tsn.wrapping_add((places % (1 << 32)) as u32)
 }
 
-// Whether the first fragment begins, the last ends, and TSNs rise by one.
+// Whether the first fragment begins, the last ends, and TSNs rise by one. It stands apart, as TSNs ascend of honest peers.
+#[cold]
+#[inline(never)]
 fn follow_on(chunks: &[Fragment], turns: &mut Turns) -> bool
     ensures value { result ≡ is_complete chunks.now }
     ensures not_back { turns.old ≤ turns.new }
@@ -616,18 +604,6 @@ fn follow_on(chunks: &[Fragment], turns: &mut Turns) -> bool
         last = chunk;
     }
     last.ending_fragment
-}
-
-/// Equal fragments, which share their bytes.
-pub(crate) fn clone_chunks(alloc: Global, chunks: &[Fragment]) -> Result<Vec<Fragment>>
-    ensures ok { IfOk result (λ copies. copies.items ≡ chunks.now) }
-    ensures memory { IfErr result (λ e. e ≡ ErrOutOfMemory) }
-{
-    let mut copies = Vec::with_capacity(alloc, chunks.len())?;
-    for chunk in chunks {
-        copies.push(chunk.try_clone(alloc)?)?;
-    }
-    Ok(copies)
 }
 
 /// How many bytes fragments carry, or the greatest number where they are more.

@@ -1,6 +1,6 @@
 //! Sets of fragments, whose chunks are counted.
 
-ghost use Rattle.std.specs.Prelude.{◌≡◌, ◌+◌, ◌-◌, ◌*◌, ◌^◌, ◌<◌, ◌≤◌, [], ◌∷◌, ◌++◌, length, min, not, drop, set, remove, slice_index_or, option_map, MatchOption, OnOk, OnErr, IfOk, IfErr, IfSome, IfNone, IsOk, None};
+ghost use Rattle.std.specs.Prelude.{◌≡◌, List, ◌+◌, ◌-◌, ◌*◌, ◌^◌, ◌<◌, ◌≤◌, [], ◌∷◌, ◌++◌, length, min, not, drop, set, remove, slice_index_or, option_map, MatchOption, OnOk, OnErr, IfOk, IfErr, IfSome, IfNone, IsOk, None};
 ghost use Rattle.std.specs.List.{All, insert, filter};
 ghost use Rattle.sctp_data.specs.ChunkSet.{ChunkSet};
 ghost use Rattle.sctp_util.specs.declared.error.Error.TheVariants.{ErrOutOfMemory};
@@ -93,9 +93,10 @@ impl CountedSets {
         ensures few { set_chunks self.old.items < 2 ^ 64 - 1 → turns.new ≤ turns.old + 1 }
         ensures room { IfSome result (λ s. KeepsFew self.new) }
     {
+        let gone = first_chunks(&self.sets);
         let set = self.sets.pop_front()?;
         turns.tick();
-        self.n_chunks = chunks_without(self.n_chunks, set.fragments().len(), &self.sets, turns);
+        self.n_chunks = chunks_without(self.n_chunks, gone, &self.sets, turns);
         give_back(&mut self.sets);
         Some(set)
     }
@@ -289,7 +290,9 @@ fn clone_sets(alloc: Global, sets: &VecDeque<Fragments>) -> Result<VecDeque<Frag
     Ok(copies)
 }
 
-// How many chunks sets have, up to the greatest number.
+// How many chunks sets have, up to the greatest number. It stands apart, as no more than 2^64 - 1 chunks are met in practice.
+#[cold]
+#[inline(never)]
 fn chunks_in(sets: &VecDeque<Fragments>, turns: &mut Turns) -> usize
     ensures value { result ≡ min (set_chunks sets.now.items) (2 ^ 64 - 1) }
     ensures turns { turns.new ≡ turns.old + length sets.now.items }
@@ -300,6 +303,17 @@ fn chunks_in(sets: &VecDeque<Fragments>, turns: &mut Turns) -> usize
         count = count.saturating_add(sets[place].fragments().len());
     }
     count
+}
+
+// How many chunks the first set has, 0 where there is none.
+fn first_chunks(sets: &VecDeque<Fragments>) -> usize
+    ensures { (set : ChunkSet) (rest : List ChunkSet)
+        → sets.now.items ≡ set ∷ rest → result ≡ length set.chunks }
+{
+    match sets.front() {
+        Some(set) => set.fragments().len(),
+        None => 0,
+    }
 }
 
 // The chunks of the sets that are left, where so many were taken of so many: past the greatest number they are counted anew.

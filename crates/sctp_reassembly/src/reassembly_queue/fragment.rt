@@ -39,6 +39,11 @@ impl Fragment {
         &self.chunk
     }
 
+    /// The allocator.
+    pub(crate) fn alloc(&self) -> Global {
+        *Box::allocator(&self.chunk)
+    }
+
     /// An equal one, which shares its bytes. Refuses only for memory.
     pub fn try_clone(&self, alloc: Global) -> Result<Self, Error>
         ensures ok { IfOk result (λ fragment. fragment ≡ self.now) }

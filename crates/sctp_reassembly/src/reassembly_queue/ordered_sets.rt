@@ -18,9 +18,10 @@ ghost use Rattle.sctp_data.specs.ChunkSet.{ChunkSet};
 ghost use Rattle.sctp_reassembly.specs.reassembly_queue.Orders.{digits, IsOffOnlyOutOfOrder, IsOrderly};
 ghost use Rattle.sctp_util.specs.declared.error.Error.TheVariants.{ErrOutOfMemory};
 
-use crate::reassembly_queue::chunks::{FEW, Fragments, Noted};
+use crate::reassembly_queue::chunks::{Fragments, Noted};
 use crate::reassembly_queue::counted_sets::CountedSets;
 use crate::reassembly_queue::fragment::Fragment;
+use crate::reassembly_queue::fragment_list::FragmentList;
 use crate::reassembly_queue::ordered_skips::SsnSpan;
 use sctp_serial::serial::{Insertion, distance, upper_half};
 use sctp_serial::turns::Turns;
@@ -184,12 +185,7 @@ impl OrderedSets {
     /// is complete then, and how it is undone; None where its TSN is there already.
     /// Refuses only for memory, and nothing changes then. Its turns are added: where numbers ascend, and TSNs in each set before and
     /// after, the digits of the number of sets, those of the fragments of the chunk's set, and eleven more at most.
-    pub(crate) fn put(
-        &mut self,
-        alloc: Global,
-        chunk: Fragment,
-        turns: &mut Turns,
-    ) -> Result<Option<OrderedPut>>
+    pub(crate) fn put(&mut self, chunk: Fragment, turns: &mut Turns) -> Result<Option<OrderedPut>>
         ensures ok { OnOk result (self.new ≡ sets_with chunk self.old) }
         ensures answer { IfOk result (λ put. option_map (λ (p : OrderedPut). p.whole) put
             ≡ answer_with chunk (chunks_of_ssn chunk.stream_sequence_number self.old)) }
@@ -223,7 +219,7 @@ impl OrderedSets {
                     undo,
                 }))
             }
-            Err(at) => Ok(Some(self.put_new(alloc, chunk, at, turns)?)),
+            Err(at) => Ok(Some(self.put_new(chunk, at, turns)?)),
         }
     }
 
@@ -232,13 +228,7 @@ impl OrderedSets {
     // Precondition: no set has the number, and a set of it goes to that place.
     // Refuses only for memory, and nothing changes then.
     #[inline(never)]
-    fn put_new(
-        &mut self,
-        alloc: Global,
-        chunk: Fragment,
-        at: Insertion,
-        turns: &mut Turns,
-    ) -> Result<OrderedPut>
+    fn put_new(&mut self, chunk: Fragment, at: Insertion, turns: &mut Turns) -> Result<OrderedPut>
         requires free { IsInsertion (has_ssn chunk.stream_sequence_number)
             (λ s. upper_half s.ssn) set_before self.old at.place at.ascending }
         requires exact { (x : ChunkSet) → x.ssn ≡ chunk.stream_sequence_number
@@ -255,7 +245,7 @@ impl OrderedSets {
         ensures few { turns.new ≤ turns.old + 5 }
     {
         let noted = self.noted();
-        let set = new_set(alloc, chunk, turns)?;
+        let set = new_set(chunk, turns);
         let whole = set.is_complete_counted(turns);
         self.sets.insert(at.place, set)?;
         self.ascending = at.ascending;
@@ -322,24 +312,15 @@ impl OrderedSets {
     }
 }
 
-// A set that a chunk alone makes, with room for a few. Where it is the complete message there is room for it alone.
-#[inline(never)]
-fn new_set(alloc: Global, chunk: Fragment, turns: &mut Turns) -> Result<Fragments>
-    ensures ok { IfOk result (λ set. set ≡ new_set chunk) }
-    ensures memory { IfErr result (λ e. e ≡ ErrOutOfMemory) }
+// A set that a chunk alone makes. It takes no memory.
+fn new_set(chunk: Fragment, turns: &mut Turns) -> Fragments
+    ensures value { result ≡ new_set chunk }
     ensures not_back { turns.old ≤ turns.new }
     ensures cost { turns.new ≤ turns.old + 2 }
 {
     let ssn = chunk.stream_sequence_number;
     let ppi = chunk.payload_type;
-    let room = if chunk.beginning_fragment && chunk.ending_fragment {
-        1
-    } else {
-        FEW
-    };
-    let mut chunks = Vec::with_capacity(alloc, room)?;
-    chunks.push(chunk)?;
-    Ok(Fragments::new_counted(ssn, ppi, chunks, turns))
+    Fragments::new_counted(ssn, ppi, FragmentList::one(chunk), turns)
 }
 
 // The place of the first set of a number, or where a set of it is put in. Among numbers that ascend the last set is looked at
@@ -551,6 +532,7 @@ fn still_ascending(before: bool, sets: &VecDeque<Fragments>, turns: &mut Turns) 
 }
 
 // Whether numbers ascend, seen by how far each lies from the first.
+#[inline(never)]
 fn are_ascending(sets: &VecDeque<Fragments>, turns: &mut Turns) -> bool
     ensures order { IsOrder result (map (λ s. upper_half s.ssn) sets.now.items) }
     ensures exact { IsOffOnlyOutOfOrder result (map (λ s. upper_half s.ssn) sets.now.items) }

@@ -11,7 +11,7 @@ ghost use Rattle.sctp_reassembly.specs.reassembly_queue.Loose.{IsRunTaken, IsFla
 
 pub(crate) mod undo;
 
-use crate::reassembly_queue::fragment::Fragment;
+use crate::reassembly_queue::fragment_list::FragmentList;
 use crate::reassembly_queue::unassembled::{Loose, find_run, run_around};
 use sctp_serial::turns::Turns;
 use sctp_util::error::Error;
@@ -81,9 +81,9 @@ impl Pool {
     }
 
     /// Takes out the run that ends earliest, if there is one. Refuses only for memory, and nothing changes then.
-    pub(crate) fn take_run(&mut self, alloc: Global) -> Result<Option<Vec<Fragment>>, AllocError>
+    pub(crate) fn take_run(&mut self, alloc: Global) -> Result<Option<FragmentList>, AllocError>
         ensures ok { IfOk result (λ run. MatchOption run
-            (HasNoRun self.new.chunks × (self.new ≡ self.old)) (λ chunks. IsRunTaken self.old.chunks self.new.chunks chunks.items
+            (HasNoRun self.new.chunks × (self.new ≡ self.old)) (λ chunks. IsRunTaken self.old.chunks self.new.chunks chunks
             × (self.new.places ≡ self.old.places))) }
         ensures err { OnErr result (self.new ≡ self.old) }
     {
@@ -92,7 +92,9 @@ impl Pool {
             self.searched = true;
             return Ok(None);
         };
-        let chunks = self.unassembled.take_range(alloc, first, count)?;
+        let chunks = self
+            .unassembled
+            .take_run_counted(alloc, first, count, &mut turns)?;
         self.searched = is_searched(false, &self.unassembled, &mut turns);
         Ok(Some(chunks))
     }

@@ -3,6 +3,7 @@
 ghost use Rattle.std.specs.Prelude.{◌≡◌, ◌==◌, ◌+◌, ◌-◌, ◌*◌, ◌%◌, ◌^◌, ◌≤◌, ◌&&◌, ◌||◌, length, min, not, None, if◌then◌else◌};
 ghost use Rattle.std.specs.List.{All, list_any, list_all, filter};
 ghost use Rattle.sctp_util.specs.Serial.{comes_before16, at_or_before, comes_after};
+ghost use Rattle.sctp_serial.specs.DataChunks.{bytes_of};
 ghost use Rattle.sctp_reassembly.specs.reassembly_queue.Counts.{set_chunks};
 ghost use Rattle.sctp_reassembly.specs.reassembly_queue.Fragments.{has_ssn};
 ghost use Rattle.sctp_reassembly.specs.reassembly_queue.Orders.{IsInOrder};
@@ -78,12 +79,19 @@ pub(crate) fn discard(
         }
         match sets.remove(place) {
             Some(set) => {
-                gone = gone.saturating_add(set.len());
+                gone = gone.saturating_add(bytes_gone(set));
             }
             None => unreachable!(),
         }
     }
     gone
+}
+
+// How many bytes a set carried that is dropped, or the greatest number where they are more.
+fn bytes_gone(set: Fragments) -> usize
+    ensures { result ≡ min (bytes_of set.chunks) (2 ^ 64 - 1) }
+{
+    set.len()
 }
 
 // Whether a skip gives the set up.

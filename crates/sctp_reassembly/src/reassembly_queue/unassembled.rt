@@ -12,6 +12,7 @@ ghost use Rattle.sctp_reassembly.specs.reassembly_queue.PoolUndo.{put_back};
 ghost use Rattle.sctp_serial.specs.Window.{IsSerial};
 
 use crate::reassembly_queue::fragment::Fragment;
+use crate::reassembly_queue::fragment_list::FragmentList;
 pub use crate::reassembly_queue::outward::run_around;
 use sctp_data::chunk::chunk_payload_data::ChunkPayloadData;
 use sctp_serial::turns::Turns;
@@ -226,19 +227,19 @@ impl Loose {
         requires { CanUndoInsertion undo kept.items self.old }
         ensures { self.new ≡ insertion_undone undo kept.items self.old }
     {
-        self.put_back_counted(undo, kept, &mut Turns::new());
+        self.put_back_counted(undo, FragmentList::of(kept), &mut Turns::new());
     }
 
     /// The same, and a turn is added for each that is put back.
     pub(crate) fn put_back_counted(
         &mut self,
         undo: InsertionUndo,
-        kept: Vec<Fragment>,
+        kept: FragmentList,
         turns: &mut Turns,
     )
-        requires { CanUndoInsertion undo kept.items self.old }
-        ensures value { self.new ≡ insertion_undone undo kept.items self.old }
-        ensures turns { turns.new ≡ turns.old + length kept.items }
+        requires { CanUndoInsertion undo kept self.old }
+        ensures value { self.new ≡ insertion_undone undo kept self.old }
+        ensures turns { turns.new ≡ turns.old + length kept }
     {
         let InsertionUndo {
             place,
@@ -296,6 +297,51 @@ impl Loose {
         self.serial = is_still_serial(self.serial, &self.chunks, turns);
         self.apart = None;
         Ok(taken)
+    }
+
+    /// The same, where one by itself takes no list.
+    pub(crate) fn take_run_counted(
+        &mut self,
+        alloc: Global,
+        first: usize,
+        count: usize,
+        turns: &mut Turns,
+    ) -> Result<FragmentList, AllocError>
+        requires { first + count ≤ length self.old.chunks }
+        ensures taken { IfOk result (λ taken. taken ≡ take count (drop first self.old.chunks)) }
+        ensures rest { OnOk result (self.new ≡ with_chunks self.old
+            (take first self.old.chunks ++ drop (first + count) self.old.chunks)) }
+        ensures err { OnErr result (self.new ≡ self.old) }
+        ensures not_back { turns.old ≤ turns.new }
+        ensures few { IsSerial self.old.chunks → bytes_of self.old.chunks < 2 ^ 64 - 1
+            → turns.new ≤ turns.old + count }
+        ensures walk { turns.new ≤ turns.old + count + 2 * length self.old.chunks }
+    {
+        if count == 1 {
+            return Ok(FragmentList::one(self.take_one(first, turns)));
+        }
+        let taken = self.take_range_counted(alloc, first, count, turns)?;
+        Ok(FragmentList::of(taken))
+    }
+
+    // Takes out the fragment at a place. It takes no memory. Its looks are added.
+    // Precondition: the place has one.
+    fn take_one(&mut self, place: usize, turns: &mut Turns) -> Fragment
+        requires { place < length self.old.chunks }
+        ensures taken { result ∷ [] ≡ take 1 (drop place self.old.chunks) }
+        ensures rest { self.new ≡ with_chunks self.old
+            (take place self.old.chunks ++ drop (place + 1) self.old.chunks) }
+        ensures not_back { turns.old ≤ turns.new }
+        ensures few { IsSerial self.old.chunks → bytes_of self.old.chunks < 2 ^ 64 - 1
+            → turns.new ≤ turns.old + 1 }
+        ensures walk { turns.new ≤ turns.old + 1 + 2 * length self.old.chunks }
+    {
+        let gone = bytes_from(&self.chunks, place, 1, turns);
+        let fragment = take_out(&mut self.chunks, place);
+        self.n_bytes = bytes_without(self.n_bytes, gone, &self.chunks, turns);
+        self.serial = is_still_serial(self.serial, &self.chunks, turns);
+        self.apart = None;
+        fragment
     }
 
     /// Equal fragments, which share their bytes, and as many places. Refuses only for memory.
@@ -547,12 +593,12 @@ fn take_each(chunks: &mut VecDeque<Fragment>, first: usize, count: usize, kept: 
 
 /// Puts neighbours back at a place, as they were taken out. A turn is added for each.
 /// Preconditions: the place is at most the number of fragments; the deque has room for all.
-fn put_back(chunks: &mut VecDeque<Fragment>, first: usize, kept: Vec<Fragment>, turns: &mut Turns)
+fn put_back(chunks: &mut VecDeque<Fragment>, first: usize, kept: FragmentList, turns: &mut Turns)
     requires in_range { first ≤ length chunks.old.items }
-    requires room { length chunks.old.items + length kept.items ≤ deque_capacity chunks.old }
-    ensures value { chunks.new.items ≡ put_back first kept.items chunks.old.items }
+    requires room { length chunks.old.items + length kept ≤ deque_capacity chunks.old }
+    ensures value { chunks.new.items ≡ put_back first kept chunks.old.items }
     ensures capacity { deque_capacity chunks.old ≤ deque_capacity chunks.new }
-    ensures turns { turns.new ≡ turns.old + length kept.items }
+    ensures turns { turns.new ≡ turns.old + length kept }
 {
     let mut kept = kept;
     chunks.rotate_left(first);

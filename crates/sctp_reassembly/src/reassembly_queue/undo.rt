@@ -9,6 +9,7 @@ ghost use Rattle.sctp_reassembly.specs.reassembly_queue.Orders.{digits, IsOrderl
 ghost use Rattle.sctp_util.specs.declared.error.Error.TheVariants.{ErrOutOfMemory, ErrInboundPacketTooLarge};
 
 use crate::reassembly_queue::ReassemblyQueue;
+use crate::reassembly_queue::fragment_list::FragmentList;
 use crate::reassembly_queue::ordered_sets::OrderedUndo;
 use crate::reassembly_queue::pool::undo::PoolUndo;
 use sctp_data::chunk::chunk_payload_data::ChunkPayloadData;
@@ -161,7 +162,7 @@ impl ReassemblyQueue {
             PushChange::Ordered(put) => self.ordered.undo_put(put),
             PushChange::Unassembled(put) => {
                 self.unordered_chunks
-                    .undo_put(put, Vec::new(self.alloc), turns);
+                    .undo_put(put, FragmentList::of(Vec::new(self.alloc)), turns);
             }
             PushChange::Message(put) => self.undo_message(put, turns),
         }

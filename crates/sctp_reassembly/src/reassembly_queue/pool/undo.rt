@@ -10,7 +10,7 @@ ghost use Rattle.sctp_reassembly.specs.reassembly_queue.Loose.{IsRunTaken, place
 ghost use Rattle.sctp_reassembly.specs.reassembly_queue.Costs.{IsAtEnd};
 ghost use Rattle.sctp_reassembly.specs.reassembly_queue.PoolUndo.{CanUndoPut, pool_undone};
 
-use crate::reassembly_queue::fragment::Fragment;
+use crate::reassembly_queue::fragment_list::FragmentList;
 use crate::reassembly_queue::pool::{Pool, is_known, is_searched, search};
 use crate::reassembly_queue::unassembled::InsertionUndo;
 use sctp_data::chunk::chunk_payload_data::ChunkPayloadData;
@@ -39,19 +39,19 @@ impl Pool {
         place: usize,
         chunk: ChunkPayloadData,
         turns: &mut Turns,
-    ) -> Result<(Option<Vec<Fragment>>, PoolUndo)>
+    ) -> Result<(Option<FragmentList>, PoolUndo)>
         requires { place ≡ place_among chunk.tsn self.old.chunks }
         ensures ok { IfOk result (λ r.
             MatchOption r.0 (HasNoRun self.new.chunks
             × (self.new.chunks ≡ insert_before chunk_before chunk self.old.chunks))
             (λ chunks. IsRunTaken
-            (insert_before chunk_before chunk self.old.chunks) self.new.chunks chunks.items)) }
+            (insert_before chunk_before chunk self.old.chunks) self.new.chunks chunks)) }
         ensures places { OnOk result (self.new.places
             ≡ max self.old.places (length self.old.chunks + 1)) }
         ensures undo { IfOk result (λ r. MatchOption r.0 (pool_undone r.1 [] self.new ≡ self.old)
-            (λ chunks. pool_undone r.1 chunks.items self.new ≡ self.old)) }
+            (λ chunks. pool_undone r.1 chunks self.new ≡ self.old)) }
         ensures can { IfOk result (λ r. MatchOption r.0 (CanUndoPut r.1 [] self.new)
-            (λ chunks. CanUndoPut r.1 chunks.items self.new)) }
+            (λ chunks. CanUndoPut r.1 chunks self.new)) }
         ensures err { OnErr result (self.new ≡ self.old) }
         ensures memory { IfErr result (λ e. e ≡ ErrOutOfMemory) }
         ensures not_back { turns.old ≤ turns.new }
@@ -79,7 +79,7 @@ impl Pool {
         };
         match self
             .unassembled
-            .take_range_counted(alloc, first, count, turns)
+            .take_run_counted(alloc, first, count, turns)
         {
             Ok(chunks) => {
                 let known = is_known(searched, serial);
@@ -98,10 +98,10 @@ impl Pool {
     /// Takes back what `put_undoable` did, where the fragments of the run that it answered are given back. It takes no memory. A turn is
     /// added for each of these.
     /// Precondition: `CanUndoPut`, which that call promises of what it left.
-    pub(crate) fn undo_put(&mut self, undo: PoolUndo, run: Vec<Fragment>, turns: &mut Turns)
-        requires { CanUndoPut undo run.items self.old }
-        ensures value { self.new ≡ pool_undone undo run.items self.old }
-        ensures turns { turns.new ≡ turns.old + length run.items }
+    pub(crate) fn undo_put(&mut self, undo: PoolUndo, run: FragmentList, turns: &mut Turns)
+        requires { CanUndoPut undo run self.old }
+        ensures value { self.new ≡ pool_undone undo run self.old }
+        ensures turns { turns.new ≡ turns.old + length run }
     {
         let PoolUndo { put, searched } = undo;
         self.unassembled.put_back_counted(put, run, turns);

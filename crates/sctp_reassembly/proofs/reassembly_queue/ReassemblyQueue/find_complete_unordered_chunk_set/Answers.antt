@@ -22,8 +22,8 @@ returns-in_default-clause-ok c =
 pub returns-clause-counted : goal.returns-clause-counted
 returns-clause-counted c counted =
     let taken = rw c.in-Some.is at c.in_ok-chunks.ensures.ok in
-    let bytes = taken_bytes c.self.inside.unordered_chunks.chunks c.take_run.new.self.chunks c.in-Some.chunks.items taken.0 in
+    let bytes = taken_bytes c.self.inside.unordered_chunks.chunks c.take_run.new.self.chunks c.in-Some.chunks taken.0 in
     let old = subst IsCounted (sym c.self.view_is) counted in
     let given = ap (λ (x : Chunks). bytes_of x.set.chunks) c.of.ensures ∙ ap (λ (s : ChunkSet). bytes_of s.chunks) c.set_of_run.ensures.value
-    ∙ run_bytes c.in-Some.chunks.items in
+    ∙ run_bytes c.in-Some.chunks in
     omega (arith, old, bytes, given)

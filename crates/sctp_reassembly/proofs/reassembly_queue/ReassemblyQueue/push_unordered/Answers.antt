@@ -67,7 +67,7 @@ returns-in-Some-clause-undo c =
     let set = c.set_of_run.result in
     let more = c.push_back_reserved.new.self.items in
     let with_last : more ≡ q.unordered.items ++ set ∷ [] = c.push_back_reserved.ensures.items ∙ ap (λ us. us ++ set ∷ []) c.in_ok-reserve.ensures.items in
-    let last = last_is q.unordered.items more set c.in-Some.chunks.items with_last c.set_of_run.ensures.value in
+    let last = last_is q.unordered.items more set c.in-Some.chunks with_last c.set_of_run.ensures.value in
     let back = rw c.in-Some.is at c.in_ok-run.ensures.undo in
     rw (c.of.ensures, c.of-undo.ensures, ← c.self.view_is, last.1)
     (ap₂ (λ us (p : Unassembled). state_of q.si q.next_ssn q.ordered us p.chunks q.n_bytes q.max_message_size p.places) last.0 back)
@@ -78,7 +78,7 @@ returns-in-Some-clause-can c =
     let set = c.set_of_run.result in
     let more = c.push_back_reserved.new.self.items in
     let with_last : more ≡ q.unordered.items ++ set ∷ [] = c.push_back_reserved.ensures.items ∙ ap (λ us. us ++ set ∷ []) c.in_ok-reserve.ensures.items in
-    let last = last_is q.unordered.items more set c.in-Some.chunks.items with_last c.set_of_run.ensures.value in
+    let last = last_is q.unordered.items more set c.in-Some.chunks with_last c.set_of_run.ensures.value in
     let can = rw c.in-Some.is at c.in_ok-run.ensures.can in
     let some : 0 < length more = omega (arith, ap length with_last, length-append q.unordered.items (set ∷ [])) in
     rw (c.of.ensures, c.of-undo.ensures) (record {
@@ -119,7 +119,7 @@ returns-in-Some-clause-cost c fits s t w =
     let h = fits_at q xs x c.args.place s t same c.requires fits w in
     let r = rw c.in-Some.is at c.in_ok-run.ensures.ok in
     let at = c.requires ∙ ap (place_among x.tsn) (sym same) in
-    let long = run_long (insert_before chunk_before x xs) c.in-Some.chunks.items r.first r.count r.run.run.in_range r.fragments in
+    let long = run_long (insert_before chunk_before x xs) c.in-Some.chunks r.first r.count r.run.run.in_range r.fragments in
     let few =
     run_joined xs x c.args.place h.le h.none s t r.first r.count h.stretch (subst (λ ys. IsRun ys r.first r.count) (inserted_among xs x c.args.place at)
     r.run.run) in
@@ -138,7 +138,7 @@ returns-in-Some-clause-walk c =
     let same : xs ≡ c.args.self.now.held.unassembled = ap (λ (r : ReassemblyState). r.held.unassembled) c.self.view_is in
     let r = rw c.in-Some.is at c.in_ok-run.ensures.ok in
     let at = c.requires ∙ ap (place_among x.tsn) (sym same) in
-    let long = run_long (insert_before chunk_before x xs) c.in-Some.chunks.items r.first r.count r.run.run.in_range r.fragments in
+    let long = run_long (insert_before chunk_before x xs) c.in-Some.chunks r.first r.count r.run.run.in_range r.fragments in
     let all = ap length (inserted_among xs x c.args.place at) ∙ length-insert xs c.args.place x (place_upto x.tsn xs c.args.place at) in
     omega (arith, c.in_ok-run.ensures.walk, c.set_of_run.ensures.cost, long, all, ap length same, r.run.run.in_range)
 

@@ -9,7 +9,7 @@ use Rattle.sctp_reassembly.proofs.reassembly_queue.ReassemblyQueue.undo_message.
 pub undo_put-requires : goal.undo_put-requires
 undo_put-requires c =
     let q = c.self.inside in
-    let last : last_chunks q.unordered.items ≡ c.into_fragments-run.result.items =
+    let last : last_chunks q.unordered.items ≡ c.into_fragments-run.result =
     ap last_chunks c.pop_back.ensures ∙ last_there c.pop_back.new.self.items c.pop_back.result ∙ sym c.into_fragments-run.ensures in
     let can = rw (← c.self.view_is) at c.requires.put in
     subst (λ ks. CanUndoPut c.args.undo.put ks q.unordered_chunks) last can
@@ -17,7 +17,7 @@ undo_put-requires c =
 pub returns-clause-value : goal.returns-clause-value
 returns-clause-value c =
     let q = c.self.inside in
-    let last : last_chunks q.unordered.items ≡ c.into_fragments-run.result.items =
+    let last : last_chunks q.unordered.items ≡ c.into_fragments-run.result =
     ap last_chunks c.pop_back.ensures ∙ last_there c.pop_back.new.self.items c.pop_back.result ∙ sym c.into_fragments-run.ensures in
     let left : remove q.unordered.items (length q.unordered.items - 1) ≡ c.pop_back.new.self.items =
     ap (λ us. remove us (length us - 1)) c.pop_back.ensures ∙ last_out c.pop_back.new.self.items c.pop_back.result in
@@ -28,6 +28,6 @@ returns-clause-value c =
 pub returns-clause-turns : goal.returns-clause-turns
 returns-clause-turns c =
     let q = c.self.inside in
-    let last : last_chunks q.unordered.items ≡ c.into_fragments-run.result.items =
+    let last : last_chunks q.unordered.items ≡ c.into_fragments-run.result =
     ap last_chunks c.pop_back.ensures ∙ last_there c.pop_back.new.self.items c.pop_back.result ∙ sym c.into_fragments-run.ensures in
     rw (← c.self.view_is) (c.undo_put.ensures.turns ∙ ap (λ ks. c.args.turns.now + length ks) (sym last))

@@ -36,7 +36,7 @@ loop-place-preserved c =
         sums,
         taken,
         sum_by-cons (λ (s : ChunkSet). bytes_of s.chunks) x (filter (is_discarded c.args.passed c.args.bound) (drop i (remove xs i))),
-        c.len-in-Some.ensures,
+        c.bytes_gone.ensures,
         c.saturating_add-gone.ensures,
       );
       not_back = omega (arith, c.loop-place.invariant.not_back, c.is_discarded.ensures.not_back);

@@ -8,10 +8,10 @@ pub returns-clause-value : goal.returns-clause-value
 returns-clause-value c =
     let xs = c.args.chunks.now.items in
     let f = c.args.first in
-    let ks = c.args.kept.items in
+    let ks = c.args.kept in
     let zs = c.loop-fragment.chunks.items in
     let front = length-take-le f xs c.requires.in_range in
-    let none : c.loop-fragment.kept.items ≡ [] = search rules in
+    let none : c.loop-fragment.kept ≡ [] = search rules in
     let all : zs ≡ (ks ++ drop f xs) ++ take f xs = ap (λ ys. ys ++ zs) (sym none) ∙ c.loop-fragment.invariant.value
     ∙ ap (λ ys. ks ++ ys) c.rotate_left.ensures.items ∙ sym (append_assoc ks (drop f xs) (take f xs)) in
     let long : deque_len c.loop-fragment.chunks ≡ length zs = search rules in
@@ -24,5 +24,5 @@ returns-clause-value c =
 
 pub returns-clause-turns : goal.returns-clause-turns
 returns-clause-turns c =
-    let none : c.loop-fragment.kept.items ≡ [] = search rules in
+    let none : c.loop-fragment.kept ≡ [] = search rules in
     omega (arith, c.loop-fragment.invariant.turns, ap length none)

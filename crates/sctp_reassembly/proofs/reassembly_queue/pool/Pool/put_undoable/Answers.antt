@@ -79,7 +79,7 @@ returns-in_default-clause-ok c =
 pub returns-in-Ok-clause-ok : goal.returns-in-Ok-clause-ok
 returns-in-Ok-clause-ok c =
     let there = put_in _ _ _ c.args.chunk c.args.place (same_list c.self.view_is) c.requires (same_list c.in_ok-insert_counted.ensures.ok) in
-    subst (λ ys. IsRunTaken ys c.take_range_counted.new.self.chunks c.in-Ok.chunks.items) there record {
+    subst (λ ys. IsRunTaken ys c.take_run_counted.new.self.chunks c.in-Ok.chunks) there record {
       first = c.in-Some.first;
       count = c.in-Some.count;
       run = c.in-Some.ensures.found;
