@@ -1,4 +1,4 @@
-use Rattle.std.proofs.Common.{◌≡◌, ◌-◌, ◌^◌, not, min, ap, ◌∙◌, sym, subst, map}
+use Rattle.std.proofs.Common.{◌-◌, ◌^◌, not, min, ap, ◌∙◌, sym, subst, map}
 use Rattle.std.specs.List.{filter}
 use Rattle.sctp_util.specs.Serial.{at_or_before}
 use Rattle.sctp_data.specs.declared.chunk.chunk_payload_data.ChunkPayloadData.{ChunkPayloadData}

@@ -1,4 +1,4 @@
-use Rattle.std.proofs.Common.{◌≡◌, ◌+◌, ◌++◌, length, take, drop, sym, ap, ◌∙◌, arith}
+use Rattle.std.proofs.Common.{◌≡◌, ◌+◌, ◌++◌, take, drop, sym, ap, ◌∙◌, arith}
 use Rattle.sctp_reassembly.specs.reassembly_queue.Loose.{with_chunks}
 use Rattle.sctp_reassembly.proofs.reassembly_queue.unassembled.Loose.take_run_counted.Goals as goal
 
