@@ -19,7 +19,7 @@ CALLERS = {
     "sctp_sender::InFlight::expire_late": {"sctp_sender/sender/abandonment expire_late"},
     "sctp_sender::Sender::take_back_alone": {"sctp_sender/costs take_back", "sctp_sender/replay take_back"},
     "sctp_outbound::PayloadQueue::pop_up_to": {"transfer_tests/queues/payload_queue pop_up_to", "sctp_link/link_receiver/tsn_queue skip_to"},
-    "sctp_reassembly::Loose::take_range_counted": {"sctp_reassembly/reassembly_queue/pool/undo put_undoable", "sctp_reassembly/reassembly_queue/unassembled take_range"},
+    "sctp_reassembly::Loose::take_range_counted": {"sctp_reassembly/reassembly_queue/unassembled take_run_counted", "sctp_reassembly/reassembly_queue/unassembled take_range"},
     "sctp_reassembly::ReassemblyQueue::forward_tsn_for_unordered": {"transfer_tests/queues/reassembly_queue skip"},
     "sctp_receiver::TsnFilter::record_duplicate": {"sctp_receiver/receiver/intake note_repeat"},
     "sctp_reassembly::place_for": {"sctp_reassembly/reassembly_queue place_of"},
