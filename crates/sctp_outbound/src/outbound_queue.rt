@@ -1,6 +1,6 @@
 //! What waits to be sent and what is in flight.
 
-ghost use Rattle.std.specs.Prelude.{◌≡◌, ◌==◌, ℕ, Bool, ◌⊎◌, ◌+◌, ◌^◌, ◌<◌, ◌≤◌, ◌||◌, [], length, map, max, false, true, OnOk, OnErr, OnSome, IfOk, IfSome, IsOk, IsOkUnless, IsSome, IsTrue, find, is_some, unwrap_or, option_copied, Some, slice_get, slice_index_or, slice_set, if◌then◌else◌};
+ghost use Rattle.std.specs.Prelude.{◌≡◌, ◌==◌, ℕ, Bool, ◌⊎◌, ◌+◌, ◌^◌, ◌<◌, ◌≤◌, ◌||◌, [], ◌∷◌, length, map, max, false, true, OnOk, OnErr, OnSome, IfOk, IfSome, IsOk, IsOkUnless, IsSome, IsTrue, find, is_some, unwrap_or, option_copied, Some, slice_get, slice_index_or, slice_set, if◌then◌else◌};
 ghost use Rattle.std.specs.Option.{option_map};
 ghost use Rattle.std.specs.List.{list_any};
 ghost use Rattle.sctp_data.specs.Reliability.{is_past};
@@ -127,6 +127,28 @@ impl OutboundQueue {
         self.pending
             .push_message(chunks, unordered, self.next_message_id)?;
         self.next_message_id += 1;
+        Ok(())
+    }
+
+    /// As `push` of a list of this one chunk, without the list.
+    /// Precondition: it is a complete message; the number is below the greatest u64; and the bytes that wait and are in flight, with its
+    /// own, are fewer than 2^64.
+    /// Refuses only for memory, and never within the room of `reserve`. The queue is as it was then.
+    #[inline(always)]
+    pub fn push_sole(&mut self, chunk: ChunkPayloadData) -> Result<()>
+        requires message { IsMessageOrNone (chunk ∷ []) }
+        requires number { self.old.next_message_id + 1 < 2 ^ 64 }
+        requires bytes { total_bytes self.old + length chunk.user_data < 2 ^ 64 }
+        ensures ok { OnOk result (self.new ≡ with_message (chunk ∷ []) self.old) }
+        ensures err { OnErr result (self.new ≡ self.old) }
+        ensures memory { IsOkUnless result ErrOutOfMemory }
+        ensures succeeds { IsTrue (has_room (chunk ∷ []) self.old) → IsOk result }
+    {
+        let number = self.next_message_id;
+        let mut chunk = chunk;
+        chunk.message_id = number;
+        self.pending.push(chunk)?;
+        self.next_message_id = number + 1;
         Ok(())
     }
 

@@ -1,10 +1,10 @@
 -- The queues stay sendable while chunks come, leave and change.
-use Rattle.std.proofs.Common.{◌≡◌, ◌==◌, ℕ, zero, suc, ◌+◌, ◌<◌, ◌≤◌, Bool, true, false, not, ◌||◌, ◌&&◌, if◌then◌else◌, List, [], ◌∷◌, ◌++◌, length, map}
+use Rattle.std.proofs.Common.{◌≡◌, ◌==◌, ℕ, zero, suc, ◌+◌, ◌-◌, ◌<◌, ◌≤◌, Bool, true, false, not, ◌||◌, ◌&&◌, if◌then◌else◌, List, [], ◌∷◌, ◌++◌, length, map}
 use Rattle.std.proofs.Common.{Option, Some, None, slice_get, ◌⊎◌, inl, inr, refl, sym, ap, ap₂, ◌∙◌, subst, arith}
 use Rattle.std.specs.List.{find, list_any}
 use Rattle.std.proofs.lemmas.Bool.{false≢true}
 use Rattle.std.proofs.lemmas.Bool.Decides.{nat_tests}
-use Rattle.std.proofs.lemmas.List.Sums.{sum_by-cons}
+use Rattle.std.proofs.lemmas.List.Sums.{sum_by-append, sum_by-cons}
 use Rattle.std.proofs.lemmas.Option.{none-some}
 use Rattle.sctp_data.specs.declared.chunk.chunk_payload_data.ChunkPayloadData.{ChunkPayloadData}
 use Rattle.sctp_util.specs.Lists.{change_where, insert_before}
@@ -15,7 +15,7 @@ use Rattle.sctp_outbound.specs.outbound_queue.OutboundQueue.{Outbound, abandon_c
 use Rattle.sctp_outbound.specs.payload_queue.PayloadQueue.{without_front}
 use Rattle.sctp_serial.specs.DataChunks.{chunk_before, bytes_of, has_tsn, following_tsn}
 use Rattle.sctp_outbound.specs.pending_queue.PendingQueue.{Pending, front_of, list_of, next_pending, next_pending_of, chunk_to_pop, chunk_to_pop_from}
-use Rattle.sctp_outbound.specs.pending_queue.PendingQueue.{list_to_pop, rest_after, rest_from, selected_after, selected_without, without, without_message}
+use Rattle.sctp_outbound.specs.pending_queue.PendingQueue.{list_to_pop, push_pending, rest_after, rest_from, selected_after, selected_without, without, without_message}
 use Rattle.sctp_outbound.specs.pending_queue.PendingQueue.{total_bytes}
 use Rattle.sctp_outbound.specs.pending_queue.Whole.{free, begun, GoesOn, stage_after, stage_of, IsWhole, IsMessage, IsMessageOrNone, IsSendable}
 use Rattle.sctp_outbound.specs.pending_queue.Whole.{partial_of}
@@ -181,6 +181,25 @@ sendable-pushed false os us sel ro ru xs ms n h s = record {
   where
     new_is_new : (m : ℕ) → list_any (is_of m) xs ≡ true → (n == m) ≡ true → ⊥
     new_is_new m k e = let same : n ≡ m = grind (arith, nat_tests) in false≢true (sym (s.below m (omega arith)) ∙ k)
+
+-- a chunk goes behind its list as a list of one does
+pub one_pushed : (c : ChunkPayloadData) (q : Pending) → push_pending q c ≡ append_chunks c.unordered (c ∷ []) q
+one_pushed c q = by c.unordered
+  where
+    by : (kind : Bool) → (if kind then record q { unordered = q.unordered ++ c ∷ []; unordered_room = q.unordered_room - 1 }
+        else record q { ordered = q.ordered ++ c ∷ []; ordered_room = q.ordered_room - 1 }) ≡ append_chunks kind (c ∷ []) q
+    by true = refl
+    by false = refl
+
+pub one_bytes : (kind : Bool) (c : ChunkPayloadData) (q : Pending) → total_bytes (append_chunks kind (c ∷ []) q) ≡ total_bytes q + length c.user_data
+one_bytes kind c q = by kind
+  where
+    size : ChunkPayloadData → ℕ
+    size x = length x.user_data
+
+    by : (k : Bool) → total_bytes (append_chunks k (c ∷ []) q) ≡ total_bytes q + length c.user_data
+    by true = omega (arith, sum_by-append size q.unordered (c ∷ []), sum_by-cons size c [])
+    by false = omega (arith, sum_by-append size q.ordered (c ∷ []), sum_by-cons size c [])
 
 -- ## A chunk that is sent
 
