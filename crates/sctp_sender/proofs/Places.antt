@@ -1,11 +1,14 @@
 -- Where the chunks of a message stand in flight.
-use Rattle.sctp_sender.proofs.Names.{◌≡◌, ℕ, zero, suc, ◌+◌, ◌<◌, ◌≤◌, ◌%◌, ◌^◌, Bool, true, false, List, [], ◌∷◌, length, take, drop, get_or, Some, refl, ap}
+use Rattle.sctp_sender.proofs.Names.{◌≡◌, ℕ, zero, suc, ◌+◌, ◌<◌, ◌≤◌, ◌%◌, ◌^◌, Bool, true, false, List, [], ◌∷◌, length, take, drop, get_or, Option, Some, None, refl, ap, inl, inr, slice_get}
 use Rattle.sctp_sender.proofs.Names.{sym, ◌∙◌, arith, ◌||◌, find, list_any, ne_eqb, nat_tests, get_or_default, ChunkPayloadData, IsBetween, is_of}
 use Rattle.sctp_sender.proofs.Names.{following_tsn, has_tsn, Flight, IsContiguous, IsApartAt}
 use Rattle.sctp_util.specs.Serial.{distance}
 use Rattle.sctp_sender.proofs.Lates.{found-passes}
 use Rattle.sctp_sender.proofs.Points.{found-place}
-use Rattle.sctp_sender.proofs.Runs.{tsn-at}
+use Rattle.std.proofs.lemmas.Bool.{cases_lt}
+use Rattle.std.proofs.lemmas.Option.{slice_get_past}
+use Rattle.sctp_sender.proofs.Names.{slice_get-get_or}
+use Rattle.sctp_sender.proofs.Runs.{any_chunk, found-at, tsn-at}
 
 pub away : (acked k : ℕ) → acked < 2 ^ 32 → k < 2 ^ 31 → distance acked ((following_tsn acked + k) % 2 ^ 32) ≡ suc k
 unfolding distance
@@ -22,6 +25,32 @@ place-is f inv tsn c found =
     let at : c.tsn ≡ (following_tsn f.acked_tsn + h.0) % 2 ^ 32 = ap (λ (x : ChunkPayloadData). x.tsn) h.2
     ∙ tsn-at cs (following_tsn f.acked_tsn) h.0 c (omega (arith, inv.in_range)) inv.run h.1 in
     (h.0, h.1, ap (distance f.acked_tsn) (sym own ∙ at) ∙ away f.acked_tsn h.0 inv.in_range (omega (arith, h.1, inv.few)), h.2)
+
+-- a TSN is not in flight that is at no place
+pub not-in-flight : (f : Flight) → IsContiguous f → (tsn : ℕ) → ((k : ℕ) → k < length f.queue.inflight.chunks → distance f.acked_tsn tsn ≡ suc k → ⊥)
+    → find (has_tsn tsn) f.queue.inflight.chunks ≡ None
+not-in-flight f inv tsn never = by (find (has_tsn tsn) f.queue.inflight.chunks) refl
+  where
+    by : (o : Option ChunkPayloadData) → find (has_tsn tsn) f.queue.inflight.chunks ≡ o → o ≡ None
+    by None e = refl
+    by (Some c) e = let h = place-is f inv tsn c e in absurd (never h.0 h.1 h.2)
+
+same-tsn : (acked tsn k : ℕ) → acked < 2 ^ 32 → tsn < 2 ^ 32 → k < 2 ^ 31 → distance acked tsn ≡ suc k → (following_tsn acked + k) % 2 ^ 32 ≡ tsn
+unfolding distance
+same-tsn acked tsn k small fits few e = omega (arith, e)
+
+-- the chunk at the place of a TSN is the one that has it
+pub at-place : (f : Flight) → IsContiguous f → (tsn k : ℕ) → tsn < 2 ^ 32 → distance f.acked_tsn tsn ≡ suc k
+    → slice_get f.queue.inflight.chunks k ≡ find (has_tsn tsn) f.queue.inflight.chunks
+at-place f inv tsn k fits far =
+    let cs = f.queue.inflight.chunks in
+    let first = following_tsn f.acked_tsn in
+    elim (cases_lt k (length cs)) [
+      | inl lt ↦ slice_get-get_or cs k any_chunk lt ∙ sym (found-at cs first k any_chunk (omega (arith, inv.in_range)) inv.run inv.few lt)
+          ∙ ap (λ t. find (has_tsn t) cs) (same-tsn f.acked_tsn tsn k inv.in_range fits (omega (arith, inv.few, lt)) far)
+      | inr ge ↦ slice_get_past cs k ge ∙ sym (not-in-flight f inv tsn (λ j lt e.
+          let same : suc j ≡ suc k = sym e ∙ far in absurd (omega (arith, same, lt, ge))))
+    ]
 
 pub none-taken : (p : ChunkPayloadData → Bool) (cs : List ChunkPayloadData) (n : ℕ)
     → ((i : ℕ) (d : ChunkPayloadData) → i < n → i < length cs → p (get_or cs i d) ≡ false) → list_any p (take n cs) ≡ false

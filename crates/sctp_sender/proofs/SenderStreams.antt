@@ -3,7 +3,7 @@ use Rattle.sctp_sender.proofs.Names.{◌≡◌, ℕ, zero, suc, ◌+◌, ◌<◌
 use Rattle.sctp_sender.proofs.Names.{refl, ap, sym, ◌∙◌, arith, subst, ◌==◌, if◌then◌else◌, nat_lt, not, find, is_some, MatchOption, slice_index_or, nat_tests}
 use Rattle.sctp_sender.proofs.Names.{get_or_default, sum_by-cons, numbers_from, same-yes, ChunkPayloadData, PayloadProtocolIdentifier, IsMessageOrNone}
 use Rattle.sctp_sender.proofs.Names.{bytes_of, OutboundStream, SenderRefusal, QueueFull, Transmission, is_open, write_refusal, is_drained, IsOnlyPlace}
-use Rattle.sctp_sender.proofs.Names.{IsAbsent, number, numbers_of, has_number, with_reliability, fragments_with_mode, fragment_at, pieces_of, new_stream}
+use Rattle.sctp_sender.proofs.Names.{IsAbsent, number, numbers_of, has_number, with_reliability, fragments_with_mode, fragment_at, pieces_of, new_stream, take_all, drop_all}
 use Rattle.sctp_sender.proofs.Names.{absent-find, inside, found, map-twice}
 use Rattle.sctp_data.specs.PayloadTypes.{is_ordered}
 use Rattle.sctp_util.specs.Kept.{numbers_where, always}
@@ -12,7 +12,9 @@ use Rattle.sctp_data.specs.declared.chunk.chunk_payload_data.ReliabilityType.{Re
 use Rattle.sctp_outbound.specs.pending_queue.Whole.{IsMessage}
 use Rattle.sctp_reassembly.specs.reassembly_queue.Fragments.{payload_of}
 use Rattle.sctp_sender.specs.declared.sender.refusal.SenderRefusal.TheVariants.{StreamUnknown, StreamBusy, MessageTooLarge}
+use Rattle.sctp_sender.specs.Outgoing.{sole_fragment}
 use Rattle.sctp_sender.specs.Sender.{is_full}
+use Rattle.sctp_stream.specs.Stream.{fragment}
 use Rattle.sctp_sender.specs.Settings.{reset_refusal}
 
 module _ (ls : List OutboundStream) (s : ℕ) where
@@ -87,6 +89,31 @@ one-message s ppi bytes some =
     subst IsMessageOrNone (sym (fragments-made s ppi bytes ∙ ap (λ n. map (made s ppi bytes) (numbers_from 0 n)) k.1))
     (none-or kind (map (made s ppi bytes) (numbers_from 0 (suc k.0)))
     (message-from (made s ppi bytes) kind false 0 k.0 (length (pieces_of s bytes)) (omega (arith, k.1)) (same-yes 0) (λ j. refl) (λ j. refl) (λ j. refl)))
+
+-- ## A write that is one fragment
+
+no-pieces : (most size : ℕ) → pieces most size [] ≡ []
+no-pieces zero size = refl
+no-pieces (suc most) size = refl
+
+one-piece : (size : ℕ) (bytes : List ℕ) → 0 < length bytes → length bytes ≤ size → pieces (length bytes) size bytes ≡ bytes ∷ []
+one-piece size [] some short = absurd (omega arith)
+one-piece size (b ∷ bs) some short =
+    ap (λ (t : List ℕ). t ∷ pieces (length bs) size (drop size (b ∷ bs))) (take_all size (b ∷ bs) short)
+    ∙ ap (λ (d : List ℕ). (b ∷ bs) ∷ pieces (length bs) size d) (drop_all size (b ∷ bs) short)
+    ∙ ap (λ (ps : List (List ℕ)). (b ∷ bs) ∷ ps) (no-pieces (length bs) size)
+
+-- the fragments of a write that has some bytes, and at most as many as a fragment
+pub sole-is : (s : OutboundStream) (ppi : PayloadProtocolIdentifier) (bytes : List ℕ) → 0 < length bytes → length bytes ≤ s.max_payload_size
+    → sole_fragment s ppi bytes ∷ [] ≡ fragments_with_mode s ppi bytes
+sole-is s ppi bytes some short =
+    sym (ap (λ (ps : List (List ℕ)). map (with_reliability s.reliability_type s.reliability_value)
+    (map (λ i. fragment s ppi (i == 0) (i + 1 == length ps) (slice_index_or ps i [])) (numbers_from 0 (length ps))))
+    (one-piece s.max_payload_size bytes some short))
+
+-- it is one message
+pub sole-message : (s : OutboundStream) (ppi : PayloadProtocolIdentifier) (bytes : List ℕ) → IsMessageOrNone (sole_fragment s ppi bytes ∷ [])
+sole-message s ppi bytes = (refl, refl, refl)
 
 -- ## Their bytes
 

@@ -8,7 +8,7 @@ use Rattle.sctp_data.specs.declared.chunk.chunk_payload_data.ReliabilityType.{Re
 use Rattle.sctp_stream.specs.declared.outbound_stream.OutboundStream.{OutboundStream}
 use Rattle.sctp_sender.specs.declared.sender.flight.Released.{Released}
 use Rattle.sctp_stream.specs.Stats.{with_sent}
-use Rattle.sctp_stream.specs.Stream.{after_write, fragments_of}
+use Rattle.sctp_stream.specs.Stream.{after_write, fragment, fragments_of}
 
 abbrev pub number : OutboundStream → ℕ
 number l = l.stream_identifier
@@ -44,6 +44,11 @@ abbrev pub fragments_with_mode : OutboundStream → PayloadProtocolIdentifier �
     → List ChunkPayloadData
 fragments_with_mode l ppi bytes =
     map (with_reliability l.reliability_type l.reliability_value) (fragments_of l ppi bytes)
+
+-- a fragment of a write that has all its bytes, with the mode of the stream
+abbrev pub sole_fragment : OutboundStream → PayloadProtocolIdentifier → List ℕ → ChunkPayloadData
+sole_fragment l ppi bytes =
+    with_reliability l.reliability_type l.reliability_value (fragment l ppi true true bytes)
 
 -- a write was accepted: an ordered one takes the number, its bytes wait, and it is counted
 abbrev pub wrote : PayloadProtocolIdentifier → List ℕ → OutboundStream → OutboundStream

@@ -1,7 +1,9 @@
 //! The sending half of a link (RFC 4960 6.1, 6.2.1, 6.9).
 
 ghost use Rattle.std.specs.Prelude.{◌≡◌, ◌≢◌, ◌==◌, ◌<◌, ◌≤◌, ◌^◌, ◌⊎◌, true, false, None, Some, OnOk, OnErr, IfOk, IfErr, IfNone, IfSome, IsOk, ◌+◌, option_map, option_copied, slice_get, find, length, if◌then◌else◌};
-ghost use Rattle.sctp_sender.specs.Outgoing.{after_releases};
+ghost use Rattle.sctp_outbound.specs.outbound_queue.OutboundQueue.{total_bytes, with_message};
+ghost use Rattle.sctp_sender.specs.Flight.{with_queue};
+ghost use Rattle.sctp_sender.specs.Outgoing.{after_releases, fragments_with_mode};
 ghost use Rattle.sctp_sender.specs.Thresholds.{with_lows};
 ghost use Rattle.sctp_sender.specs.Sender.{is_full_of};
 ghost use Rattle.sctp_sender.specs.declared.sender.refusal.SenderRefusal.TheVariants.{StreamOpen, StreamUnknown, OutOfMemory};
@@ -19,7 +21,7 @@ use self::flight::anew::{keep_anew, make_room};
 use self::flight::kept::{Kept, TakenBack};
 use self::flight::late::AbandonedMessage;
 use self::flight::{InFlight, Released};
-use self::outbound_streams::{OutboundStreams, fragments_of};
+use self::outbound_streams::{OutboundStreams, fragments_of, sole_fragment};
 use self::refusal::SenderRefusal;
 use bytes::Bytes;
 use sctp_data::chunk::chunk_payload_data::{
@@ -269,10 +271,8 @@ impl Sender {
         if len == 0 {
             return Ok((None, 0));
         }
-        let chunks = fragments_of(self.alloc, state, ppi, bytes)?;
-        let count = chunks.len();
         let number = self.flight.queue().next_message_id();
-        self.flight.push(chunks)?;
+        let count = push_cut(&mut self.flight, self.alloc, state, ppi, bytes)?;
         self.streams.wrote(stream, ppi, len);
         Ok((Some(number), count))
     }
@@ -308,7 +308,7 @@ impl Sender {
         };
         let tsn = self.flight.next_tsn();
         self.send_next_tsn_unbounded(now)?;
-        let Some(noted) = self.flight.queue().get(tsn) else {
+        let Some(noted) = self.flight.get(tsn) else {
             unreachable!()
         };
         chunk.tsn = tsn;
@@ -656,6 +656,38 @@ fn is_full(queue: &OutboundQueue, len: usize) -> bool
         Some(held) => held.checked_add(len).is_none(),
         None => true,
     }
+}
+
+// Cuts a write into its fragments, and puts them behind those that wait. Answers how many they are. A message of one fragment takes no list.
+fn push_cut(
+    flight: &mut InFlight,
+    alloc: Global,
+    state: &OutboundStream,
+    ppi: PayloadProtocolIdentifier,
+    bytes: &Bytes,
+) -> Result<usize, SenderRefusal>
+    requires some { 0 < length bytes.now }
+    requires number { flight.old.queue.next_message_id + 1 < 2 ^ 64 }
+    requires bytes { total_bytes flight.old.queue + length bytes.now < 2 ^ 64 }
+    ensures ok { OnOk result (flight.new ≡ with_queue flight.old
+        (with_message (fragments_with_mode state.now ppi bytes.now) flight.old.queue)) }
+    ensures count { IfOk result (λ n. n ≡ length (fragments_with_mode state.now ppi bytes.now)) }
+    ensures bytes { OnOk result (total_bytes flight.new.queue
+        ≡ total_bytes flight.old.queue + length bytes.now) }
+    ensures err { OnErr result (flight.new ≡ flight.old) }
+    ensures memory { IfErr result (λ e. e ≡ OutOfMemory) }
+{
+    let len = bytes.len();
+    let size = state.max_payload_size() as usize;
+    if len <= size {
+        let chunk = sole_fragment(state, ppi, bytes)?;
+        flight.push_sole(chunk)?;
+        return Ok(1);
+    }
+    let chunks = fragments_of(alloc, state, ppi, bytes)?;
+    let count = chunks.len();
+    flight.push(chunks)?;
+    Ok(count)
 }
 
 // Takes off each stream what left of it, and notes with which chunks its amount fell to its low threshold.

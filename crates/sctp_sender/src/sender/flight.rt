@@ -1,6 +1,6 @@
 //! What is in flight: each TSN from the one behind the acknowledged ones to the one before the next.
 
-ghost use Rattle.std.specs.Prelude.{◌≡◌, ◌≢◌, not, ◌+◌, ◌-◌, ◌<◌, ◌≤◌, ◌^◌, ℕ, true, false, is_some, Some, None, OnOk, OnErr, IfOk, IfErr, IfNone, IfSome, IsOk, option_copied, option_map, slice_get, find, Bool, List};
+ghost use Rattle.std.specs.Prelude.{◌≡◌, ◌≢◌, not, ◌+◌, ◌-◌, ◌<◌, ◌≤◌, ◌^◌, [], ◌∷◌, ℕ, true, false, is_some, length, Some, None, OnOk, OnErr, IfOk, IfErr, IfNone, IfSome, IsOk, option_copied, option_map, slice_get, find, Bool, List};
 ghost use Rattle.sctp_data.specs.declared.chunk.chunk_payload_data.ChunkPayloadData.{ChunkPayloadData};
 ghost use Rattle.sctp_data.specs.declared.chunk.chunk_selective_ack.GapAckBlock.{GapAckBlock};
 ghost use Rattle.sctp_sender.specs.Reporting.{AreKnown};
@@ -25,6 +25,7 @@ use crate::sender::refusal::SenderRefusal;
 use sctp_data::chunk::chunk_payload_data::ChunkPayloadData;
 use sctp_data::chunk::chunk_selective_ack::GapAckBlock;
 use sctp_outbound::outbound_queue::{ExpiredRun, OutboundQueue};
+use sctp_serial::serial::distance;
 use std::alloc::Global;
 use std::marker::Model;
 
@@ -126,6 +127,17 @@ impl InFlight {
         self.queue.inflight_at(place)
     }
 
+    /// The chunk in flight with a TSN, looked for at its place alone; None where the TSN is not in flight.
+    pub(crate) fn get(&self, tsn: u32) -> Option<&ChunkPayloadData>
+        ensures { option_copied result ≡ find (has_tsn tsn) self.now.queue.inflight.chunks }
+    {
+        let ahead = distance(self.acked_tsn, tsn) as usize;
+        if ahead == 0 {
+            return None;
+        }
+        self.queue.inflight_at(ahead - 1)
+    }
+
     /// The TSN that is given out next.
     pub(crate) fn next_tsn(&self) -> u32
         ensures { result ≡ self.now.next_tsn }
@@ -161,6 +173,23 @@ impl InFlight {
         ensures succeeds { has_room chunks.items self.old.queue ≡ true → IsOk result }
     {
         self.queue.push(chunks)?;
+        Ok(())
+    }
+
+    /// Puts the one fragment of a message behind those that wait, as the queue's `push_sole` does.
+    /// Precondition: as there.
+    /// Refuses only for memory, and all is as it was then.
+    #[inline(always)]
+    pub(crate) fn push_sole(&mut self, chunk: ChunkPayloadData) -> Result<(), SenderRefusal>
+        requires message { IsMessageOrNone (chunk ∷ []) }
+        requires number { self.old.queue.next_message_id + 1 < 2 ^ 64 }
+        requires bytes { total_bytes self.old.queue + length chunk.user_data < 2 ^ 64 }
+        ensures ok { OnOk result (self.new
+            ≡ with_queue self.old (with_message (chunk ∷ []) self.old.queue)) }
+        ensures err { OnErr result (self.new ≡ self.old) }
+        ensures memory { IfErr result (λ e. e ≡ OutOfMemory) }
+    {
+        self.queue.push_sole(chunk)?;
         Ok(())
     }
 

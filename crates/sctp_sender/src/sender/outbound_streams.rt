@@ -9,7 +9,7 @@ ghost use Rattle.sctp_sender.specs.declared.sender.refusal.SenderRefusal.TheVari
 ghost use Rattle.sctp_stream.specs.Numbers.{IsOnlyPlace, IsAbsent, swapped_out};
 ghost use Rattle.sctp_stream.specs.Stream.{falls_low};
 ghost use Rattle.sctp_sender.specs.Keeping.{more_by};
-ghost use Rattle.sctp_sender.specs.Outgoing.{fragments_with_mode, with_reliability, with_size, wrote, after_expiries, less_by};
+ghost use Rattle.sctp_sender.specs.Outgoing.{fragments_with_mode, sole_fragment, with_reliability, with_size, wrote, after_expiries, less_by};
 
 use crate::sender::refusal::SenderRefusal;
 use bytes::Bytes;
@@ -207,6 +207,38 @@ impl OutboundStreams {
         };
         expire_messages(&mut self.items[place], unordered, messages, bytes)
     }
+}
+
+/// A fragment of a write to a stream that has all its bytes, with the mode of the stream. Refuses only for memory.
+#[inline(always)]
+pub(crate) fn sole_fragment(
+    state: &OutboundStream,
+    ppi: PayloadProtocolIdentifier,
+    bytes: &Bytes,
+) -> Result<ChunkPayloadData>
+    ensures ok { IfOk result (λ chunk. chunk ≡ sole_fragment state.now ppi bytes.now) }
+    ensures memory { IsOkUnless result ErrOutOfMemory }
+{
+    Ok(ChunkPayloadData {
+        unordered: !state.is_ordered(ppi),
+        beginning_fragment: true,
+        ending_fragment: true,
+        immediate_sack: false,
+        tsn: 0,
+        stream_identifier: state.stream_identifier(),
+        stream_sequence_number: state.sequence_number(),
+        payload_type: ppi,
+        user_data: bytes.clone()?,
+        acked: false,
+        miss_indicator: 0,
+        message_id: 0,
+        abandoned: false,
+        since: None,
+        reliability: Some((state.reliability_type(), state.reliability_value())),
+        deadline: None,
+        nsent: 0,
+        retransmit: false,
+    })
 }
 
 /// The fragments of a write to a stream, with its mode. Refuses only for memory.

@@ -56,6 +56,7 @@ pub(super) fn tell_anew(
     ensures unknown { turns.new ≤ turns.old + 2 * length sorted.now + 2 * length known.now
         + 2 * unknown_in known.now count sorted.now + 1 }
 {
+    give_room(released, count, known)?;
     let mut next = 0;
     tell_between(queue, known, (0, count), &mut next, released, turns)?;
     for block in sorted {
@@ -63,6 +64,21 @@ pub(super) fn tell_anew(
         let from = count + block.start as usize - 1;
         let to = count + block.end as usize;
         tell_between(queue, known, (from, to), &mut next, released, turns)?;
+    }
+    Ok(())
+}
+
+// Makes room in the list for so many chunks at once, where none of them stands in a known block. Refuses only for memory.
+fn give_room(
+    released: &mut Vec<Released>,
+    count: usize,
+    known: &[GapAckBlock],
+) -> Result<(), SenderRefusal>
+    ensures same { released.new.items ≡ released.old.items }
+    ensures memory { IfErr result (λ e. e ≡ OutOfMemory) }
+{
+    if known.is_empty() && released.reserve_exact(count).is_err() {
+        return Err(SenderRefusal::OutOfMemory);
     }
     Ok(())
 }

@@ -1,4 +1,4 @@
-use Rattle.sctp_sender.proofs.Names.{◌≡◌, ℕ, Some, ap, sym, ◌∙◌, find, option_map, none-some, ChunkPayloadData, Outbound, all_started, as_sent, next_pending}
+use Rattle.sctp_sender.proofs.Names.{◌≡◌, ℕ, Some, ap, sym, ◌∙◌, find, option_map, none-some, ChunkPayloadData, all_started, as_sent, next_pending}
 use Rattle.sctp_sender.proofs.Names.{has_tsn, Transmission}
 use Rattle.sctp_sender.proofs.Sent.{as-noted, none-noted, some-noted}
 use Rattle.sctp_sender.proofs.sender.Sender.send_next.Goals.{After-get}
@@ -14,11 +14,10 @@ numbered : (c : After-get) → c.next_tsn-tsn.result ≡ c.args.self.now.flight.
 numbered c = c.next_tsn-tsn.ensures ∙ ap (λ (t : Transmission). t.flight.next_tsn) c.self.view_is
 
 -- What is looked up stands in the sender as it is then.
-looked-up : (c : After-get) → find (has_tsn c.next_tsn-tsn.result) c.queue.result.now.inflight.chunks
+looked-up : (c : After-get) → find (has_tsn c.next_tsn-tsn.result) c.self-2.inside.flight.queue.inflight.chunks
     ≡ find (has_tsn c.args.self.now.flight.next_tsn) c.send_next_tsn_unbounded-2.new.self.flight.queue.inflight.chunks
-looked-up c = ap (λ (n : ℕ). find (has_tsn n) c.queue.result.now.inflight.chunks) (numbered c)
-    ∙ ap (λ (o : Outbound). find (has_tsn c.args.self.now.flight.next_tsn) o.inflight.chunks)
-    (c.queue.ensures ∙ ap (λ (t : Transmission). t.flight.queue) c.self-2.view_is)
+looked-up c = ap (λ (n : ℕ). find (has_tsn n) c.self-2.inside.flight.queue.inflight.chunks) (numbered c)
+    ∙ ap (λ (t : Transmission). find (has_tsn c.args.self.now.flight.next_tsn) t.flight.queue.inflight.chunks) c.self-2.view_is
 
 -- It is noted there as it is sent.
 noted : (c : After-get) → (next_pending c.args.self.now.flight.queue.pending ≡ Some c.in-Some.chunk)

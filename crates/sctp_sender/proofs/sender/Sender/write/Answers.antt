@@ -1,10 +1,9 @@
-use Rattle.sctp_sender.proofs.Names.{◌≡◌, ◌+◌, ◌<◌, ap, sym, ◌∙◌, true, false, subst, inr, None, rules, arith, length, if◌then◌else◌, is_some, list_any, List}
-use Rattle.sctp_sender.proofs.Names.{ChunkPayloadData, IsMessageOrNone, total_bytes, QueueFull, Flight, Transmission, is_open, write_refusal, AreSettled}
+use Rattle.sctp_sender.proofs.Names.{◌≡◌, ◌+◌, ◌<◌, ap, sym, ◌∙◌, true, false, subst, inr, None, rules, arith, length, if◌then◌else◌, is_some}
+use Rattle.sctp_sender.proofs.Names.{QueueFull, Flight, Transmission, is_open, write_refusal, fragments_with_mode}
 use Rattle.sctp_sender.proofs.Names.{IsAllSettled, AreReported, IsCovered}
 use Rattle.std.specs.Prelude.{Some}
-use Rattle.sctp_sender.proofs.Amounts.{message-bytes}
 use Rattle.sctp_sender.specs.Sender.{is_full_of}
-use Rattle.sctp_sender.proofs.SenderStreams.{unknown, too-large, by-room, one-message, refused-not}
+use Rattle.sctp_sender.proofs.SenderStreams.{unknown, too-large, by-room, refused-not}
 use Rattle.sctp_sender.proofs.Settled.{fragments-settled, message-settled}
 use Rattle.sctp_sender.proofs.Seen.{sender_in}
 use Rattle.sctp_sender.proofs.Covers.{fragments-unacked, message-covered}
@@ -51,20 +50,9 @@ pub returns-then-len-eq0-clause-accepted : goal.returns-then-len-eq0-clause-acce
 returns-then-len-eq0-clause-accepted c =
     let p = goal.at.returns-then-len-eq0-clause-accepted c in λ _. taken p.Else-is_full (judged p.After-is_full (opens p.In-Some))
 
-pub returns-in_err-chunks-clause-refused : goal.returns-in_err-chunks-clause-refused
-returns-in_err-chunks-clause-refused c =
-    let p = goal.at.returns-in_err-chunks-clause-refused c in
-    let none = taken p.Else-is_full (judged p.After-is_full (opens p.In-Some)) in
-    search rules
-
-pub push-requires-clause-message : goal.push-requires-clause-message
-push-requires-clause-message c =
-    let some : 0 < length c.args.bytes.now = omega (arith, c.if-len-eq0.false, c.len-len.ensures.value) in
-    subst IsMessageOrNone (sym c.in_ok-chunks.ensures.ok) (one-message c.in-Some.state.now c.args.ppi c.args.bytes.now some)
-
-pub returns-in_err-push-clause-refused : goal.returns-in_err-push-clause-refused
-returns-in_err-push-clause-refused c =
-    let p = goal.at.returns-in_err-push-clause-refused c in
+pub returns-in_err-count-clause-refused : goal.returns-in_err-count-clause-refused
+returns-in_err-count-clause-refused c =
+    let p = goal.at.returns-in_err-count-clause-refused c in
     let none = taken p.Else-is_full (judged p.After-is_full (opens p.In-Some)) in
     search rules
 
@@ -89,30 +77,22 @@ returns-then-is_full-clause-idle c = λ len none.
     let here : write_refusal c.args.stream 0 t ≡ None = rw (← c.self.view_is) at none in
     refused-not c.args.stream (length c.args.bytes.now) t _ (filled p.Then-is_full (judged p.After-is_full (opens p.In-Some))) len here
 
-pub returns-in_err-chunks-clause-idle : goal.returns-in_err-chunks-clause-idle
-returns-in_err-chunks-clause-idle c = λ len none. absurd (omega (arith, c.if-len-eq0.false, c.len-len.ensures.value, len))
-
-pub returns-in_err-push-clause-idle : goal.returns-in_err-push-clause-idle
-returns-in_err-push-clause-idle c = λ len none. absurd (omega (arith, c.if-len-eq0.false, c.len-len.ensures.value, len))
+pub returns-in_err-count-clause-idle : goal.returns-in_err-count-clause-idle
+returns-in_err-count-clause-idle c = λ len none. absurd (omega (arith, c.if-len-eq0.false, c.len-len.ensures.value, len))
 
 pub returns-clause-bytes : goal.returns-clause-bytes
-returns-clause-bytes c =
-    let f = c.self.inside.flight in
-    rw (← c.self.view_is)
-    (ap (λ (g : Flight). total_bytes g.queue) c.in_ok-push.ensures.ok ∙ message-bytes c.in_ok-chunks.chunks.items f.queue
-    ∙ ap (λ n. total_bytes f.queue + n) c.in_ok-chunks.ensures.length)
+returns-clause-bytes c = rw (← c.self.view_is) c.in_ok-count.ensures.bytes
 
 pub invariant_of-self-2 : goal.invariant_of-self-2
 invariant_of-self-2 c =
     let f : Flight = c.self.inside.flight in
-    let new = subst AreSettled (sym c.in_ok-chunks.ensures.ok) (fragments-settled c.in-Some.state.now c.args.ppi c.args.bytes.now) in
-    let unacked = subst (λ (cs : List ChunkPayloadData). list_any (λ d. d.acked) cs ≡ false) (sym c.in_ok-chunks.ensures.ok)
-    (fragments-unacked c.in-Some.state.now c.args.ppi c.args.bytes.now) in (
+    let l = c.in-Some.state.now in
+    let cs = fragments_with_mode l c.args.ppi c.args.bytes.now in
+    let unacked = fragments-unacked l c.args.ppi c.args.bytes.now in (
       c.self.invariant.0,
       c.self.invariant.1,
-      subst (λ (g : Flight). IsAllSettled g.queue) (sym c.in_ok-push.ensures.ok) (message-settled c.in_ok-chunks.chunks.items f.queue new c.self.invariant.2),
-      subst (IsCovered c.self.inside.kept) (sym c.in_ok-push.ensures.ok)
-          (message-covered c.self.inside.kept c.in_ok-chunks.chunks.items f unacked c.self.invariant.3),
-      subst (AreReported c.self.inside.kept) (sym c.in_ok-push.ensures.ok)
-          (message-reported c.self.inside.kept c.in_ok-chunks.chunks.items f c.self.invariant.4),
+      subst (λ (g : Flight). IsAllSettled g.queue) (sym c.in_ok-count.ensures.ok)
+          (message-settled cs f.queue (fragments-settled l c.args.ppi c.args.bytes.now) c.self.invariant.2),
+      subst (IsCovered c.self.inside.kept) (sym c.in_ok-count.ensures.ok) (message-covered c.self.inside.kept cs f unacked c.self.invariant.3),
+      subst (AreReported c.self.inside.kept) (sym c.in_ok-count.ensures.ok) (message-reported c.self.inside.kept cs f c.self.invariant.4),
     )
