@@ -6,6 +6,7 @@ pub mod Leaving
 pub mod Loads
 pub mod Looking
 pub mod Nearest
+pub mod Reaching
 pub mod Reading
 pub mod Rounding
 pub mod Walk

@@ -1,16 +1,15 @@
 -- Each byte of a packet is counted once.
 use Rattle.std.proofs.Common.{rules, ◌≡◌, ℕ, ◌-◌, ◌==◌, ◌&&◌, ◌||◌, Bool, true, false, if◌then◌else◌, cond, List, [], ◌∷◌, min, refl, arith, ap, sym, ◌∙◌}
-use Rattle.std.specs.BTreeMap.{is_at}
-use Rattle.std.specs.BTreeSet.{BTreeSet, contains}
 use Rattle.std.specs.List.{list_any}
-use Rattle.std.specs.Ordering.{nat_cmp}
 use Rattle.sctp_util.specs.Field.{u32_at}
 use Rattle.sctp_show.specs.Filter.{is_data}
 use Rattle.sctp_follow.specs.Flow.{counted}
 use Rattle.sctp_follow.specs.Load.{total, with_bytes, kind_of, size_of, has_tsn, came, behind}
+use Rattle.sctp_follow.specs.Tsns.{contains}
 use Rattle.sctp_follow.specs.declared.load.Kind.{Kind}
 use Rattle.sctp_follow.specs.declared.load.Kind.TheVariants.{First, Again, Control, Headers}
 use Rattle.sctp_follow.specs.declared.load.Load.{Load}
+use Rattle.sctp_follow.specs.declared.tsns.Tsns.{Tsns}
 
 -- so many bytes more, of whatever kind, are so many more of all
 pub total_with : (kind : Kind) (bytes : ℕ) (load : Load) → total (with_bytes kind bytes load) ≡ counted (total load) bytes
@@ -24,7 +23,7 @@ counted_parts : (a left size : ℕ) → counted (counted a (min left size)) (lef
 counted_parts a left size = omega (arith)
 
 -- all bytes of a packet that are left are counted
-pub total_behind : (seen : BTreeSet ℕ) (earlier : List (List ℕ)) (left : ℕ) (chunks : List (List ℕ)) (load : Load)
+pub total_behind : (seen : Tsns) (earlier : List (List ℕ)) (left : ℕ) (chunks : List (List ℕ)) (load : Load)
     → total (behind seen earlier left chunks load) ≡ counted (total load) left
 unfolding behind
 total_behind seen earlier left [] load = total_with Headers left load
@@ -44,9 +43,8 @@ kind_same a b chunk h = by (is_data chunk) refl
     by false e = ap (λ (d : Bool). if d then (if a then Again else First) else Control) e
         ∙ sym (ap (λ (d : Bool). if d then (if b then Again else First) else Control) e)
 
--- a number is at another one where both are the same
-at_same : (k q : ℕ) → is_at (nat_cmp k) q ≡ (k == q)
-at_same k q = search (rules, arith)
+same_either_way : (k q : ℕ) → (q == k) ≡ (k == q)
+same_either_way k q = search (rules, arith)
 
 either : (a b c : Bool) → cond a true (b || c) ≡ (b || (a || c))
 either true true c = refl
@@ -54,29 +52,29 @@ either true false c = refl
 either false b c = refl
 
 -- the TSNs that came behind DATA or I-DATA
-pub came_data : (seen mid new : BTreeSet ℕ) (earlier : List (List ℕ)) (chunk : List ℕ) (tsn : ℕ) → is_data chunk ≡ true
-    → contains nat_cmp new tsn ≡ cond (is_at (nat_cmp (u32_at chunk 4)) tsn) true (contains nat_cmp mid tsn)
-    → contains nat_cmp mid tsn ≡ came seen earlier tsn → contains nat_cmp new tsn ≡ came seen (chunk ∷ earlier) tsn
+pub came_data : (seen mid new : Tsns) (earlier : List (List ℕ)) (chunk : List ℕ) (tsn : ℕ) → is_data chunk ≡ true
+    → contains new tsn ≡ cond (tsn == u32_at chunk 4) true (contains mid tsn)
+    → contains mid tsn ≡ came seen earlier tsn → contains new tsn ≡ came seen (chunk ∷ earlier) tsn
 came_data seen mid new earlier chunk tsn is noted before =
     noted
-    ∙ ap (λ (at : Bool). cond at true (contains nat_cmp mid tsn)) (at_same (u32_at chunk 4) tsn)
+    ∙ ap (λ (at : Bool). cond at true (contains mid tsn)) (same_either_way (u32_at chunk 4) tsn)
     ∙ ap (λ (b : Bool). cond (u32_at chunk 4 == tsn) true b) before
-    ∙ either (u32_at chunk 4 == tsn) (contains nat_cmp seen tsn) (list_any (has_tsn tsn) earlier)
-    ∙ sym (ap (λ (d : Bool). contains nat_cmp seen tsn || ((d && (u32_at chunk 4 == tsn)) || list_any (has_tsn tsn) earlier)) is)
+    ∙ either (u32_at chunk 4 == tsn) (contains seen tsn) (list_any (has_tsn tsn) earlier)
+    ∙ sym (ap (λ (d : Bool). contains seen tsn || ((d && (u32_at chunk 4 == tsn)) || list_any (has_tsn tsn) earlier)) is)
 
 -- the same behind another chunk
-pub came_other : (seen new : BTreeSet ℕ) (earlier : List (List ℕ)) (chunk : List ℕ) (tsn : ℕ) → is_data chunk ≡ false
-    → contains nat_cmp new tsn ≡ came seen earlier tsn → contains nat_cmp new tsn ≡ came seen (chunk ∷ earlier) tsn
+pub came_other : (seen new : Tsns) (earlier : List (List ℕ)) (chunk : List ℕ) (tsn : ℕ) → is_data chunk ≡ false
+    → contains new tsn ≡ came seen earlier tsn → contains new tsn ≡ came seen (chunk ∷ earlier) tsn
 came_other seen new earlier chunk tsn is before =
-    before ∙ sym (ap (λ (d : Bool). contains nat_cmp seen tsn || ((d && (u32_at chunk 4 == tsn)) || list_any (has_tsn tsn) earlier)) is)
+    before ∙ sym (ap (λ (d : Bool). contains seen tsn || ((d && (u32_at chunk 4 == tsn)) || list_any (has_tsn tsn) earlier)) is)
 
 -- behind the last chunk
-pub behind_none : (seen : BTreeSet ℕ) (earlier : List (List ℕ)) (left : ℕ) (load : Load) → behind seen earlier left [] load ≡ with_bytes Headers left load
+pub behind_none : (seen : Tsns) (earlier : List (List ℕ)) (left : ℕ) (load : Load) → behind seen earlier left [] load ≡ with_bytes Headers left load
 unfolding behind
 behind_none seen earlier left load = refl
 
 -- behind a chunk
-pub behind_next : (seen : BTreeSet ℕ) (earlier : List (List ℕ)) (left : ℕ) (chunk : List ℕ) (chunks : List (List ℕ)) (load : Load) (again : Bool) (less : ℕ)
+pub behind_next : (seen : Tsns) (earlier : List (List ℕ)) (left : ℕ) (chunk : List ℕ) (chunks : List (List ℕ)) (load : Load) (again : Bool) (less : ℕ)
     (more : Load) → (is_data chunk ≡ true → again ≡ came seen earlier (u32_at chunk 4)) → less ≡ left - size_of chunk → more ≡ with_bytes (kind_of again chunk)
     (min left (size_of chunk)) load → behind seen (chunk ∷ earlier) less chunks more ≡ behind seen earlier left (chunk ∷ chunks) load
 unfolding behind

@@ -15,3 +15,4 @@ pub mod Plot
 pub mod Stall
 pub mod Strip
 pub mod Trips
+pub mod Tsns

@@ -1,15 +1,15 @@
 -- What the bytes of packets are: user data, control chunks and headers.
 use Rattle.std.specs.Prelude.{ℕ, ◌+◌, ◌-◌, ◌==◌, ◌&&◌, ◌||◌, Bool, if◌then◌else◌, min, nat_lt, List, [], ◌∷◌, length}
-use Rattle.std.specs.BTreeSet.{BTreeSet, contains}
 use Rattle.std.specs.List.{list_any}
-use Rattle.std.specs.Ordering.{nat_cmp}
 use Rattle.sctp_util.specs.Field.{u32_at}
 use Rattle.sctp_chunks.specs.Framing.{type_at, declared_length}
 use Rattle.sctp_show.specs.Filter.{is_data}
 use Rattle.sctp_follow.specs.Flow.{counted, payload_length}
+use Rattle.sctp_follow.specs.Tsns.{contains}
 use Rattle.sctp_follow.specs.declared.load.Kind.{Kind}
 use Rattle.sctp_follow.specs.declared.load.Kind.TheVariants.{First, Again, Control, Headers}
 use Rattle.sctp_follow.specs.declared.load.Load.{Load}
+use Rattle.sctp_follow.specs.declared.tsns.Tsns.{Tsns}
 
 -- no bytes
 abbrev pub nothing : Load
@@ -50,12 +50,12 @@ abbrev pub has_tsn : ℕ → List ℕ → Bool
 has_tsn tsn chunk = is_data chunk && (u32_at chunk 4 == tsn)
 
 -- a TSN came in earlier packets, which had these ones, or in earlier chunks of this one
-abbrev pub came : BTreeSet ℕ → List (List ℕ) → ℕ → Bool
-came seen earlier tsn = contains nat_cmp seen tsn || list_any (has_tsn tsn) earlier
+abbrev pub came : Tsns → List (List ℕ) → ℕ → Bool
+came seen earlier tsn = contains seen tsn || list_any (has_tsn tsn) earlier
 
 -- Behind the chunks of a packet that has so many bytes left, after earlier chunks: no chunk has more than what is left, and what is left behind all of them are
 -- headers. These are the packet's, those of DATA and I-DATA, and padding; and so is what is no chunk.
-unfoldable pub behind : BTreeSet ℕ → List (List ℕ) → ℕ → List (List ℕ) → Load → Load
+unfoldable pub behind : Tsns → List (List ℕ) → ℕ → List (List ℕ) → Load → Load
 behind seen earlier left [] load = with_bytes Headers left load
 behind seen earlier left (chunk ∷ chunks) load =
     behind seen (chunk ∷ earlier) (left - size_of chunk) chunks

@@ -1,8 +1,6 @@
 //! What went one way in an association.
 
 ghost use Rattle.std.specs.Prelude.{◌≡◌, ◌≤◌, ◌<◌, ◌+◌, true, false, if◌then◌else◌, [], length, map, slice_index, slice_set, OnOk, IfOk};
-ghost use Rattle.std.specs.BTreeSet.{contains, Updates};
-ghost use Rattle.std.specs.Ordering.{nat_cmp};
 ghost use Rattle.sctp_show.specs.Filter as filters;
 ghost use Rattle.sctp_util.specs.Field.{u32_at};
 ghost use Rattle.sctp_chunks.specs.Framing.{type_at};
@@ -11,16 +9,18 @@ ghost use Rattle.sctp_follow.specs.Flow.{counted, base_after};
 ghost use Rattle.sctp_dissect.specs.Dissection.{item_bytes};
 ghost use Rattle.sctp_follow.specs.Load.{total, behind};
 ghost use Rattle.sctp_follow.specs.Sack as sacks;
+ghost use Rattle.sctp_follow.specs.Tsns.{contains, Adds, IsEmpty};
 
 use crate::load::{Kind, Load};
 use crate::sack::said_of;
+use crate::tsns::Tsns;
 use sctp_capture::record::Time;
 use sctp_dissect::dissection::Item;
 use sctp_serial::serial::distance;
 use sctp_show::filter::is_data;
 use sctp_util::field::{read_u16, read_u32};
 use std::alloc::{AllocError, Global};
-use std::collections::{BTreeMap, BTreeSet};
+use std::collections::BTreeMap;
 
 /// Half of the TSNs: a TSN that lies fewer behind another one comes after it (RFC 4960 1.6).
 const HALF: u32 = 0x8000_0000;
@@ -55,7 +55,7 @@ pub struct Flow {
     /// How many of them have a TSN that came before.
     pub repeated: u64,
     /// The TSNs that came, and the first and the last of them in serial order (RFC 1982).
-    pub tsns: BTreeSet<u32>,
+    pub tsns: Tsns,
     pub lowest: Option<u32>,
     pub highest: Option<u32>,
     /// The TSN that those of this way are counted from: the initial one that an INIT or INIT-ACK names, or else the first one that came.
@@ -119,7 +119,8 @@ fn later(one: Option<u32>, tsn: u32) -> u32 {
 impl Flow {
     /// Nothing went this way yet. Refuses only for memory.
     pub fn new(alloc: Global, tag: Option<u32>) -> Result<Self, AllocError>
-        ensures { IfOk result (λ f. length f.kinds.items ≡ 256) }
+        ensures kinds { IfOk result (λ f. length f.kinds.items ≡ 256) }
+        ensures tsns { IfOk result (λ f. IsEmpty f.tsns) }
     {
         Ok(Flow {
             tag,
@@ -132,7 +133,7 @@ impl Flow {
             data_chunks: 0,
             data_bytes: 0,
             repeated: 0,
-            tsns: BTreeSet::new(alloc),
+            tsns: Tsns::new(alloc),
             lowest: None,
             highest: None,
             base: None,
@@ -180,18 +181,16 @@ impl Flow {
 
     /// Notes the TSN of DATA or I-DATA.
     fn note_tsn(&mut self, tsn: u32) -> Result<(), AllocError>
-        ensures again { OnOk result (contains nat_cmp self.old.tsns tsn ≡ true
+        ensures again { OnOk result (contains self.old.tsns tsn ≡ true
             → self.new.repeated ≡ counted self.old.repeated 1) }
-        ensures anew { OnOk result (contains nat_cmp self.old.tsns tsn ≡ false
+        ensures anew { OnOk result (contains self.old.tsns tsn ≡ false
             → self.new.repeated ≡ self.old.repeated) }
-        ensures seen { OnOk result (Updates nat_cmp self.old.tsns self.new.tsns tsn true) }
+        ensures seen { OnOk result (Adds self.old.tsns self.new.tsns tsn) }
         ensures chunks { self.new.data_chunks ≡ self.old.data_chunks }
         ensures bytes { self.new.data_bytes ≡ self.old.data_bytes }
         ensures kinds { self.new.kinds ≡ self.old.kinds }
     {
-        let Ok(is_new) = self.tsns.insert(tsn) else {
-            return Err(AllocError);
-        };
+        let is_new = self.tsns.insert(tsn)?;
         if !is_new {
             self.repeated = counted(self.repeated, 1);
         }
@@ -222,12 +221,12 @@ impl Flow {
         ensures chunks { OnOk result (self.new.data_chunks ≡ counted self.old.data_chunks 1) }
         ensures bytes { OnOk result (self.new.data_bytes
             ≡ counted self.old.data_bytes (flows.payload_length bytes.now)) }
-        ensures again { OnOk result (contains nat_cmp self.old.tsns (u32_at bytes.now 4) ≡ true
+        ensures again { OnOk result (contains self.old.tsns (u32_at bytes.now 4) ≡ true
             → self.new.repeated ≡ counted self.old.repeated 1) }
-        ensures anew { OnOk result (contains nat_cmp self.old.tsns (u32_at bytes.now 4) ≡ false
+        ensures anew { OnOk result (contains self.old.tsns (u32_at bytes.now 4) ≡ false
             → self.new.repeated ≡ self.old.repeated) }
         ensures seen { OnOk result
-            (Updates nat_cmp self.old.tsns self.new.tsns (u32_at bytes.now 4) true) }
+            (Adds self.old.tsns self.new.tsns (u32_at bytes.now 4)) }
         ensures kinds { self.new.kinds ≡ self.old.kinds }
     {
         self.note_tsn(read_u32(bytes, 4))?;
@@ -272,13 +271,13 @@ impl Flow {
         ensures bytes { OnOk result (filters.is_data bytes.now ≡ true → self.new.data_bytes
             ≡ counted self.old.data_bytes (flows.payload_length bytes.now)) }
         ensures again { OnOk result (filters.is_data bytes.now ≡ true
-            → contains nat_cmp self.old.tsns (u32_at bytes.now 4) ≡ true
+            → contains self.old.tsns (u32_at bytes.now 4) ≡ true
             → self.new.repeated ≡ counted self.old.repeated 1) }
         ensures anew { OnOk result (filters.is_data bytes.now ≡ true
-            → contains nat_cmp self.old.tsns (u32_at bytes.now 4) ≡ false
+            → contains self.old.tsns (u32_at bytes.now 4) ≡ false
             → self.new.repeated ≡ self.old.repeated) }
         ensures seen { OnOk result (filters.is_data bytes.now ≡ true
-            → Updates nat_cmp self.old.tsns self.new.tsns (u32_at bytes.now 4) true) }
+            → Adds self.old.tsns self.new.tsns (u32_at bytes.now 4)) }
         ensures others { OnOk result (filters.is_data bytes.now ≡ false
             → (self.new.data_chunks ≡ self.old.data_chunks)
             × (self.new.data_bytes ≡ self.old.data_bytes)
@@ -308,9 +307,9 @@ impl Flow {
     /// Whether the TSN of DATA or I-DATA came before.
     fn has_come(&self, bytes: &[u8]) -> bool
         ensures { filters.is_data bytes.now ≡ true
-            → result ≡ contains nat_cmp self.now.tsns (u32_at bytes.now 4) }
+            → result ≡ contains self.now.tsns (u32_at bytes.now 4) }
     {
-        is_data(bytes) && self.tsns.contains(&read_u32(bytes, 4))
+        is_data(bytes) && self.tsns.contains(read_u32(bytes, 4))
     }
 
     /// Notes a packet and its chunks: each of its bytes counts once, as user data, as control chunks or as headers. Refuses only for memory.
@@ -350,7 +349,7 @@ impl Flow {
         match (self.lowest, self.highest) {
             (Some(lowest), Some(highest)) => {
                 let all = distance(lowest, highest) as u64 + 1;
-                all.saturating_sub(self.tsns.len() as u64)
+                all.saturating_sub(self.tsns.len())
             }
             _ => 0,
         }

@@ -26,3 +26,4 @@ pub mod svg;
 pub mod text;
 pub mod track;
 pub mod trips;
+pub mod tsns;

@@ -1,12 +1,12 @@
 //! What a picture of an association shows: TSNs over time, each way by itself.
 
 ghost use Rattle.std.specs.Prelude.{◌≡◌, ◌≤◌, true, false, OnOk, IfOk};
-ghost use Rattle.std.specs.BTreeSet.{contains, Updates};
-ghost use Rattle.std.specs.Ordering.{nat_cmp};
 ghost use Rattle.sctp_follow.specs.Plot as plots;
+ghost use Rattle.sctp_follow.specs.Tsns.{contains, Adds};
 ghost use Rattle.sctp_follow.specs.declared.plot.Sign.TheVariants.{Data, Again};
 
 use crate::flow::is_init;
+use crate::tsns::Tsns;
 use sctp_chunks::chunk::chunk_kind::ChunkKind;
 use sctp_chunks::chunk::chunk_selective_ack::ChunkSelectiveAck;
 use sctp_dissect::dissection::{Item, Reading};
@@ -14,7 +14,6 @@ use sctp_serial::serial::distance;
 use sctp_show::filter::is_data;
 use sctp_util::field::read_u32;
 use std::alloc::{AllocError, Global};
-use std::collections::BTreeSet;
 
 /// The height of the TSN that those of a way are counted from.
 pub const ORIGIN: u32 = 0x8000_0000;
@@ -68,7 +67,7 @@ impl Instant {
 pub struct Panel {
     /// The TSN that they are counted from: the initial one, or else the first one that was seen.
     pub base: Option<u32>,
-    tsns: BTreeSet<u32>,
+    tsns: Tsns,
     /// In the order of their packets.
     pub marks: Vec<Mark>,
 }
@@ -85,7 +84,7 @@ impl Panel {
     pub fn new(alloc: Global) -> Self {
         Panel {
             base: None,
-            tsns: BTreeSet::new(alloc),
+            tsns: Tsns::new(alloc),
             marks: Vec::new(alloc),
         }
     }
@@ -118,15 +117,13 @@ impl Panel {
 
     /// Marks the TSN of DATA or I-DATA, as one that came before exactly where it did.
     fn add_data(&mut self, instant: Instant, tsn: u32) -> Result<(), AllocError>
-        ensures again { OnOk result (contains nat_cmp self.old.tsns tsn ≡ true
+        ensures again { OnOk result (contains self.old.tsns tsn ≡ true
             → plots.HasLast self.new.marks.items (λ mark. mark.sign ≡ Again)) }
-        ensures anew { OnOk result (contains nat_cmp self.old.tsns tsn ≡ false
+        ensures anew { OnOk result (contains self.old.tsns tsn ≡ false
             → plots.HasLast self.new.marks.items (λ mark. mark.sign ≡ Data)) }
-        ensures seen { OnOk result (Updates nat_cmp self.old.tsns self.new.tsns tsn true) }
+        ensures seen { OnOk result (Adds self.old.tsns self.new.tsns tsn) }
     {
-        let Ok(is_new) = self.tsns.insert(tsn) else {
-            return Err(AllocError);
-        };
+        let is_new = self.tsns.insert(tsn)?;
         let sign = if is_new { Sign::Data } else { Sign::Again };
         self.add(sign, instant, tsn, tsn)
     }

@@ -1,11 +1,11 @@
 use Rattle.std.proofs.Common.{rules, ◌≡◌, ◌+◌, ℕ, Bool, true, false, List, [], ◌∷◌, map, drop, get_or, refl, ap, sym, ◌∙◌, arith}
 use Rattle.std.proofs.lemmas.List.{drop_more, at_drop_all}
-use Rattle.std.specs.BTreeSet.{BTreeSet, contains}
-use Rattle.std.specs.Ordering.{nat_cmp}
 use Rattle.sctp_util.specs.Field.{u32_at}
 use Rattle.sctp_show.specs.Filter.{is_data}
 use Rattle.sctp_dissect.specs.Dissection.{item_bytes}
 use Rattle.sctp_follow.specs.Load.{total, came, behind}
+use Rattle.sctp_follow.specs.Tsns.{contains}
+use Rattle.sctp_follow.specs.declared.tsns.Tsns.{Tsns}
 use Rattle.sctp_follow.proofs.Loads.{came_data, came_other, total_behind, behind_none, behind_next}
 use Rattle.sctp_follow.proofs.flow.Flow.note.Goals as goal
 
@@ -27,15 +27,16 @@ loop-item-preserved c =
           ∙ ap (λ (chunks : List (List ℕ)). behind c.args.self.now.tsns i.earlier c.loop-item.left chunks c.loop-item.load) step ∙ i.same;
     }
   where
-    kept : (tsn : ℕ) → contains nat_cmp c.note_base.new.self.tsns tsn ≡ came c.args.self.now.tsns c.loop-item.invariant.earlier tsn
-    kept tsn = ap (λ (s : BTreeSet ℕ). contains nat_cmp s tsn) c.note_base.ensures.tsns ∙ c.loop-item.invariant.seen tsn
+    kept : (tsn : ℕ) → contains c.note_base.new.self.tsns tsn ≡ came c.args.self.now.tsns c.loop-item.invariant.earlier tsn
+    kept tsn = ap (λ (s : Tsns). contains s tsn) c.note_base.ensures.tsns ∙ c.loop-item.invariant.seen tsn
 
     by : (tsn : ℕ) (d : Bool) → is_data c.as_slice-bytes.result.now ≡ d
-        → contains nat_cmp c.note_chunk.new.self.tsns tsn ≡ came c.args.self.now.tsns (c.as_slice-bytes.result.now ∷ c.loop-item.invariant.earlier) tsn
-    by tsn true e = came_data c.args.self.now.tsns c.note_base.new.self.tsns _ c.loop-item.invariant.earlier c.as_slice-bytes.result.now tsn e
-        ((c.in_ok-note_chunk.ensures.seen e).0 tsn) (kept tsn)
-    by tsn false e = came_other c.args.self.now.tsns _ c.loop-item.invariant.earlier c.as_slice-bytes.result.now tsn e
-        (ap (λ (s : BTreeSet ℕ). contains nat_cmp s tsn) (c.in_ok-note_chunk.ensures.others e).3 ∙ kept tsn)
+        → contains c.note_chunk.new.self.tsns tsn ≡ came c.args.self.now.tsns (c.as_slice-bytes.result.now ∷ c.loop-item.invariant.earlier) tsn
+    by tsn true e =
+        came_data c.args.self.now.tsns c.note_base.new.self.tsns c.note_chunk.new.self.tsns c.loop-item.invariant.earlier c.as_slice-bytes.result.now tsn e
+        (c.in_ok-note_chunk.ensures.seen e tsn) (kept tsn)
+    by tsn false e = came_other c.args.self.now.tsns c.note_chunk.new.self.tsns c.loop-item.invariant.earlier c.as_slice-bytes.result.now tsn e
+        (ap (λ (s : Tsns). contains s tsn) (c.in_ok-note_chunk.ensures.others e).3 ∙ kept tsn)
 
 pub returns-clause-load : goal.returns-clause-load
 returns-clause-load c =
