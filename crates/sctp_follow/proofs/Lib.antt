@@ -1,5 +1,6 @@
 pub mod Columns
 pub mod Counting
+pub mod Departing
 pub mod Forgetting
 pub mod Halving
 pub mod Leaving

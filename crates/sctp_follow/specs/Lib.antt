@@ -1,4 +1,5 @@
 pub mod Flow
+pub mod Forgetting
 pub mod Load
 pub mod Outstanding
 pub mod Band

@@ -1,9 +1,10 @@
 //! The messages of one way that are put together from fragments (RFC 8260): stream by stream, ordered and unordered ones apart.
 
-ghost use Rattle.std.specs.Prelude.{◌≡◌, ℕ, ◌+◌, ◌*◌, ◌<◌, ◌≤◌, ◌⊎◌, ◌==◌, ◌↔◌, None, true, false, if◌then◌else◌, [], length, nat_eq, option_map, IsTrue, IsSome, IfOk, IfSome, IfNone, OnOk, OnErr, OnSome};
+ghost use Rattle.std.specs.Prelude.{◌≡◌, ℕ, ◌+◌, ◌*◌, ◌%◌, ◌<◌, ◌≤◌, ◌⊎◌, ◌==◌, ◌↔◌, None, true, false, if◌then◌else◌, [], length, nat_eq, option_map, IsTrue, IsSome, IfOk, IfSome, IfNone, OnOk, OnErr, OnSome};
 ghost use Rattle.std.specs.BTreeMap as trees;
 ghost use Rattle.std.specs.Ordering.{nat_cmp};
 ghost use Rattle.sctp_util.specs.Serial.{at_or_before};
+ghost use Rattle.sctp_follow.specs.Forgetting.{Forgets, Leaves, has_tsn, held_of, none_due};
 ghost use Rattle.sctp_follow.specs.Interleave.{FitEach, IsMessage};
 ghost use Rattle.sctp_follow.specs.Lanes as lanes;
 ghost use Rattle.sctp_follow.specs.Passing as passing;
@@ -262,6 +263,8 @@ impl Lane {
         ensures held { (n : ℕ) → lanes.held_at self.new n
             ≡ (if n == number then [] else lanes.held_at self.old n) }
         ensures chunks { result.0 ≡ length (lanes.held_at self.old number) }
+        ensures notes { (t : ℕ) → noted.at spots.new t
+            ≡ (if has_tsn (lanes.held_at self.old number) t then None else noted.at spots.old t) }
         ensures next { self.new.next ≡ self.old.next }
         ensures fewer { IsSome (trees.get nat_cmp self.old.parts number)
             → trees.btree_map_len self.new.parts < trees.btree_map_len self.old.parts }
@@ -280,6 +283,8 @@ impl Lane {
         ensures gone { (n : ℕ) → n < 4294967296 → lanes.held_at self.new n
             ≡ (if at_or_before n name.number then [] else lanes.held_at self.old n) }
         ensures next { self.new.next ≡ self.old.next }
+        ensures notes { Leaves (lanes.held_at self.old) (lanes.held_at self.new) []
+            spots.old spots.new }
     {
         let mut dropped = Amount::none(name.stream);
         'losing: while let Some(number) = first_up_to(&self.parts, name.number) {
@@ -291,8 +296,10 @@ impl Lane {
     /// Passes the messages up to one: what is held of them is dropped, and the ordered ones behind it are read that are complete. Refuses only
     /// for memory.
     fn skip(&mut self, alloc: Global, name: Name, spots: &mut Spots) -> Result<Passing, AllocError>
-        ensures { IfOk result (λ passing.
+        ensures skips { IfOk result (λ passing.
             lanes.Skips name passing.messages.items self.old self.new) }
+        ensures notes { IfOk result (λ passing. Leaves (lanes.held_at self.old)
+            (lanes.held_at self.new) passing.messages.items spots.old spots.new) }
     {
         let dropped = self.lose_each(name, spots);
         self.next = passed_next(self.next, name.number);
@@ -307,6 +314,10 @@ impl Lane {
     fn end(&mut self, name: Name, spots: &mut Spots, dropped: &mut Amount) -> Option<Whole>
         ensures read { IfSome result (λ m. lanes.IsRead name m self.old self.new) }
         ensures lost { IfNone result (IsMessage (lanes.came self.old name.number) → ⊥) }
+        ensures noted { IfSome result (λ m. spots.new ≡ spots.old) }
+        ensures forgotten { IfNone result ((t : ℕ) → noted.at spots.new t
+            ≡ (if has_tsn (lanes.held_at self.old name.number) t then None
+            else noted.at spots.old t)) }
         ensures held { (n : ℕ) → lanes.held_at self.new n
             ≡ (if n == name.number then [] else lanes.held_at self.old n) }
         ensures next { self.new.next ≡ self.old.next }
@@ -321,6 +332,7 @@ impl Lane {
     }
 
     /// Ends the ordered messages up to one: those that are complete are read, and the others are dropped. Refuses only for memory.
+    #[tactic(auto, using(crate::proofs::Departing::leaves_none))]
     fn end_each(
         &mut self,
         alloc: Global,
@@ -328,8 +340,10 @@ impl Lane {
         last: u32,
         spots: &mut Spots,
     ) -> Result<Seen, AllocError>
-        ensures { IfOk result (λ seen.
+        ensures ends { IfOk result (λ seen.
             passing.Ends stream last seen.messages.items self.old self.new) }
+        ensures notes { IfOk result (λ seen. Leaves (lanes.held_at self.old)
+            (lanes.held_at self.new) seen.messages.items spots.old spots.new) }
     {
         let mut messages = Vec::new(alloc);
         let mut dropped = Amount::none(stream);
@@ -354,6 +368,8 @@ impl Lane {
         ensures ordered { IfOk result (λ seen. name.unordered ≡ false
             → passing.Ends name.stream (passing.before name.number) seen.messages.items
             self.old self.new) }
+        ensures notes { IfOk result (λ seen. Leaves (lanes.held_at self.old)
+            (lanes.held_at self.new) seen.messages.items spots.old spots.new) }
     {
         if !name.unordered {
             return self.end_each(alloc, name.stream, name.number.wrapping_sub(1), spots);
@@ -380,6 +396,8 @@ impl Lane {
         ensures kept { passing.lacks_before
             (trees.get nat_cmp self.old.parts spot.now.name.number) spot.now.place ≡ false
             → self.new ≡ self.old }
+        ensures notes { Leaves (lanes.held_at self.old) (lanes.held_at self.new) []
+            spots.old spots.new }
     {
         let number = spot.name.number;
         if self.lacks_before(number, spot.place) {
@@ -391,8 +409,10 @@ impl Lane {
     /// Looks at a fragment where no TSN before its own one will come. Ordered messages before its message are over. So is that one, if the fragment
     /// before it did not come. The messages that waited for them are read. Refuses only for memory.
     fn see(&mut self, alloc: Global, spot: &Spot, spots: &mut Spots) -> Result<Seen, AllocError>
-        ensures { IfOk result (λ seen.
+        ensures looks { IfOk result (λ seen.
             passing.Looks spot.now seen.messages.items self.old self.new) }
+        ensures notes { IfOk result (λ seen. Leaves (lanes.held_at self.old)
+            (lanes.held_at self.new) seen.messages.items spots.old spots.new) }
     {
         let name = spot.name;
         if !self.parts.contains_key(&name.number) {
@@ -538,6 +558,8 @@ impl Interleaved {
             (trees.get nat_cmp self.new.lanes (lanes.key_of name))) }
         ensures others { OnOk result ((k : ℕ) → nat_eq k (lanes.key_of name) ≡ false
             → trees.get nat_cmp self.new.lanes k ≡ trees.get nat_cmp self.old.lanes k) }
+        ensures notes { OnOk result (Forgets none_due (held_of self.old.lanes)
+            (held_of self.new.lanes) self.old.spots self.new.spots) }
         ensures whole { self.new.is_whole ≡ self.old.is_whole }
     {
         let passing = self.skip_in(alloc, name)?;
@@ -553,6 +575,8 @@ impl Interleaved {
             (trees.get nat_cmp self.new.lanes (lanes.key_of name))) }
         ensures others { OnOk result ((k : ℕ) → nat_eq k (lanes.key_of name) ≡ false
             → trees.get nat_cmp self.new.lanes k ≡ trees.get nat_cmp self.old.lanes k) }
+        ensures notes { IfOk result (λ passing. Leaves (held_of self.old.lanes)
+            (held_of self.new.lanes) passing.messages.items self.old.spots self.new.spots) }
         ensures whole { self.new.is_whole ≡ self.old.is_whole }
     {
         let key = key_of(name.stream, name.unordered);
@@ -571,6 +595,8 @@ impl Interleaved {
     fn see(&mut self, alloc: Global, spot: &Spot) -> Result<Seen, AllocError>
         ensures looks { IfOk result (λ seen.
             passing.LooksAt spot.now seen.messages.items self.old.lanes self.new.lanes) }
+        ensures notes { IfOk result (λ seen. Leaves (held_of self.old.lanes)
+            (held_of self.new.lanes) seen.messages.items self.old.spots self.new.spots) }
         ensures whole { self.new.is_whole ≡ self.old.is_whole }
     {
         let key = key_of(spot.name.stream, spot.name.unordered);
@@ -585,6 +611,8 @@ impl Interleaved {
     pub fn pass(&mut self, alloc: Global, tsn: u32) -> Result<Passing, AllocError>
         ensures passes { IfOk result (λ gained.
             passing.Passes tsn gained.messages.items self.old self.new) }
+        ensures notes { OnOk result (Forgets (λ t. at_or_before t ((tsn + 1) % 4294967296))
+            (held_of self.old.lanes) (held_of self.new.lanes) self.old.spots self.new.spots) }
         ensures whole { self.new.is_whole ≡ self.old.is_whole }
     {
         let mut messages = Vec::new(alloc);

@@ -2,6 +2,7 @@ use Rattle.std.proofs.Common.{◌≡◌, ℕ, ◌<◌, ◌⊎◌, true, false, [
 use Rattle.std.specs.List.{All, AllPairs, Any}
 use Rattle.std.specs.BTreeMap.{btree_map_len}
 use Rattle.sctp_util.specs.Serial.{at_or_before, comes_before}
+use Rattle.sctp_follow.specs.Forgetting.{Leaves}
 use Rattle.sctp_follow.specs.Interleave.{IsMessage}
 use Rattle.sctp_follow.specs.Lanes.{held_at, came}
 use Rattle.sctp_follow.specs.Passing.{IsEnded}
@@ -19,6 +20,7 @@ invariant-ending l = record {
   later : (k : ℕ) (d : Whole) → k < length l.messages.items → (n : ℕ) → n < 4294967296 → 0 < length (held_at l.self n)
       → at_or_before n l.last ≡ true → comes_before (get_or l.messages.items k d).name.number n ≡ true;
   next : l.self.next ≡ l.initial.self.next;
+  notes : Leaves (held_at l.initial.self) (held_at l.self) l.messages.items l.initial.spots l.spots;
 }
 
 abbrev pub decreases-ending : goal.decreases-ending
