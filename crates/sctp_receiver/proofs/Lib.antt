@@ -24,6 +24,8 @@ pub mod CostSums
 pub mod VisitOrders
 pub mod Visiting
 pub mod Settled
+pub mod Spans
+pub mod Forwarding
 pub mod Listing
 pub mod GapCounts
 pub mod StreamCosts

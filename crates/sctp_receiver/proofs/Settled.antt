@@ -26,7 +26,7 @@ none-incomplete q h =
 
 -- ## Skips
 
-any-less : {A : Type 0} (p r : A → Bool) → ((x : A) → p x ≡ false → r x ≡ false) → (xs : List A) → list_any p xs ≡ false → list_any r xs ≡ false
+pub any-less : {A : Type 0} (p r : A → Bool) → ((x : A) → p x ≡ false → r x ≡ false) → (xs : List A) → list_any p xs ≡ false → list_any r xs ≡ false
 any-less p r less [] h = refl
 any-less p r less (x ∷ xs) h = let parts = neither (p x) (list_any p xs) h in
     ap₂ (λ a b. a || b) (less x parts.0) (any-less p r less xs parts.1)

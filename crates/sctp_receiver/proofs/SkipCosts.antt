@@ -1,15 +1,18 @@
 -- What the skips of a FORWARD-TSN look at within streams.
-use Rattle.sctp_receiver.proofs.Names.{◌≡◌, ℕ, zero, suc, ◌+◌, ◌<◌, ◌≤◌, Bool, true, false, List, [], ◌∷◌, length, map, Option, Some, None, refl, ap, sym, ◌∙◌}
-use Rattle.sctp_receiver.proofs.Names.{arith, not, if◌then◌else◌, slice_get, slice_set, sum_by, filter, le-ltb, sum_by-cons, sum_by-set, slice_get_within}
+use Rattle.sctp_receiver.proofs.Names.{◌≡◌, ℕ, zero, suc, ◌+◌, ◌≤◌, Bool, true, false, List, [], ◌∷◌, length, map, Option, Some, None, refl, ap, sym, ◌∙◌}
+use Rattle.sctp_receiver.proofs.Names.{arith, not, if◌then◌else◌, slice_get, slice_set, sum_by, filter, sum_by-cons, sum_by-set, slice_get_within}
 use Rattle.sctp_receiver.proofs.Names.{get_or_from_slice_get, some-same, not_both, ChunkSet, ForwardTsn, ChunkForwardTsnStream, set_chunks, is_passed}
 use Rattle.sctp_receiver.proofs.Names.{cannot_complete, InboundStream, Skip, Unassembled, Incomplete, ssn_forwarded, named_forwarded, unassembled_forwarded}
 use Rattle.sctp_receiver.proofs.Names.{Reception, after_forward, follow_forward_tsn, is_stale, settle_walk, unordered_skips_walk, incomplete_skips_walk}
-use Rattle.sctp_receiver.proofs.Names.{AreInverse, is_spot_before, holds_any, skip_forwarded, to_visit}
+use Rattle.sctp_receiver.proofs.Names.{AreInverse, holds_any, skip_forwarded, to_visit}
+use Rattle.std.proofs.Common.{ap₂}
+use Rattle.sctp_receiver.specs.declared.receiver.spans.TsnSpan.{TsnSpan}
+use Rattle.sctp_receiver.specs.Spans.{lies_past}
+use Rattle.sctp_receiver.specs.SkipCosts.{visit_walk, unless_past, walks_by_place, walk_by_spans}
 use Rattle.sctp_reassembly.specs.reassembly_queue.Costs.{ordered_skip_walk, incomplete_skip_walk, unordered_skip_walk}
 use Rattle.sctp_receiver.proofs.Settled.{named-any, unassembled-any}
 use Rattle.sctp_receiver.proofs.StreamCosts.{mapped-cost, named-cost}
 use Rattle.sctp_receiver.proofs.VisitOrders.{set-there}
-use Rattle.sctp_receiver.proofs.Visiting.{ChangedBefore}
 use Rattle.sctp_receiver.proofs.Weights as weights
 
 -- ## What is spent at the places of an order
@@ -31,13 +34,6 @@ spent (suc n) order ws = spent n order ws + weight_at ws (slice_get order n)
 
 abbrev pub total : List ℕ → ℕ
 total ws = sum_by (λ (w : ℕ). w) ws
-
-pub spent-same : (n : ℕ) (order order' ws : List ℕ) → ((k : ℕ) → k < n → slice_get order k ≡ slice_get order' k) → spent n order ws ≡ spent n order' ws
-spent-same zero order order' ws h = refl
-spent-same (suc n) order order' ws h =
-    let ih = spent-same n order order' ws (λ k lt. h k (omega (arith, lt))) in
-    let e = ap (weight_at ws) (h n (omega arith)) in
-    omega (arith, ih, e)
 
 -- another place is none of the first so many
 spent-without : (m n p : ℕ) (order spots ws : List ℕ) → AreInverse order spots → slice_get order n ≡ Some p → m ≤ n
@@ -76,21 +72,7 @@ spent-more n k w order ws at here =
     let e : weight_at ws (slice_get order n) ≡ w = ap (weight_at ws) at ∙ ap number_of here in
     omega (arith, e)
 
--- what stands at the next spot is as it was
-pub not-yet : {X : Type 0} (g : X → X) (i k : ℕ) (spots : List ℕ) (xs ys : List X) (x : X) → ChangedBefore g i spots xs ys → slice_get spots k ≡ Some i
-    → slice_get xs k ≡ Some x → slice_get ys k ≡ Some x
-not-yet g i k spots xs ys x changed spot e =
-    changed k x e ∙ ap (λ o. Some (if is_spot_before i o then g x else x)) spot ∙ ap (λ b. Some (if b then g x else x)) (le-ltb i i (omega arith))
-
 module _ {X : Type 0} (f : X → ℕ) where
-  pub total-map : (xs : List X) → total (map f xs) ≡ sum_by f xs
-  total-map [] = refl
-  total-map (x ∷ xs) =
-      let a = sum_by-cons (λ (w : ℕ). w) (f x) (map f xs) in
-      let b = sum_by-cons f x xs in
-      let ih = total-map xs in
-      omega (arith, a, b, ih)
-
   pub at-map : (xs : List X) (p : ℕ) (x : X) → slice_get xs p ≡ Some x → slice_get (map f xs) p ≡ Some (f x)
   at-map [] p x e = cc
   at-map (y ∷ xs) zero x e = ap (λ z. Some (f z)) (some-same e)
@@ -112,6 +94,55 @@ visited-sum m (l ∷ ls) = by (any l) (visited-sum m ls) ∙ sym (sum_by-cons (i
         → sum_by m (if b then l ∷ to_visit ls else to_visit ls) ≡ (if b then m l else 0) + sum_by (if_visited m) ls
     by true ih = let a = sum_by-cons m l (to_visit ls) in omega (arith, a, ih)
     by false ih = omega (arith, ih)
+
+pub visited-within : (m : InboundStream → ℕ) (ls : List InboundStream) → sum_by m (to_visit ls) ≤ sum_by m ls
+visited-within m [] = omega arith
+visited-within m (l ∷ ls) = by (any l) (visited-within m ls)
+  where
+    by : (b : Bool) → sum_by m (to_visit ls) ≤ sum_by m ls → sum_by m (if b then l ∷ to_visit ls else to_visit ls) ≤ sum_by m (l ∷ ls)
+    by true ih = omega (arith, ih, sum_by-cons m l ls, sum_by-cons m l (to_visit ls))
+    by false ih = omega (arith, ih, sum_by-cons m l ls)
+
+-- ## By stretches of TSNs
+
+module _ (skip : Skip) (tsn : ℕ) where
+  -- of a stream that holds any
+  abbrev pub walk_on : InboundStream → ℕ
+  walk_on l = if holds_any l.queue.held then visit_walk skip l.queue.held + settle_walk skip l.queue.held else 0
+
+  pub at-place : (spans : List TsnSpan) (ls : List InboundStream) (p : ℕ) (s : TsnSpan) (l : InboundStream) → slice_get spans p ≡ Some s
+      → slice_get ls p ≡ Some l → slice_get (walks_by_place skip tsn spans ls) p ≡ Some (unless_past tsn s (walk_on l))
+  at-place [] ls p s l es el = cc
+  at-place (t ∷ spans) [] p s l es el = cc
+  at-place (t ∷ spans) (m ∷ ls) zero s l es el = ap₂ (λ a b. Some (unless_past tsn a (walk_on b))) (some-same es) (some-same el)
+  at-place (t ∷ spans) (m ∷ ls) (suc p) s l es el = at-place spans ls p s l es el
+
+  pub past-less : (spans : List TsnSpan) (ls : List InboundStream) → walk_by_spans skip tsn spans ls
+      ≤ sum_by (λ (l : InboundStream). visit_walk skip l.queue.held) (to_visit ls)
+      + sum_by (λ (l : InboundStream). settle_walk skip l.queue.held) (to_visit ls)
+  past-less [] ls = omega arith
+  past-less (s ∷ spans) [] = omega arith
+  past-less (s ∷ spans) (l ∷ ls) =
+      let ih = past-less spans ls in
+      let one = sum_by-cons (λ (w : ℕ). w) (unless_past tsn s (walk_on l)) (walks_by_place skip tsn spans ls) in
+      let rest = by (any l) ih in
+      omega (arith, one, rest, less (lies_past tsn s))
+    where
+      less : (b : Bool) → (if b then 0 else walk_on l) ≤ walk_on l
+      less true = omega arith
+      less false = omega arith
+
+      visit : InboundStream → ℕ
+      visit x = visit_walk skip x.queue.held
+
+      settle : InboundStream → ℕ
+      settle x = settle_walk skip x.queue.held
+
+      by : (b : Bool) → walk_by_spans skip tsn spans ls ≤ sum_by visit (to_visit ls) + sum_by settle (to_visit ls)
+          → (if b then visit l + settle l else 0) + walk_by_spans skip tsn spans ls
+          ≤ sum_by visit (if b then l ∷ to_visit ls else to_visit ls) + sum_by settle (if b then l ∷ to_visit ls else to_visit ls)
+      by true ih = omega (arith, ih, sum_by-cons visit l (to_visit ls), sum_by-cons settle l (to_visit ls))
+      by false ih = omega (arith, ih)
 
 -- no more of one that changes so that it holds no more
 visited-less : (m : InboundStream → ℕ) (x y : InboundStream) → (any x ≡ false → any y ≡ false) → m y ≤ m x → if_visited m y ≤ if_visited m x

@@ -10,6 +10,7 @@ pub mod Resets
 pub mod Skips
 pub mod ReceiverRuns
 pub mod Undo
+pub mod Spans
 pub mod Visited
 pub mod Costs
 pub mod SkipCosts

@@ -1,5 +1,5 @@
 -- What a FORWARD-TSN looks at within streams: bounds of its turns. A turn is one look at an ordered message or at a fragment.
-use Rattle.std.specs.Prelude.{ℕ, ◌+◌, ◌*◌, ◌≤◌, List, length, Some}
+use Rattle.std.specs.Prelude.{ℕ, ◌+◌, ◌*◌, ◌≤◌, if◌then◌else◌, List, [], ◌∷◌, length, Some}
 use Rattle.std.specs.List.{sum_by, filter}
 use Rattle.sctp_data.specs.ForwardTsn.{ForwardTsn}
 use Rattle.sctp_data.specs.declared.chunk.chunk_forward_tsn.ChunkForwardTsnStream.{ChunkForwardTsnStream}
@@ -11,7 +11,9 @@ use Rattle.sctp_receiver.specs.declared.receiver.visit.Skip.{Skip}
 use Rattle.sctp_receiver.specs.declared.receiver.visit.Skip.TheVariants.{Unassembled, Incomplete}
 use Rattle.sctp_receiver.specs.Noted.{is_named}
 use Rattle.sctp_receiver.specs.Receiver.{Reception}
-use Rattle.sctp_receiver.specs.Visited.{to_visit}
+use Rattle.sctp_receiver.specs.declared.receiver.spans.TsnSpan.{TsnSpan}
+use Rattle.sctp_receiver.specs.Spans.{lies_past}
+use Rattle.sctp_receiver.specs.Visited.{holds_any, to_visit}
 
 -- the streams that are named
 abbrev pub named_streams : List ChunkForwardTsnStream → List InboundStream → List InboundStream
@@ -34,6 +36,22 @@ visit_walk Incomplete q = incomplete_skip_walk q
 abbrev pub settle_walk : Skip → Reassembly → ℕ
 settle_walk Unassembled q = 0
 settle_walk Incomplete q = length q.ordered
+
+-- of each stream by its place: nothing, where its stretch of TSNs lies past the TSN
+abbrev pub unless_past : ℕ → TsnSpan → ℕ → ℕ
+unless_past tsn span walk = if lies_past tsn span then 0 else walk
+
+abbrev pub walks_by_place : Skip → ℕ → List TsnSpan → List InboundStream → List ℕ
+walks_by_place skip tsn [] ls = []
+walks_by_place skip tsn (s ∷ spans) [] = []
+walks_by_place skip tsn (s ∷ spans) (l ∷ ls) =
+    unless_past tsn s (if holds_any l.queue.held
+    then visit_walk skip l.queue.held + settle_walk skip l.queue.held else 0)
+    ∷ walks_by_place skip tsn spans ls
+
+-- and of all together
+abbrev pub walk_by_spans : Skip → ℕ → List TsnSpan → List InboundStream → ℕ
+walk_by_spans skip tsn spans ls = sum_by (λ w. w) (walks_by_place skip tsn spans ls)
 
 -- on all streams: each unassembled fragment six times, and one more for each stream that is visited
 abbrev pub unordered_skips_walk : List InboundStream → ℕ

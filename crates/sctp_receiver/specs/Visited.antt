@@ -8,6 +8,8 @@ use Rattle.sctp_receiver.specs.declared.receiver.inbound_streams.InboundStream.{
 use Rattle.sctp_receiver.specs.declared.receiver.visit.Skip.{Skip}
 use Rattle.sctp_receiver.specs.declared.receiver.visit.Skip.TheVariants.{Unassembled, Incomplete}
 use Rattle.sctp_receiver.specs.Inbound.{with_queue}
+use Rattle.sctp_receiver.specs.declared.receiver.spans.TsnSpan.{TsnSpan}
+use Rattle.sctp_receiver.specs.Spans.{holds_outside}
 
 -- ## What is discarded of a stream without a name
 
@@ -33,12 +35,13 @@ to_visit ls = filter (λ l. holds_any l.queue.held) ls
 
 -- ## Places
 
--- the places of the streams in some order, and at which spot of it each place stands; so many at its begin are visited; so
--- many places more take no memory
+-- the places of the streams in some order, and at which spot of it each place stands; so many at its begin are visited; a
+-- stretch of TSNs for each place; so many places more take no memory
 pub record VisitOrder : Type 0 where
   pub order : List ℕ
   pub spots : List ℕ
   pub count : ℕ
+  pub spans : List TsnSpan
   pub room : ℕ
 
 -- a place stands at a spot exactly where that is the spot of the place
@@ -63,8 +66,14 @@ pub record IsListed (v : VisitOrder) (ls : List InboundStream) : Type 0 where
   pub others : (p : ℕ) (l : InboundStream) → slice_get ls p ≡ Some l → is_visited p v ≡ false
       → holds_incomplete l.queue.held ≡ false
 
--- and each that is visited has unassembled fragments or ordered messages
+-- each stretch covers what the stream holds
+abbrev pub AreSpans : List TsnSpan → List InboundStream → Type 0
+AreSpans spans ls = (p : ℕ) (s : TsnSpan) (l : InboundStream) → slice_get spans p ≡ Some s
+    → slice_get ls p ≡ Some l → holds_outside s l.queue.held ≡ false
+
+-- and each that is visited has unassembled fragments or ordered messages, and none holds what its stretch does not cover
 pub record IsListing (v : VisitOrder) (ls : List InboundStream) : Type 0 where
   pub listed : IsListed v ls
   pub visited : (p : ℕ) (l : InboundStream) → slice_get ls p ≡ Some l → is_visited p v ≡ true
       → holds_any l.queue.held ≡ true
+  pub spans : AreSpans v.spans ls

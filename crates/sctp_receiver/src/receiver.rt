@@ -13,6 +13,7 @@ pub mod refusal;
 mod resets;
 pub(crate) mod sack_out;
 mod skips;
+mod spans;
 mod ssns;
 pub mod tsn_filter;
 mod visit;

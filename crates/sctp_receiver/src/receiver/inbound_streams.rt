@@ -18,7 +18,8 @@ ghost use Rattle.sctp_receiver.specs.Visited.{skip_forwarded, to_visit};
 use crate::receiver::limits::cost_of;
 use crate::receiver::names::{make_each, make_room, note_each};
 use crate::receiver::refusal::ReceiverRefusal;
-use crate::receiver::visit::{Skip, forward_each, renew, settle};
+use crate::receiver::spans::TsnSpan;
+use crate::receiver::visit::{Skip, forward_each, renew, renew_within};
 use crate::receiver::visits::Visits;
 use bytes::Bytes;
 use sctp_data::chunk::chunk_forward_tsn::ChunkForwardTsnStream;
@@ -280,9 +281,11 @@ impl InboundStreams {
     {
         let stream = &mut self.items[place];
         let before = cost_of(&stream.queue);
+        let was_empty = stream.queue.ordered().is_empty();
         let pushed = stream.push_undoable_counted(chunk, self.copies, turns);
         self.cost = moved(self.cost, before, cost_of(&stream.queue));
-        renew(&mut self.visits, place, &stream.queue, true);
+        let span = self.visits.span_at(place).pushed(was_empty, chunk.tsn);
+        renew_within(&mut self.visits, place, &stream.queue, span);
         pushed
     }
 
@@ -307,7 +310,7 @@ impl InboundStreams {
         let before = cost_of(&inbound.queue);
         inbound.undo_push_counted(undo, turns);
         self.cost = moved(self.cost, before, cost_of(&inbound.queue));
-        renew(&mut self.visits, place, &inbound.queue, true);
+        renew_within(&mut self.visits, place, &inbound.queue, TsnSpan::whole());
     }
 
     /// Takes the next message of a stream out, where there is one. Refuses with `StreamUnknown`, where the stream is not open. It takes no
@@ -352,7 +355,7 @@ impl InboundStreams {
         let before = cost_of(&inbound.queue);
         let answer = inbound.reset(last_tsn);
         self.cost = moved(self.cost, before, cost_of(&inbound.queue));
-        renew(&mut self.visits, place, &inbound.queue, true);
+        renew_within(&mut self.visits, place, &inbound.queue, TsnSpan::whole());
         answer
     }
 
@@ -398,13 +401,12 @@ impl InboundStreams {
         self.cost = forward_each(
             &mut self.items,
             self.cost,
-            &self.visits,
+            &mut self.visits,
             skip,
             tsn,
             turns,
             skips,
         );
-        settle(&mut self.visits, &self.items, skip, skips);
     }
 }
 

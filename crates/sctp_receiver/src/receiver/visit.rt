@@ -1,20 +1,21 @@
 //! The streams that a FORWARD-TSN visits beside those that it names (RFC 3758 3.6).
 
-ghost use Rattle.std.specs.Prelude.{◌≡◌, ◌==◌, ◌<◌, ◌≤◌, ◌+◌, ◌&&◌, ◌||◌, ℕ, true, false, not, length, map, slice_index_or, slice_set};
+ghost use Rattle.std.specs.Prelude.{◌≡◌, ◌==◌, ◌<◌, ◌≤◌, ◌+◌, ◌&&◌, ◌||◌, ℕ, true, false, not, length, map, slice_get, slice_index_or, slice_set, Some, IfSome, IfNone};
 ghost use Rattle.std.specs.List.{list_any, sum_by};
 ghost use Rattle.sctp_reassembly.specs.reassembly_queue.Fragments.{is_complete};
 ghost use Rattle.sctp_receiver.specs.declared.receiver.inbound_streams.InboundStream.{InboundStream};
+ghost use Rattle.sctp_receiver.specs.declared.receiver.spans.TsnSpan.{TsnSpan};
 ghost use Rattle.sctp_receiver.specs.Limits.{cost_within};
-ghost use Rattle.sctp_receiver.specs.SkipCosts.{visit_walk, settle_walk};
-ghost use Rattle.sctp_receiver.specs.Visited.{after_skip, skip_forwarded, holds_any, holds_incomplete, is_visited, IsListed, IsListing, to_visit};
+ghost use Rattle.sctp_receiver.specs.SkipCosts.{visit_walk, settle_walk, walk_by_spans};
+ghost use Rattle.sctp_receiver.specs.Spans.{sets_outside, holds_outside};
+ghost use Rattle.sctp_receiver.specs.Visited.{after_skip, skip_forwarded, holds_any, holds_incomplete, is_visited, IsListing, to_visit};
 
 use crate::receiver::inbound_streams::{InboundStream, moved};
 use crate::receiver::limits::cost_of;
+use crate::receiver::spans::{TsnSpan, measure, with_front};
 use crate::receiver::visits::Visits;
 use sctp_reassembly::reassembly_queue::ReassemblyQueue;
-use sctp_reassembly::reassembly_queue::chunks::Fragments;
 use sctp_serial::turns::Turns;
-use std::collections::VecDeque;
 
 /// What a FORWARD-TSN discards of streams without naming them.
 #[derive(Clone, Copy)]
@@ -32,41 +33,47 @@ fn holds_any(queue: &ReassemblyQueue) -> bool
     !queue.unordered_chunks().is_empty() || !queue.ordered().is_empty()
 }
 
-// Whether it has unassembled fragments, or an ordered message that is incomplete. It looks at the ordered messages up to that one.
-fn holds_incomplete(queue: &ReassemblyQueue, skips: &mut Turns) -> bool
-    ensures value { result ≡ holds_incomplete queue.now.held }
-    ensures not_back { skips.old ≤ skips.new }
-    ensures walk { skips.new ≤ skips.old + length queue.now.held.ordered }
-{
-    !queue.unordered_chunks().is_empty() || is_any_incomplete(queue.ordered(), skips)
-}
-
-// Whether a set is incomplete. A turn is taken for each that is looked at.
-fn is_any_incomplete(sets: &VecDeque<Fragments>, skips: &mut Turns) -> bool
-    ensures value { result ≡ list_any (λ s. not (is_complete s.chunks)) sets.now.items }
-    ensures not_back { skips.old ≤ skips.new }
-    ensures walk { skips.new ≤ skips.old + length sets.now.items }
-{
-    for place in 0..sets.len() {
-        skips.tick();
-        if !sets[place].is_complete() {
-            return true;
-        }
-    }
-    false
-}
-
-// Whether a stream is still to be visited after such a skip. After one of incomplete messages each of its messages is looked at: it is where
-// one is incomplete. After one of unassembled fragments none is: it is where it has any.
-fn stays(queue: &ReassemblyQueue, skip: Skip, skips: &mut Turns) -> bool
-    ensures no { result ≡ false → holds_incomplete queue.now.held ≡ false }
-    ensures yes { result ≡ true → holds_any queue.now.held ≡ true }
+// Outside of which TSNs nothing of a stream is discarded after such a skip; None where it need not be visited again. After one of incomplete
+// messages each message is looked at: it is visited again where one is incomplete, or it has unassembled fragments. After one of
+// unassembled fragments none is: it is visited again where it has any.
+// Precondition: the messages have no fragment outside of what was noted before.
+fn span_after(
+    queue: &ReassemblyQueue,
+    before: TsnSpan,
+    skip: Skip,
+    skips: &mut Turns,
+) -> Option<TsnSpan>
+    requires { sets_outside before queue.now.held.ordered ≡ false }
+    ensures no { IfNone result (holds_incomplete queue.now.held ≡ false) }
+    ensures yes { IfSome result (λ span. holds_any queue.now.held ≡ true) }
+    ensures covers { IfSome result (λ span. holds_outside span queue.now.held ≡ false) }
     ensures not_back { skips.old ≤ skips.new }
     ensures walk { skips.new ≤ skips.old + settle_walk skip queue.now.held }
 {
+    let is_any = holds_any(queue);
+    if !is_any {
+        return None;
+    }
     match skip {
-        Skip::Unassembled => holds_any(queue),
-        Skip::Incomplete => holds_incomplete(queue, skips),
+        Skip::Unassembled => Some(with_front(before, queue)),
+        Skip::Incomplete => match measure(queue.ordered(), skips) {
+            Some(span) => Some(with_front(span, queue)),
+            None => front_span(queue),
+        },
+    }
+}
+
+// The stretch of the first unassembled fragment alone; None where there is none.
+// Precondition: no message is incomplete.
+fn front_span(queue: &ReassemblyQueue) -> Option<TsnSpan>
+    requires { list_any (λ s. not (is_complete s.chunks)) queue.now.held.ordered ≡ false }
+    ensures no { IfNone result (holds_incomplete queue.now.held ≡ false) }
+    ensures yes { IfSome result (λ span. holds_any queue.now.held ≡ true) }
+    ensures covers { IfSome result (λ span. holds_outside span queue.now.held ≡ false) }
+{
+    match queue.unordered_chunks().front() {
+        Some(chunk) => Some(TsnSpan::of(chunk.tsn, false)),
+        None => None,
     }
 }
 
@@ -80,6 +87,7 @@ pub(crate) fn renew(visits: &mut Visits, place: usize, queue: &ReassemblyQueue, 
         → is_visited p visits.new ≡ is_visited p visits.old }
     ensures here { is_visited place visits.new
         ≡ (holds_any queue.now.held && (is_more || is_visited place visits.old)) }
+    ensures spans { visits.new.spans ≡ visits.old.spans }
 {
     if !holds_any(queue) {
         visits.remove(place);
@@ -90,33 +98,72 @@ pub(crate) fn renew(visits: &mut Visits, place: usize, queue: &ReassemblyQueue, 
     }
 }
 
-/// Discards, as the skip says, on each stream that is visited; on the others there is nothing to discard. Answers what all streams count
-/// for then. A turn is taken for each that is visited, and those of the skips are added to `skips`.
+/// The same where something may have come. Its messages have no fragment outside of these TSNs. Where it has unassembled fragments the
+/// first of them is added. It takes no memory.
+/// Precondition: it is a place, and its messages have none outside.
+pub(crate) fn renew_within(
+    visits: &mut Visits,
+    place: usize,
+    queue: &ReassemblyQueue,
+    span: TsnSpan,
+)
+    requires place { place < length visits.old.spots }
+    requires within { sets_outside span queue.now.held.ordered ≡ false }
+    ensures places { length visits.new.spots ≡ length visits.old.spots }
+    ensures others { (p : ℕ) → (p == place) ≡ false
+        → is_visited p visits.new ≡ is_visited p visits.old }
+    ensures here { is_visited place visits.new ≡ holds_any queue.now.held }
+    ensures other_spans { (p : ℕ) → (p == place) ≡ false
+        → slice_get visits.new.spans p ≡ slice_get visits.old.spans p }
+    ensures span { (s : TsnSpan) → slice_get visits.new.spans place ≡ Some s
+        → holds_outside s queue.now.held ≡ false }
+{
+    visits.set_span(place, with_front(span, queue));
+    renew(visits, place, queue, true);
+}
+
+/// Discards, as the skip says, on each stream that is visited and is not noted to lie past the TSN; on the others there is nothing to
+/// discard, and they are not read. Streams that need no visit any more are visited no more. Answers what all streams count for then. A turn
+/// is taken for each that is visited, and those within streams are added to `skips`. It takes no memory.
 /// Precondition: the cost is what all streams count for; those that are visited, and those that are not, are as `IsListing` says.
 pub(crate) fn forward_each(
     streams: &mut Vec<InboundStream>,
     cost: u128,
-    visits: &Visits,
+    visits: &mut Visits,
     skip: Skip,
     tsn: u32,
     turns: &mut Turns,
     skips: &mut Turns,
 ) -> u128
     requires cost { cost ≡ sum_by cost_within streams.old.items }
-    requires listing { IsListing visits.now streams.old.items }
+    requires listing { IsListing visits.old streams.old.items }
     ensures value { streams.new.items ≡ map (skip_forwarded skip tsn) streams.old.items }
     ensures cost { result ≡ sum_by cost_within streams.new.items }
-    ensures listed { IsListed visits.now streams.new.items }
+    ensures listing { IsListing visits.new streams.new.items }
     ensures not_back { turns.old ≤ turns.new }
     ensures few { turns.new ≤ turns.old + length (to_visit streams.old.items) }
     ensures skips_not_back { skips.old ≤ skips.new }
-    ensures walk { skips.new
-        ≤ skips.old + sum_by (λ l. visit_walk skip l.queue.held) (to_visit streams.old.items) }
+    ensures past { skips.new
+        ≤ skips.old + walk_by_spans skip tsn visits.old.spans streams.old.items }
+    ensures walk { skips.new ≤ skips.old
+        + sum_by (λ l. visit_walk skip l.queue.held) (to_visit streams.old.items)
+        + sum_by (λ l. settle_walk skip l.queue.held) (to_visit streams.old.items) }
 {
     let mut cost = cost;
-    for spot in 0..visits.len() {
+    let mut left = visits.len();
+    while left > 0 {
+        left -= 1;
         turns.tick();
-        cost = forward_at(streams, cost, visits.at(spot), skip, tsn, skips);
+        let place = visits.at(left);
+        let span = visits.span_at(place);
+        if span.lies_past(tsn) {
+            continue;
+        }
+        cost = forward_at(streams, cost, place, skip, tsn, skips);
+        match span_after(&streams[place].queue, span, skip, skips) {
+            Some(after) => visits.set_span(place, after),
+            None => visits.remove(place),
+        }
     }
     cost
 }
@@ -154,25 +201,5 @@ fn skip_on(queue: &mut ReassemblyQueue, skip: Skip, tsn: u32, skips: &mut Turns)
     match skip {
         Skip::Unassembled => queue.forward_tsn_for_unordered_counted(tsn, skips),
         Skip::Incomplete => queue.forward_tsn_for_incomplete_counted(tsn, skips),
-    }
-}
-
-/// After such a skip, streams that were visited and need no visit (`stays`) are visited no more. It takes no memory. Its turns are added.
-/// Precondition: those that are not visited hold nothing incomplete.
-pub(crate) fn settle(visits: &mut Visits, streams: &[InboundStream], skip: Skip, skips: &mut Turns)
-    requires { IsListed visits.old streams.now }
-    ensures listing { IsListing visits.new streams.now }
-    ensures not_back { skips.old ≤ skips.new }
-    ensures walk { skips.new
-        ≤ skips.old + sum_by (λ l. settle_walk skip l.queue.held) streams.now }
-{
-    let mut left = visits.len();
-    while left > 0 {
-        left -= 1;
-        let place = visits.at(left);
-        if stays(&streams[place].queue, skip, skips) {
-            continue;
-        }
-        visits.remove(place);
     }
 }

@@ -1,15 +1,17 @@
 //! Of the places of streams, which a FORWARD-TSN visits.
 
-ghost use Rattle.std.specs.Prelude.{◌≡◌, ◌==◌, ◌<◌, ◌≤◌, ◌+◌, ◌-◌, ℕ, [], true, false, Some, IsOkUnless, OnOk, length, slice_get, option_map, min, vec_capacity, if◌then◌else◌};
+ghost use Rattle.std.specs.Prelude.{◌≡◌, ◌==◌, ◌<◌, ◌≤◌, ◌+◌, ◌-◌, ℕ, [], true, false, Some, IsOkUnless, OnOk, length, slice_get, slice_set, option_map, min, vec_capacity, if◌then◌else◌};
 ghost use Rattle.sctp_util.specs.declared.error.Error.TheVariants.{ErrOutOfMemory};
 ghost use Rattle.sctp_receiver.specs.Visited.{AreInverse, is_visited, swapped};
 
+use crate::receiver::spans::TsnSpan;
 use sctp_stream::stream_numbers::{make_place, put};
 use sctp_util::error::Result;
 use std::alloc::Global;
 use std::marker::Model;
 
-/// The places of streams, in an order in which those that are visited come first.
+/// The places of streams, in an order in which those that are visited come first; and beside one another, what tells of each stream
+/// whether a FORWARD-TSN may discard anything of it, so that the stream need not be read for that.
 #[derive(Drop)]
 pub(crate) struct Visits {
     // the places, in that order
@@ -18,6 +20,8 @@ pub(crate) struct Visits {
     spots: Vec<usize>,
     // how many are visited
     count: usize,
+    // by place, outside of which TSNs a FORWARD-TSN discards nothing of the stream
+    spans: Vec<TsnSpan>,
 }
 
 impl Model for Visits {
@@ -30,14 +34,17 @@ impl Model for Visits {
       order = v.order.items;
       spots = v.spots.items;
       count = v.count;
-      room = min (vec_capacity v.order - length v.order.items)
-          (vec_capacity v.spots - length v.spots.items);
+      spans = v.spans.items;
+      room = min (min (vec_capacity v.order - length v.order.items)
+          (vec_capacity v.spots - length v.spots.items))
+          (vec_capacity v.spans - length v.spans.items);
     } };
 
     ghost invariant = { λ v. record {
       inverse : AreInverse v.order.items v.spots.items;
       same : length v.order.items ≡ length v.spots.items;
       within : v.count ≤ length v.order.items;
+      spans : length v.spans.items ≡ length v.spots.items;
     } };
 }
 
@@ -50,6 +57,7 @@ impl Visits {
             order: Vec::new(alloc),
             spots: Vec::new(alloc),
             count: 0,
+            spans: Vec::new(alloc),
         }
     }
 
@@ -61,6 +69,7 @@ impl Visits {
     {
         make_place(&mut self.order)?;
         make_place(&mut self.spots)?;
+        make_place(&mut self.spans)?;
         Ok(())
     }
 
@@ -70,11 +79,14 @@ impl Visits {
         requires { 0 < self.old.room }
         ensures visited { (p : ℕ) → is_visited p self.new ≡ is_visited p self.old }
         ensures places { length self.new.spots ≡ length self.old.spots + 1 }
+        ensures spans { (p : ℕ) → p < length self.old.spots
+            → slice_get self.new.spans p ≡ slice_get self.old.spans p }
     {
         let place = self.spots.len();
         let spot = self.order.len();
         put(&mut self.order, place);
         put(&mut self.spots, spot);
+        put(&mut self.spans, TsnSpan::whole());
     }
 
     /// How many are visited.
@@ -97,6 +109,27 @@ impl Visits {
         self.order[spot]
     }
 
+    /// Outside of which TSNs a FORWARD-TSN discards nothing of the stream at a place.
+    /// Precondition: it is a place.
+    pub(crate) fn span_at(&self, place: usize) -> TsnSpan
+        requires { place < length self.now.spots }
+        ensures { slice_get self.now.spans place ≡ Some result }
+    {
+        self.spans[place]
+    }
+
+    /// Notes that for a place. It takes no memory.
+    /// Precondition: it is a place.
+    pub(crate) fn set_span(&mut self, place: usize, span: TsnSpan)
+        requires { place < length self.old.spots }
+        ensures rest { self.new ≡ record self.old {
+          spans = slice_set self.old.spans place span;
+        } }
+        ensures in_range { place < length self.old.spans }
+    {
+        self.spans[place] = span;
+    }
+
     // At which spot a place stands.
     // Precondition: it is a place.
     fn spot_of(&self, place: usize) -> usize
@@ -114,6 +147,7 @@ impl Visits {
         ensures visited { (p : ℕ) → is_visited p self.new
             ≡ (if p == place then true else is_visited p self.old) }
         ensures places { length self.new.spots ≡ length self.old.spots }
+        ensures spans { self.new.spans ≡ self.old.spans }
     {
         let spot = self.spot_of(place);
         let first = self.count;
@@ -131,6 +165,7 @@ impl Visits {
         ensures visited { (p : ℕ) → is_visited p self.new
             ≡ (if p == place then false else is_visited p self.old) }
         ensures places { length self.new.spots ≡ length self.old.spots }
+        ensures spans { self.new.spans ≡ self.old.spans }
         ensures moved { (i k : ℕ) → slice_get self.old.spots place ≡ Some i → i < self.old.count
             → slice_get self.new.order k ≡ slice_get self.old.order (swapped i self.new.count k) }
         ensures count { is_visited place self.old ≡ true → self.new.count + 1 ≡ self.old.count }
@@ -161,8 +196,12 @@ impl Visits {
         ensures visited { (p : ℕ) → p < length self.new.spots → is_visited p self.new
             ≡ is_visited (if p == place then length self.new.spots else p) self.old }
         ensures places { length self.new.spots + 1 ≡ length self.old.spots }
+        ensures spans { (p : ℕ) → p < length self.new.spots → slice_get self.new.spans p
+            ≡ slice_get self.old.spans (if p == place then length self.new.spots else p) }
     {
         let last = self.spots.len() - 1;
+        let span = self.span_at(last);
+        self.set_span(place, span);
         let visited = self.is_visited(last);
         self.set(place, visited);
         self.remove(last);
@@ -176,6 +215,7 @@ impl Visits {
         ensures visited { (p : ℕ) → is_visited p self.new
             ≡ (if p == place then visited else is_visited p self.old) }
         ensures places { length self.new.spots ≡ length self.old.spots }
+        ensures spans { self.new.spans ≡ self.old.spans }
     {
         if visited {
             self.insert(place);
@@ -192,12 +232,15 @@ impl Visits {
         ensures visited { (p : ℕ) → p < length self.new.spots
             → is_visited p self.new ≡ is_visited p self.old }
         ensures places { length self.new.spots + 1 ≡ length self.old.spots }
+        ensures spans { (p : ℕ) → p < length self.new.spots
+            → slice_get self.new.spans p ≡ slice_get self.old.spans p }
     {
         let end = self.spots.len() - 1;
         let spot = self.spots[end];
         swap(&mut self.order, &mut self.spots, spot, end);
         let _ = self.order.pop();
         let _ = self.spots.pop();
+        let _ = self.spans.pop();
     }
 }
 

@@ -1,6 +1,8 @@
 use Rattle.sctp_receiver.proofs.Names.{rules, ap, ◌∙◌, arith, ◌<◌, ◌^◌, length, length-set, holds_incomplete, ReassemblyState, InboundStream}
 use Rattle.sctp_receiver.proofs.CostSums.{is-part, changed-fits, changed-sum}
+use Rattle.sctp_receiver.specs.Spans.{holds_outside}
 use Rattle.sctp_receiver.proofs.Listing.{renewed-less}
+use Rattle.sctp_receiver.proofs.Spans.{noted-inside}
 use Rattle.sctp_receiver.proofs.Settled.{noted-none}
 use Rattle.sctp_receiver.proofs.receiver.names.make_at.Goals as goal
 
@@ -31,3 +33,6 @@ returns-clause-listing c =
     c.index_mut-stream.ensures.value c.requires.listing c.renew.ensures.places (length-set ls c.args.place y) c.renew.ensures.others c.renew.ensures.here
     (λ h. ap (λ (q : ReassemblyState). holds_incomplete q.held) c.forward_tsn_for_ordered_noted_counted.ensures.value
     ∙ noted-none c.args.noted c.index_mut-stream.result.now h)
+    c.renew.ensures.spans
+    (λ s h. ap (λ (q : ReassemblyState). holds_outside s q.held) c.forward_tsn_for_ordered_noted_counted.ensures.value
+    ∙ noted-inside s c.args.noted c.index_mut-stream.result.now h)

@@ -1,91 +1,284 @@
-use Rattle.sctp_receiver.proofs.Names.{rules, arith, ◌≡◌, ◌<◌, Bool, map, length, length-set, add-one, Some, ap, sym, subst, ◌∙◌, refl, slice_get}
-use Rattle.sctp_receiver.proofs.Names.{slice_index_or, if◌then◌else◌, lt-ltb, slice_get_within, get_or_from_slice_get, some-same, InboundStream, visit_walk}
-use Rattle.sctp_receiver.proofs.Names.{skip_forwarded, is_spot_before}
-use Rattle.sctp_receiver.proofs.SkipCosts.{if_visited, not-yet, spent-more, spent-within, at-map, total-map, visited-sum}
+use Rattle.sctp_receiver.proofs.Names.{rules, arith, ◌≡◌, ◌+◌, ◌-◌, ◌<◌, suc, true, false, Some, length, length-set, ap, sym, subst, ◌∙◌, slice_get, slice_set}
+use Rattle.sctp_receiver.proofs.Names.{if◌then◌else◌, get_or_from_slice_get, some-same, InboundStream, visit_walk, settle_walk, skip_forwarded}
+use Rattle.std.specs.Vec.{vec_len}
+use Rattle.sctp_receiver.specs.SkipCosts.{unless_past, walks_by_place}
+use Rattle.sctp_receiver.specs.Spans.{lies_past, sets_outside}
+use Rattle.sctp_receiver.proofs.SkipCosts.{spent, spent-more, spent-within, settle-less, walk_on, at-place, past-less}
 use Rattle.sctp_receiver.proofs.Settled.{skip-stays}
-use Rattle.sctp_receiver.proofs.Listing.{any, incomplete}
-use Rattle.sctp_receiver.proofs.Visiting.{ChangedBefore, none-changed, next-changed, all-changed, few-visited, element}
+use Rattle.sctp_receiver.proofs.Spans.{past-stays, skip-inside, settled-inside}
+use Rattle.sctp_receiver.proofs.Listing.{any, incomplete, outside}
+use Rattle.sctp_receiver.proofs.VisitOrders.{read-at, set-here}
+use Rattle.sctp_receiver.proofs.Visiting.{few-visited, element}
+use Rattle.sctp_receiver.proofs.Forwarding.{Going, going-all, gone-all, gone-visited, in-range, same-span, same-stream, was-visited, going-past, going-again, going-off}
 use Rattle.sctp_receiver.proofs.receiver.visit.forward_each.Goals as goal
 
-pub loop-spot-init : goal.loop-spot-init
-loop-spot-init c = record {
-  same = refl;
-  so_far = none-changed (skip_forwarded c.args.skip c.args.tsn) c.args.visits.now.spots c.args.streams.now.items;
-  cost = c.requires.cost;
-  turns = omega arith;
-  not_back = omega arith;
-  walk = omega arith;
-}
-
-pub loop-spot-preserved : goal.loop-spot-preserved
-loop-spot-preserved c =
+pub loop-left-init : goal.loop-left-init
+loop-left-init c =
     let f = skip_forwarded c.args.skip c.args.tsn in
+    let u = c.args.visits.now in
     let xs = c.args.streams.now.items in
-    let ys = c.loop-spot.streams.items in
-    let k = c.at.result in
-    let lt : k < length ys = omega (arith, c.at.ensures.in_range, c.requires.listing.listed.places, c.loop-spot.invariant.same) in
-    let d = (element any ys k lt).0 in
-    let made = c.forward_at-cost.ensures.value d in
-    let v = c.args.visits.now in
-    let spot = c.loop-spot.spot in
-    let m = λ (l : InboundStream). visit_walk c.args.skip l.queue.held in
-    let here = element any xs k (omega (arith, lt, c.loop-spot.invariant.same)) in
-    let x = here.0 in
-    let stands : slice_get v.spots k ≡ Some spot = (c.at.ensures.inverse spot k).0 c.at.ensures.place in
-    let still : slice_get ys k ≡ Some x = not-yet f spot k v.spots xs ys x c.loop-spot.invariant.so_far stands here.1 in
-    let same = ap m (get_or_from_slice_get ys k x d still) in
-    let before : spot < v.count = search rules in
-    let holds = c.requires.listing.visited k x here.1 (ap (is_spot_before v.count) stands ∙ lt-ltb spot v.count before) in
-    let cost : if_visited m x ≡ m x = ap (λ (b : Bool). if b then m x else 0) holds in
-    let more = spent-more spot k (if_visited m x) v.order (map (if_visited m) xs) c.at.ensures.place (at-map (if_visited m) xs k x here.1) in
+    let listing = c.requires.listing in
+    let inverse = c.len-left.ensures.inverse in
+    let ws = walks_by_place c.args.skip c.args.tsn u.spans xs in
     record {
-      same = ap length made ∙ length-set ys k (f (slice_index_or ys k d)) ∙ c.loop-spot.invariant.same;
-      so_far = next-changed f c.args.visits.now.order c.args.visits.now.spots c.loop-spot.spot k xs ys c.forward_at-cost.new.streams.items d
-          c.at.ensures.inverse c.at.ensures.place lt c.loop-spot.invariant.so_far made;
+      going = subst (λ n. Going f any incomplete outside u xs n u xs) (sym c.len-left.ensures.count)
+          (going-all f any incomplete outside u xs inverse listing.listed.places listing.listed.others listing.spans
+          (λ x h. skip-stays c.args.skip c.args.tsn x h));
+      few = omega (arith, c.len-left.ensures.count);
+      cost = c.requires.cost;
+      turns = omega (arith, c.len-left.ensures.count);
+      not_back = omega arith;
+      walk = let h = spent-within c.len-left.result u.order u.spots ws inverse in omega (arith, h);
+    }
+
+pub loop-left-preserved-then-lies_past : goal.loop-left-preserved-then-lies_past
+loop-left-preserved-then-lies_past c =
+    let f = skip_forwarded c.args.skip c.args.tsn in
+    let u = c.args.visits.now in
+    let xs = c.args.streams.now.items in
+    let v = c.loop-left.visits in
+    let ys = c.loop-left.streams.items in
+    let m = c.loop-left.left - 1 in
+    let k = c.at-place.result in
+    let s = c.span_at-span.result in
+    let inv = c.loop-left.invariant in
+    let listing = c.requires.listing in
+    let inverse = c.len-left.ensures.inverse in
+    let more : c.loop-left.left ≡ m + 1 = omega (arith, c.loop-left-test.true) in
+    let g = subst (λ n. Going f any incomplete outside u xs n v ys) more inv.going in
+    let at = c.at-place.ensures.place in
+    let lt : k < length ys = in-range f any incomplete outside u xs inverse m k v ys g at in
+    let there = element any xs k (omega (arith, lt, g.same)) in
+    let x = there.0 in
+    let was : slice_get u.spans k ≡ Some s = sym (same-span f any incomplete outside u xs inverse m k v ys g at) ∙ c.span_at-span.ensures in
+    let held : any x ≡ true = listing.visited k x there.1
+    (was-visited f any incomplete outside u xs inverse m k v ys g at (omega (arith, more, inv.few))) in
+    let ws = walks_by_place c.args.skip c.args.tsn u.spans xs in
+    let weight = unless_past c.args.tsn s (walk_on c.args.skip c.args.tsn x) in
+    let spending : spent c.loop-left.left u.order ws ≡ spent m u.order ws + weight = ap (λ n. spent n u.order ws) {x = c.loop-left.left} {y = suc m} (omega (arith, more))
+    ∙ spent-more m k weight u.order ws (sym (g.prefix m (omega arith)) ∙ at) (at-place c.args.skip c.args.tsn u.spans xs k s x was there.1) in
+    let past : lies_past c.args.tsn s ≡ true = sym c.lies_past.ensures.value ∙ c.if-lies_past.true in
+    let stays = past-stays c.args.tsn s c.lies_past.ensures.tsn_fits c.lies_past.ensures.first_fits past c.args.skip x (listing.spans k s x was there.1) in
+    record {
+      going = going-past f any incomplete outside u xs inverse m k v ys g at x there.1 stays held;
+      few = omega (arith, inv.few);
+      cost = inv.cost;
+      turns = omega (arith, inv.turns, c.tick.ensures, more);
+      not_back = inv.not_back;
+      walk = omega (arith, inv.walk, spending);
+    }
+
+pub index-requires : goal.index-requires
+index-requires c =
+    let f = skip_forwarded c.args.skip c.args.tsn in
+    let u = c.args.visits.now in
+    let xs = c.args.streams.now.items in
+    let v = c.loop-left.visits in
+    let ys = c.loop-left.streams.items in
+    let m = c.loop-left.left - 1 in
+    let k = c.at-place.result in
+    let s = c.span_at-span.result in
+    let inv = c.loop-left.invariant in
+    let listing = c.requires.listing in
+    let inverse = c.len-left.ensures.inverse in
+    let more : c.loop-left.left ≡ m + 1 = omega (arith, c.loop-left-test.true) in
+    let g = subst (λ n. Going f any incomplete outside u xs n v ys) more inv.going in
+    let at = c.at-place.ensures.place in
+    let lt : k < length ys = in-range f any incomplete outside u xs inverse m k v ys g at in
+    let there = element any xs k (omega (arith, lt, g.same)) in
+    let x = there.0 in
+    let was : slice_get u.spans k ≡ Some s = sym (same-span f any incomplete outside u xs inverse m k v ys g at) ∙ c.span_at-span.ensures in
+    let zs = c.forward_at-cost.new.streams.items in
+    let same = get_or_from_slice_get ys k x x (same-stream f any incomplete outside u xs inverse m k v ys g at x there.1) in
+    let made : zs ≡ slice_set ys k (f x) = c.forward_at-cost.ensures.value x ∙ ap (λ z. slice_set ys k (f z)) same in
+    let many : k < length zs = omega (arith, ap length made, length-set ys k (f x), lt) in
+    let long : vec_len c.forward_at-cost.new.streams ≡ length zs = search rules in
+    omega (arith, many, long)
+
+pub span_after-requires : goal.span_after-requires
+span_after-requires c =
+    let f = skip_forwarded c.args.skip c.args.tsn in
+    let u = c.args.visits.now in
+    let xs = c.args.streams.now.items in
+    let v = c.loop-left.visits in
+    let ys = c.loop-left.streams.items in
+    let m = c.loop-left.left - 1 in
+    let k = c.at-place.result in
+    let s = c.span_at-span.result in
+    let inv = c.loop-left.invariant in
+    let listing = c.requires.listing in
+    let inverse = c.len-left.ensures.inverse in
+    let more : c.loop-left.left ≡ m + 1 = omega (arith, c.loop-left-test.true) in
+    let g = subst (λ n. Going f any incomplete outside u xs n v ys) more inv.going in
+    let at = c.at-place.ensures.place in
+    let lt : k < length ys = in-range f any incomplete outside u xs inverse m k v ys g at in
+    let there = element any xs k (omega (arith, lt, g.same)) in
+    let x = there.0 in
+    let was : slice_get u.spans k ≡ Some s = sym (same-span f any incomplete outside u xs inverse m k v ys g at) ∙ c.span_at-span.ensures in
+    let zs = c.forward_at-cost.new.streams.items in
+    let same = get_or_from_slice_get ys k x x (same-stream f any incomplete outside u xs inverse m k v ys g at x there.1) in
+    let made : zs ≡ slice_set ys k (f x) = c.forward_at-cost.ensures.value x ∙ ap (λ z. slice_set ys k (f z)) same in
+    let many : k < length zs = omega (arith, ap length made, length-set ys k (f x), lt) in
+    let r = c.index.result.now in
+    let is : r ≡ f x = some-same (sym (read-at zs k r many c.index.ensures) ∙ ap (λ ls. slice_get ls k) made ∙ set-here ys k (f x) lt) in
+    ap (λ (l : InboundStream). sets_outside s l.queue.held.ordered) is ∙ skip-inside s c.args.skip c.args.tsn x (listing.spans k s x was there.1)
+
+pub loop-left-preserved-in-Some : goal.loop-left-preserved-in-Some
+loop-left-preserved-in-Some c =
+    let f = skip_forwarded c.args.skip c.args.tsn in
+    let u = c.args.visits.now in
+    let xs = c.args.streams.now.items in
+    let v = c.loop-left.visits in
+    let ys = c.loop-left.streams.items in
+    let m = c.loop-left.left - 1 in
+    let k = c.at-place.result in
+    let s = c.span_at-span.result in
+    let inv = c.loop-left.invariant in
+    let listing = c.requires.listing in
+    let inverse = c.len-left.ensures.inverse in
+    let more : c.loop-left.left ≡ m + 1 = omega (arith, c.loop-left-test.true) in
+    let g = subst (λ n. Going f any incomplete outside u xs n v ys) more inv.going in
+    let at = c.at-place.ensures.place in
+    let lt : k < length ys = in-range f any incomplete outside u xs inverse m k v ys g at in
+    let there = element any xs k (omega (arith, lt, g.same)) in
+    let x = there.0 in
+    let was : slice_get u.spans k ≡ Some s = sym (same-span f any incomplete outside u xs inverse m k v ys g at) ∙ c.span_at-span.ensures in
+    let held : any x ≡ true = listing.visited k x there.1
+    (was-visited f any incomplete outside u xs inverse m k v ys g at (omega (arith, more, inv.few))) in
+    let ws = walks_by_place c.args.skip c.args.tsn u.spans xs in
+    let weight = unless_past c.args.tsn s (walk_on c.args.skip c.args.tsn x) in
+    let spending : spent c.loop-left.left u.order ws ≡ spent m u.order ws + weight = ap (λ n. spent n u.order ws) {x = c.loop-left.left} {y = suc m} (omega (arith, more))
+    ∙ spent-more m k weight u.order ws (sym (g.prefix m (omega arith)) ∙ at) (at-place c.args.skip c.args.tsn u.spans xs k s x was there.1) in
+    let zs = c.forward_at-cost.new.streams.items in
+    let same = get_or_from_slice_get ys k x x (same-stream f any incomplete outside u xs inverse m k v ys g at x there.1) in
+    let made : zs ≡ slice_set ys k (f x) = c.forward_at-cost.ensures.value x ∙ ap (λ z. slice_set ys k (f z)) same in
+    let many : k < length zs = omega (arith, ap length made, length-set ys k (f x), lt) in
+    let r = c.index.result.now in
+    let is : r ≡ f x = some-same (sym (read-at zs k r many c.index.ensures) ∙ ap (λ ls. slice_get ls k) made ∙ set-here ys k (f x) lt) in
+    let far : lies_past c.args.tsn s ≡ false = sym c.lies_past.ensures.value ∙ c.if-lies_past.false in
+    let whole : weight ≡ visit_walk c.args.skip x.queue.held + settle_walk c.args.skip x.queue.held =
+    ap (λ b. if b then 0 else walk_on c.args.skip c.args.tsn x) far
+    ∙ ap (λ b. if b then visit_walk c.args.skip x.queue.held + settle_walk c.args.skip x.queue.held else 0) held in
+    let visit = ap (λ (l : InboundStream). visit_walk c.args.skip l.queue.held) same in
+    let settle = ap (λ (l : InboundStream). settle_walk c.args.skip l.queue.held) is in
+    record {
+      going = going-again f any incomplete outside u xs inverse m k v ys g at x there.1 c.set_span.new.self zs made c.in-Some.after
+          c.set_span.ensures.rest c.set_span.ensures.in_range (ap any (sym is) ∙ c.in-Some.ensures.yes)
+          (ap (outside c.in-Some.after) (sym is) ∙ c.in-Some.ensures.covers);
+      few = omega (arith, inv.few);
       cost = c.forward_at-cost.ensures.cost;
-      turns = omega (arith, c.loop-spot.invariant.turns, c.tick.ensures);
-      not_back = omega (arith, c.loop-spot.invariant.not_back, c.forward_at-cost.ensures.not_back);
-      walk = rw (add-one) (omega (arith, c.loop-spot.invariant.walk, c.forward_at-cost.ensures.walk d, same, cost, more));
+      turns = omega (arith, inv.turns, c.tick.ensures, more);
+      not_back = omega (arith, inv.not_back, c.forward_at-cost.ensures.not_back, c.span_after.ensures.not_back);
+      walk = omega (
+        arith,
+        inv.walk,
+        spending,
+        whole,
+        visit,
+        settle,
+        settle-less c.args.skip c.args.tsn x,
+        c.forward_at-cost.ensures.walk x,
+        c.span_after.ensures.walk,
+      );
+    }
+
+pub loop-left-preserved : goal.loop-left-preserved
+loop-left-preserved c =
+    let f = skip_forwarded c.args.skip c.args.tsn in
+    let u = c.args.visits.now in
+    let xs = c.args.streams.now.items in
+    let v = c.loop-left.visits in
+    let ys = c.loop-left.streams.items in
+    let m = c.loop-left.left - 1 in
+    let k = c.at-place.result in
+    let s = c.span_at-span.result in
+    let inv = c.loop-left.invariant in
+    let listing = c.requires.listing in
+    let inverse = c.len-left.ensures.inverse in
+    let more : c.loop-left.left ≡ m + 1 = omega (arith, c.loop-left-test.true) in
+    let g = subst (λ n. Going f any incomplete outside u xs n v ys) more inv.going in
+    let at = c.at-place.ensures.place in
+    let lt : k < length ys = in-range f any incomplete outside u xs inverse m k v ys g at in
+    let there = element any xs k (omega (arith, lt, g.same)) in
+    let x = there.0 in
+    let was : slice_get u.spans k ≡ Some s = sym (same-span f any incomplete outside u xs inverse m k v ys g at) ∙ c.span_at-span.ensures in
+    let held : any x ≡ true = listing.visited k x there.1
+    (was-visited f any incomplete outside u xs inverse m k v ys g at (omega (arith, more, inv.few))) in
+    let ws = walks_by_place c.args.skip c.args.tsn u.spans xs in
+    let weight = unless_past c.args.tsn s (walk_on c.args.skip c.args.tsn x) in
+    let spending : spent c.loop-left.left u.order ws ≡ spent m u.order ws + weight = ap (λ n. spent n u.order ws) {x = c.loop-left.left} {y = suc m} (omega (arith, more))
+    ∙ spent-more m k weight u.order ws (sym (g.prefix m (omega arith)) ∙ at) (at-place c.args.skip c.args.tsn u.spans xs k s x was there.1) in
+    let zs = c.forward_at-cost.new.streams.items in
+    let same = get_or_from_slice_get ys k x x (same-stream f any incomplete outside u xs inverse m k v ys g at x there.1) in
+    let made : zs ≡ slice_set ys k (f x) = c.forward_at-cost.ensures.value x ∙ ap (λ z. slice_set ys k (f z)) same in
+    let many : k < length zs = omega (arith, ap length made, length-set ys k (f x), lt) in
+    let r = c.index.result.now in
+    let is : r ≡ f x = some-same (sym (read-at zs k r many c.index.ensures) ∙ ap (λ ls. slice_get ls k) made ∙ set-here ys k (f x) lt) in
+    let far : lies_past c.args.tsn s ≡ false = sym c.lies_past.ensures.value ∙ c.if-lies_past.false in
+    let whole : weight ≡ visit_walk c.args.skip x.queue.held + settle_walk c.args.skip x.queue.held =
+    ap (λ b. if b then 0 else walk_on c.args.skip c.args.tsn x) far
+    ∙ ap (λ b. if b then visit_walk c.args.skip x.queue.held + settle_walk c.args.skip x.queue.held else 0) held in
+    let visit = ap (λ (l : InboundStream). visit_walk c.args.skip l.queue.held) same in
+    let settle = ap (λ (l : InboundStream). settle_walk c.args.skip l.queue.held) is in
+    let none : incomplete (f x) ≡ false = ap incomplete (sym is) ∙ c.in-None.ensures.no in
+    let gone = c.remove.ensures in
+    record {
+      going = going-off f any incomplete outside u xs inverse m k v ys g at x there.1 c.remove.new.self zs made gone.visited gone.places gone.count
+          gone.moved gone.inverse gone.spans none (λ t e. settled-inside t (f x).queue.held none (skip-inside t c.args.skip c.args.tsn x
+          (listing.spans k t x (sym (same-span f any incomplete outside u xs inverse m k v ys g at) ∙ e) there.1)));
+      few = omega (arith, inv.few);
+      cost = c.forward_at-cost.ensures.cost;
+      turns = omega (arith, inv.turns, c.tick.ensures, more);
+      not_back = omega (arith, inv.not_back, c.forward_at-cost.ensures.not_back, c.span_after.ensures.not_back);
+      walk = omega (
+        arith,
+        inv.walk,
+        spending,
+        whole,
+        visit,
+        settle,
+        settle-less c.args.skip c.args.tsn x,
+        c.forward_at-cost.ensures.walk x,
+        c.span_after.ensures.walk,
+      );
     }
 
 pub returns-clause-value : goal.returns-clause-value
 returns-clause-value c =
     let f = skip_forwarded c.args.skip c.args.tsn in
-    let v = c.args.visits.now in
-    let all : c.loop-spot.spot ≡ v.count = omega (arith, c.loop-spot-test.false, c.loop-spot.auto.spot-end, c.len-spot-end.ensures.count) in
-    all-changed f v.count v.spots c.args.streams.now.items c.loop-spot.streams.items c.loop-spot.invariant.same
-    (λ p x e h. skip-stays c.args.skip c.args.tsn x (c.requires.listing.listed.others p x e h))
-    (subst (λ n. ChangedBefore f n v.spots c.args.streams.now.items c.loop-spot.streams.items) all c.loop-spot.invariant.so_far)
-
-pub returns-clause-listed : goal.returns-clause-listed
-returns-clause-listed c =
-    let f = skip_forwarded c.args.skip c.args.tsn in
-    let v = c.args.visits.now in
+    let u = c.args.visits.now in
     let xs = c.args.streams.now.items in
-    let ys = c.loop-spot.streams.items in
-    let same = c.loop-spot.invariant.same in
-    let listed = c.requires.listing.listed in
-    let all : c.loop-spot.spot ≡ v.count = omega (arith, c.loop-spot-test.false, c.loop-spot.auto.spot-end, c.len-spot-end.ensures.count) in
-    let changed = subst (λ n. ChangedBefore f n v.spots xs ys) all c.loop-spot.invariant.so_far in
+    let v = c.loop-left.visits in
+    let ys = c.loop-left.streams.items in
+    let inverse = c.len-left.ensures.inverse in
+    let none : c.loop-left.left ≡ 0 = omega (arith, c.loop-left-test.false) in
+    let g = subst (λ n. Going f any incomplete outside u xs n v ys) none c.loop-left.invariant.going in
+    gone-all f any incomplete outside u xs inverse v ys g
+
+pub returns-clause-listing : goal.returns-clause-listing
+returns-clause-listing c =
+    let f = skip_forwarded c.args.skip c.args.tsn in
+    let u = c.args.visits.now in
+    let xs = c.args.streams.now.items in
+    let v = c.loop-left.visits in
+    let ys = c.loop-left.streams.items in
+    let inverse = c.len-left.ensures.inverse in
+    let none : c.loop-left.left ≡ 0 = omega (arith, c.loop-left-test.false) in
+    let g = subst (λ n. Going f any incomplete outside u xs n v ys) none c.loop-left.invariant.going in
     record {
-      places = omega (arith, same, listed.places);
-      others = λ p l e h.
-          let x = element any xs p (omega (arith, slice_get_within ys p l e, same)) in
-          let is : l ≡ x.0 = some-same (sym e ∙ changed p (x.0) x.1 ∙ ap (λ b. Some (if b then f (x.0) else x.0)) h) in
-          ap incomplete is ∙ listed.others p (x.0) x.1 h;
+      listed = record { places = g.places; others = g.others };
+      visited = gone-visited f any incomplete outside u xs inverse v ys g;
+      spans = g.spans;
     }
 
 pub returns-clause-few : goal.returns-clause-few
 returns-clause-few c =
-    let v = c.args.visits.now in
     let listing = c.requires.listing in
-    let h = few-visited any v c.args.streams.now.items c.len-spot-end.ensures.inverse c.len-spot-end.ensures.within listing.listed.places listing.visited in
-    omega (arith, h, c.loop-spot.invariant.turns, c.loop-spot.auto.spot-end, c.len-spot-end.ensures.count)
+    let h = few-visited any c.args.visits.now c.args.streams.now.items c.len-left.ensures.inverse c.len-left.ensures.within listing.listed.places
+    listing.visited in
+    omega (arith, h, c.loop-left.invariant.turns)
 
 pub returns-clause-walk : goal.returns-clause-walk
 returns-clause-walk c =
-    let m = λ (l : InboundStream). visit_walk c.args.skip l.queue.held in
-    let xs = c.args.streams.now.items in
-    let v = c.args.visits.now in
-    let h = spent-within c.loop-spot.spot v.order v.spots (map (if_visited m) xs) c.len-spot-end.ensures.inverse in
-    omega (arith, h, c.loop-spot.invariant.walk, total-map (if_visited m) xs, visited-sum m xs)
+    let h = past-less c.args.skip c.args.tsn c.args.visits.now.spans c.args.streams.now.items in
+    omega (arith, h, c.loop-left.invariant.walk)

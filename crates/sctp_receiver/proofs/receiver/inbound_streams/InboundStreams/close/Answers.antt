@@ -44,7 +44,8 @@ invariant_of-self c =
       numbers = numbers ∙ ap numbers_of (sym is);
       cost = omega (arith, h, ap (sum_by cost_within) is, c.self.invariant.cost, c.cost_of.ensures);
       visits = subst (IsListing c.swap_remove.new.self) (sym is)
-          (one-closed c.self.inside.visits c.swap_remove.new.self ls k x lt c.self.invariant.visits c.swap_remove.ensures.places c.swap_remove.ensures.visited);
+          (one-closed c.self.inside.visits c.swap_remove.new.self ls k x lt c.self.invariant.visits c.swap_remove.ensures.places c.swap_remove.ensures.visited
+          c.swap_remove.ensures.spans);
       places = omega (
         arith,
         c.self.invariant.places,

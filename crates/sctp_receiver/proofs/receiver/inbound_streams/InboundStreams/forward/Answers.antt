@@ -1,7 +1,6 @@
-use Rattle.sctp_receiver.proofs.Names.{◌≡◌, List, ap, sym, subst, ◌∙◌, refl, arith, sum_by, InboundStream, Skip, Unassembled, Incomplete, ℕ, number, numbers_of}
-use Rattle.sctp_receiver.proofs.Names.{visit_walk, settle_walk, IsListing, skip_forwarded, to_visit}
-use Rattle.sctp_receiver.proofs.SkipCosts.{settle-less}
-use Rattle.sctp_receiver.proofs.StreamCosts.{mapped-cost}
+use Rattle.sctp_receiver.proofs.Names.{◌≡◌, List, ap, sym, ◌∙◌, refl, arith, sum_by, InboundStream, Skip, Unassembled, Incomplete, ℕ, number, numbers_of}
+use Rattle.sctp_receiver.proofs.Names.{visit_walk, settle_walk, skip_forwarded, to_visit}
+use Rattle.sctp_receiver.proofs.SkipCosts.{visited-within}
 use Rattle.sctp_receiver.proofs.Inbounds.{stays-mapped}
 use Rattle.sctp_receiver.proofs.receiver.inbound_streams.InboundStreams.forward.Goals as goal
 
@@ -14,7 +13,7 @@ invariant_of-self c = record {
   numbers = c.self.invariant.numbers ∙ sym (ap numbers_of c.forward_each-self-inside.ensures.value
       ∙ stays-mapped number (skip_forwarded c.args.skip c.args.tsn) (number-stays c.args.skip c.args.tsn) c.self.inside.items.items);
   cost = c.forward_each-self-inside.ensures.cost;
-  visits = subst (IsListing c.settle.new.visits) c.deref.ensures.value c.settle.ensures.listing;
+  visits = c.forward_each-self-inside.ensures.listing;
   places = c.self.invariant.places;
   none = c.self.invariant.none;
 }
@@ -24,9 +23,7 @@ returns-clause-walk c =
     let weigh = λ (l : InboundStream). settle_walk c.args.skip l.queue.held in
     let visits = λ (ls : List InboundStream). sum_by (λ (l : InboundStream). visit_walk c.args.skip l.queue.held) (to_visit ls) in
     let ls = c.self.inside.items.items in
-    let lent = ap (sum_by weigh) c.deref.ensures.value in
-    let made = ap (sum_by weigh) c.forward_each-self-inside.ensures.value in
-    let less = mapped-cost weigh (skip_forwarded c.args.skip c.args.tsn) (settle-less c.args.skip c.args.tsn) ls in
+    let less = visited-within weigh ls in
     let was = ap (sum_by weigh) c.self.view_is in
     let visited = ap visits c.self.view_is in
-    omega (arith, c.forward_each-self-inside.ensures.walk, c.settle.ensures.walk, lent, made, less, was, visited)
+    omega (arith, c.forward_each-self-inside.ensures.walk, less, was, visited)

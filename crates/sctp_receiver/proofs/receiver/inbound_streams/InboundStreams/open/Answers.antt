@@ -1,4 +1,4 @@
-use Rattle.sctp_receiver.proofs.Names.{rules, arith, ◌≡◌, ◌+◌, ◌++◌, ◌∷◌, [], length, ap, ap₂, sym, subst, ◌∙◌, refl, sum_by, number, numbers_of, new_stream}
+use Rattle.sctp_receiver.proofs.Names.{rules, arith, ◌≡◌, ◌+◌, ◌++◌, ◌∷◌, [], slice_get, length, ap, ap₂, sym, subst, ◌∙◌, refl, sum_by, number, numbers_of, new_stream}
 use Rattle.sctp_receiver.proofs.Names.{cost_within, VisitOrder, IsListing, is_visited}
 use Rattle.std.proofs.Common.{length-append}
 use Rattle.std.proofs.lemmas.List.{map-append}
@@ -19,7 +19,9 @@ invariant_of-self-2 c =
       cost = c.self.invariant.cost ∙ sym (opened-sum ls c.args.stream c.args.max_message_size) ∙ ap (sum_by cost_within) (sym items);
       visits = subst (IsListing c.push-2.new.self) (sym items) (one-opened c.self.inside.visits c.push-2.new.self ls l c.self.invariant.visits
           (c.push-2.ensures.places ∙ ap (λ (v : VisitOrder). length v.spots + 1) rest)
-          (λ p. c.push-2.ensures.visited p ∙ ap (is_visited p) rest) refl);
+          (λ p. c.push-2.ensures.visited p ∙ ap (is_visited p) rest)
+          (λ p less. c.push-2.ensures.spans p (omega (arith, less, ap (λ (v : VisitOrder). length v.spots) rest))
+          ∙ ap (λ (v : VisitOrder). slice_get v.spans p) rest) refl (λ s. refl));
       places =
           let many : c.len.result ≡ length c.make_place.new.items.items = search rules in
           omega (

@@ -1,10 +1,12 @@
-use Rattle.sctp_receiver.proofs.Names.{rules, ◌<◌, ◌-◌, ◌^◌, ◌∙◌, refl, sym, subst, length, length-set, arith, eq-eqb, some-same, IsWithinPushOn, IsOnlyPlace}
+use Rattle.std.specs.VecDeque.{deque_len}
+use Rattle.sctp_receiver.proofs.Names.{rules, ◌≡◌, ◌==◌, ◌<◌, ◌-◌, ◌^◌, ◌∙◌, refl, ap, sym, subst, length, length-set, arith, eq-eqb, some-same, IsWithinPushOn, IsOnlyPlace}
 use Rattle.sctp_receiver.proofs.Names.{number, numbers_of, inside, numbers-stay}
 use Rattle.sctp_receiver.proofs.Listing.{renewed-more}
 use Rattle.sctp_receiver.proofs.SkipCosts.{at-map}
 use Rattle.sctp_receiver.proofs.VisitOrders.{read-at}
 use Rattle.sctp_receiver.proofs.CostSums.{is-part, changed-fits, changed-sum}
 use Rattle.sctp_receiver.proofs.Inbounds.{number-stays, is-found, pushes, fits, refused}
+use Rattle.sctp_receiver.proofs.Spans.{push-inside}
 use Rattle.sctp_receiver.proofs.Undone.{push-undone, push-can}
 use Rattle.sctp_receiver.proofs.receiver.inbound_streams.InboundStreams.push_undoable_at_counted.Goals as goal
 
@@ -47,10 +49,11 @@ invariant_of-self c =
       numbers = c.self.invariant.numbers ∙ numbers-stay number ls (numbers_of ls) refl c.args.chunk.now.stream_identifier c.args.place p
           c.index_mut-stream.result.now c.push_undoable_counted-pushed.new.self c.index_mut-stream.ensures.value same;
       cost = omega (arith, h, c.moved-self-inside.ensures, c.self.invariant.cost, c.cost_of-before.ensures, c.cost_of.ensures);
-      visits = renewed-more c.self.inside.visits c.renew.new.visits ls c.args.place
+      visits = renewed-more c.self.inside.visits c.renew_within.new.visits ls c.args.place
           c.index_mut-stream.result.now c.push_undoable_counted-pushed.new.self lt c.index_mut-stream.ensures.value c.self.invariant.visits
-          c.renew.ensures.places
-          (length-set ls c.args.place c.push_undoable_counted-pushed.new.self) c.renew.ensures.others c.renew.ensures.here;
+          c.renew_within.ensures.places
+          (length-set ls c.args.place c.push_undoable_counted-pushed.new.self) c.renew_within.ensures.others c.renew_within.ensures.here
+          c.renew_within.ensures.other_spans c.renew_within.ensures.span;
       places = c.self.invariant.places;
       none = c.self.invariant.none;
     }
@@ -94,12 +97,34 @@ returns-clause-can c =
     push-can ls c.args.place c.index_mut-stream.result.now put.new.self
     (inside number ls (numbers_of ls) refl c.args.chunk.now.stream_identifier c.args.place p) c.index_mut-stream.ensures.value put.result put.ensures.can
 
-pub renew-requires : goal.renew-requires
-renew-requires c =
+pub span_at-requires : goal.span_at-requires
+span_at-requires c =
     let ls = c.self.inside.items.items in
     let p : IsOnlyPlace c.args.chunk.now.stream_identifier (numbers_of ls) c.args.place = rw (← c.self.view_is) at c.requires in
     let lt = inside number ls (numbers_of ls) refl c.args.chunk.now.stream_identifier c.args.place p in
     omega (arith, lt, c.self.invariant.visits.listed.places)
+
+pub renew_within-requires-clause-place : goal.renew_within-requires-clause-place
+renew_within-requires-clause-place c =
+    let ls = c.self.inside.items.items in
+    let p : IsOnlyPlace c.args.chunk.now.stream_identifier (numbers_of ls) c.args.place = rw (← c.self.view_is) at c.requires in
+    let lt = inside number ls (numbers_of ls) refl c.args.chunk.now.stream_identifier c.args.place p in
+    omega (arith, lt, c.self.invariant.visits.listed.places)
+
+pub renew_within-requires-clause-within : goal.renew_within-requires-clause-within
+renew_within-requires-clause-within c =
+    let ls = c.self.inside.items.items in
+    let p : IsOnlyPlace c.args.chunk.now.stream_identifier (numbers_of ls) c.args.place = rw (← c.self.view_is) at c.requires in
+    let lt = inside number ls (numbers_of ls) refl c.args.chunk.now.stream_identifier c.args.place p in
+    let x = c.index_mut-stream.result.now in
+    let put = c.push_undoable_counted-pushed in
+    let s = c.span_at.result in
+    let many : deque_len c.ordered.result.now ≡ length c.ordered.result.now.items = search rules in
+    let is : c.is_empty-was_empty.result ≡ (length x.queue.held.ordered == 0) =
+    c.is_empty-was_empty.ensures ∙ ap (λ n. n == 0) (many ∙ ap length c.ordered.ensures) in
+    push-inside c.pushed-span.result c.args.chunk.now c.pushed-span.ensures.here x put.new.self put.result put.ensures.ok put.ensures.err s
+    c.is_empty-was_empty.result is c.pushed-span.ensures.wider
+    (c.self.invariant.visits.spans c.args.place s x c.span_at.ensures (read-at ls c.args.place x lt c.index_mut-stream.ensures.value))
 
 pub returns-clause-cost : goal.returns-clause-cost
 returns-clause-cost c =

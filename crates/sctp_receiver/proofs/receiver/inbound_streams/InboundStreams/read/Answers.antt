@@ -2,7 +2,8 @@ use Rattle.sctp_receiver.proofs.Names.{rules, ◌<◌, ◌^◌, sym, ap, ◌∙�
 use Rattle.sctp_receiver.proofs.Names.{holds_incomplete, absent-find, inside, found, changed, numbers-stay}
 use Rattle.sctp_reassembly.specs.reassembly_queue.ReassemblyQueue.{at_start}
 use Rattle.sctp_receiver.proofs.Settled.{read-none}
-use Rattle.sctp_receiver.proofs.Listing.{renewed-less}
+use Rattle.sctp_receiver.proofs.Listing.{outside, renewed-less}
+use Rattle.sctp_receiver.proofs.Spans.{read-inside}
 use Rattle.sctp_receiver.proofs.CostSums.{is-part, changed-fits, changed-sum}
 use Rattle.sctp_receiver.proofs.receiver.inbound_streams.InboundStreams.read.Goals as goal
 
@@ -40,7 +41,9 @@ invariant_of-self c =
       visits = renewed-less c.self.inside.visits c.renew.new.visits ls c.in-Some.place
           c.index_mut-inbound.result.now c.read-message.new.self lt c.index_mut-inbound.ensures.value c.self.invariant.visits c.renew.ensures.places
           (length-set ls c.in-Some.place c.read-message.new.self) c.renew.ensures.others c.renew.ensures.here
-          (λ h. ap (λ l. holds_incomplete l.queue.held) c.read-message.ensures.rest ∙ read-none c.index_mut-inbound.result.now h);
+          (λ h. ap (λ l. holds_incomplete l.queue.held) c.read-message.ensures.rest ∙ read-none c.index_mut-inbound.result.now h)
+          c.renew.ensures.spans
+          (λ s h. ap (outside s) c.read-message.ensures.rest ∙ read-inside s c.index_mut-inbound.result.now h);
       places = c.self.invariant.places;
       none = c.self.invariant.none;
     }

@@ -1,6 +1,7 @@
 use Rattle.sctp_receiver.proofs.Names.{rules, ◌<◌, ◌^◌, sym, ap, length, length-set, arith, if◌then◌else◌, is_some, StreamUnknown, OutOfMemory, number}
 use Rattle.sctp_receiver.proofs.Names.{absent-find, found, inside, numbers-stay}
 use Rattle.sctp_receiver.proofs.Listing.{renewed-more}
+use Rattle.sctp_receiver.proofs.Spans.{whole-sets}
 use Rattle.sctp_receiver.proofs.CostSums.{is-part, changed-fits, changed-sum}
 use Rattle.sctp_receiver.proofs.Resetting.{number-kept, refused, resets, wanted}
 use Rattle.sctp_receiver.proofs.receiver.inbound_streams.InboundStreams.reset.Goals as goal
@@ -36,9 +37,10 @@ invariant_of-self c =
       numbers = numbers-stay number ls c.self.inside.numbers c.self.invariant.numbers c.args.stream c.in-Some.place c.in-Some.ensures
           c.index_mut-inbound.result.now c.reset-answer.new.self c.index_mut-inbound.ensures.value same;
       cost = omega (arith, h, c.moved-self-inside.ensures, c.self.invariant.cost, c.cost_of-before.ensures, c.cost_of.ensures);
-      visits = renewed-more c.self.inside.visits c.renew.new.visits ls c.in-Some.place
-          c.index_mut-inbound.result.now c.reset-answer.new.self lt c.index_mut-inbound.ensures.value c.self.invariant.visits c.renew.ensures.places
-          (length-set ls c.in-Some.place c.reset-answer.new.self) c.renew.ensures.others c.renew.ensures.here;
+      visits = renewed-more c.self.inside.visits c.renew_within.new.visits ls c.in-Some.place
+          c.index_mut-inbound.result.now c.reset-answer.new.self lt c.index_mut-inbound.ensures.value c.self.invariant.visits c.renew_within.ensures.places
+          (length-set ls c.in-Some.place c.reset-answer.new.self) c.renew_within.ensures.others c.renew_within.ensures.here
+          c.renew_within.ensures.other_spans c.renew_within.ensures.span;
       places = c.self.invariant.places;
       none = c.self.invariant.none;
     }
@@ -66,7 +68,10 @@ returns-clause-wants c =
     c.in-Some.place c.in-Some.ensures c.index_mut-inbound.result.now c.reset-answer.new.self c.index_mut-inbound.ensures.value
     c.reset-answer.result c.reset-answer.ensures.wants)
 
-pub renew-requires : goal.renew-requires
-renew-requires c =
+pub renew_within-requires-clause-place : goal.renew_within-requires-clause-place
+renew_within-requires-clause-place c =
     let lt = inside number c.self.inside.items.items c.self.inside.numbers c.self.invariant.numbers c.args.stream c.in-Some.place c.in-Some.ensures in
     omega (arith, lt, c.self.invariant.visits.listed.places)
+
+pub renew_within-requires-clause-within : goal.renew_within-requires-clause-within
+renew_within-requires-clause-within c = whole-sets c.whole.result c.whole.ensures.outside c.reset-answer.new.self.queue.held.ordered

@@ -2,6 +2,7 @@ use Rattle.sctp_receiver.proofs.Names.{rules, ◌<◌, ◌^◌, ap, sym, ◌∙�
 use Rattle.sctp_receiver.proofs.Names.{CanUndoAt, map-set_same}
 use Rattle.sctp_reassembly.proofs.lemmas.reassembly_queue.Undone.{changed-set}
 use Rattle.sctp_receiver.proofs.Listing.{renewed-more}
+use Rattle.sctp_receiver.proofs.Spans.{whole-sets}
 use Rattle.sctp_receiver.proofs.CostSums.{is-part, changed-fits, changed-sum}
 use Rattle.sctp_receiver.proofs.Undone.{undone-number, can-here, can-inside}
 use Rattle.sctp_receiver.proofs.receiver.inbound_streams.InboundStreams.undo_push_at_counted.Goals as goal
@@ -39,9 +40,10 @@ invariant_of-self c =
           (ap number c.undo_push_counted.ensures.value ∙ undone-number c.args.undo c.index_mut-inbound.result.now
           ∙ ap number c.index_mut-inbound.ensures.value));
       cost = omega (arith, h, c.moved-self-inside.ensures, c.self.invariant.cost, c.cost_of-before.ensures, c.cost_of.ensures);
-      visits = renewed-more c.self.inside.visits c.renew.new.visits ls c.args.place
-          c.index_mut-inbound.result.now c.undo_push_counted.new.self lt c.index_mut-inbound.ensures.value c.self.invariant.visits c.renew.ensures.places
-          (length-set ls c.args.place c.undo_push_counted.new.self) c.renew.ensures.others c.renew.ensures.here;
+      visits = renewed-more c.self.inside.visits c.renew_within.new.visits ls c.args.place
+          c.index_mut-inbound.result.now c.undo_push_counted.new.self lt c.index_mut-inbound.ensures.value c.self.invariant.visits c.renew_within.ensures.places
+          (length-set ls c.args.place c.undo_push_counted.new.self) c.renew_within.ensures.others c.renew_within.ensures.here
+          c.renew_within.ensures.other_spans c.renew_within.ensures.span;
       places = c.self.invariant.places;
       none = c.self.invariant.none;
     }
@@ -58,8 +60,8 @@ undo_push_counted-requires c =
     let can : CanUndoAt c.args.place c.args.undo c.self.inside.items.items = rw (← c.self.view_is) at c.requires in
     can-here c.args.place c.args.undo c.self.inside.items.items c.index_mut-inbound.result.now c.index_mut-inbound.ensures.value can
 
-pub renew-requires : goal.renew-requires
-renew-requires c =
+pub renew_within-requires-clause-place : goal.renew_within-requires-clause-place
+renew_within-requires-clause-place c =
     let ls = c.self.inside.items.items in
     let can : CanUndoAt c.args.place c.args.undo ls = rw (← c.self.view_is) at c.requires in
     let lt = can-inside c.args.place c.args.undo ls can in
@@ -74,3 +76,6 @@ returns-clause-cost c =
     let sums = sum_by-set count ls c.args.place c.undo_push_counted.new.self c.index_mut-inbound.result.now lt in
     let read = ap count c.index_mut-inbound.ensures.value in
     rw (← c.self.view_is) (omega (arith, sums, read, c.undo_push_counted.ensures.cost))
+
+pub renew_within-requires-clause-within : goal.renew_within-requires-clause-within
+renew_within-requires-clause-within c = whole-sets c.whole.result c.whole.ensures.outside c.undo_push_counted.new.self.queue.held.ordered

@@ -16,6 +16,7 @@ invariant_of-self c =
           c.spot_of-spot.result c.self.inside.count i.inverse c.swap.ensures.order c.swap.ensures.spots;
       same = omega (arith, i.same, c.swap.ensures.same, c.swap.ensures.places);
       within = omega (arith, lt, c.if-spot-first.false, c.swap.ensures.same);
+      spans = omega (arith, i.spans, c.swap.ensures.places);
     }
 
 pub returns-clause-visited : goal.returns-clause-visited

@@ -39,7 +39,20 @@ invariant_of-self c =
     let last : slice_get c.swap.new.spots.items n ≡ Some n
     = c.swap.ensures.spots n ∙ ap (option_map (swapped s n)) at ∙ ap Some (first-swapped s n) in
     let inside = spot-inside order spots s n i.inverse at in
+    let whole : vec_len c.self.inside.spans ≡ length c.self.inside.spans.items = search rules in
     record {
+      spans =
+          ap length c.pop-3.ensures.rest ∙ omega (
+            arith,
+            length-take (vec_len c.self.inside.spans - 1) c.self.inside.spans.items,
+            whole,
+            i.spans,
+            end,
+            lt,
+            ap length sn,
+            length-take n c.swap.new.spots.items,
+            ss,
+          );
       inverse = subst (λ xs. AreInverse xs c.pop-2.new.self.items) (sym on)
           (subst (AreInverse (take n c.swap.new.order.items)) (sym sn)
           (last-off c.swap.new.order.items c.swap.new.spots.items n os ss inverse last));
@@ -69,3 +82,20 @@ returns-clause-visited c = λ p less.
     rw (← c.self.view_is)
     (ap (λ xs. is_spot_before count (slice_get xs p)) sn ∙ ap (is_spot_before count) (taken-at c.swap.new.spots.items n p below ∙ c.swap.ensures.spots p)
     ∙ behind-swapped s n count past (omega (arith, past, inside, i.same, end)) (slice_get spots p))
+
+pub returns-clause-spans : goal.returns-clause-spans
+returns-clause-spans c = λ p less.
+    let spans = c.self.inside.spans.items in
+    let i = c.self.invariant in
+    let n = c.len-end.result - 1 in
+    let lt : n < length c.self.inside.spots.items = search rules in
+    let end : c.len-end.result ≡ length c.self.inside.spots.items = search rules in
+    let whole : vec_len c.self.inside.spans ≡ length spans = search rules in
+    let new-spots : vec_len c.swap.new.spots ≡ length c.swap.new.spots.items = search rules in
+    let ss : length c.swap.new.spots.items ≡ n + 1 = omega (arith, end, lt, c.swap.ensures.places) in
+    let sn : c.pop-2.new.self.items ≡ take n c.swap.new.spots.items
+    = c.pop-2.ensures.rest ∙ ap (λ k. take k c.swap.new.spots.items) {x = vec_len c.swap.new.spots - 1} {y = n} (omega (arith, new-spots, ss)) in
+    let below : p < n = omega (arith, less, ap length sn, length-take n c.swap.new.spots.items) in
+    rw (← c.self.view_is)
+    (ap (λ xs. slice_get xs p) c.pop-3.ensures.rest
+    ∙ taken-at spans (vec_len c.self.inside.spans - 1) p (omega (arith, below, whole, i.spans, end)))

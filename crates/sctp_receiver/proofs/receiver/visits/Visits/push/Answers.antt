@@ -1,6 +1,6 @@
-use Rattle.sctp_receiver.proofs.Names.{rules, arith, ◌≡◌, ◌++◌, ◌∷◌, [], List, ap, subst, sym, ◌∙◌, length, ℕ, slice_get, AreInverse, is_spot_before}
+use Rattle.sctp_receiver.proofs.Names.{rules, arith, ◌≡◌, ◌<◌, ◌++◌, ◌∷◌, [], List, ap, subst, sym, ◌∙◌, length, ℕ, slice_get, AreInverse, is_spot_before}
 use Rattle.std.proofs.Common.{length-append}
-use Rattle.sctp_receiver.proofs.VisitOrders.{one-more, more-visited}
+use Rattle.sctp_receiver.proofs.VisitOrders.{end-there, one-more, more-visited}
 use Rattle.sctp_receiver.proofs.receiver.visits.Visits.push.Goals as goal
 
 -- what was put behind the spots, and behind the order
@@ -23,6 +23,14 @@ invariant_of-self c =
           (subst (AreInverse (order ++ length spots ∷ [])) (sym ss) (one-more order spots i.inverse));
       same = omega (arith, a, b, ap length os, ap length ss, i.same);
       within = omega (arith, a, ap length os, i.within);
+      spans = omega (
+        arith,
+        b,
+        ap length ss,
+        ap length c.put-3.ensures.items,
+        length-append c.self.inside.spans.items (c.whole.result ∷ []),
+        i.spans,
+      );
     }
 
 pub returns-clause-visited : goal.returns-clause-visited
@@ -33,3 +41,10 @@ returns-clause-visited c = λ p.
     let ss = spots-are spots c.put-2.new.items.items c.len-spot.result (length order) c.put-2.ensures.items count in
     rw (← c.self.view_is)
     (ap (λ xs. is_spot_before c.self.inside.count (slice_get xs p)) ss ∙ more-visited order spots c.self.inside.count c.self.invariant.within p)
+
+pub returns-clause-spans : goal.returns-clause-spans
+returns-clause-spans c = λ p less.
+    let spans = c.self.inside.spans.items in
+    let lt : p < length spans = omega (arith, c.self.invariant.spans, rw (← c.self.view_is) at less) in
+    rw (← c.self.view_is)
+    (ap (λ xs. slice_get xs p) c.put-3.ensures.items ∙ end-there spans c.whole.result p (λ e. omega (arith, e, lt)))
