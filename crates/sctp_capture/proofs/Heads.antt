@@ -1,17 +1,22 @@
 -- The header of a capture of which some bytes are held, and what is left behind it.
-use Rattle.std.proofs.Common.{◌≡◌, ℕ, ◌+◌, ◌≤◌, List, ◌++◌, length, drop, Some, None, IfSome, refl, ap, sym, ◌∙◌, inl, inr, arith}
+use Rattle.std.proofs.Common.{◌≡◌, ℕ, ◌+◌, ◌<◌, ◌≤◌, List, ◌++◌, length, drop, Some, None, IfSome, refl, ap, sym, ◌∙◌, inl, inr, arith}
 use Rattle.std.specs.Prelude.{Option, ◌⊎◌}
 use Rattle.std.specs.Io.KnownBytes.{Keeps, IsAtEnd, prepend_known}
 use Rattle.std.proofs.lemmas.List.{append-nil, length-append}
+use Rattle.std.proofs.lemmas.Bool.{cases_lt}
+use Rattle.std.proofs.lemmas.Bool.Decides.{nat_tests}
 use Rattle.sctp_capture.specs.declared.record.Head.{Head}
 use Rattle.sctp_capture.specs.declared.record.Order.TheVariants.{Big}
 use Rattle.sctp_capture.specs.declared.input.Format.TheVariants.{Lines, Capture, Blocks}
-use Rattle.sctp_capture.specs.Window.{Drops}
+use Rattle.sctp_capture.specs.declared.kind.Kind.{Kind}
+use Rattle.sctp_capture.specs.declared.input.ReadFault.{ReadFault}
+use Rattle.sctp_capture.specs.declared.input.ReadFault.TheVariants as fault
+use Rattle.sctp_capture.specs.Window.{Drops, IsFailure}
 use Rattle.sctp_capture.specs.Record.{IsHead}
 use Rattle.sctp_capture.specs.Blocks.{IsBlocks}
 use Rattle.sctp_util.specs.Field.{u32_at}
 use Rattle.sctp_capture.specs.Kind.{kind_by, IsNoOther}
-use Rattle.sctp_capture.specs.Input.{IsOpened}
+use Rattle.sctp_capture.specs.Input.{IsOpened, IsOther, IsReadFault}
 use Rattle.sctp_capture.proofs.Entries.{number_more}
 
 more_head : (held more : List ℕ) (h : Head) → IsHead held h → IsHead (held ++ more) h
@@ -73,3 +78,33 @@ opened_blocks (Some xs) (Some ys) held keeps (inl long) none is =
 opened_blocks (Some xs) (Some ys) held keeps (inr ended) none is =
     let same : xs ≡ held = sym keeps ∙ ap (λ l. held ++ l) ended ∙ append-nil held in
     (λ h head. none h (rw same at head), rw (← same) at is, keeps)
+
+-- an input of a kind that is not read
+pub opened_other : (a b : Option (List ℕ)) (held : List ℕ) (kind : Kind) → Keeps a (prepend_known held b) → (24 ≤ length held) ⊎ IsAtEnd b
+    → ((h : Head) → IsHead held h → ⊥) → (IsBlocks held → ⊥) → 4 ≤ length held → kind_by (u32_at held 0) ≡ Some kind → IfSome a (λ xs. IsOther xs kind)
+opened_other None b held kind keeps full none blocks four is = tt
+opened_other (Some xs) None held kind keeps full none blocks four is = absurd keeps
+opened_other (Some xs) (Some ys) held kind keeps (inl long) none blocks four is =
+    let longer : length (held ++ ys) ≡ length held + length ys = length-append held ys in
+    let all : 4 ≤ length (held ++ ys) = omega (arith, four, longer) in
+    let begins : kind_by (u32_at (held ++ ys) 0) ≡ Some kind = ap kind_by (number_more Big held ys 0 four) ∙ is in
+    (λ h head. none h (less_head held ys h long (rw keeps head)), λ it. blocks (less_blocks held ys four (rw keeps it)), rw keeps at all, rw keeps at begins)
+opened_other (Some xs) (Some ys) held kind keeps (inr ended) none blocks four is =
+    let same : xs ≡ held = sym keeps ∙ ap (λ l. held ++ l) ended ∙ append-nil held in
+    (λ h head. none h (rw same at head), λ it. blocks (rw same at it), rw (← same) at four, rw (← same) at is)
+
+-- a kind is found by four bytes
+pub kind_is_long : (held : List ℕ) (o : Option Kind) (kind : Kind) → (length held < 4 → o ≡ None) → o ≡ Some kind → 4 ≤ length held
+kind_is_long held o kind short is = elim (cases_lt (length held) 4) [
+  | inl lt ↦ absurd (some_is_none kind (sym is ∙ short lt))
+  | inr le ↦ le
+]
+  where
+    some_is_none : (kind : Kind) → Some kind ≡ None → ⊥
+    some_is_none kind e = grind (arith, nat_tests)
+
+-- a reader that failed opens nothing
+pub failed_open : (a : Option (List ℕ)) (e : ReadFault) → IsFailure e → IsReadFault a e
+failed_open a (fault.Input code) is = tt
+failed_open a fault.Memory is = tt
+failed_open a (fault.Other kind) is = absurd is

@@ -14,3 +14,4 @@ pub mod Tags
 pub mod OptionSteps
 pub mod BlockPieces
 pub mod Pieces
+mod Passing

@@ -1,5 +1,5 @@
 -- The records that an input holds, piece by piece.
-use Rattle.std.specs.Prelude.{◌≡◌, ℕ, ◌+◌, ◌<◌, ◌⊎◌, if◌then◌else◌, is_err, List, [], ◌∷◌, length, drop, Option, Some, None, IsSomeAnd, option_to_list}
+use Rattle.std.specs.Prelude.{◌≡◌, ℕ, ◌+◌, ◌<◌, ◌≤◌, ◌⊎◌, if◌then◌else◌, is_err, List, [], ◌∷◌, length, drop, Option, Some, None, IsSomeAnd, IfSome, option_to_list}
 use Rattle.std.specs.List.{flat_map}
 use Rattle.std.specs.Io.KnownBytes.{Keeps}
 use Rattle.sctp_capture.specs.declared.record.Head.{Head}
@@ -8,7 +8,11 @@ use Rattle.sctp_capture.specs.declared.input.Format.{Format}
 use Rattle.sctp_capture.specs.declared.input.Format.TheVariants.{Lines, Capture, Blocks}
 use Rattle.sctp_capture.specs.declared.blocks.Taken.{Taken}
 use Rattle.sctp_capture.specs.declared.blocks.Taken.TheVariants as taken
-use Rattle.sctp_capture.specs.Kind.{IsNoOther}
+use Rattle.sctp_util.specs.Field.{u32_at}
+use Rattle.sctp_capture.specs.declared.kind.Kind.{Kind}
+use Rattle.sctp_capture.specs.declared.input.ReadFault.{ReadFault}
+use Rattle.sctp_capture.specs.declared.input.ReadFault.TheVariants as fault
+use Rattle.sctp_capture.specs.Kind.{kind_by, IsNoOther}
 use Rattle.sctp_capture.specs.Record.{IsHead, IsEntry, after_entry}
 use Rattle.sctp_capture.specs.Text.{IsText}
 use Rattle.sctp_capture.specs.Blocks.{Known, Piece, IsBegun, IsBlocks, IsBlock, IsEnd}
@@ -21,6 +25,18 @@ IsOpened Lines bytes left =
 IsOpened (Capture h) bytes left = IsHead bytes h × Keeps (Some (drop 24 bytes)) left
 IsOpened Blocks bytes left =
     ((h : Head) → IsHead bytes h → ⊥) × IsBlocks bytes × Keeps (Some bytes) left
+
+-- the bytes begin as a file of this kind does, and as no capture that is read
+abbrev pub IsOther : List ℕ → Kind → Type 0
+IsOther bytes kind =
+    ((h : Head) → IsHead bytes h → ⊥) × (IsBlocks bytes → ⊥) × (4 ≤ length bytes)
+    × (kind_by (u32_at bytes 0) ≡ Some kind)
+
+-- why an input of these bytes is not opened: the reader failed, there was no memory, or the bytes are of a kind that is not read
+abbrev pub IsReadFault : Option (List ℕ) → ReadFault → Type 0
+IsReadFault bytes (fault.Input code) = Unit {0}
+IsReadFault bytes fault.Memory = Unit {0}
+IsReadFault bytes (fault.Other kind) = IfSome bytes (λ xs. IsOther xs kind)
 
 -- the piece that the bytes begin with: a line or a dump, an entry, or a block
 abbrev pub IsPiece : Format → Known → List ℕ → Piece → Type 0
@@ -63,6 +79,16 @@ abbrev pub Takes : Format → Known → List ℕ → Taken → Known → Option 
 Takes format k bytes (taken.Record r) after left = IsTaken format k bytes (Some r) after left
 Takes format k bytes taken.Nothing after left = IsTaken format k bytes None after left
 Takes format k bytes taken.End after left = IsEnd k bytes
+
+-- how many pieces may follow at most: each takes a byte, but for a block behind which no other can be found
+abbrev pub most_pieces : Known → List ℕ → ℕ
+most_pieces k bytes = if k.is_lost then length bytes else length bytes + 1
+
+-- a piece that was taken leaves fewer
+abbrev pub Passes : Known → List ℕ → Taken → Known → Option (List ℕ) → Type 0
+Passes k bytes taken.End after left = Unit {0}
+Passes k bytes next after left =
+    IsSomeAnd left (λ rest. most_pieces after rest < most_pieces k bytes)
 
 -- of entries each piece is a record
 abbrev pub taken_by : Option Record → Taken

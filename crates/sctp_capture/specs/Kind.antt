@@ -1,5 +1,5 @@
 -- Kinds of files that are known by the number that their first four bytes are.
-use Rattle.std.specs.Prelude.{◌≡◌, ℕ, ◌≤◌, List, length, ◌/◌, ◌==◌, ◌||◌, ◌&&◌, leb, is_some, if◌then◌else◌, Option, Some, None}
+use Rattle.std.specs.Prelude.{◌≡◌, ℕ, ◌≤◌, List, length, ◌/◌, Bool, ◌==◌, ◌||◌, ◌&&◌, leb, is_some, if◌then◌else◌, Option, Some, None}
 use Rattle.sctp_util.specs.Field.{u32_at}
 use Rattle.sctp_capture.specs.declared.kind.Kind.{Kind}
 use Rattle.sctp_capture.specs.declared.kind.Kind.TheVariants as kind
@@ -10,6 +10,11 @@ kind_of_text first =
     if first / 65536 == 65279 || first / 65536 == 65534 then Some kind.Utf16
     else if first / 256 == 15711167 then Some kind.ByteOrderMark
     else None
+
+-- the number that a capture begins with, in either byte order, with micro- or nanoseconds: where it is not read as one, its header is cut off
+abbrev pub is_magic : ℕ → Bool
+is_magic first =
+    first == 2712847316 || (first == 3569595041 || (first == 2712812621 || first == 1295823521))
 
 -- gzip by its first two bytes alone, text with a mark by two or three, bzip2 with its digit from 1 to 9, each other kind by all four
 abbrev pub kind_by : ℕ → Option Kind
@@ -27,6 +32,7 @@ kind_by first =
     else if first == 1651798894 then Some kind.Btsnoop
     else if first == 1381258067 || first == 1196245589 then Some kind.NetworkMonitor
     else if first == 2712849716 || first == 885895841 then Some kind.ModifiedPcap
+    else if is_magic first then Some kind.CutPcap
     else if first == 512 then Some kind.K12
     else if first == 724380973 then Some kind.K12Text
     else if first == 1414681422 then Some kind.Sniffer

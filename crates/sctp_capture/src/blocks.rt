@@ -1,12 +1,13 @@
 //! The blocks of a capture in the newer format (pcapng).
 
-ghost use Rattle.std.specs.Prelude.{◌≡◌, ◌≤◌, ◌<◌, ◌+◌, ◌-◌, ◌⊎◌, Option, Some, None, true, false, length, take, IfOk, OnOk, IfSome, IfNone};
+ghost use Rattle.std.specs.Prelude.{◌≡◌, ◌≤◌, ◌<◌, ◌+◌, ◌-◌, ◌⊎◌, Option, Some, None, true, false, length, take, IfOk, IfErr, OnOk, IfSome, IfNone};
 ghost use Rattle.std.specs.Io.KnownBytes.{Keeps, IsAtEnd, prepend_known};
 ghost use Rattle.sctp_capture.specs.Record.{number_at};
 ghost use Rattle.sctp_capture.specs.Blocks as blocks;
 ghost use Rattle.sctp_capture.specs.Blocks.{known_of, IsBegun, IsBlocks, IsBlockHead, IsInterface, IsEnhanced, IsSimple, IsPacket, GivesRead, GivesWhole, GivesLong, Gives, HoldsBlock};
 ghost use Rattle.sctp_capture.specs.declared.blocks.BlockHead.{BlockHead};
 ghost use Rattle.sctp_capture.specs.declared.input.Format.TheVariants.{Blocks};
+ghost use Rattle.sctp_capture.specs.Window.{IsFailure};
 ghost use Rattle.sctp_capture.specs.Input.{Takes};
 
 use crate::input::ReadFault;
@@ -410,6 +411,7 @@ fn take_block<R: Read + Drop>(
         ⊎ IsAtEnd (R.remaining window.new.reader)) }
     ensures gives { IfOk result (λ r. Gives (known_of section.old) head
         (take head.length window.new.held.items) r (known_of section.new)) }
+    ensures fault { IfErr result IsFailure }
 {
     let length = head.length as usize;
     if length > MAX_RECORD {
@@ -428,10 +430,11 @@ pub fn next_block<R: Read + Drop>(
     window: &mut Window<R>,
     section: &mut Section,
 ) -> Result<Taken, ReadFault>
-    ensures { IfOk result (λ taken.
+    ensures takes { IfOk result (λ taken.
         IfSome (prepend_known window.old.held.items (R.remaining window.old.reader)) (λ xs.
         Takes Blocks (known_of section.old) xs taken (known_of section.new)
         (prepend_known window.new.held.items (R.remaining window.new.reader)))) }
+    ensures fault { IfErr result IsFailure }
 {
     window.fill(BLOCK_HEADER)?;
     if section.is_lost || window.held().is_empty() {

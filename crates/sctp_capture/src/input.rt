@@ -1,9 +1,11 @@
 //! An input, piece by piece: what it is, and the records that it holds.
 
-ghost use Rattle.std.specs.Prelude.{◌≡◌, ◌≤◌, IfOk, IfSome};
+ghost use Rattle.std.specs.Prelude.{◌≡◌, ◌≤◌, IfOk, IfErr, IfSome};
 ghost use Rattle.std.specs.Io.KnownBytes.{prepend_known};
 ghost use Rattle.sctp_capture.specs.Blocks.{known_of};
-ghost use Rattle.sctp_capture.specs.Input.{IsOpened, Takes, taken_by, unread_by};
+ghost use Rattle.sctp_capture.specs.Window.{IsFailure};
+ghost use Rattle.sctp_capture.specs.Input.{IsOpened, IsReadFault, Takes, Passes, taken_by, unread_by};
+ghost use Rattle.sctp_capture.specs.declared.input.ReadFault.TheVariants.{Memory};
 
 use crate::blocks::{Section, Taken, begins_blocks, holds_block, next_block};
 use crate::kind::{Kind, other_kind};
@@ -25,6 +27,8 @@ pub enum ReadFault {
 }
 
 impl From<AllocError> for ReadFault {
+    ghost from_gives = { λ _ e. e ≡ Memory };
+
     fn from(_e: AllocError) -> ReadFault {
         ReadFault::Memory
     }
@@ -43,9 +47,11 @@ pub enum Format {
 
 /// Finds out what an input is, and drops the header of a capture.
 pub fn open_input<R: Read + Drop>(window: &mut Window<R>) -> Result<Format, ReadFault>
-    ensures { IfOk result (λ format.
+    ensures opens { IfOk result (λ format.
         IfSome (prepend_known window.old.held.items (R.remaining window.old.reader)) (λ xs.
         IsOpened format xs (prepend_known window.new.held.items (R.remaining window.new.reader)))) }
+    ensures fault { IfErr result (IsReadFault
+        (prepend_known window.old.held.items (R.remaining window.old.reader))) }
 {
     window.fill(CAPTURE_HEADER)?;
     match read_head(window.held()) {
@@ -82,10 +88,15 @@ pub fn next_piece<R: Read + Drop>(
     section: &mut Section,
     format: Format,
 ) -> Result<Taken, ReadFault>
-    ensures { IfOk result (λ taken.
+    ensures takes { IfOk result (λ taken.
         IfSome (prepend_known window.old.held.items (R.remaining window.old.reader)) (λ xs.
         Takes format (known_of section.old) xs taken (known_of section.new)
         (prepend_known window.new.held.items (R.remaining window.new.reader)))) }
+    ensures passes { IfOk result (λ taken.
+        IfSome (prepend_known window.old.held.items (R.remaining window.old.reader)) (λ xs.
+        Passes (known_of section.old) xs taken (known_of section.new)
+        (prepend_known window.new.held.items (R.remaining window.new.reader)))) }
+    ensures fault { IfErr result IsFailure }
 {
     match format {
         Format::Lines => next_text(alloc, window),

@@ -24,6 +24,7 @@ pub enum Kind {
     Btsnoop,
     NetworkMonitor,
     ModifiedPcap,
+    CutPcap,
     K12,
     K12Text,
     Sniffer,
@@ -50,6 +51,7 @@ impl fmt::Display for Kind {
             Kind::ModifiedPcap => f.write_str(
                 "a modified pcap capture (a1b2cd34), which is not read",
             ),
+            Kind::CutPcap => f.write_str("a pcap capture that ends within its header"),
             Kind::K12 => f.write_str("a K12 capture, which is not read"),
             Kind::K12Text => f.write_str("a K12 text capture, which is not read"),
             Kind::Sniffer => f.write_str("a Sniffer capture, which is not read"),
@@ -95,6 +97,7 @@ fn kind_by(first: u32) -> Option<Kind>
         0x6274_736e => Some(Kind::Btsnoop),
         0x5254_5353 | 0x474d_4255 => Some(Kind::NetworkMonitor),
         0xa1b2_cd34 | 0x34cd_b2a1 => Some(Kind::ModifiedPcap),
+        0xa1b2_c3d4 | 0xd4c3_b2a1 | 0xa1b2_3c4d | 0x4d3c_b2a1 => Some(Kind::CutPcap),
         0x0000_0200 => Some(Kind::K12),
         0x2b2d_2d2d => Some(Kind::K12Text),
         0x5452_534e => Some(Kind::Sniffer),

@@ -1,10 +1,11 @@
 //! The records of an input: the entries of a capture, or lines of hex text.
 
-ghost use Rattle.std.specs.Prelude.{◌≡◌, ◌≤◌, ◌<◌, ◌+◌, ℕ, Option, None, Some, length, drop, ◌++◌, ◌⊎◌, Ok, Err, ◌≢◌, Bool, MatchResult, IfOk, OnOk, IfSome, IfNone, IsTrue, ◌↔◌};
+ghost use Rattle.std.specs.Prelude.{◌≡◌, ◌≤◌, ◌<◌, ◌+◌, ℕ, Option, None, Some, length, drop, ◌++◌, ◌⊎◌, Ok, Err, ◌≢◌, Bool, MatchResult, IfOk, IfErr, OnOk, IfSome, IfNone, IsTrue, ◌↔◌};
 ghost use Rattle.std.specs.Io.KnownBytes.{Keeps, IsAtEnd, prepend_known};
 ghost use Rattle.hex.specs.Hex.{decode_of};
 ghost use Rattle.sctp_capture.specs.declared.record.Fault.TheVariants.{NotHex};
 ghost use Rattle.sctp_capture.specs.Fault.{fault_text};
+ghost use Rattle.sctp_capture.specs.Window.{IsFailure};
 ghost use Rattle.sctp_capture.specs.Fields as said;
 ghost use Rattle.sctp_capture.specs.Fields.{said_in};
 ghost use Rattle.sctp_capture.specs.Record.{IsHead, magic_of, number_at, IsEntry, entry_span, time_at, after_entry, line_in, HoldsLine, is_blank, digits_in, IsLineFound, after_line, IsNext};
@@ -277,10 +278,11 @@ pub fn next_entry<R: Read + Drop>(
     window: &mut Window<R>,
     head: &Head,
 ) -> Result<Option<Record>, ReadFault>
-    ensures { IfOk result
+    ensures takes { IfOk result
         (λ next. IfSome (prepend_known window.old.held.items (R.remaining window.old.reader)) (λ xs.
         IsNext (IsEntry head.now) (after_entry head.now) xs
         (prepend_known window.new.held.items (R.remaining window.new.reader)) next)) }
+    ensures fault { IfErr result IsFailure }
 {
     window.fill(ENTRY_HEADER)?;
     let wanted = wanted_in(head, window.held());
@@ -321,6 +323,7 @@ pub fn fill_line<R: Read + Drop>(window: &mut Window<R>) -> Result<(), ReadFault
         (prepend_known window.new.held.items (R.remaining window.new.reader))) }
     ensures full { OnOk result (HoldsLine window.new.held.items
         ⊎ IsAtEnd (R.remaining window.new.reader)) }
+    ensures fault { IfErr result IsFailure }
 {
     'fill: while window.held().len() <= MAX_LINE {
         if line_length(window.held()) < window.held().len() || !window.read_more()? {
@@ -452,10 +455,11 @@ fn read_hex(alloc: Global, text: &[u8]) -> Result<Result<Bytes, Fault>, AllocErr
 
 /// Drops the line at the front, with its line feed.
 pub fn skip_line<R: Read + Drop>(window: &mut Window<R>) -> Result<(), ReadFault>
-    ensures { OnOk result
+    ensures skips { OnOk result
         (IfSome (prepend_known window.old.held.items (R.remaining window.old.reader)) (λ xs.
         Keeps (Some (after_line xs)) (prepend_known window.new.held.items
         (R.remaining window.new.reader)))) }
+    ensures fault { IfErr result IsFailure }
 {
     for _ in 0..u64::MAX {
         let held = window.held().len();
@@ -480,10 +484,11 @@ pub fn take_single<R: Read + Drop>(
 ) -> Result<Option<Record>, ReadFault>
     requires { (0 < length window.old.held.items) × (HoldsLine window.old.held.items
         ⊎ IsAtEnd (R.remaining window.old.reader)) }
-    ensures { IfOk result
+    ensures takes { IfOk result
         (λ found. IfSome (prepend_known window.old.held.items (R.remaining window.old.reader)) (λ xs.
         IsLineFound xs found × Keeps (Some (after_line xs))
         (prepend_known window.new.held.items (R.remaining window.new.reader)))) }
+    ensures fault { IfErr result IsFailure }
 {
     let found = read_line(alloc, window.held())?;
     skip_line(window)?;

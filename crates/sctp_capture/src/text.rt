@@ -1,7 +1,8 @@
 //! The records of text: lines of hex text, a datagram each, and dumps of several lines.
 
-ghost use Rattle.std.specs.Prelude.{◌≡◌, ◌≤◌, ◌<◌, ◌++◌, ◌⊎◌, ◌&&◌, ℕ, List, Some, true, false, min, length, IsTrue, IfOk, OnOk, IfSome};
+ghost use Rattle.std.specs.Prelude.{◌≡◌, ◌≤◌, ◌<◌, ◌++◌, ◌⊎◌, ◌&&◌, ℕ, List, Some, true, false, min, length, IsTrue, IfOk, IfErr, OnOk, IfSome};
 ghost use Rattle.std.specs.Io.KnownBytes.{Keeps, IsAtEnd, prepend_known};
+ghost use Rattle.sctp_capture.specs.Window.{IsFailure};
 ghost use Rattle.sctp_capture.specs.Lead.{no_lead};
 ghost use Rattle.sctp_capture.specs.Record.{line_in, after_line, HoldsLine};
 ghost use Rattle.sctp_capture.specs.Dump as dumps;
@@ -63,6 +64,7 @@ fn take_line<R: Read + Drop>(
         (IfSome (prepend_known window.old.held.items (R.remaining window.old.reader)) (λ xs.
         Keeps (Some (after_line xs)) (prepend_known window.new.held.items
         (R.remaining window.new.reader)))) }
+    ensures fault { IfErr result IsFailure }
 {
     let line = first_line(window.held());
     dump.is_right = says_offset(line, dump.said.len()) && dump.is_right;
@@ -120,10 +122,11 @@ fn take_dump<R: Read + Drop>(
 ) -> Result<Record, ReadFault>
     requires { (dumps.is_dump (line_in window.old.held.items) ≡ true)
         × (HoldsLine window.old.held.items ⊎ IsAtEnd (R.remaining window.old.reader)) }
-    ensures { IfOk result
+    ensures takes { IfOk result
         (λ r. IfSome (prepend_known window.old.held.items (R.remaining window.old.reader)) (λ xs.
         (rest : List ℕ) × IsDump lead xs r rest × Keeps (Some rest)
         (prepend_known window.new.held.items (R.remaining window.new.reader)))) }
+    ensures fault { IfErr result IsFailure }
 {
     let mut dump = Dump {
         said: Vec::new(alloc),
@@ -148,10 +151,11 @@ fn take_led<R: Read + Drop>(
     window: &mut Window<R>,
     lead: Lead,
 ) -> Result<Record, ReadFault>
-    ensures { IfOk result
+    ensures takes { IfOk result
         (λ r. IfSome (prepend_known window.old.held.items (R.remaining window.old.reader)) (λ xs.
         (rest : List ℕ) × IsLed lead (after_line xs) r rest × Keeps (Some rest)
         (prepend_known window.new.held.items (R.remaining window.new.reader)))) }
+    ensures fault { IfErr result IsFailure }
 {
     skip_line(window)?;
     fill_line(window)?;
@@ -179,10 +183,11 @@ fn take_text<R: Read + Drop>(
 ) -> Result<Option<Record>, ReadFault>
     requires { (0 < length window.old.held.items) × (HoldsLine window.old.held.items
         ⊎ IsAtEnd (R.remaining window.old.reader)) }
-    ensures { IfOk result
+    ensures takes { IfOk result
         (λ found. IfSome (prepend_known window.old.held.items (R.remaining window.old.reader)) (λ xs.
         IsTextTaken xs found
         (prepend_known window.new.held.items (R.remaining window.new.reader)))) }
+    ensures fault { IfErr result IsFailure }
 {
     let line = first_line(window.held());
     if is_dump(line) {
@@ -196,9 +201,10 @@ fn take_text<R: Read + Drop>(
 
 /// Takes the next piece of text. There is none at the end of the input.
 pub fn next_text<R: Read + Drop>(alloc: Global, window: &mut Window<R>) -> Result<Taken, ReadFault>
-    ensures { IfOk result
+    ensures takes { IfOk result
         (λ taken. IfSome (prepend_known window.old.held.items (R.remaining window.old.reader)) (λ xs.
         IsNextText xs (prepend_known window.new.held.items (R.remaining window.new.reader)) taken)) }
+    ensures fault { IfErr result IsFailure }
 {
     fill_line(window)?;
     if window.held().is_empty() {

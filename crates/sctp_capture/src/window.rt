@@ -1,8 +1,8 @@
 //! The bytes of an input, in pieces: some are held, and the rest is still to be read.
 
-ghost use Rattle.std.specs.Prelude.{◌≡◌, ◌≤◌, ◌<◌, ◌+◌, ◌⊎◌, ℕ, Option, true, false, length, drop, take, IfOk, OnOk, IfSome, Some};
+ghost use Rattle.std.specs.Prelude.{◌≡◌, ◌≤◌, ◌<◌, ◌+◌, ◌⊎◌, ℕ, Option, true, false, length, drop, take, IfOk, IfErr, OnOk, IfSome, Some};
 ghost use Rattle.std.specs.Io.KnownBytes.{Keeps, Consumes, IsAtEnd, prepend_known};
-ghost use Rattle.sctp_capture.specs.Window.{Drops};
+ghost use Rattle.sctp_capture.specs.Window.{Drops, IsFailure};
 
 use crate::input::ReadFault;
 use bytes::BytesMut;
@@ -29,6 +29,7 @@ fn read_piece<R: Read>(reader: &mut R, piece: &mut [u8]) -> Result<usize, ReadFa
         (λ n. Consumes (R.remaining reader.old) (R.remaining reader.new) (take n piece.new)) }
     ensures end { IfOk result (λ n. n ≡ 0
         → 0 < length piece.old → IsAtEnd (R.remaining reader.new)) }
+    ensures fault { IfErr result IsFailure }
 {
     for _ in 0..u64::MAX {
         match reader.read(piece) {
@@ -63,6 +64,7 @@ impl<R: Read + Drop> Window<R> {
         ensures end { IfOk result (λ more. more ≡ false → IsAtEnd (R.remaining self.new.reader)) }
         ensures none { IfOk result (λ more. more ≡ false
             → length self.new.held.items ≡ length self.old.held.items) }
+        ensures fault { IfErr result IsFailure }
     {
         let n = read_piece(&mut self.reader, &mut self.piece)?;
         self.held.extend_from_slice(&self.piece[..n])?;
@@ -76,6 +78,7 @@ impl<R: Read + Drop> Window<R> {
             (prepend_known self.new.held.items (R.remaining self.new.reader))) }
         ensures full { OnOk result ((count ≤ length self.new.held.items)
             ⊎ IsAtEnd (R.remaining self.new.reader)) }
+        ensures fault { IfErr result IsFailure }
     {
         'fill: while self.held.len() < count {
             if !self.read_more()? {
@@ -106,10 +109,11 @@ impl<R: Read + Drop> Window<R> {
 
     /// Drops the first bytes, held or not.
     pub fn skip(&mut self, count: usize) -> Result<(), ReadFault>
-        ensures { OnOk result
+        ensures skips { OnOk result
             (IfSome (prepend_known self.old.held.items (R.remaining self.old.reader)) (λ xs.
             Keeps (Some (drop count xs)) (prepend_known self.new.held.items
             (R.remaining self.new.reader)))) }
+        ensures fault { IfErr result IsFailure }
     {
         let mut left = count;
         'skip: while left > 0 {

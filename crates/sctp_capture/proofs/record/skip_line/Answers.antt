@@ -7,15 +7,15 @@ use Rattle.sctp_capture.proofs.record.skip_line.Goals as goal
 pub loop-init : goal.loop-init
 loop-init g c = alike_first _
 
-pub returns-then-length-held : goal.returns-then-length-held
-returns-then-length-held g c =
+pub returns-then-length-held-clause-skips : goal.returns-then-length-held-clause-skips
+returns-then-length-held-clause-skips g c =
     let held = c.loop.window.held.items in
     let is : c.line_length-length.result ≡ length (line_in c.loop.window.held.items) = grind (arith, common_steps) in
     let lt : length (line_in c.loop.window.held.items) < length c.loop.window.held.items = grind (arith, common_steps) in
     alike_cut _ (g.R.Read.remaining c.loop.window.reader) _ held c.loop.invariant lt (rw is at c.advance.ensures.drops)
 
-pub returns-then-not-branch : goal.returns-then-not-branch
-returns-then-not-branch g c =
+pub returns-then-not-branch-clause-skips : goal.returns-then-not-branch-clause-skips
+returns-then-not-branch-clause-skips g c =
     let held = c.loop.window.held.items in
     let le : length c.loop.window.held.items ≤ length (line_in c.loop.window.held.items) = grind (arith, common_steps) in
     let next = alike_next _ (g.R.Read.remaining c.loop.window.reader) _ _ held c.loop.invariant le

@@ -5,8 +5,8 @@ use Rattle.sctp_capture.specs.Dump as dumps
 use Rattle.sctp_capture.proofs.Texts.{run_next, run_more, run_done, line_is_short}
 use Rattle.sctp_capture.proofs.text.take_dump.Goals as goal
 
-pub returns-then-is_ended : goal.returns-then-is_ended
-returns-then-is_ended g c =
+pub returns-then-is_ended-clause-takes : goal.returns-then-is_ended-clause-takes
+returns-then-is_ended-clause-takes g c =
     let at = c.loop-taken.invariant in
     let first : c.loop-taken.taken ≡ 0 → c.next_width-width.result ≡ min (length c.take_line.new.dump.said.items) 256 =
     λ none. grind (arith, common_steps, c.next_width-width.ensures.first none) in
