@@ -9,14 +9,12 @@ use Rattle.sctp_capture.specs.declared.record.Head.{Head}
 use Rattle.sctp_capture.specs.declared.record.Order.TheVariants.{Big}
 use Rattle.sctp_capture.specs.declared.input.Format.TheVariants.{Lines, Capture, Blocks}
 use Rattle.sctp_capture.specs.declared.kind.Kind.{Kind}
-use Rattle.sctp_capture.specs.declared.input.ReadFault.{ReadFault}
-use Rattle.sctp_capture.specs.declared.input.ReadFault.TheVariants as fault
-use Rattle.sctp_capture.specs.Window.{Drops, IsFailure}
+use Rattle.sctp_capture.specs.Window.{Drops}
 use Rattle.sctp_capture.specs.Record.{IsHead}
 use Rattle.sctp_capture.specs.Blocks.{IsBlocks}
 use Rattle.sctp_util.specs.Field.{u32_at}
 use Rattle.sctp_capture.specs.Kind.{kind_by, IsNoOther}
-use Rattle.sctp_capture.specs.Input.{IsOpened, IsOther, IsReadFault}
+use Rattle.sctp_capture.specs.Input.{IsOpened, IsOther}
 use Rattle.sctp_capture.proofs.Entries.{number_more}
 
 more_head : (held more : List ℕ) (h : Head) → IsHead held h → IsHead (held ++ more) h
@@ -102,9 +100,3 @@ kind_is_long held o kind short is = elim (cases_lt (length held) 4) [
   where
     some_is_none : (kind : Kind) → Some kind ≡ None → ⊥
     some_is_none kind e = grind (arith, nat_tests)
-
--- a reader that failed opens nothing
-pub failed_open : (a : Option (List ℕ)) (e : ReadFault) → IsFailure e → IsReadFault a e
-failed_open a (fault.Input code) is = tt
-failed_open a fault.Memory is = tt
-failed_open a (fault.Other kind) is = absurd is

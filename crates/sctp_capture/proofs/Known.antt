@@ -1,5 +1,5 @@
 -- Known bytes that are held or still to be read.
-use Rattle.std.proofs.Common.{ℕ, ◌≤◌, List, [], ◌++◌, length, None, Some, refl, ap, sym, ◌∙◌}
+use Rattle.std.proofs.Common.{ℕ, List, [], None, Some, refl}
 use Rattle.std.specs.Prelude.{Option}
 use Rattle.std.specs.Io.KnownBytes.{Keeps, prepend_known}
 

@@ -1,6 +1,6 @@
 -- A piece that is taken leaves room for fewer.
-use Rattle.std.proofs.Common.{◌≡◌, ℕ, ◌+◌, ◌<◌, ◌≤◌, Bool, true, false, zero, suc, List, [], ◌∷◌, length, None, Some, IfSome, refl, sym, inl, inr, arith}
-use Rattle.std.specs.Prelude.{Option, ◌-◌, ◌==◌, IsSomeAnd, Err}
+use Rattle.std.proofs.Common.{◌≡◌, ℕ, ◌+◌, ◌<◌, ◌≤◌, Bool, true, false, zero, suc, List, [], ◌∷◌, length, None, Some, IfSome, refl, inl, inr, arith}
+use Rattle.std.specs.Prelude.{Option, ◌-◌, ◌==◌, IsSomeAnd}
 use Rattle.std.proofs.lemmas.Bool.{cases_lt}
 use lib.ListN.{length-drop}
 use Rattle.sctp_capture.specs.declared.record.Record.{Record}

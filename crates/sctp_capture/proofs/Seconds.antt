@@ -1,6 +1,6 @@
 -- The seconds of a line, digit by digit.
-use Rattle.std.proofs.Common.{◌≡◌, ℕ, ◌+◌, ◌-◌, ◌<◌, ◌≤◌, true, false, List, length, slice_index, refl, arith}
-use Rattle.std.specs.Prelude.{suc, zero}
+use Rattle.std.proofs.Common.{◌≡◌, ℕ, ◌+◌, ◌-◌, ◌<◌, ◌≤◌, true, false, List, slice_index, refl, arith}
+use Rattle.std.specs.Prelude.{suc}
 use Rattle.sctp_capture.specs.Fields.{is_decimal, with_digit, whole_at, seconds_by}
 
 none_left : (k count : ℕ) → count ≤ k → count - k ≡ 0

@@ -1,5 +1,5 @@
 -- Dumps, line by line, of bytes of which some are held.
-use Rattle.std.proofs.Common.{◌≡◌, ℕ, ◌+◌, ◌<◌, ◌≤◌, Bool, true, false, zero, suc, List, [], ◌∷◌, ◌++◌, length, None, Some, IfSome, refl, ap, sym, ◌∙◌, inl}
+use Rattle.std.proofs.Common.{◌≡◌, ℕ, ◌+◌, ◌<◌, ◌≤◌, Bool, true, false, zero, suc, List, [], ◌++◌, length, None, Some, IfSome, refl, ap, sym, ◌∙◌, inl}
 use Rattle.std.proofs.Common.{inr, arith, add-one}
 use Rattle.std.specs.Prelude.{Option, ◌⊎◌, ◌&&◌, leb, ltb, min, Err}
 use Rattle.std.specs.Io.KnownBytes.{Keeps, IsAtEnd, prepend_known}

@@ -1,5 +1,5 @@
 -- Lines of four fields, as tshark writes them: seconds, a source, a destination, and hex text.
-use Rattle.std.specs.Prelude.{◌≡◌, ℕ, zero, suc, ◌+◌, ◌-◌, ◌*◌, ◌^◌, ◌≤◌, Bool, true, false, ◌==◌, ◌||◌, ◌&&◌, not, ltb, leb, min, if◌then◌else◌, List, [], ◌∷◌, ◌++◌, length, slice_index, slice_range}
+use Rattle.std.specs.Prelude.{◌≡◌, ℕ, zero, suc, ◌+◌, ◌-◌, ◌*◌, ◌^◌, ◌≤◌, Bool, false, ◌==◌, ◌&&◌, not, ltb, leb, min, if◌then◌else◌, List, [], ◌∷◌, ◌++◌, length, slice_index, slice_range}
 use Rattle.std.specs.Prelude.{Option, Some, None}
 use Rattle.std.specs.declared.net.ip_addr.IpAddr.{IpAddr}
 use Rattle.std.specs.declared.net.ip_addr.IpAddr.TheVariants.{V4, V6}

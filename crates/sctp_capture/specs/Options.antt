@@ -1,5 +1,5 @@
 -- The options of a packet's block.
-use Rattle.std.specs.Prelude.{ℕ, zero, suc, ◌+◌, ◌*◌, ◌/◌, ◌%◌, Bool, true, false, ◌==◌, ltb, if◌then◌else◌, List, length, Option, Some, None}
+use Rattle.std.specs.Prelude.{ℕ, zero, suc, ◌+◌, ◌*◌, ◌/◌, ◌%◌, ◌==◌, ltb, if◌then◌else◌, List, length, Option, Some, None}
 use Rattle.sctp_capture.specs.declared.record.Order.{Order}
 use Rattle.sctp_capture.specs.declared.record.Order.TheVariants.{Big, Little}
 use Rattle.sctp_capture.specs.declared.record.Direction.{Direction}

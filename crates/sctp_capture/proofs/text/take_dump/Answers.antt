@@ -1,7 +1,6 @@
-use Rattle.std.proofs.Common.{◌≡◌, ◌+◌, ◌<◌, ◌≤◌, true, length, arith}
+use Rattle.std.proofs.Common.{◌≡◌, ◌+◌, length, arith}
 use Rattle.std.proofs.lemmas.Grind.{common_steps}
-use Rattle.std.specs.Prelude.{◌⊎◌, min}
-use Rattle.sctp_capture.specs.Dump as dumps
+use Rattle.std.specs.Prelude.{min}
 use Rattle.sctp_capture.proofs.Texts.{run_next, run_more, run_done, line_is_short}
 use Rattle.sctp_capture.proofs.text.take_dump.Goals as goal
 
