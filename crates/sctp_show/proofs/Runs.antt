@@ -1,10 +1,11 @@
 -- A run, piece by piece.
-use Rattle.std.proofs.Common.{◌≡◌, ℕ, ◌+◌, ◌<◌, List, [], ◌∷◌, ◌++◌, length, Some, None, IfSome, ◌⊎◌, inl, inr, refl, ap, sym, subst, ◌∙◌, arith}
+use Rattle.std.proofs.Common.{◌≡◌, ℕ, ◌+◌, ◌^◌, ◌<◌, ◌≤◌, List, [], ◌∷◌, ◌++◌, length, Some, None, IfSome, ◌⊎◌, inl, inr, refl, ap, sym, subst, ◌∙◌, arith}
 use Rattle.std.specs.Prelude.{Option, IsSomeAnd, option_to_list}
 use Rattle.std.specs.List.{concat}
 use Rattle.std.specs.Io.KnownBytes.{Keeps}
 use Rattle.std.proofs.KnownBytes.{Appends-trans, Appends-nil, Appends-kept}
 use Rattle.std.proofs.lemmas.List.{append-nil, length-append}
+use lib.ListN.{length-drop}
 use Rattle.std.proofs.lemmas.List.Folds.{concat-append}
 use Rattle.std.proofs.lemmas.Grind.{flat_map-append}
 use Rattle.sctp_show.specs.declared.run.Counts.{Counts}
@@ -14,7 +15,7 @@ use Rattle.sctp_capture.specs.declared.input.Format.{Format}
 use Rattle.sctp_capture.specs.declared.input.Format.TheVariants.{Lines, Capture, Blocks}
 use Rattle.sctp_capture.specs.Blocks.{Known, Piece, IsBegun, IsEnd}
 use Rattle.sctp_show.specs.Text.{IsText, AreTexts, shown_by, shown_in}
-use Rattle.sctp_capture.specs.Input.{IsOpened, IsPiece, Pieces, records_of, IsInput, IsTaken, unread_by, unread_in}
+use Rattle.sctp_capture.specs.Input.{IsOpened, IsPiece, Pieces, records_of, IsInput, IsTaken, unread_by, unread_in, most_pieces}
 use Rattle.sctp_show.specs.Run.{PrintsRecord, Prints}
 
 -- the pieces so far, by what was to be read and what is left
@@ -188,3 +189,37 @@ pub so_far_all : (o : Options) (format : Format) (begun k : Known) (z a b old ne
     → (records : List Record) × IfSome z (λ bytes. IsInput stopped bytes records) × Prints o records before after old new
 so_far_all o format begun k z a b old new before after stopped is_begun opened so next =
     (so.records, all_read format begun k z a b so.records stopped is_begun opened so.read next, so.printed)
+
+-- ---- how many pieces there may be
+
+-- so many pieces were taken, and there may be no more than so many
+abbrev pub HasRoom : Known → Option (List ℕ) → ℕ → Known → Option (List ℕ) → Type 0
+HasRoom begun first n k left = IfSome first (λ xs. IsSomeAnd left (λ ys. most_pieces k ys + n ≤ most_pieces begun xs))
+
+pub room_first : (k : Known) (a : Option (List ℕ)) → HasRoom k a 0 k a
+room_first k None = tt
+room_first k (Some xs) = omega arith
+
+pub room_next : (begun k after : Known) (a b c : Option (List ℕ)) (n : ℕ) → HasRoom begun a n k b
+    → IfSome b (λ xs. IsSomeAnd c (λ rest. most_pieces after rest < most_pieces k xs)) → HasRoom begun a (n + 1) after c
+room_next begun k after None b c n room next = tt
+room_next begun k after (Some xs) None c n room next = absurd room
+room_next begun k after (Some xs) (Some ys) None n room next = absurd next
+room_next begun k after (Some xs) (Some ys) (Some zs) n room next = omega (arith, room, next)
+
+-- an input of as many pieces as are counted at most has as many bytes, but for two
+pub room_full : (format : Format) (begun k : Known) (z a b : Option (List ℕ)) (n : ℕ) → IsBegun begun → IfSome z (λ bytes. IsOpened format bytes a)
+    → HasRoom begun a n k b → 2 ^ 64 ≤ n + 1 → IfSome z (λ xs. 2 ^ 64 ≤ length xs + 2)
+room_full format begun k None a b n is_begun opened room many = tt
+room_full Lines begun k (Some xs) None b n is_begun opened room many = absurd opened.3
+room_full (Capture h) begun k (Some xs) None b n is_begun opened room many = absurd opened.1
+room_full Blocks begun k (Some xs) None b n is_begun opened room many = absurd opened.2
+room_full format begun k (Some xs) (Some ys) None n is_begun opened room many = absurd room
+room_full format begun k (Some xs) (Some ys) (Some zs) n is_begun opened room many =
+    let most : most_pieces begun ys ≡ length ys + 1 = rw is_begun.1 refl in
+    omega (arith, room, most, body_le format xs ys opened, many)
+  where
+    body_le : (format : Format) (xs ys : List ℕ) → IsOpened format xs (Some ys) → length ys ≤ length xs
+    body_le Lines xs ys opened = rw opened.3 (omega arith)
+    body_le (Capture h) xs ys opened = rw opened.1 (omega (arith, length-drop 24 xs))
+    body_le Blocks xs ys opened = rw opened.2 (omega arith)

@@ -12,7 +12,7 @@ use Rattle.sctp_show.specs.Sum.{sum_of, sum_for, is_wrong}
 use Rattle.sctp_dissect.specs.declared.dissection.Fault.TheVariants.{ShortPacket}
 use Rattle.sctp_show.specs.Cut.{WithCut}
 use Rattle.sctp_show.specs.Choice.{passes}
-use Rattle.sctp_show.specs.Text.{Holds, AreEndsIn, IsShown, IsShownText, IsPacketText, IsText, IsFrameText, IsFaultText, numbered_text, fault_line}
+use Rattle.sctp_show.specs.Text.{Holds, AreEndsIn, IsShown, IsShownText, IsPacketText, IsText, IsFrameText, IsFaultText}
 use Rattle.sctp_show.specs.Columns.{size_of}
 use Rattle.sctp_show.specs.declared.columns.Size.{Size}
 

@@ -1,5 +1,5 @@
 -- The chunk that the end of a frame cuts off.
-use Rattle.std.specs.Prelude.{◌≡◌, ℕ, ◌+◌, ◌-◌, List, [], ◌∷◌, ◌++◌, Bool, true, false, ◌&&◌, leb, ltb, if◌then◌else◌, length, drop, Option, Some, None}
+use Rattle.std.specs.Prelude.{◌≡◌, ℕ, ◌-◌, List, [], ◌∷◌, ◌++◌, Bool, true, false, ◌&&◌, leb, ltb, if◌then◌else◌, length, drop, Option, Some, None}
 use Rattle.sctp_util.specs.Padding.{padded_length}
 use Rattle.sctp_util.specs.declared.error.Error.TheVariants.{ErrChunkHeaderNotEnoughSpace}
 use Rattle.sctp_chunks.specs.Framing.{type_at, flags_at, declared_length}
@@ -8,7 +8,7 @@ use Rattle.sctp_dissect.specs.declared.dissection.Reading.{Reading}
 use Rattle.sctp_dissect.specs.declared.dissection.Reading.TheVariants.{Strict, Raw}
 use Rattle.sctp_dissect.specs.declared.dissection.Item.{Item}
 use Rattle.sctp_dissect.specs.declared.dissection.Fault.{Fault}
-use Rattle.sctp_dissect.specs.declared.dissection.Fault.TheVariants.{ShortPacket, ShortHeader, LengthTooSmall, LengthPastEnd}
+use Rattle.sctp_dissect.specs.declared.dissection.Fault.TheVariants.{LengthPastEnd}
 use Rattle.sctp_dissect.specs.declared.dissection.Dissection.{Dissection}
 
 -- a chunk declares more bytes than there are

@@ -1,5 +1,5 @@
 -- The checksum that datagrams are looked at under.
-use Rattle.std.specs.Prelude.{ℕ, ◌==◌, ◌&&◌, ◌||◌, not, ltb, if◌then◌else◌, Bool, false, List, length, Option, Some, None}
+use Rattle.std.specs.Prelude.{ℕ, ◌==◌, ◌&&◌, not, ltb, if◌then◌else◌, Bool, false, List, length, Option, Some, None}
 use Rattle.std.specs.List.{list_any}
 use Rattle.sctp_util.specs.Field.{u16_at}
 use Rattle.sctp_dissect.specs.declared.dissection.Header.{Header}

@@ -4,6 +4,7 @@ ghost use Rattle.std.specs.Prelude.{◌≡◌};
 ghost use Rattle.sctp_show.specs.declared.page.Form.TheVariants.{Text, Json};
 
 use crate::checksum::Sum;
+use crate::mark::Side;
 use crate::page::Form;
 use crate::zero::ZeroTags;
 use sctp_dissect::dissection::Dissection;
@@ -28,6 +29,8 @@ pub struct Known {
     pub bases: Bases,
     /// Whether a TSN of its DATA or I-DATA came before.
     pub is_repeated: bool,
+    /// Which side of its association sent it, where that is known.
+    pub side: Option<Side>,
     /// Whether its receiver accepts a checksum of zero (RFC 9653).
     pub accepts_zero: bool,
 }
@@ -73,6 +76,7 @@ impl Follow for Alone {
         Ok(Known {
             bases: ABSOLUTE,
             is_repeated: false,
+            side: None,
             accepts_zero: self.zero_tags.accepts(&seen.header),
         })
     }

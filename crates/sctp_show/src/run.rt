@@ -1,12 +1,12 @@
 //! A run: the records of inputs, each printed.
 
-ghost use Rattle.std.specs.Prelude.{◌≡◌, ◌≤◌, ◌<◌, ◌+◌, ◌^◌, ℕ, List, Option, IsOk, IfOk, IfErr, OnOk, IfSome};
+ghost use Rattle.std.specs.Prelude.{◌≡◌, ◌≤◌, ◌<◌, ◌+◌, ◌^◌, ℕ, List, Option, true, IsOk, IfOk, IfErr, OnOk, OnErr, IfSome};
 ghost use Rattle.std.specs.Io.KnownBytes.{Appends, Keeps, prepend_known};
 ghost use Rattle.sctp_capture.specs.Blocks.{known_of};
 ghost use Rattle.sctp_capture.specs.Input.{IsInput};
-ghost use Rattle.sctp_show.specs.declared.run.RunFault.TheVariants.{TooMany};
+ghost use Rattle.sctp_show.specs.declared.run.RunFault.TheVariants.{Memory, TooMany};
 ghost use Rattle.sctp_show.specs.Columns.{heading};
-ghost use Rattle.sctp_show.specs.Run.{none, Fits, PrintsRecord, Prints};
+ghost use Rattle.sctp_show.specs.Run.{none, Fits, fault_of, IsOutput, IsWriting, IsFull, IsPrintFault, IsRunFault, PrintsRecord, Prints};
 
 use crate::columns::heading;
 use crate::follow::Follow;
@@ -36,6 +36,8 @@ pub enum RunFault {
 }
 
 impl From<ReadFault> for RunFault {
+    ghost from_gives = { λ fault e. e ≡ fault_of fault };
+
     fn from(fault: ReadFault) -> RunFault {
         match fault {
             ReadFault::Input(code) => RunFault::Input(code),
@@ -46,6 +48,8 @@ impl From<ReadFault> for RunFault {
 }
 
 impl From<AllocError> for RunFault {
+    ghost from_gives = { λ _ e. e ≡ Memory };
+
     fn from(_e: AllocError) -> RunFault {
         RunFault::Memory
     }
@@ -53,7 +57,9 @@ impl From<AllocError> for RunFault {
 
 /// Sends off what was written, where it is not to wait for more.
 pub fn send_off<W: Write>(output: &mut W, waits: bool) -> Result<(), RunFault>
-    ensures { OnOk result (Keeps (W.contents output.old) (W.contents output.new)) }
+    ensures keeps { OnOk result (Keeps (W.contents output.old) (W.contents output.new)) }
+    ensures held { waits ≡ true → IsOk result }
+    ensures fault { IfErr result IsOutput }
 {
     if waits {
         return Ok(());
@@ -66,7 +72,9 @@ pub fn send_off<W: Write>(output: &mut W, waits: bool) -> Result<(), RunFault>
 
 /// Writes a text.
 pub fn write_text<W: Write>(output: &mut W, text: &str) -> Result<(), RunFault>
-    ensures { OnOk result (Appends (W.contents output.old) (W.contents output.new) text.now) }
+    ensures appends { OnOk result
+        (Appends (W.contents output.old) (W.contents output.new) text.now) }
+    ensures fault { IfErr result IsOutput }
 {
     match output.write_all(text.as_bytes()) {
         Ok(()) => Ok(()),
@@ -115,6 +123,7 @@ impl Counts {
         ensures shown { IfOk result (λ after. after.shown ≡ self.shown + shown) }
         ensures accepted { IsOk result → Fits self unread shown }
         ensures refused { IfErr result (λ e. (e ≡ TooMany) × (Fits self unread shown → ⊥)) }
+        ensures full { IfErr result (λ _. unread ≤ 1 → shown ≤ 1 → IsFull self) }
     {
         Ok(Counts {
             records: added(self.records, 1)?,
@@ -154,6 +163,8 @@ impl Course {
         ensures prints { OnOk result (PrintsRecord options.now «record» self.old.counts
             self.new.counts (W.contents output.old) (W.contents output.new)) }
         ensures few { OnOk result (self.new.counts.shown ≤ self.old.counts.shown + 1) }
+        ensures err { OnErr result (self.new.counts ≡ self.old.counts) }
+        ensures fault { IfErr result (IsPrintFault self.old.counts) }
     {
         let number = added(self.counts.records, 1)?;
         let text = record_text(alloc, options, number, &record, follower, &mut self.summary)?;
@@ -170,8 +181,9 @@ impl Course {
         options: &Options,
         output: &mut W,
     ) -> Result<(), RunFault>
-        ensures { OnOk result ((ending : List ℕ)
+        ensures appends { OnOk result ((ending : List ℕ)
             × Appends (W.contents output.old) (W.contents output.new) ending) }
+        ensures fault { IfErr result IsWriting }
     {
         let text = self.summary.text(alloc, options.form, self.counts.records)?;
         write_text(output, &text)
@@ -180,8 +192,9 @@ impl Course {
 
 /// Writes what stands above the records: the line that names the columns, where they are printed in columns.
 pub fn begin<W: Write>(alloc: Global, options: &Options, output: &mut W) -> Result<(), RunFault>
-    ensures { OnOk result (Appends (W.contents output.old) (W.contents output.new)
+    ensures appends { OnOk result (Appends (W.contents output.old) (W.contents output.new)
         (heading options.now.form options.now.layout)) }
+    ensures fault { IfErr result IsWriting }
 {
     let text = heading(alloc, options.form, options.layout)?;
     write_text(output, &text)
@@ -205,11 +218,12 @@ pub fn run<R: Read + Drop, F: Follow, W: Write>(
         (W.contents output.old) (W.contents output.new)) }
     ensures limit { course.old.counts.shown ≤ options.now.limit
         → OnOk result (course.new.counts.shown ≤ options.now.limit) }
+    ensures fault { IfErr result (IsRunFault course.new.counts (R.remaining input)) }
 {
     let mut window = Window::new(alloc, input)?;
     let format = open_input(&mut window)?;
     let mut section = Section::new(alloc);
-    'pieces: for _turn in 0..u64::MAX {
+    'pieces: for turn in 0..u64::MAX {
         if course.counts.shown >= options.limit {
             return Ok(());
         }

@@ -43,7 +43,7 @@ pub struct Options {
     pub layout: Layout,
     /// How times are printed, where records are printed as text. JSON has them as they were captured in any case.
     pub clock: Clock,
-    /// Whether lines of packets that are refused, or repeat a TSN, are colored, where records are printed as text.
+    /// Whether lines of packets are colored, where records are printed as text: those that are refused or repeat a TSN, and others by their sides.
     pub is_colored: bool,
     /// Which packets are shown.
     pub filter: Choice,
@@ -325,7 +325,12 @@ fn seen_text(
     put_ends(&mut line, record.direction, datagram)?;
     put_line(&mut line, " SCTP ", bases, seen, missing, is_wrong)?;
     let is_refused = is_wrong || is_refused(missing, seen);
-    let mark = mark_of(options.is_colored, is_refused, known.is_repeated);
+    let mark = mark_of(
+        options.is_colored,
+        is_refused,
+        known.is_repeated,
+        known.side,
+    );
     let mut page = Page::new(alloc, options.form);
     put_marked(&mut page.text, mark, &line.text)?;
     page.in_text("\n")?;
@@ -358,7 +363,12 @@ fn seen_row(
     let mut line = Page::new(alloc, Form::Text);
     put_line(&mut line, " ", known.bases, seen, missing, is_wrong)?;
     let is_refused = is_wrong || is_refused(missing, seen);
-    let mark = mark_of(options.is_colored, is_refused, known.is_repeated);
+    let mark = mark_of(
+        options.is_colored,
+        is_refused,
+        known.is_repeated,
+        known.side,
+    );
     packet_row(
         alloc,
         number,
