@@ -21,13 +21,15 @@ pieces-preserved g c =
         limited = rw w.course-is (λ h. omega (arith, w.in_ok-print-in-Record.ensures.few, c.if-course-options.false));
         so_far = rw (w.course-is, w.output-is) (so_far_record c.args.options.now c.in_ok-format.format (known_of c.new-section.result)
             _ _ _ _ _ _ _ _ _ _ _ w.in-Record.record so (rw w.in-Record.is at c.in_ok-record.ensures.takes) w.in_ok-print-in-Record.ensures.prints);
-        room = room_next (known_of c.new-section.result) (known_of c.pieces.section) (known_of c.next_piece.new.section) _ _ _ _ c.pieces.invariant.room (rw w.in-Record.is at c.in_ok-record.ensures.passes);
+        room = room_next (known_of c.new-section.result) (known_of c.pieces.section) (known_of c.next_piece.new.section) _ _ _ _
+            c.pieces.invariant.room (rw w.in-Record.is at c.in_ok-record.ensures.passes);
       }
       | in-Nothing w ↦ record {
         limited = rw w.course-is c.pieces.invariant.limited;
         so_far = rw (w.course-is, w.output-is) (so_far_nothing c.args.options.now c.in_ok-format.format (known_of c.new-section.result)
             _ _ _ _ _ _ _ _ _ so (rw w.in-Nothing.is at c.in_ok-record.ensures.takes));
-        room = room_next (known_of c.new-section.result) (known_of c.pieces.section) (known_of c.next_piece.new.section) _ _ _ _ c.pieces.invariant.room (rw w.in-Nothing.is at c.in_ok-record.ensures.passes);
+        room = room_next (known_of c.new-section.result) (known_of c.pieces.section) (known_of c.next_piece.new.section) _ _ _ _
+            c.pieces.invariant.room (rw w.in-Nothing.is at c.in_ok-record.ensures.passes);
       }
     ]
 
