@@ -8,7 +8,7 @@ use crate::associations::{Association, Associations, Way};
 use crate::packet::Packet;
 use crate::summarize::Take;
 use crate::text::{put_end, put_ends};
-use crate::track::known_of;
+use crate::track::{known_of, side_of};
 use sctp_capture::record::Time;
 use sctp_show::brief::put_brief;
 use sctp_show::filter::is_refused;
@@ -175,7 +175,12 @@ fn put_packet(
     packet: &Packet<'_>,
 ) -> Result<(), AllocError> {
     let is_refused = is_refused(packet.missing, packet.seen);
-    let mark = mark_of(style.is_colored, is_refused, known.is_repeated);
+    let mark = mark_of(
+        style.is_colored,
+        is_refused,
+        known.is_repeated,
+        Some(side_of(way)),
+    );
     put_when(alloc, text, style.clock, start, &packet.time)?;
     let mut rung = rung_of(way);
     for words in &words_of(alloc, packet, known)? {

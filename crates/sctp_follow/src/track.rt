@@ -2,13 +2,16 @@
 
 ghost use Rattle.std.specs.Prelude.{◌≡◌, true, false};
 ghost use Rattle.sctp_follow.specs.Flow.{base_of};
+ghost use Rattle.sctp_follow.specs.declared.associations.Way.TheVariants.{Forth, Back};
+ghost use Rattle.sctp_show.specs.declared.mark.Side.TheVariants.{First, Second};
 
-use crate::associations::Associations;
+use crate::associations::{Associations, Way};
 use crate::flow::{Extent, Flow};
 use crate::packet::Packet;
 use sctp_dissect::dissection::Dissection;
 use sctp_show::checksum::Sum;
 use sctp_show::follow::{ABSOLUTE, Bases, Follow, Known};
+use sctp_show::mark::Side;
 use sctp_show::zero::ZeroTags;
 use std::alloc::{AllocError, Global};
 use std::net::IpAddr;
@@ -17,6 +20,7 @@ use std::net::IpAddr;
 const UNKNOWN: Known = Known {
     bases: ABSOLUTE,
     is_repeated: false,
+    side: None,
     accepts_zero: false,
 };
 
@@ -36,7 +40,18 @@ fn base_of(flow: &Flow) -> u32
     flow.base.unwrap_or(0)
 }
 
-/// What is known of a packet that was noted last of its way.
+/// The side of an association that sends packets of this way.
+pub(crate) fn side_of(way: Way) -> Side
+    ensures forth { way ≡ Forth → result ≡ First }
+    ensures back { way ≡ Back → result ≡ Second }
+{
+    match way {
+        Way::Forth => Side::First,
+        Way::Back => Side::Second,
+    }
+}
+
+/// What is known of a packet that was noted last of its way, but for its side.
 pub fn known_of(own: &Flow, other: &Flow, is_relative: bool) -> Known
     ensures own { is_relative ≡ true → result.bases.own ≡ base_of own.now.base }
     ensures other { is_relative ≡ true → result.bases.other ≡ base_of other.now.base }
@@ -47,6 +62,7 @@ pub fn known_of(own: &Flow, other: &Flow, is_relative: bool) -> Known
         return Known {
             bases: ABSOLUTE,
             is_repeated: own.is_repeating,
+            side: None,
             accepts_zero: false,
         };
     }
@@ -56,6 +72,7 @@ pub fn known_of(own: &Flow, other: &Flow, is_relative: bool) -> Known
             other: base_of(other),
         },
         is_repeated: own.is_repeating,
+        side: None,
         accepts_zero: false,
     }
 }
@@ -84,6 +101,7 @@ impl Tracker {
             return Ok(None);
         };
         let mut known = known_of(own, other, self.is_relative);
+        known.side = Some(side_of(way));
         known.is_repeated = known.is_repeated && !packet.is_wrong;
         Ok(Some(known))
     }
