@@ -290,6 +290,21 @@ def ends_with_its_writer(program):
     return is_right
 
 
+def tells_cut_headers(program):
+    """Whether a capture that ends within its header of 24 bytes is called one, in either byte order, with micro- or nanoseconds."""
+    wanted = "sctpdump: standard input: a pcap capture that ends within its header\n"
+    is_right = True
+    for order in "<>":
+        for magic in (0xA1B2C3D4, 0xA1B23C4D):
+            head = struct.pack(order + "IHHiIII", magic, 2, 4, 0, 0, 262144, ETHERNET)
+            for size in range(4, 24):
+                ran = subprocess.run([program], input=head[:size], capture_output=True)
+                if (ran.stdout, ran.stderr.decode(), ran.returncode) != (b"", wanted, 1):
+                    print(f"{size} bytes of a capture's header: {ran.stdout}{ran.stderr}, status {ran.returncode}")
+                    is_right = False
+    return is_right
+
+
 def tells_version(program):
     """Whether `--version` says the version of include/sctpr.h."""
     with open(f"{ROOT}/include/sctpr.h", encoding="utf-8") as header:
@@ -473,7 +488,7 @@ def main(words):
     program = os.path.abspath(words[0] if words else f"{ROOT}/crates/sctpdump/out/sctpdump")
     runs = run_tests(program, f"{ROOT}/dump_tests/runs.txt")
     passed, failed = (sum(counts) for counts in zip(frame_tests(program, has_tshark), runs, save_tests(program, has_tshark), json_tests(program), seam_tests(program), bound_tests(program)))
-    for is_right in (tells_version(program), ends_uninterrupted(program), ends_with_its_writer(program)):
+    for is_right in (tells_version(program), tells_cut_headers(program), ends_uninterrupted(program), ends_with_its_writer(program)):
         passed += is_right
         failed += not is_right
     print(f"{passed} passed, {failed} failed")

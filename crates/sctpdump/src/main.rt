@@ -76,7 +76,7 @@ const RELATIVE_HELP: &str =
     "Print TSNs relative to the initial one of their way, or the first one seen; not in JSON";
 
 const COLOR_HELP: &str =
-    "Color packets that are refused, have a wrong checksum or repeat a TSN: auto (on a terminal), always or never";
+    "Color packets by the side that sent them, and what is refused, has a wrong checksum or repeats a TSN: auto (on a terminal), always or never";
 
 const COLUMNS_HELP: &str =
     "Print packets in columns, below a line that names them: number, time, source, destination, length of the frame, and what it holds";
