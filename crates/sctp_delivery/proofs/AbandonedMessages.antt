@@ -13,6 +13,7 @@ use Rattle.sctp_delivery.proofs.Names.{cases_lt, data_of, OutboundStream, or_fal
 use Rattle.std.proofs.Common.{◌⊎◌}
 use Rattle.sctp_outbound.specs.payload_queue.PayloadQueue as payload
 use Rattle.sctp_delivery.specs.SenderCalls as outgoing
+use Rattle.sctp_delivery.proofs.Cases.{all_streams}
 use Rattle.sctp_delivery.proofs.Every.{Every, every-changed, every-inserted, every-joined, every-left, every-of, every-passing, every-taken}
 use Rattle.sctp_delivery.proofs.PassedMessages.{AreCutGone, EndsGone, is_gone}
 use Rattle.sctp_delivery.proofs.Calls.{sent_by, numbered_after}
@@ -202,8 +203,8 @@ module _ (gone : List ℕ) (ws : List Numbered) (first : ℕ) (number : ℕ → 
       partial : (m : ℕ) → message_to_abandon tsn f ≡ Some m → waits m f.queue.pending ≡ true → partially_sent f.queue.pending ≡ Some m
       partial = found-partial f.queue s.sendable tsn (find (has_tsn tsn) f.queue.inflight.chunks) refl
 
-      x : Abandons ws first number sent f.queue (abandoned_at tsn f).queue (abandoned_at tsn f).next_tsn
-      x = abandoned ws first number f.queue f.next_tsn sent s (message_to_abandon tsn f) partial
+      x : Abandons all_streams ws first number sent f.queue (abandoned_at tsn f).queue (abandoned_at tsn f).next_tsn
+      x = abandoned all_streams ws first number f.queue f.next_tsn sent s (message_to_abandon tsn f) partial
 
       by : EndsOrSame f (abandoned_at tsn f) → (Stands ws first number (abandoned_at tsn f).queue (abandoned_at tsn f).next_tsn sent
           → EndsOrSame (abandoned_at tsn f) (abandoned_each tsns (abandoned_at tsn f))) → EndsOrSame f (abandoned_each (tsn ∷ tsns) f)
@@ -334,7 +335,7 @@ module _ (gone : List ℕ) (first : ℕ) (old new : Session) (ns : List Numbered
       q = rest_after c.beginning_fragment c.unordered p
 
       stands : Stands ns first (λ s. number_of s old.sending.sender.streams) ready (flight_of old).next_tsn sent
-      stands = started ns first (λ s. number_of s old.sending.sender.streams) now (flight_of old).queue (flight_of old).next_tsn sent i.held.stands
+      stands = started all_streams ns first (λ s. number_of s old.sending.sender.streams) now (flight_of old).queue (flight_of old).next_tsn sent i.held.stands
 
       entry : Entry
       entry = fragment (data_of (as_sent (flight_of old).next_tsn now c)) g.0 g.1
@@ -444,8 +445,8 @@ module _ (ws : List Numbered) (first : ℕ) (number : ℕ → ℕ) where
       (answered-below f.queue.pending f.queue.inflight.chunks f.queue.next_message_id s.sendable tsn _ (find (has_tsn tsn) f.queue.inflight.chunks) refl))
       (each-below tsns (abandoned_at tsn f) x.more x.stands))
     where
-      x : Abandons ws first number sent f.queue (abandoned_at tsn f).queue (abandoned_at tsn f).next_tsn
-      x = abandoned ws first number f.queue f.next_tsn sent s (message_to_abandon tsn f)
+      x : Abandons all_streams ws first number sent f.queue (abandoned_at tsn f).queue (abandoned_at tsn f).next_tsn
+      x = abandoned all_streams ws first number f.queue f.next_tsn sent s (message_to_abandon tsn f)
           (found-partial f.queue s.sendable tsn (find (has_tsn tsn) f.queue.inflight.chunks) refl)
 
   -- of a call

@@ -1,4 +1,5 @@
 -- The amount of each open stream is what was written on it, less what was told; and it is 0 once nothing of the stream is left.
+use Rattle.sctp_delivery.proofs.Cases.{all_streams}
 use Rattle.sctp_delivery.proofs.Names.{◌≡◌, ℕ, ◌+◌, ◌-◌, ◌^◌, ◌<◌, ◌≤◌, Bool, true, false, not, List, [], ◌∷◌, length, map, Option, Some, None, refl, ap, sym}
 use Rattle.sctp_delivery.proofs.Names.{subst, ◌∙◌, arith, inl, inr, IfSome, if◌then◌else◌, ◌==◌, find, option_map, ◌&&◌, ◌||◌, ⊤, All, Contains, nat_eq, filter}
 use Rattle.sctp_delivery.proofs.Names.{list_any, nat_tests, sum_by-append, sum_by-cons, none-some, common_steps, change_where, same-is, some-same, same-yes}
@@ -437,7 +438,7 @@ module _ (first : ℕ) (call : SenderCall) (s t : Session) (ns : List Numbered) 
   moved stream =
       let u = s.sending.sender in
       moves-call s.written u k.all
-      (λ now. (stands-started ns first (λ s. number_of s u.streams) now u.flight.queue u.flight.next_tsn sent h.held.stands).sendable) stream
+      (λ now. (stands-started all_streams ns first (λ s. number_of s u.streams) now u.flight.queue u.flight.next_tsn sent h.held.stands).sendable) stream
       (k.amounts stream) call t.sending.sender f.step.sender f.exact f.accepted f.answered
 
   pub counted-then : AreCounted t

@@ -11,7 +11,7 @@ use Rattle.sctp_delivery.specs.Counters.{AreSums, bytes_on, messages_on}
 use Rattle.sctp_delivery.proofs.Calls.{forgotten, numbered_after}
 use Rattle.sctp_delivery.proofs.Delivered.{Holds, at-first, receiver-step, sender-step}
 use Rattle.sctp_delivery.proofs.Every.{Every, all-of-every, every-changed, every-joined, every-mapped}
-use Rattle.sctp_delivery.proofs.Numbers.{AreOpen, found-there}
+use Rattle.sctp_delivery.proofs.Numbers.{found-there, is_there}
 use Rattle.sctp_delivery.proofs.Sent.{Entry, Numbered}
 use Rattle.sctp_delivery.proofs.Writing.{accepted-stream}
 use Rattle.sctp_delivery.proofs.Changes.{expired-one}
@@ -74,15 +74,19 @@ module _ (stream : ℕ) (ppi : PayloadProtocolIdentifier) (bytes : List ℕ) (ws
 
 -- ## A stream that is opened
 
+-- each write is on a stream that is open
+abbrev AreThere : List OutboundStream → List Numbered → Type 0
+AreThere ls ns = Every (λ n. is_there n.stream ls ≡ true) ns
+
 -- nothing was written to a stream that is not open
-none-on : (s : ℕ) (ls : List OutboundStream) (ns : List Numbered) → is_some (find (has_number s) ls) ≡ false → AreOpen ls ns
+none-on : (s : ℕ) (ls : List OutboundStream) (ns : List Numbered) → is_some (find (has_number s) ls) ≡ false → AreThere ls ns
     → (sum_by (messages_on s) (forgotten ns) ≡ 0) × (sum_by (bytes_on s) (forgotten ns) ≡ 0)
 none-on s ls [] e o = (refl, refl)
 none-on s ls (n ∷ ns) e o = grind (arith, nat_tests, found-there, is_some, not_both, same-is, sum_by-cons, none-on s ls ns e o.1)
 
 -- ## The calls
 
-module _ (t : Transmission) (ns : List Numbered) (o : AreOpen t.streams ns) (h : Every (Counts (forgotten ns)) t.streams) where
+module _ (t : Transmission) (ns : List Numbered) (o : AreThere t.streams ns) (h : Every (Counts (forgotten ns)) t.streams) where
   to : (ws : List Write) (u v : Transmission) → u ≡ v → Every (Counts ws) v.streams → Every (Counts ws) u.streams
   to ws u v e i = subst (λ (x : Transmission). Every (Counts ws) x.streams) (sym e) i
 

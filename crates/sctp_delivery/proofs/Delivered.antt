@@ -1,7 +1,7 @@
 -- Each message that is read was written.
 use Rattle.sctp_delivery.proofs.Names.{◌≡◌, ℕ, zero, suc, ◌+◌, ◌%◌, ◌^◌, ◌<◌, ◌≤◌, Bool, true, false, not, List, [], ◌∷◌, ◌++◌, length, Option, inl, inr, refl}
-use Rattle.sctp_delivery.proofs.Names.{ap, sym, subst, ◌∙◌, arith, get_or, ⊤, All, Contains, ◌==◌, ◌&&◌, if◌then◌else◌, slice_index_or, list_all}
-use Rattle.sctp_delivery.proofs.Names.{AllPass-from_list_all, negated, same-is, both, not_both, ChunkPayloadData, Data, data_of, completes, is_complete, Limits}
+use Rattle.sctp_delivery.proofs.Names.{ap, sym, subst, ◌∙◌, arith, get_or, ⊤, All, Contains, fails, ◌==◌, ◌&&◌, if◌then◌else◌, slice_index_or, list_all}
+use Rattle.sctp_delivery.proofs.Names.{AllPass-from_list_all, negated, same-is, same-yes, both, not_both, ChunkPayloadData, Data, data_of, completes, is_complete, Limits}
 use Rattle.sctp_delivery.proofs.Names.{Message, is_one_message, is_on, AfterEachFitSession, AreWrites, IsWrite, WhileTsnsLast, tsns_given, written_after, Made}
 use Rattle.sctp_delivery.proofs.Names.{SenderCall, Write, data_chunk, forward_tsn, AreMade, AreMessages, Call, ReceiverFollows, RunsTo, SenderFollows, Session}
 use Rattle.sctp_delivery.proofs.Names.{at_start, of_receiver, of_sender}
@@ -9,27 +9,33 @@ use Rattle.sctp_util.specs.Serial.{distance}
 use Rattle.sctp_reassembly.specs.reassembly_queue.Fragments.{payload_of}
 use Rattle.sctp_receiver.specs.ReceiverRuns.{is_like, none_ends_before}
 use Rattle.sctp_delivery.specs.Messages.{AreParts, AreSame}
-use Rattle.sctp_delivery.proofs.Cases.{at-test, by-test}
+use Rattle.sctp_delivery.proofs.Cases.{all_streams, at-test, where-is, where-yes}
 use Rattle.sctp_delivery.proofs.Begun.{AreOnce}
 use Rattle.sctp_delivery.proofs.Calls.{contains-forgotten, forget, forgotten, forgotten-after, numbered_after, sent_by, stepped}
-use Rattle.sctp_delivery.proofs.OrderedEntries.{AreIndexed, AreRising, begun_on, written_on}
+use Rattle.sctp_delivery.proofs.OrderedEntries.{AreIndexed, AreIndexedOn, AreRising, IsIndexed, begins-ordered, begins_on, begun_on, one, written_on}
+use Rattle.sctp_delivery.proofs.OrderedEntries.{part-indexed}
 use Rattle.sctp_delivery.proofs.OrderedPlaces.{AreNumbered, numbered-after}
 use Rattle.sctp_delivery.proofs.Queues.{IsOnceMore}
-use Rattle.sctp_delivery.proofs.Senders.{AreSent, IsHeld, IsMoreBy}
+use Rattle.sctp_delivery.proofs.Senders.{AreSent, AreSentOn, IsHeldOn, IsMoreBy}
+use Rattle.sctp_delivery.proofs.Sending.{IsTurn}
 use Rattle.sctp_delivery.proofs.Sent.{Numbered, Entry, GoesOn, IsLine, IsPart, WasSent, fragment, part-line, same-tsn, stands-behind}
 use Rattle.sctp_delivery.proofs.Sessions as sessions
-use Rattle.sctp_delivery.proofs.Every.{Every, every-of-all, all-of-every}
+use Rattle.sctp_delivery.proofs.Every.{Every, every-all, every-of-all, all-of-every}
 
 -- ## All that a sender gave TSNs to, in every session
 
 abbrev pub next_tsn : Session → ℕ
 next_tsn s = s.sending.sender.flight.next_tsn
 
-pub record Holds (first : ℕ) (s : Session) (ns : List Numbered) (sent : List Entry) : Type 0 where
-  pub held : IsHeld ns first s.sending.sender sent
-  pub made : AreSent sent s.made
+-- of numbers that is so on these streams
+pub record HoldsOn (on : ℕ → Bool) (first : ℕ) (s : Session) (ns : List Numbered) (sent : List Entry) : Type 0 where
+  pub held : IsHeldOn on ns first s.sending.sender sent
+  pub made : AreSentOn on sent s.made
   pub writes : forgotten ns ≡ s.written
   pub placed : AreNumbered ns
+
+abbrev pub Holds : ℕ → Session → List Numbered → List Entry → Type 0
+Holds first s ns sent = HoldsOn all_streams first s ns sent
 
 -- a TSN for each entry
 pub counted : (first : ℕ) (sent more : List Entry) (a b : ℕ) → a ≡ (first + length sent) % 2 ^ 32 → b ≡ (first + length more) % 2 ^ 32 → IsOnceMore sent more
@@ -38,30 +44,23 @@ unfolding distance
 counted first sent more a b e f (inl same) = let n = ap length same in omega (arith, n)
 counted first sent more a b e f (inr x) = let n = ap length x.1 in omega (arith, n, e, f)
 
--- the writes and the entries after some calls, these no more than the TSNs that were given out
-record After (first : ℕ) (old : Session) (cs : List Call) (new : Session) (r : RunsTo old cs new) (sent : List Entry) : Type 0 where
-  numbered : List Numbered
-  more : List Entry
-  holds : Holds first new numbered more
-  few : length more ≤ length sent + tsns_given old cs new r
-
 -- the entries after a call of the sender, no more than the TSNs that were given out
-pub record Sends (first : ℕ) (call : SenderCall) (old new : Session) (ns : List Numbered) (sent : List Entry) : Type 0 where
+pub record Sends (on : ℕ → Bool) (first : ℕ) (call : SenderCall) (old new : Session) (ns : List Numbered) (sent : List Entry) : Type 0 where
   pub more : List Entry
-  pub holds : Holds first new (numbered_after call ns) more
+  pub holds : HoldsOn on first new (numbered_after call ns) more
   pub few : length more ≤ length sent + distance (next_tsn old) (next_tsn new)
   pub once : IsOnceMore sent more
   pub grown : IsMoreBy (sent_by call old.sending.sender) sent more
 
-pub sender-step : (first : ℕ) (call : SenderCall) (old new : Session) (ns : List Numbered) (sent : List Entry) → SenderFollows call old new
-    → Holds first old ns sent → Sends first call old new ns sent
-sender-step first call old new ns sent f h =
-    let r = stepped ns first old.sending.sender sent old.made h.held call new.sending.sender f.step.sender f.exact f.accepted in
+pub sender-step-on : (on : ℕ → Bool) (first : ℕ) (call : SenderCall) (old new : Session) (ns : List Numbered) (sent : List Entry)
+    → SenderFollows call old new → HoldsOn on first old ns sent → Sends on first call old new ns sent
+sender-step-on on first call old new ns sent f h =
+    let r = stepped on ns first old.sending.sender sent old.made h.held call new.sending.sender f.step.sender f.exact f.accepted in
     record {
       more = r.more;
       holds = record {
         held = r.held;
-        made = subst (AreSent r.more) (sym (ap (λ (s : Session). s.made) f.after)) (r.made h.made);
+        made = subst (AreSentOn on r.more) (sym (ap (λ (s : Session). s.made) f.after)) (r.made h.made);
         writes = forgotten-after call ns ∙ ap (written_after call) h.writes ∙ sym (ap (λ (s : Session). s.written) f.after);
         placed = numbered-after call ns h.placed;
       };
@@ -70,10 +69,32 @@ sender-step first call old new ns sent f h =
       grown = r.grown;
     }
 
+-- where the sender stays as it is
+pub beside-on : (on : ℕ → Bool) (first : ℕ) (old new : Session) (ns : List Numbered) (sent : List Entry) → new.sending ≡ old.sending → new.made ≡ old.made
+    → new.written ≡ old.written → HoldsOn on first old ns sent → HoldsOn on first new ns sent
+beside-on on first old new ns sent same made written h = record {
+  held = subst (λ l. IsHeldOn on ns first l.sender sent) (sym same) h.held;
+  made = subst (AreSentOn on sent) (sym made) h.made;
+  writes = h.writes ∙ sym written;
+  placed = h.placed;
+}
+
+pub sender-step : (first : ℕ) (call : SenderCall) (old new : Session) (ns : List Numbered) (sent : List Entry) → SenderFollows call old new
+    → Holds first old ns sent → Sends all_streams first call old new ns sent
+sender-step first call old new ns sent f h = sender-step-on all_streams first call old new ns sent f h
+
 pub receiver-step : (first : ℕ) (call : _) (old new : Session) (ns : List Numbered) (sent : List Entry) → ReceiverFollows call old new → Holds first old ns sent
     → Holds first new ns sent
 receiver-step first call old new ns sent f h =
-    subst (λ s. Holds first s ns sent) (sym f.after) (record { held = h.held; made = h.made; writes = h.writes; placed = h.placed })
+    beside-on all_streams first old new ns sent (ap (λ (s : Session). s.sending) f.after) (ap (λ (s : Session). s.made) f.after)
+    (ap (λ (s : Session). s.written) f.after) h
+
+-- the writes and the entries after some calls, these no more than the TSNs that were given out
+record After (first : ℕ) (old : Session) (cs : List Call) (new : Session) (r : RunsTo old cs new) (sent : List Entry) : Type 0 where
+  numbered : List Numbered
+  more : List Entry
+  holds : Holds first new numbered more
+  few : length more ≤ length sent + tsns_given old cs new r
 
 held-after : (first : ℕ) (cs : List Call) (old new : Session) (ns : List Numbered) (sent : List Entry) (r : RunsTo old cs new) → Holds first old ns sent
     → After first old cs new r sent
@@ -87,15 +108,15 @@ held-after first (of_receiver call ∷ cs) old new ns sent r h =
     record { numbered = a.numbered; more = a.more; holds = a.holds; few = omega arith }
 
 -- a new sender
-pub held-first : (tsn size max most : ℕ) (limits : Option Limits) → tsn < 2 ^ 32 → 0 < size
-    → IsHeld [] tsn (at_start tsn size max most limits).sending.sender []
-held-first tsn size max most limits small some = record {
+pub held-first : (on : ℕ → Bool) (tsn size max most : ℕ) (limits : Option Limits) → tsn < 2 ^ 32 → 0 < size
+    → IsHeldOn on [] tsn (at_start tsn size max most limits).sending.sender []
+held-first on tsn size max most limits small some = record {
   stands = record {
     queued = record {
       line = tt;
       ordered = tt;
       unordered = tt;
-      turns = λ s. (0, (refl, tt, refl));
+      turns = λ s. where-yes (on s) (IsTurn s [] 0 []) (λ e. (0, (refl, refl)));
       indexed = tt;
       ranked =
           record { top = 0; under = tt; waiting = omega arith; rising = tt; few = λ s. omega arith };
@@ -110,12 +131,13 @@ held-first tsn size max most limits small some = record {
   };
   open' = tt;
   sized = tt;
+  apart = λ s. omega arith;
   size = some;
 }
 
 pub at-first : (tsn size max most : ℕ) (limits : Option Limits) → tsn < 2 ^ 32 → 0 < size → Holds tsn (at_start tsn size max most limits) [] []
 at-first tsn size max most limits small some = record {
-  held = held-first tsn size max most limits small some;
+  held = held-first all_streams tsn size max most limits small some;
   made = tt;
   writes = refl;
   placed = tt;
@@ -123,24 +145,31 @@ at-first tsn size max most limits small some = record {
 
 -- ## The fragments of a message
 
-pub found-sent : (sent : List Entry) (ms : List Made) (d : Data) → AreSent sent ms → Contains ms (data_chunk d) → WasSent sent d
-found-sent sent ms d a c = at ms c.0 c.1 c.2 a
+pub found-sent-on : (on : ℕ → Bool) (sent : List Entry) (ms : List Made) (d : Data) → AreSentOn on sent ms → Contains ms (data_chunk d) → WasSent sent d
+found-sent-on on sent ms d a c = at ms c.0 c.1 c.2 a
   where
-    at : (ms : List Made) (k : ℕ) → k < length ms → slice_index_or ms k (data_chunk d) ≡ data_chunk d → AreSent sent ms → WasSent sent d
+    at : (ms : List Made) (k : ℕ) → k < length ms → slice_index_or ms k (data_chunk d) ≡ data_chunk d → AreSentOn on sent ms → WasSent sent d
     at [] k lt e a = absurd (omega (arith, lt))
     at (data_chunk x ∷ ms) zero lt e a = let same : x ≡ d = cc in subst (WasSent sent) same a.0
     at (forward_tsn f ∷ ms) zero lt e a = cc
     at (data_chunk x ∷ ms) (suc k) lt e a = at ms k (omega (arith, lt)) e a.1
     at (forward_tsn f ∷ ms) (suc k) lt e a = at ms k (omega (arith, lt)) e a.1
 
+pub found-sent : (sent : List Entry) (ms : List Made) (d : Data) → AreSent sent ms → Contains ms (data_chunk d) → WasSent sent d
+found-sent sent ms d a c = found-sent-on all_streams sent ms d a c
+
 -- each of these chunks got a TSN
 abbrev pub EachSent : List Entry → List ChunkPayloadData → Type 0
 EachSent sent cs = Every (λ c. WasSent sent (data_of c)) cs
 
-pub each-sent : (sent : List Entry) (ms : List Made) (cs : List ChunkPayloadData) → AreSent sent ms → All (λ c. Contains ms (data_chunk (data_of c))) cs
+pub each-sent-on : (on : ℕ → Bool) (sent : List Entry) (ms : List Made) (cs : List ChunkPayloadData) → AreSentOn on sent ms → All (λ c. Contains ms (data_chunk (data_of c))) cs
     → EachSent sent cs
-each-sent sent ms cs a all =
-    every-of-all (λ c. WasSent sent (data_of c)) cs (λ k d lt. found-sent sent ms (data_of (get_or cs k d)) a (all k d lt))
+each-sent-on on sent ms cs a all =
+    every-of-all (λ c. WasSent sent (data_of c)) cs (λ k d lt. found-sent-on on sent ms (data_of (get_or cs k d)) a (all k d lt))
+
+pub each-sent : (sent : List Entry) (ms : List Made) (cs : List ChunkPayloadData) → AreSent sent ms
+    → All (λ c. Contains ms (data_chunk (data_of c))) cs → EachSent sent cs
+each-sent sent ms cs a all = each-sent-on all_streams sent ms cs a all
 
 -- behind the first one a chunk that begins a message is alike the one before it: ordered, of the same stream and number
 abbrev pub AreInner : ChunkPayloadData → List ChunkPayloadData → Type 0
@@ -218,61 +247,126 @@ pub record IsReadSession (s : Session) : Type 0 where
   pub each : All (λ m. IsReadOf numbered sent m) s.receiving.read
 
 module _ (ws : List Numbered) (first : ℕ) (sent : List Entry) (few : length sent < 2 ^ 32) (line : IsLine ws first sent) where
-  -- a chunk, and those that follow it up to the end, are the rest of the write; none of these begins a message
-  pub follows : (c : ChunkPayloadData) (cs : List ChunkPayloadData) (w : Numbered) (after : List ℕ) (xs : List Entry)
-      → IsPart (fragment (data_of c) w after ∷ xs) sent → completes c cs ≡ true → EachSent sent cs → AreInner c cs
-      → (payload_of cs ≡ after) × EachTyped w (c ∷ cs) × Every (λ (d : ChunkPayloadData). d.beginning_fragment ≡ false) cs
-  follows c [] w after xs p e s i =
+  -- a chunk, and those that follow it up to the end, are the rest of the write, where none of these begins a message
+  follows-in : (c : ChunkPayloadData) (cs : List ChunkPayloadData) (w : Numbered) (after : List ℕ) (xs : List Entry)
+      → IsPart (fragment (data_of c) w after ∷ xs) sent → completes c cs ≡ true → EachSent sent cs
+      → Every (λ (d : ChunkPayloadData). d.beginning_fragment ≡ false) cs → (payload_of cs ≡ after) × EachTyped w (c ∷ cs)
+  follows-in c [] w after xs p e s i =
       let l = part-line ws first sent (fragment (data_of c) w after ∷ xs) p line in
-      (sym (l.0.ends e), (l.0.payload, tt), tt)
-  follows c (d ∷ ds) w after xs p e s i =
+      (sym (l.0.ends e), (l.0.payload, tt))
+  follows-in c (d ∷ ds) w after xs p e s i =
       let b = both (d.tsn == (c.tsn + 1) % 2 ^ 32) (completes d ds) e in
       let v = s.0.0 in
       let rest = s.0.1 in
-      let ys = s.0.2 in
       let q = s.0.3 in
-      let behind : ys ≡ fragment (data_of c) w after ∷ xs = stands-behind ws first sent few line (data_of c)
-      (data_of d) w v after rest xs ys p q (same-is d.tsn ((c.tsn + 1) % 2 ^ 32) b.0) in
-      let l = part-line ws first sent (fragment (data_of d) v rest ∷ ys) q line in
-      let on = subst (GoesOn (data_of d) v rest) behind l.1.0 in
-      let ih = follows d ds v rest ys q b.1 s.1 i.1 in
+      let behind = stands-behind ws first sent few line (data_of c)
+      (data_of d) w v after rest xs s.0.2 p q (same-is d.tsn ((c.tsn + 1) % 2 ^ 32) b.0) in
+      let l = part-line ws first sent (fragment (data_of d) v rest ∷ s.0.2) q line in
+      let g = subst (GoesOn (data_of d) v rest) behind l.1.0 i.0 in
+      let ih = follows-in d ds v rest s.0.2 q b.1 s.1 i.1 in
       let here = part-line ws first sent (fragment (data_of c) w after ∷ xs) p line in
-      by-test d.beginning_fragment
-      (λ k. let a = i.0 k in absurd (on.1 k a.0 a.1 a.2 a.3))
-      (λ k.
-      let g = on.0 k in
-      (ap (λ bs. d.user_data ++ bs) ih.0 ∙ sym g.1, (here.0.payload, subst (λ v. EachTyped v (d ∷ ds)) g.0 ih.1), (k, ih.2)))
+      (ap (λ bs. d.user_data ++ bs) ih.0 ∙ sym g.1, (here.0.payload, subst (λ v. EachTyped v (d ∷ ds)) g.0 ih.1))
 
-  pub message-is : (m : Message) → is_complete m.fragments ≡ true → is_one_message m.fragments ≡ true → EachSent sent m.fragments
-      → list_all (is_on m.stream) m.fragments ≡ true → IsReadOf ws sent m
-  message-is m complete one s on = by m.fragments refl complete one s on
+  -- where the ordered messages of its stream have numbers one behind another, none of them does
+  pub none-inside : (on : ℕ → Bool) → AreIndexedOn on sent → (c : ChunkPayloadData) (cs : List ChunkPayloadData) (w : Numbered) (after : List ℕ)
+      (xs : List Entry) → IsPart (fragment (data_of c) w after ∷ xs) sent → completes c cs ≡ true → EachSent sent cs → AreInner c cs
+      → Every (λ (d : ChunkPayloadData). on d.stream_identifier ≡ true) cs → Every (λ (d : ChunkPayloadData). d.beginning_fragment ≡ false) cs
+  none-inside on indexed c [] w after xs p e s i o = tt
+  none-inside on indexed c (d ∷ ds) w after xs p e s i o =
+      let b = both (d.tsn == (c.tsn + 1) % 2 ^ 32) (completes d ds) e in
+      let behind = stands-behind ws first sent few line (data_of c)
+      (data_of d) w s.0.0 after s.0.1 xs s.0.2 p s.0.3 (same-is d.tsn ((c.tsn + 1) % 2 ^ 32) b.0) in
+      let up = part-indexed on sent (fragment (data_of d) s.0.0 s.0.1 ∷ s.0.2) s.0.3 indexed in
+      let low = part-indexed on sent (fragment (data_of c) w after ∷ xs) p indexed in
+      let here = where-is (on d.stream_identifier) (IsIndexed (data_of d) s.0.2) o.0 up.0 in (
+        fails d.beginning_fragment (λ k.
+            let a = i.0 k in
+            let there = where-is (on c.stream_identifier) (IsIndexed (data_of c) xs) (ap on (sym a.2) ∙ o.0) low.0 in
+            apart (data_of c) (data_of d) w after xs s.0.2 behind k a.0 a.1 a.2 a.3 there here),
+        none-inside on indexed d ds s.0.0 s.0.1 s.0.2 s.0.3 b.1 s.1 i.1 o.1,
+      )
     where
-      by : (cs : List ChunkPayloadData) → m.fragments ≡ cs → is_complete cs ≡ true → is_one_message cs ≡ true → EachSent sent cs
-          → list_all (is_on m.stream) cs ≡ true → IsReadOf ws sent m
-      by [] is e o s on = absurd (not_both e)
-      by (c ∷ cs) is e o s on =
-          let b = both c.beginning_fragment (completes c cs) e in
-          let w = s.0.0 in
-          let after = s.0.1 in
-          let l = part-line ws first sent (fragment (data_of c) w after ∷ s.0.2) s.0.3 line in
-          let f = follows c cs w after s.0.2 s.0.3 b.1 s.1 (inner-of c cs o) in
-          record {
-            chunk = c;
-            others = cs;
-            fragments = is;
-            begins = b.0;
-            numbered = w;
-            after = after;
-            entries = s.0.2;
-            part = s.0.3;
-            written = l.0.written;
-            write = record {
-              stream = sym (same-is c.stream_identifier m.stream (both (is_on m.stream c) (list_all (is_on m.stream) cs) on).0) ∙ l.0.stream;
-              payload_type =
-                  subst (λ ds. All (λ x. x.payload_type ≡ w.payload_type) ds) (sym is) (all-of-every (λ x. x.payload_type ≡ w.payload_type) (c ∷ cs) f.1);
-              bytes = ap payload_of is ∙ ap (λ bs. c.user_data ++ bs) f.0 ∙ sym (l.0.begins b.0);
-            };
-          }
+      apart : (c d : Data) (w : Numbered) (after : List ℕ) (xs ys : List Entry) → ys ≡ fragment c w after ∷ xs → d.beginning_fragment ≡ true
+          → d.unordered ≡ false → c.unordered ≡ false → d.stream_identifier ≡ c.stream_identifier
+          → d.stream_sequence_number ≡ c.stream_sequence_number → IsIndexed c xs → IsIndexed d ys → ⊥
+      apart c d w after xs ys e k u v same number i j =
+          let x = i v in
+          let y = j u in
+          let st = c.stream_identifier in
+          let begins : begins_on d.stream_identifier d ≡ true =
+          begins-ordered d.stream_identifier d u ∙ ap (λ b. b && d.beginning_fragment) (same-yes d.stream_identifier) ∙ k in
+          let one-more = ap one begins in
+          let all : begun_on d.stream_identifier ys ≡ begun_on st (fragment c w after ∷ xs) = ap (begun_on d.stream_identifier) e
+          ∙ ap (λ s. begun_on s (fragment c w after ∷ xs)) same in
+          let first' = x.1 in
+          let second = y.1 in
+          let n = x.2 in
+          let m = y.2 in
+          omega (arith, one-more, all, first', second, n, m, number)
+
+  -- a chunk, and those that follow it up to the end, are the rest of the write; none of these begins a message
+  pub follows : AreIndexed sent → (c : ChunkPayloadData) (cs : List ChunkPayloadData) (w : Numbered) (after : List ℕ) (xs : List Entry)
+      → IsPart (fragment (data_of c) w after ∷ xs) sent → completes c cs ≡ true → EachSent sent cs → AreInner c cs
+      → (payload_of cs ≡ after) × EachTyped w (c ∷ cs) × Every (λ (d : ChunkPayloadData). d.beginning_fragment ≡ false) cs
+  follows indexed c cs w after xs p e s i =
+      let none = none-inside all_streams indexed c cs w after xs p e s i (every-all (λ d. true ≡ true) (λ d. refl) cs) in
+      let f = follows-in c cs w after xs p e s none in
+      (f.0, f.1, none)
+
+  -- a message of which no fragment but the first begins one
+  pub single-is : (m : Message) → is_complete m.fragments ≡ true → (c : ChunkPayloadData) (cs : List ChunkPayloadData) → m.fragments ≡ c ∷ cs
+      → EachSent sent (c ∷ cs) → Every (λ (d : ChunkPayloadData). d.beginning_fragment ≡ false) cs → list_all (is_on m.stream) (c ∷ cs) ≡ true
+      → IsReadOf ws sent m
+  single-is m complete c cs is s none on =
+      let b = both c.beginning_fragment (completes c cs) (ap is_complete (sym is) ∙ complete) in
+      let w = s.0.0 in
+      let after = s.0.1 in
+      let l = part-line ws first sent (fragment (data_of c) w after ∷ s.0.2) s.0.3 line in
+      let f = follows-in c cs w after s.0.2 s.0.3 b.1 s.1 none in
+      record {
+        chunk = c;
+        others = cs;
+        fragments = is;
+        begins = b.0;
+        numbered = w;
+        after = after;
+        entries = s.0.2;
+        part = s.0.3;
+        written = l.0.written;
+        write = record {
+          stream = sym (same-is c.stream_identifier m.stream (both (is_on m.stream c) (list_all (is_on m.stream) cs) on).0) ∙ l.0.stream;
+          payload_type =
+              subst (λ ds. All (λ x. x.payload_type ≡ w.payload_type) ds) (sym is) (all-of-every (λ x. x.payload_type ≡ w.payload_type) (c ∷ cs) f.1);
+          bytes = ap payload_of is ∙ ap (λ bs. c.user_data ++ bs) f.0 ∙ sym (l.0.begins b.0);
+        };
+      }
+
+  -- of a message on such a stream no fragment but the first begins one
+  pub single-on : (on : ℕ → Bool) → AreIndexedOn on sent → (m : Message) → is_complete m.fragments ≡ true → is_one_message m.fragments ≡ true
+      → EachSent sent m.fragments → list_all (is_on m.stream) m.fragments ≡ true → on m.stream ≡ true
+      → (c : ChunkPayloadData) (cs : List ChunkPayloadData) → m.fragments ≡ c ∷ cs → Every (λ (d : ChunkPayloadData). d.beginning_fragment ≡ false) cs
+  single-on on indexed m complete one s there o c cs is =
+      let s' : EachSent sent (c ∷ cs) = subst (EachSent sent) is s in
+      let b = both c.beginning_fragment (completes c cs) (ap is_complete (sym is) ∙ complete) in
+      let t = ap (list_all (is_on m.stream)) (sym is) ∙ there in
+      none-inside on indexed c cs s'.0.0 s'.0.1 s'.0.2 s'.0.3 b.1 s'.1 (inner-of c cs (ap is_one_message (sym is) ∙ one))
+      (on-each cs (both (is_on m.stream c) (list_all (is_on m.stream) cs) t).1)
+    where
+      on-each : (ds : List ChunkPayloadData) → list_all (is_on m.stream) ds ≡ true → Every (λ (d : ChunkPayloadData). on d.stream_identifier ≡ true) ds
+      on-each [] e = tt
+      on-each (d ∷ ds) e =
+          let b = both (is_on m.stream d) (list_all (is_on m.stream) ds) e in
+          (ap on (same-is d.stream_identifier m.stream b.0) ∙ o, on-each ds b.1)
+
+  pub message-is : AreIndexed sent → (m : Message) → is_complete m.fragments ≡ true → is_one_message m.fragments ≡ true → EachSent sent m.fragments
+      → list_all (is_on m.stream) m.fragments ≡ true → IsReadOf ws sent m
+  message-is indexed m complete one s on = by m.fragments refl
+    where
+      by : (cs : List ChunkPayloadData) → m.fragments ≡ cs → IsReadOf ws sent m
+      by [] is = absurd (not_both (sym (ap is_complete is) ∙ complete))
+      by (c ∷ cs) is =
+          single-is m complete c cs is (subst (EachSent sent) is s)
+          (single-on all_streams indexed m complete one s on refl c cs is) (ap (list_all (is_on m.stream)) (sym is) ∙ on)
 
 -- the next TSN is a number of 32 bits
 pub next-small : AfterEachFitSession (λ s. next_tsn s < 2 ^ 32)
@@ -313,7 +407,7 @@ read-from tsn s on whole made ns sent few h = record {
   placed = h.placed;
   each = λ k m lt.
       let it = slice_index_or s.receiving.read k m in
-      message-is ns tsn sent few h.held.stands.queued.line it (AllPass-from_list_all (λ x. is_complete x.fragments) s.receiving.read whole.0 k m lt)
+      message-is ns tsn sent few h.held.stands.queued.line h.held.stands.queued.indexed it (AllPass-from_list_all (λ x. is_complete x.fragments) s.receiving.read whole.0 k m lt)
       (AllPass-from_list_all (λ x. is_one_message x.fragments) s.receiving.read whole.1 k m lt)
       (each-sent sent s.made it.fragments h.made (made k m lt))
       (AllPass-from_list_all (λ x. list_all (is_on x.stream) x.fragments) s.receiving.read on k m lt);

@@ -11,6 +11,7 @@ use Rattle.std.specs.Prelude.{◌*◌, slice_get}
 use Rattle.sctp_sender.proofs.Amounts.{sent-bytes}
 use Rattle.sctp_delivery.specs.Ending.{CanEnd}
 use Rattle.sctp_delivery.proofs.Besides.{EachEnds, ends-here, sends-so}
+use Rattle.sctp_delivery.proofs.Cases.{all_streams}
 use Rattle.sctp_delivery.proofs.Delivered.{next_tsn}
 use Rattle.sctp_delivery.proofs.EndDelivers.{ends-delivered, few-given, ends-answered, ends-caught-up}
 use Rattle.sctp_delivery.proofs.EndSteps.{ends-read, RoomIn, few-spent, spent, At, Ends, Setting, at-next, kept-at, numbered-at, sender-before}
@@ -117,7 +118,7 @@ module _ (b : Setting) (n : ℕ) (s : Session) (i : At b n s) (none : length (in
   pub stands-started : IsSendable (all_started b.now q).pending (all_started b.now q).inflight.chunks (all_started b.now q).next_message_id
   stands-started =
       let k = kept-at b n s i in
-      (started k.numbered b.first (λ st. number_of st s.sending.sender.streams) b.now q next k.sent k.kept.holds.held.stands).sendable
+      (started all_streams k.numbered b.first (λ st. number_of st s.sending.sender.streams) b.now q next k.sent k.kept.holds.held.stands).sendable
 
   taken : IsMoved (all_started b.now q) (sent_next q next b.now)
   taken =

@@ -103,7 +103,7 @@ later-left ns first st x y (z ∷ zs) joined line lt from at same = elim (cases_
         inner h (terminal ∷ vs) g k i = absurd (not_both (sym h ∙ k))
         inner h (fragment c v rest ∷ vs) g k i =
             let p = k.1 h in
-            let q = (i.0 h).1 in
+            let q = (i h).1 in
             let sum : length rest ≡ length d.user_data + length after = ap length q ∙ length-append d.user_data after in
             let long : length zs ≡ length (fragment c v rest ∷ vs) = ap length g in
             let on' : ((c.stream_identifier == st) && not c.unordered) ≡ true = cc (p.2, p.1, on) in
@@ -220,7 +220,7 @@ module _ (first : ℕ) (ns : List Numbered) (sent : List Entry) (few : length se
           let up : c.tsn ≡ (z.tsn + 1) % 2 ^ 32 = omega (arith, e, f) in
           let behind = stands-behind ns first sent few line (data_of z) (data_of c) h.0.0 was.0 h.0.1 was.1 h.0.2 was.2 h.0.3 was.3 up in
           let on = (part-line ns first sent (fragment (data_of c) was.0 was.1 ∷ was.2) was.3 line).1.0 in
-          let g = (subst (GoesOn (data_of c) was.0 was.1) behind on).0 inner in
+          let g = subst (GoesOn (data_of c) was.0 was.1) behind on inner in
           (g.0, ap length g.1 ∙ length-append c.user_data was.1)
 
   -- up from a fragment that does not end its message: the neighbours are of what is left behind it
@@ -240,7 +240,7 @@ module _ (first : ℕ) (ns : List Numbered) (sent : List Entry) (few : length se
           let on = (part-line ns first sent (fragment (data_of z) h.0.0 h.0.1 ∷ h.0.2) h.0.3 line).1.0 in
           let j = subst (Joins (data_of z)) behind (part-joined sent (fragment (data_of z) h.0.0 h.0.1 ∷ h.0.2) h.0.3 joined).0 in
           let inner : z.beginning_fragment ≡ false = fails z.beginning_fragment (λ k. not_both (sym open' ∙ j.0 k)) in
-          let g = (subst (GoesOn (data_of z) h.0.0 h.0.1) behind on).0 inner in
+          let g = subst (GoesOn (data_of z) h.0.0 h.0.1) behind on inner in
           ap length g.1 ∙ length-append z.user_data h.0.1
 
   -- a fragment with its neighbours among unassembled ones is no longer than its write

@@ -154,10 +154,10 @@ pub sends-one : SenderFollows (sends 5) written in_flight
 sends-one = by-sender (sends 5) (after_send 5 waiting) written tt refl refl refl tt
 
 -- the receiver opens the stream too
-abbrev both_open : Session
+abbrev pub both_open : Session
 both_open = receiving (incoming.opens 1) (receiver.open_stream 1 start.receiving.receiver) in_flight
 
-opens-too : ReceiverFollows (incoming.opens 1) in_flight both_open
+pub opens-too : ReceiverFollows (incoming.opens 1) in_flight both_open
 opens-too = by-receiver (incoming.opens 1) both_open.receiving.receiver in_flight tt (refl, refl) tt
 
 -- the chunk as reading its packet leaves it
@@ -167,7 +167,7 @@ chunk = fresh (first_chunk (7 ∷ []))
 abbrev pub taken : Session
 taken = receiving (takes chunk (New true)) (after_chunk chunk (inbound.new_stream 1 65536) both_open.receiving.receiver) both_open
 
-takes-one : ReceiverFollows (takes chunk (New true)) both_open taken
+pub takes-one : ReceiverFollows (takes chunk (New true)) both_open taken
 unfolding at_or_before at_or_before16 comes_before comes_before16 distance distance16
 takes-one =
     by-receiver (takes chunk (New true)) taken.receiving.receiver both_open (0, omega arith, refl) (record {

@@ -1,25 +1,35 @@
 -- What is outstanding was sent: it is in the line of entries, with the same wire fields. And each chunk stands for the entry with its TSN.
-use Rattle.sctp_delivery.proofs.Names.{◌≡◌, ℕ, Bool, true, not, List, ◌∷◌, ◌++◌, take, drop, refl, ap, sym, ◌∙◌, arith, nat_tests, change_where, both, not_both}
+use Rattle.sctp_delivery.proofs.Names.{◌≡◌, ℕ, Bool, true, not, List, ◌∷◌, ◌++◌, take, drop, refl, ap, sym, subst, ◌∙◌, arith, change_where, both, not_both}
 use Rattle.sctp_delivery.proofs.Names.{ChunkPayloadData, data_of, as_abandoned, as_acknowledged, is_outstanding}
 use Rattle.sctp_delivery.proofs.Sent.{Entry, WasSent, sent-more}
-use Rattle.sctp_delivery.proofs.SpreadEntries.{IsPlaced, for-alike, ordered-alike, placed-more, step-alike}
+use Rattle.sctp_delivery.proofs.Cases.{all_streams, where-map}
+use Rattle.sctp_delivery.proofs.OrderedEntries.{begun_on}
+use Rattle.sctp_delivery.proofs.SpreadEntries.{IsPlacedOn, IsStep, for-alike, ordered-alike, placed-more, step-alike}
 use Rattle.sctp_delivery.proofs.Every.{Every, every-changed, every-joined, every-left, every-of, every-taken}
 
-abbrev pub IsKnown : ℕ → List Entry → ChunkPayloadData → Type 0
-IsKnown first sent c =
+-- with the number of its message on these streams
+abbrev pub IsKnownOn : (ℕ → Bool) → ℕ → List Entry → ChunkPayloadData → Type 0
+IsKnownOn on first sent c =
     (is_outstanding c ≡ true → WasSent sent (data_of c))
-    × IsPlaced first sent c
+    × IsPlacedOn on first sent c
+
+abbrev pub IsKnown : ℕ → List Entry → ChunkPayloadData → Type 0
+IsKnown first sent c = IsKnownOn all_streams first sent c
 
 -- each chunk is so
-abbrev pub AreKnown : ℕ → List Entry → List ChunkPayloadData → Type 0
-AreKnown first sent cs = Every (IsKnown first sent) cs
+abbrev pub AreKnownOn : (ℕ → Bool) → ℕ → List Entry → List ChunkPayloadData → Type 0
+AreKnownOn on first sent cs = Every (IsKnownOn on first sent) cs
 
-pub known-more : (first : ℕ) (x : Entry) (sent : List Entry) (cs : List ChunkPayloadData) → AreKnown first sent cs → AreKnown first (x ∷ sent) cs
-known-more first x sent cs k =
-    every-of (IsKnown first sent) (IsKnown first (x ∷ sent)) (λ c i. (λ o. sent-more x sent (data_of c) (i.0 o), placed-more first x sent c i.1)) cs k
+abbrev pub AreKnown : ℕ → List Entry → List ChunkPayloadData → Type 0
+AreKnown first sent cs = AreKnownOn all_streams first sent cs
+
+pub known-more : (on : ℕ → Bool) (first : ℕ) (x : Entry) (sent : List Entry) (cs : List ChunkPayloadData) → AreKnownOn on first sent cs
+    → AreKnownOn on first (x ∷ sent) cs
+known-more on first x sent cs k =
+    every-of (IsKnownOn on first sent) (IsKnownOn on first (x ∷ sent))
+    (λ c i. (λ o. sent-more x sent (data_of c) (i.0 o), placed-more on first x sent c i.1)) cs k
 
 -- of the same kind, stream, number, TSN and message, and it ends this where the other does
--- of the same kind, stream, number and TSN, and ending a message alike
 pub record IsAlike (c d : ChunkPayloadData) : Type 0 where
   pub kind : d.unordered ≡ c.unordered
   pub stream : d.stream_identifier ≡ c.stream_identifier
@@ -29,8 +39,19 @@ pub record IsAlike (c d : ChunkPayloadData) : Type 0 where
   pub ends : d.ending_fragment ≡ c.ending_fragment
 
 -- so it stands where the other did
-pub placed-alike : (first : ℕ) (sent : List Entry) (c d : ChunkPayloadData) → IsAlike c d → IsPlaced first sent c → IsPlaced first sent d
-placed-alike first sent c d a i = grind (arith, nat_tests, for-alike, ordered-alike, step-alike)
+pub placed-alike : (on : ℕ → Bool) (first : ℕ) (sent : List Entry) (c d : ChunkPayloadData) → IsAlike c d → IsPlacedOn on first sent c
+    → IsPlacedOn on first sent d
+placed-alike on first sent c d a i = record {
+  entry = i.entry;
+  entries = i.entries;
+  part = i.part;
+  number = a.tsn ∙ i.number;
+  step = λ st. where-map (on st) (IsStep st (begun_on st i.entries) (begun_on st (i.entry ∷ i.entries)) c)
+      (IsStep st (begun_on st i.entries) (begun_on st (i.entry ∷ i.entries)) d)
+      (step-alike st (begun_on st i.entries) (begun_on st (i.entry ∷ i.entries)) c d a.stream a.kind a.number) (i.step st);
+  on = λ st. ordered-alike st c d a.stream a.kind ∙ i.on st;
+  for' = for-alike c d i.entry a.message a.ends i.for';
+}
 
 -- a change after which a chunk is outstanding only where it was, with the same wire fields, and is always alike
 abbrev pub KeepsData : (ChunkPayloadData → ChunkPayloadData) → Type 0
@@ -48,15 +69,20 @@ pub abandoned-keeps : KeepsData as_abandoned
 abandoned-keeps c =
     (λ o. absurd (abandoned-not (as_abandoned c) refl o), record { kind = refl; stream = refl; number = refl; tsn = refl; message = refl; ends = refl })
 
-known-alike : (first : ℕ) (sent : List Entry) (f : ChunkPayloadData → ChunkPayloadData) → KeepsData f → (c : ChunkPayloadData) → IsKnown first sent c
-    → IsKnown first sent (f c)
-known-alike first sent f keeps c k = grind (arith, nat_tests, placed-alike)
+known-alike : (on : ℕ → Bool) (first : ℕ) (sent : List Entry) (f : ChunkPayloadData → ChunkPayloadData) → KeepsData f → (c : ChunkPayloadData)
+    → IsKnownOn on first sent c → IsKnownOn on first sent (f c)
+known-alike on first sent f keeps c k = (
+  λ o. let a = (keeps c).0 o in subst (WasSent sent) (sym a.1) (k.0 a.0),
+  placed-alike on first sent c (f c) (keeps c).1 k.1,
+)
 
-pub known-changed : (first : ℕ) (sent : List Entry) (p : ChunkPayloadData → Bool) (f : ChunkPayloadData → ChunkPayloadData) → KeepsData f
-    → (cs : List ChunkPayloadData) → AreKnown first sent cs → AreKnown first sent (change_where p f cs)
-known-changed first sent p f keeps cs k = every-changed (IsKnown first sent) p f (λ c _ i. known-alike first sent f keeps c i) cs k
+pub known-changed : (on : ℕ → Bool) (first : ℕ) (sent : List Entry) (p : ChunkPayloadData → Bool) (f : ChunkPayloadData → ChunkPayloadData) → KeepsData f
+    → (cs : List ChunkPayloadData) → AreKnownOn on first sent cs → AreKnownOn on first sent (change_where p f cs)
+known-changed on first sent p f keeps cs k = every-changed (IsKnownOn on first sent) p f (λ c _ i. known-alike on first sent f keeps c i) cs k
 
 -- only the first so many are changed
-pub known-part-changed : (first : ℕ) (sent : List Entry) (p : ChunkPayloadData → Bool) (f : ChunkPayloadData → ChunkPayloadData) → KeepsData f
-    → (i : ℕ) (cs : List ChunkPayloadData) → AreKnown first sent cs → AreKnown first sent (change_where p f (take i cs) ++ drop i cs)
-known-part-changed first sent p f keeps i cs k = grind (arith, nat_tests, every-joined, every-left, every-taken, known-changed)
+pub known-part-changed : (on : ℕ → Bool) (first : ℕ) (sent : List Entry) (p : ChunkPayloadData → Bool) (f : ChunkPayloadData → ChunkPayloadData) → KeepsData f
+    → (i : ℕ) (cs : List ChunkPayloadData) → AreKnownOn on first sent cs → AreKnownOn on first sent (change_where p f (take i cs) ++ drop i cs)
+known-part-changed on first sent p f keeps i cs k =
+    every-joined (IsKnownOn on first sent) (change_where p f (take i cs)) (drop i cs)
+    (known-changed on first sent p f keeps (take i cs) (every-taken (IsKnownOn on first sent) i cs k)) (every-left (IsKnownOn on first sent) i cs k)

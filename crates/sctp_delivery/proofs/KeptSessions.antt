@@ -35,7 +35,7 @@ use Rattle.sctp_delivery.proofs.OneRead.{run-then}
 use Rattle.sctp_delivery.proofs.UnwrappedHolds.{IsWholeAt}
 use Rattle.sctp_delivery.proofs.Unassembled.{tidy-more}
 use Rattle.sctp_delivery.proofs.MessagePlaces.{IsEntryAt, IsWanted, begins-more, is_of_stream, ordered-alike, prior-of}
-use Rattle.sctp_delivery.proofs.OrderedEntries.{AreJoined}
+use Rattle.sctp_delivery.proofs.OrderedEntries.{AreIndexed, AreJoined}
 use Rattle.sctp_delivery.proofs.Queues.{IsOnceMore}
 use Rattle.sctp_delivery.proofs.SpreadEntries.{begun_to, is_at, to-all, to-up}
 use Rattle.sctp_delivery.proofs.TakenTsns.{come}
@@ -75,6 +75,7 @@ module _ (ws : List Numbered) (first : ℕ) (sent : List Entry) (few : length se
       → IsPart (fragment e v rest ∷ ys) sent → d.tsn ≡ e.tsn → w ≡ v
   same-write d e w v after rest xs ys p q same = grind (arith, nat_tests, common_steps, part-line, part-length, same-parts)
 
+module _ (ws : List Numbered) (first : ℕ) (sent : List Entry) (few : length sent < 2 ^ 32) (line : IsLine ws first sent) (indexed : AreIndexed sent) where
   -- the message of which a first fragment has the TSN is of its write
   module _ (d : Data) (w : Numbered) (after : List ℕ) (xs : List Entry) (p : IsPart (fragment d w after ∷ xs) sent)
       (begins : d.beginning_fragment ≡ true) where
@@ -94,11 +95,11 @@ module _ (ws : List Numbered) (first : ℕ) (sent : List Entry) (few : length se
         let cs = x.others in
         let all : is_complete (c ∷ cs) ≡ true = subst (λ ys. is_complete ys ≡ true) x.fragments complete in
         let s' : EachSent sent (c ∷ cs) = subst (EachSent sent) x.fragments s in
-        let f = follows ws first sent few line c cs x.numbered x.after x.entries x.part (both c.beginning_fragment (completes c cs) all).1 s'.1
+        let f = follows ws first sent few line indexed c cs x.numbered x.after x.entries x.part (both c.beginning_fragment (completes c cs) all).1 s'.1
         (inner-of c cs (subst (λ ys. is_one_message ys ≡ true) x.fragments alike)) in
         let there : (has_tsn d.tsn c || list_any (has_tsn d.tsn) cs) ≡ true = subst (λ ys. list_any (has_tsn d.tsn) ys ≡ true) x.fragments e in
         elim (or-split (has_tsn d.tsn c) (list_any (has_tsn d.tsn) cs) there) [
-          | inl h ↦ same-write (data_of c) d x.numbered w x.after after x.entries xs x.part p (same-is c.tsn d.tsn h)
+          | inl h ↦ same-write ws first sent few line (data_of c) d x.numbered w x.after after x.entries xs x.part p (same-is c.tsn d.tsn h)
           | inr h ↦ absurd (not_both (sym (not-inner cs s'.1 f.2) ∙ h))
         ]
 
@@ -240,7 +241,7 @@ module _ (first size max most : ℕ) (limits : Option Limits) (cs : List Call) (
       reads : EachRead ns sent once s.receiving.read
       reads = each-read ns sent once s.receiving.read (λ k m lt.
           let w = whole k m lt in
-          message-is ns first sent (omega (arith, short)) line (slice_index_or s.receiving.read k m) w.0 w.1 w.2
+          message-is ns first sent (omega (arith, short)) line i.holds.held.stands.queued.indexed (slice_index_or s.receiving.read k m) w.0 w.1 w.2
           (AllPass-from_list_all (λ x. list_all (is_on x.stream) x.fragments) s.receiving.read (made_in.read-on first size max most limits cs s run) k m lt))
 
       came : AreTakenOrGone gone s sent
@@ -274,7 +275,7 @@ module _ (first size max most : ℕ) (limits : Option Limits) (cs : List Call) (
             | inr e ↦ absurd (not_both (sym off' ∙ e))
           ] in
           let on = all b.0 b.1 b.2 b.3 b.4 off' t in
-          found ns first sent (omega (arith, short)) line b.0 b.1 b.2 b.3 b.4 b.5 once k
+          found ns first sent (omega (arith, short)) line i.holds.held.stands.queued.indexed b.0 b.1 b.2 b.3 b.4 b.5 once k
           (λ v c same.
           let p' : v.place ≡ w.place = ap (λ (x : Numbered). x.place) same ∙ b.6 in
           omega (arith, place-at ns c.0 v i.holds.placed c.1 c.2, p', at)) on.0 s.receiving.read reads whole on.1

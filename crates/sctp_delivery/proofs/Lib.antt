@@ -39,6 +39,10 @@ pub mod SackLaws
 pub mod ReadOnce
 pub mod OnceWritten
 pub mod Dropped
+pub mod EveryRuns
+pub mod EveryShadows
+pub mod EveryMessages
+pub mod EveryExamples
 pub mod DiscardRuns
 pub mod DiscardExamples
 pub mod OrderedMessages

@@ -145,7 +145,7 @@ module _ (ws : List Numbered) (first : ℕ) (sent : List Entry) (line : IsLine w
       by [] p at j g = absurd (not_both (sym b ∙ j))
       by (terminal ∷ zs) p at j g = absurd (not_both (sym b ∙ j))
       by (fragment e v rest ∷ zs) p at j g =
-          let same = (g.0 b).0 in (
+          let same = (g b).0 in (
             suc (length zs),
             at,
             e,
@@ -169,7 +169,7 @@ module _ (ws : List Numbered) (first : ℕ) (sent : List Entry) (line : IsLine w
           (λ h. absurd (not_both (sym open' ∙ j.0 h)))
           (λ h. (
             e,
-            subst (λ u. IsEntryAt sent (suc y) e u) (g.0 h).0
+            subst (λ u. IsEntryAt sent (suc y) e u) (g h).0
                 (record { after = rest; entries = fragment d w i.after ∷ i.entries; part = p; place = ap suc i.place }),
             h,
             j.1 h,

@@ -2,7 +2,7 @@
 use Rattle.sctp_delivery.proofs.Names.{◌≡◌, ℕ, ◌+◌, ◌%◌, ◌^◌, ◌<◌, ◌≤◌, Bool, true, false, not, List, [], ◌∷◌, ◌++◌, length, map, Option, Some, None, inl, inr}
 use Rattle.sctp_delivery.proofs.Names.{refl, ap, sym, subst, ◌∙◌, arith, ⊤, ◌==◌, ◌&&◌, if◌then◌else◌, filter, nat_tests, common_steps, change_where, and-none}
 use Rattle.sctp_delivery.proofs.Names.{and-true, not_both, ChunkPayloadData, Data, Selected, with_message_id, IsMessage}
-use Rattle.sctp_delivery.proofs.Cases.{at-if}
+use Rattle.sctp_delivery.proofs.Cases.{Where, all_streams, at-if}
 use Rattle.sctp_delivery.proofs.Sent.{Entry, IsPart, Numbered, fragment, terminal}
 use Rattle.sctp_delivery.proofs.Turns.{counts, inner-not}
 
@@ -42,16 +42,20 @@ IsIndexed d xs =
     d.unordered ≡ false → (k : ℕ) × (k + 1 ≡ one (begins_on d.stream_identifier d) + begun_on d.stream_identifier xs) ×
     (d.stream_sequence_number ≡ k % 2 ^ 16)
 
-abbrev pub AreIndexed : List Entry → Type 0
-AreIndexed [] = ⊤
-AreIndexed (terminal ∷ xs) = AreIndexed xs
-AreIndexed (fragment d w after ∷ xs) = IsIndexed d xs × AreIndexed xs
+-- so it is of each chunk on these streams
+abbrev pub AreIndexedOn : (ℕ → Bool) → List Entry → Type 0
+AreIndexedOn on [] = ⊤
+AreIndexedOn on (terminal ∷ xs) = AreIndexedOn on xs
+AreIndexedOn on (fragment d w after ∷ xs) = Where (on d.stream_identifier) (IsIndexed d xs) × AreIndexedOn on xs
 
-pub part-indexed : (xs ys : List Entry) → IsPart ys xs → AreIndexed xs → AreIndexed ys
-part-indexed [] ys p i = subst AreIndexed (sym p) i
-part-indexed (x ∷ xs) ys (inl e) i = subst AreIndexed (sym e) i
-part-indexed (terminal ∷ xs) ys (inr p) i = part-indexed xs ys p i
-part-indexed (fragment d w after ∷ xs) ys (inr p) i = part-indexed xs ys p i.1
+abbrev pub AreIndexed : List Entry → Type 0
+AreIndexed xs = AreIndexedOn all_streams xs
+
+pub part-indexed : (on : ℕ → Bool) (xs ys : List Entry) → IsPart ys xs → AreIndexedOn on xs → AreIndexedOn on ys
+part-indexed on [] ys p i = subst (AreIndexedOn on) (sym p) i
+part-indexed on (x ∷ xs) ys (inl e) i = subst (AreIndexedOn on) (sym e) i
+part-indexed on (terminal ∷ xs) ys (inr p) i = part-indexed on xs ys p i
+part-indexed on (fragment d w after ∷ xs) ys (inr p) i = part-indexed on xs ys p i.1
 
 pub begins-ordered : (s : ℕ) (d : Data) → d.unordered ≡ false → begins_on s d ≡ ((d.stream_identifier == s) && d.beginning_fragment)
 begins-ordered s d k =

@@ -4,19 +4,19 @@ use Rattle.sctp_delivery.proofs.Names.{◌&&◌, ◌||◌, if◌then◌else◌, 
 use Rattle.sctp_delivery.proofs.Names.{fails, not_both, both, ChunkPayloadData, Selected, is_of, Pending, last_of, last_removed, IsSendable, IsWhole, begun}
 use Rattle.sctp_delivery.proofs.Names.{free, partial_of, partially_sent, stage_of, none_before, ChunkForwardTsnStream, Name, ahead, is_named, is_pair_of}
 use Rattle.sctp_delivery.proofs.Names.{named_up_to, pairs_of, Flight, is_on}
-use Rattle.sctp_delivery.proofs.Cases.{at-test}
+use Rattle.sctp_delivery.proofs.Cases.{Where, at-test, where-map}
 use Rattle.sctp_delivery.proofs.Every.{Every, every-joined, every-of, every-passing, every-taken, every-all, every-both, every-tested}
-use Rattle.sctp_delivery.proofs.OrderedEntries.{AreIndexed, IsLatest, begun_on, ends_on, latest-here, IsNumberOf, number-more}
-use Rattle.sctp_delivery.proofs.Sending.{Queued}
+use Rattle.sctp_delivery.proofs.OrderedEntries.{AreIndexedOn, IsIndexed, IsLatest, begun_on, ends_on, latest-here, IsNumberOf, number-more}
+use Rattle.sctp_delivery.proofs.Sending.{QueuedOn}
 use Rattle.sctp_delivery.proofs.Sent.{Entry, IsLine, Numbered, fragment, terminal}
 use Rattle.sctp_delivery.proofs.Waiting.{Waits, between, inside, place_of, within}
-use Rattle.sctp_delivery.proofs.InFlight.{AreKnown, IsKnown}
+use Rattle.sctp_delivery.proofs.InFlight.{AreKnownOn, IsKnownOn}
 use Rattle.sctp_delivery.proofs.SpreadEntries.{number-of}
 
 -- it goes on with the last entry: on the streams that this is of, with the number of the last message that was begun, if it is ordered
-abbrev pub IsRest : List Entry → ChunkPayloadData → Type 0
-IsRest sent c =
-    (c.unordered ≡ false → IsLatest (begun_on c.stream_identifier sent) c.stream_sequence_number)
+abbrev pub IsRest : (ℕ → Bool) → List Entry → ChunkPayloadData → Type 0
+IsRest on sent c =
+    Where (on c.stream_identifier) (c.unordered ≡ false → IsLatest (begun_on c.stream_identifier sent) c.stream_sequence_number)
     × ((st : ℕ) → ((c.stream_identifier == st) && not c.unordered) ≡ ends_on st sent)
 
 last-is : (P : ChunkPayloadData → Type 0) (xs : List ChunkPayloadData) (c : ChunkPayloadData) → last_of xs ≡ Some c → Every P xs → P c
@@ -30,50 +30,55 @@ none-pass P p (x ∷ xs) e = at-test (λ b. (b || list_any p xs) ≡ false → E
     (λ e h. absurd (not_both (sym h)))
     (λ e h. (none-pass P p xs) h) e
 
-module _ (ws : List Numbered) (kind : Bool) (n m : ℕ) (sent : List Entry) where
+module _ (on : ℕ → Bool) (ws : List Numbered) (kind : Bool) (n m : ℕ) (sent : List Entry) where
   rest-alike : (ssn : ℕ) (like : Bool) (v : Numbered) (left : List ℕ) (cs : List ChunkPayloadData)
-      → (like ≡ false → IsLatest (begun_on v.stream sent) ssn) → ((st : ℕ) → ((v.stream == st) && not like) ≡ ends_on st sent)
-      → IsWhole kind n (begun m) cs → Waits ws cs (within m ssn like v left) → Every (IsRest sent) (filter (is_of m) cs)
-  rest-alike ssn like v left [] num on w h = absurd w
-  rest-alike ssn like v left (c ∷ cs) num on w h =
+      → Where (on v.stream) (like ≡ false → IsLatest (begun_on v.stream sent) ssn) → ((st : ℕ) → ((v.stream == st) && not like) ≡ ends_on st sent)
+      → IsWhole kind n (begun m) cs → Waits ws cs (within m ssn like v left) → Every (IsRest on sent) (filter (is_of m) cs)
+  rest-alike ssn like v left [] num there w h = absurd w
+  rest-alike ssn like v left (c ∷ cs) num there w h =
       let is : (c.message_id == m) ≡ true = subst (λ j. (j == m) ≡ true) (sym w.0.1) (same-yes m) in
-      subst (λ b. Every (IsRest sent) (if b then c ∷ filter (is_of m) cs else filter (is_of m) cs)) (sym is) (
+      subst (λ b. Every (IsRest on sent) (if b then c ∷ filter (is_of m) cs else filter (is_of m) cs)) (sym is) (
         (
-          λ u. subst (λ s. IsLatest (begun_on s sent) c.stream_sequence_number) (sym h.2.0.stream) (own u),
+          subst (λ s. Where (on s) (c.unordered ≡ false → IsLatest (begun_on s sent) c.stream_sequence_number)) (sym h.2.0.stream) own,
           λ st. ap (λ s. (s == st) && not c.unordered) h.2.0.stream ∙ same st,
         ),
         at-test (λ b. IsWhole kind n (if b then free (c.message_id + 1) else begun c.message_id) cs → Waits ws cs
-            (if b then between else within c.message_id c.stream_sequence_number c.unordered h.0 h.1) → Every (IsRest sent) (filter (is_of m) cs))
+            (if b then between else within c.message_id c.stream_sequence_number c.unordered h.0 h.1) → Every (IsRest on sent) (filter (is_of m) cs))
             c.ending_fragment
-            (λ f x k. none-pass (IsRest sent) (is_of m) cs (none_before kind n m (free (c.message_id + 1)) cs (omega arith) x))
+            (λ f x k. none-pass (IsRest on sent) (is_of m) cs (none_before kind n m (free (c.message_id + 1)) cs (omega arith) x))
             (λ e x k. (rest-alike c.stream_sequence_number c.unordered h.0 h.1 cs own same) (subst (λ j. IsWhole kind n (begun j) cs) w.0.1 x)
             (subst (λ j. Waits ws cs (within j c.stream_sequence_number c.unordered h.0 h.1)) w.0.1 k)) w.3 h.2.1.1,
       )
     where
-      own : c.unordered ≡ false → IsLatest (begun_on h.0.stream sent) c.stream_sequence_number
-      own u =
+      own : Where (on h.0.stream) (c.unordered ≡ false → IsLatest (begun_on h.0.stream sent) c.stream_sequence_number)
+      own =
           let g = h.2.1.0 in
-          subst (λ (x : Numbered). IsLatest (begun_on x.stream sent) c.stream_sequence_number) (sym g.write)
-          (subst (IsLatest (begun_on v.stream sent)) (sym g.same_number) (num (sym g.same_kind ∙ u)))
+          subst (λ (x : Numbered). Where (on x.stream) (c.unordered ≡ false → IsLatest (begun_on x.stream sent) c.stream_sequence_number)) (sym g.write)
+          (where-map (on v.stream) (like ≡ false → IsLatest (begun_on v.stream sent) ssn)
+          (c.unordered ≡ false → IsLatest (begun_on v.stream sent) c.stream_sequence_number)
+          (λ k u. subst (IsLatest (begun_on v.stream sent)) (sym g.same_number) (k (sym g.same_kind ∙ u))) num)
 
       same : (st : ℕ) → ((h.0.stream == st) && not c.unordered) ≡ ends_on st sent
       same st = grind (arith, nat_tests, common_steps, h.2.1.0)
 
-rest-from : (ws : List Numbered) (kind : Bool) (first n m : ℕ) (sent : List Entry) (cs : List ChunkPayloadData) → AreIndexed sent → IsLine ws first sent
-    → IsWhole kind n (begun m) cs → Waits ws cs (inside m sent) → Every (IsRest sent) (filter (is_of m) cs)
-rest-from ws kind first n m sent [] i l w h = absurd w
-rest-from ws kind first n m [] (c ∷ cs) i l w h = absurd h.2.1.0
-rest-from ws kind first n m (terminal ∷ xs) (c ∷ cs) i l w h = absurd h.2.1.0
-rest-from ws kind first n m (fragment e v rest ∷ xs) (c ∷ cs) i l w h =
-    rest-alike ws kind n m (fragment e v rest ∷ xs) e.stream_sequence_number e.unordered v rest (c ∷ cs)
-    (λ k. subst (λ s. IsLatest (begun_on s (fragment e v rest ∷ xs)) e.stream_sequence_number) l.0.stream (latest-here e v rest xs k i.0))
+rest-from : (on : ℕ → Bool) (ws : List Numbered) (kind : Bool) (first n m : ℕ) (sent : List Entry) (cs : List ChunkPayloadData) → AreIndexedOn on sent
+    → IsLine ws first sent → IsWhole kind n (begun m) cs → Waits ws cs (inside m sent) → Every (IsRest on sent) (filter (is_of m) cs)
+rest-from on ws kind first n m sent [] i l w h = absurd w
+rest-from on ws kind first n m [] (c ∷ cs) i l w h = absurd h.2.1.0
+rest-from on ws kind first n m (terminal ∷ xs) (c ∷ cs) i l w h = absurd h.2.1.0
+rest-from on ws kind first n m (fragment e v rest ∷ xs) (c ∷ cs) i l w h =
+    rest-alike on ws kind n m (fragment e v rest ∷ xs) e.stream_sequence_number e.unordered v rest (c ∷ cs)
+    (subst (λ s. Where (on s) (e.unordered ≡ false → IsLatest (begun_on s (fragment e v rest ∷ xs)) e.stream_sequence_number)) l.0.stream
+    (where-map (on e.stream_identifier) (IsIndexed e xs)
+    (e.unordered ≡ false → IsLatest (begun_on e.stream_identifier (fragment e v rest ∷ xs)) e.stream_sequence_number)
+    (λ j k. latest-here e v rest xs k j) i.0))
     (λ st. ap (λ s. (s == st) && not e.unordered) (sym l.0.stream)) w h
 
-pub last-rest : (ws : List Numbered) (first : ℕ) (number : ℕ → ℕ) (sent : List Entry) (m : ℕ) (c : ChunkPayloadData) (p : Pending)
-    (xs : List ChunkPayloadData) (n : ℕ) → IsSendable p xs n → partially_sent p ≡ Some m → last_removed m p ≡ Some c → Queued ws first number p sent
-    → IsRest sent c
-last-rest ws first number sent m c p xs n s partial last q =
-    last-is (IsRest sent) (filter (is_of m) p.ordered ++ filter (is_of m) p.unordered) c last
+pub last-rest : (on : ℕ → Bool) (ws : List Numbered) (first : ℕ) (number : ℕ → ℕ) (sent : List Entry) (m : ℕ) (c : ChunkPayloadData) (p : Pending)
+    (xs : List ChunkPayloadData) (n : ℕ) → IsSendable p xs n → partially_sent p ≡ Some m → last_removed m p ≡ Some c → QueuedOn on ws first number p sent
+    → IsRest on sent c
+last-rest on ws first number sent m c p xs n s partial last q =
+    last-is (IsRest on sent) (filter (is_of m) p.ordered ++ filter (is_of m) p.unordered) c last
     (by p.selected partial s.ordered s.unordered q.ordered q.unordered)
   where
     there : (kind : Bool) (cs : List ChunkPayloadData) → IsWhole kind n (begun m) cs → list_any (is_of m) cs ≡ true
@@ -82,20 +87,20 @@ last-rest ws first number sent m c p xs n s partial last q =
 
     kinds : (b : Bool) → IsWhole false n (if b then free 0 else begun m) p.ordered → IsWhole true n (if b then begun m else free 0) p.unordered
         → Waits ws p.ordered (if b then between else inside m sent) → Waits ws p.unordered (if b then inside m sent else between)
-        → Every (IsRest sent) (filter (is_of m) p.ordered ++ filter (is_of m) p.unordered)
+        → Every (IsRest on sent) (filter (is_of m) p.ordered ++ filter (is_of m) p.unordered)
     kinds true v w h g =
-        every-joined (IsRest sent) (filter (is_of m) p.ordered) (filter (is_of m) p.unordered)
-        (none-pass (IsRest sent) (is_of m) p.ordered
+        every-joined (IsRest on sent) (filter (is_of m) p.ordered) (filter (is_of m) p.unordered)
+        (none-pass (IsRest on sent) (is_of m) p.ordered
         (fails (list_any (is_of m) p.ordered) (λ e. not_both (sym (s.apart m e) ∙ there true p.unordered w))))
-        (rest-from ws true first n m sent p.unordered q.indexed q.line w g)
+        (rest-from on ws true first n m sent p.unordered q.indexed q.line w g)
     kinds false v w h g =
-        every-joined (IsRest sent) (filter (is_of m) p.ordered) (filter (is_of m) p.unordered)
-        (rest-from ws false first n m sent p.ordered q.indexed q.line v h)
-        (none-pass (IsRest sent) (is_of m) p.unordered (s.apart m (there false p.ordered v)))
+        every-joined (IsRest on sent) (filter (is_of m) p.ordered) (filter (is_of m) p.unordered)
+        (rest-from on ws false first n m sent p.ordered q.indexed q.line v h)
+        (none-pass (IsRest on sent) (is_of m) p.unordered (s.apart m (there false p.ordered v)))
 
     by : (sel : Option Selected) → partial_of sel ≡ Some m → IsWhole false n (stage_of false sel) p.ordered
         → IsWhole true n (stage_of true sel) p.unordered → Waits ws p.ordered (place_of false sel sent) → Waits ws p.unordered (place_of true sel sent)
-        → Every (IsRest sent) (filter (is_of m) p.ordered ++ filter (is_of m) p.unordered)
+        → Every (IsRest on sent) (filter (is_of m) p.ordered ++ filter (is_of m) p.unordered)
     by None e v w h g = absurd (none-some m e)
     by (Some t) e v w h g =
         let same = some-same e in
@@ -106,49 +111,54 @@ last-rest ws first number sent m c p xs n s partial last q =
 
 -- # Each name of a FORWARD-TSN has the number of a message that was begun
 
-abbrev pub IsNamed : List Entry → ChunkForwardTsnStream → Type 0
-IsNamed sent n = IsNumberOf sent n.identifier n.sequence
+abbrev pub IsNamed : (ℕ → Bool) → List Entry → ChunkForwardTsnStream → Type 0
+IsNamed on sent n = Where (on n.identifier) (IsNumberOf sent n.identifier n.sequence)
 
-abbrev pub AreNamed : List Entry → List ChunkForwardTsnStream → Type 0
-AreNamed sent ns = Every (IsNamed sent) ns
+abbrev pub AreNamed : (ℕ → Bool) → List Entry → List ChunkForwardTsnStream → Type 0
+AreNamed on sent ns = Every (IsNamed on sent) ns
 
-pub named-more : (x : Entry) (sent : List Entry) (ns : List ChunkForwardTsnStream) → AreNamed sent ns → AreNamed (x ∷ sent) ns
-named-more x sent ns h = every-of (IsNamed sent) (IsNamed (x ∷ sent)) (λ n k. number-more x sent n.identifier n.sequence k) ns h
+pub named-more : (on : ℕ → Bool) (x : Entry) (sent : List Entry) (ns : List ChunkForwardTsnStream) → AreNamed on sent ns → AreNamed on (x ∷ sent) ns
+named-more on x sent ns h =
+    every-of (IsNamed on sent) (IsNamed on (x ∷ sent))
+    (λ n k. where-map (on n.identifier) (IsNumberOf sent n.identifier n.sequence) (IsNumberOf (x ∷ sent) n.identifier n.sequence)
+    (number-more x sent n.identifier n.sequence) k) ns h
+
+-- the chunk has the number of a message that was begun
+abbrev HasNumber : (ℕ → Bool) → List Entry → ChunkPayloadData → Type 0
+HasNumber on sent c = Where (on c.stream_identifier) (IsNumberOf sent c.stream_identifier c.stream_sequence_number)
 
 -- the pair of the last of these
-last-named : (sent : List Entry) (cs : List ChunkPayloadData) → Every (λ c. IsNumberOf sent c.stream_identifier c.stream_sequence_number) cs
-    → AreNamed sent (pairs_of (last_of cs))
-last-named sent [] h = tt
-last-named sent (c ∷ []) h = (h.0, tt)
-last-named sent (c ∷ d ∷ ds) h = last-named sent (d ∷ ds) h.1
+last-named : (on : ℕ → Bool) (sent : List Entry) (cs : List ChunkPayloadData) → Every (HasNumber on sent) cs → AreNamed on sent (pairs_of (last_of cs))
+last-named on sent [] h = tt
+last-named on sent (c ∷ []) h = (h.0, tt)
+last-named on sent (c ∷ d ∷ ds) h = last-named on sent (d ∷ ds) h.1
 
 -- each pair is one of those of its stream
-own-pairs : (sent : List Entry) (ns : List ChunkForwardTsnStream) → ((s : ℕ) → AreNamed sent (filter (is_pair_of s) ns)) → AreNamed sent ns
-own-pairs sent [] h = tt
-own-pairs sent (n ∷ ns) h = (here, own-pairs sent ns later)
+own-pairs : (on : ℕ → Bool) (sent : List Entry) (ns : List ChunkForwardTsnStream) → ((s : ℕ) → AreNamed on sent (filter (is_pair_of s) ns)) → AreNamed on sent ns
+own-pairs on sent [] h = tt
+own-pairs on sent (n ∷ ns) h = (here, own-pairs on sent ns later)
   where
-    here : IsNamed sent n
-    here = (subst (λ b. AreNamed sent (if b then n ∷ filter (is_pair_of n.identifier) ns else filter (is_pair_of n.identifier) ns))
+    here : IsNamed on sent n
+    here = (subst (λ b. AreNamed on sent (if b then n ∷ filter (is_pair_of n.identifier) ns else filter (is_pair_of n.identifier) ns))
         (same-yes n.identifier) (h n.identifier)).0
 
-    later : (s : ℕ) → AreNamed sent (filter (is_pair_of s) ns)
-    later s = at-test (λ b. AreNamed sent (if b then n ∷ filter (is_pair_of s) ns else filter (is_pair_of s) ns) → AreNamed sent
+    later : (s : ℕ) → AreNamed on sent (filter (is_pair_of s) ns)
+    later s = at-test (λ b. AreNamed on sent (if b then n ∷ filter (is_pair_of s) ns else filter (is_pair_of s) ns) → AreNamed on sent
         (filter (is_pair_of s) ns)) (is_pair_of s n)
         (λ e k. k.1)
         (λ e k. k) (h s)
 
-pub names-known : (first : ℕ) (sent : List Entry) (ns : List ChunkForwardTsnStream) (tsn : ℕ) (f : Flight) → AreKnown first sent f.queue.inflight.chunks
-    → Name ns (named_up_to tsn f) → AreNamed sent ns
-names-known first sent ns tsn f known name =
-    own-pairs sent ns (λ s. subst (AreNamed sent) (sym (name s))
-    (last-named sent (filter (is_on s) (named_up_to tsn f))
-    (every-passing (λ c. IsNumberOf sent c.stream_identifier c.stream_sequence_number) (is_on s) (named_up_to tsn f) numbered)))
+pub names-known : (on : ℕ → Bool) (first : ℕ) (sent : List Entry) (ns : List ChunkForwardTsnStream) (tsn : ℕ) (f : Flight) → AreKnownOn on first sent f.queue.inflight.chunks
+    → Name ns (named_up_to tsn f) → AreNamed on sent ns
+names-known on first sent ns tsn f known name =
+    own-pairs on sent ns (λ s. subst (AreNamed on sent) (sym (name s))
+    (last-named on sent (filter (is_on s) (named_up_to tsn f)) (every-passing (HasNumber on sent) (is_on s) (named_up_to tsn f) numbered)))
   where
-    numbered : Every (λ c. IsNumberOf sent c.stream_identifier c.stream_sequence_number) (named_up_to tsn f)
+    numbered : Every (HasNumber on sent) (named_up_to tsn f)
     numbered =
-        every-both (IsKnown first sent) (λ c. is_named c ≡ true) (λ c. IsNumberOf sent c.stream_identifier c.stream_sequence_number)
-        (λ c k e. number-of first sent c k.1 (negated c.unordered (both c.abandoned _ e).1)) (named_up_to tsn f)
-        (every-passing (IsKnown first sent) is_named (take (ahead f tsn) f.queue.inflight.chunks)
-        (every-taken (IsKnown first sent) (ahead f tsn) f.queue.inflight.chunks known))
+        every-both (IsKnownOn on first sent) (λ c. is_named c ≡ true) (HasNumber on sent)
+        (λ c k e. number-of on first sent c k.1 (negated c.unordered (both c.abandoned _ e).1)) (named_up_to tsn f)
+        (every-passing (IsKnownOn on first sent) is_named (take (ahead f tsn) f.queue.inflight.chunks)
+        (every-taken (IsKnownOn on first sent) (ahead f tsn) f.queue.inflight.chunks known))
         (every-tested (λ c. is_named c ≡ true) is_named (take (ahead f tsn) f.queue.inflight.chunks)
         (every-all (λ c. is_named c ≡ true → is_named c ≡ true) (λ c e. e) (take (ahead f tsn) f.queue.inflight.chunks)))

@@ -22,7 +22,7 @@ use Rattle.sctp_delivery.proofs.Plain.{AreLike, IsLike, rest_of}
 use Rattle.sctp_delivery.proofs.PlainHolds.{has-made}
 use Rattle.sctp_delivery.proofs.PlainReturns.{back-few}
 use Rattle.sctp_delivery.proofs.PlainRuns.{at-start, goes, grows, one-goes}
-use Rattle.sctp_delivery.proofs.PlainSessions.{Goes, kept_of}
+use Rattle.sctp_delivery.proofs.PlainSessions.{Goes, kept_of, plain}
 use Rattle.sctp_delivery.proofs.PlainStreams.{open-alike, one-more}
 use Rattle.sctp_delivery.proofs.Sessions.{accounted}
 use Rattle.sctp_delivery.proofs.StreamBytes.{amount, amount-at, amount-changed, amount-elsewhere, amount-found, amount-open, held, only, size, split-all, weigh}
@@ -135,7 +135,7 @@ module _ (st : ℕ) where
 -- ## One session
 
 module _ (first size max most : ℕ) (limits : Option Limits) (small : first < 2 ^ 32) (some : 0 < size) where
-  module _ (s : Session) (n : ℕ) (gone : List ℕ) (m : Modes) (g : Goes first size max most limits s.sending.sender s n gone m) where
+  module _ (s : Session) (n : ℕ) (gone : List ℕ) (m : Modes) (g : Goes first (plain first size max most limits small) s.sending.sender s n gone m) where
     abbrev beside : List ChunkPayloadData
     beside = g.shadow.chunks
 
@@ -210,13 +210,13 @@ module _ (first size max most : ℕ) (limits : Option Limits) (small : first < 2
         ≡ held (only st) old.sending.sender.flight.queue + (written_on st (other_calls cs) + returned_on st cs)
 
   counts : (cs : List CallOrReturn) (s new : Session) (r : RunsWithReturns s cs new) (n : ℕ) (gone : List ℕ) (m : Modes)
-      → n + tsns_given_so s cs new r < 2 ^ 31 → bytes_written new < 2 ^ 64 → Goes first size max most limits s.sending.sender s n gone m → AreCounted s
+      → n + tsns_given_so s cs new r < 2 ^ 31 → bytes_written new < 2 ^ 64 → Goes first (plain first size max most limits small) s.sending.sender s n gone m → AreCounted s
       → GoesSo cs s new
   counts [] s new r n gone m few short g k = subst (GoesSo [] s) (sym r) (record { counted = k; balance = λ st. omega arith })
   counts (makes (of_sender call) ∷ cs) s new r n gone m few short g k =
       let f = r.1.0 in
       let bytes = grows cs r.0 new r.1.1 in
-      let h = one-goes first size max most limits small (makes (of_sender call)) s r.0 n gone m f (omega (arith, few)) (omega (arith, bytes, short)) g in
+      let h = one-goes first (plain first size max most limits small) (makes (of_sender call)) s r.0 n gone m f (omega (arith, few)) (omega (arith, bytes, short)) g in
       let x = has-made first size max most limits small some s n gone m g in
       let rest = counts cs r.0 new r.1.1 (n + distance (next_tsn s) (next_tsn r.0)) _ _ (omega (arith, few)) short h
       (counted-then first call s r.0 x.numbered x.sent f x.holds k) in
@@ -233,7 +233,7 @@ module _ (first size max most : ℕ) (limits : Option Limits) (small : first < 2
   counts (makes (of_receiver call) ∷ cs) s new r n gone m few short g k =
       let f = r.1.0 in
       let bytes = grows cs r.0 new r.1.1 in
-      let h = one-goes first size max most limits small (makes (of_receiver call)) s r.0 n gone m f (omega (arith, few)) (omega (arith, bytes, short)) g in
+      let h = one-goes first (plain first size max most limits small) (makes (of_receiver call)) s r.0 n gone m f (omega (arith, few)) (omega (arith, bytes, short)) g in
       let rest = counts cs r.0 new r.1.1 (n + distance (next_tsn s) (next_tsn r.0)) _ _ (omega (arith, few)) short h
       (subst AreCounted (sym f.after) (record { all = k.all; amounts = k.amounts })) in
       record {
@@ -250,7 +250,7 @@ module _ (first size max most : ℕ) (limits : Option Limits) (small : first < 2
       let f = r.1.0 in
       let bytes = grows cs r.0 new r.1.1 in
       let same = ap bytes_written f.after in
-      let h = one-goes first size max most limits small (takes_back sack back) s r.0 n gone m f (omega (arith, few)) (omega (arith, bytes, short)) g in
+      let h = one-goes first (plain first size max most limits small) (takes_back sack back) s r.0 n gone m f (omega (arith, few)) (omega (arith, bytes, short)) g in
       let b = returned s n gone m g sack back r.0 f k (omega (arith, same, bytes, short)) in
       let rest = counts cs r.0 new r.1.1 (n + distance (next_tsn s) (next_tsn r.0)) _ _ (omega (arith, few)) short h b.counted in
       record {
@@ -270,7 +270,7 @@ module _ (reported : Reported) (first size max most : ℕ) (limits : Option Limi
   counts-all : GoesSo first size max most limits small some calls (at_start_with reported first size max most limits) s
   counts-all =
       counts first size max most limits small some calls (at_start_with reported first size max most limits) s run 0 [] _ (omega (arith, few)) short
-      (at-start reported first size max most limits) (by reported)
+      (at-start reported first size max most limits small) (by reported)
     where
       by : (k : Reported) → AreCounted (at_start_with k first size max most limits)
       by Drop = record { all = record { ordered = tt; unordered = tt; inflight = tt }; amounts = λ st. refl }
@@ -332,7 +332,7 @@ pub each-return-told : AfterEachWithReturnsOfFewTsns (λ first n gone calls s. E
 each-return-told reported first size max most limits calls s run small some few short sack back v f =
     all-of-every (IsOfMade s) back (subst (Every (IsOfMade s)) (sym f.answered) (by s.sending.sender.kept g.shadow.like))
   where
-    g : Goes first size max most limits s.sending.sender s (tsns_given_so (at_start_with reported first size max most limits) calls s run)
+    g : Goes first (plain first size max most limits small) s.sending.sender s (tsns_given_so (at_start_with reported first size max most limits) calls s run)
         (abandoned_so (at_start_with reported first size max most limits) calls s run) (modes_from at_first (other_calls calls))
     g = goes reported first size max most limits calls s run small few short
 

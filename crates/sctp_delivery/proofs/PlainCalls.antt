@@ -39,13 +39,12 @@ use Rattle.sctp_delivery.proofs.OneRead.{no-way}
 use Rattle.sctp_delivery.proofs.Plain.{AreLike, IsLike, are-changed, are-long, are-marked, are-part-marked, are-plain, blind-same, found-plain, plain, rest_of}
 use Rattle.sctp_delivery.proofs.PlainFlights.{IsFresh, abandon-same, are-gone, are-sacked, are-sent, can-same, chunks_of, end-same, fewer-bytes, flight_with}
 use Rattle.sctp_delivery.proofs.PlainFlights.{gone-same, named-same, refusal-same, sack-same, send-same, next-same, settled-others, skip-same, started-same}
-use Rattle.sctp_delivery.proofs.PlainSessions.{Goes, IsThere, as_plain, calls-too, kept_of, small-next, stays-so, step-of}
+use Rattle.sctp_delivery.proofs.PlainSessions.{Goes, IsThere, Others, as_plain, calls-too, kept_of, small-next, stays-so, step-of}
 use Rattle.sctp_delivery.proofs.PlainStreams.{AreAlike, bare, both-expired, both-lower, both-moded, both-opened, both-sized, both-wrote, found-alike, one-less}
 use Rattle.sctp_delivery.proofs.PlainStreams.{left-alike, open-alike, released-alike}
 use Rattle.sctp_delivery.proofs.QueueChunks.{started}
-use Rattle.sctp_delivery.proofs.SackLaws.{IsInStep}
+use Rattle.sctp_delivery.proofs.SackLaws.{IsInStepBut}
 use Rattle.sctp_delivery.proofs.SackSteps.{message-inflight}
-use Rattle.sctp_delivery.proofs.Sessions.{accounted}
 use Rattle.sctp_delivery.proofs.TsnPlaces.{base, tsn-small}
 use Rattle.sctp_delivery.proofs.ValidMarks.{IsUnmarked}
 use Rattle.sctp_delivery.proofs.Writing.{accepted-stream}
@@ -142,10 +141,10 @@ far-along a b e near few is = omega (arith, near, few, is)
 told-one : (o : Option ChunkPayloadData) (bytes : ℕ) → map (λ (a : AbandonedMessage). a.number) (abandoned_with o bytes) ≡ option_to_list (to_abandon o)
 told-one h0 h1 = grind (arith, nat_tests, common_steps)
 
-module _ (first size max most : ℕ) (limits : Option Limits) (small : first < 2 ^ 32) where
-  module _ (t : Transmission) (s : Session) (n : ℕ) (gone : List ℕ) (m : Modes) (room : n < 2 ^ 31) (g : Goes first size max most limits t s n gone m) where
-    pub step-is : IsInStep (base first) n g.other
-    step-is = step-of first size max most limits t s n gone m small room g
+module _ (first : ℕ) (others : Others first) where
+  module _ (t : Transmission) (s : Session) (n : ℕ) (gone : List ℕ) (m : Modes) (room : n < 2 ^ 31) (g : Goes first others t s n gone m) where
+    pub step-is : IsInStepBut others.dropped (base first) n g.other
+    step-is = step-of first others t s n gone m room g
 
     pub numbered-is : IsNumbered (base first) n (flight_with t.flight g.shadow.chunks)
     numbered-is = subst (λ (u : Transmission). IsNumbered (base first) n u.flight) g.shadow.sender step-is.numbered
@@ -158,7 +157,7 @@ module _ (first size max most : ℕ) (limits : Option Limits) (small : first < 2
 
     -- the message of a TSN leaves, if it has one
     leave-one : (x : ℕ) → n + (if has_tail_at t.flight x then 1 else 0) < 2 ^ 31
-        → Goes first size max most limits (record t { flight = abandoned_at x t.flight }) s (n + (if has_tail_at t.flight x then 1 else 0))
+        → Goes first others (record t { flight = abandoned_at x t.flight }) s (n + (if has_tail_at t.flight x then 1 else 0))
         (gone ++ option_to_list (message_to_abandon x t.flight)) m
     leave-one x few = by (message_to_abandon x t.flight) refl few
       where
@@ -166,14 +165,14 @@ module _ (first size max most : ℕ) (limits : Option Limits) (small : first < 2
         w = as_plain t g.shadow.streams g.shadow.chunks
 
         near : t.flight.next_tsn < 2 ^ 32
-        near = small-next first size max most limits t s n gone m small room g
+        near = small-next first others t s n gone m room g
 
         same-message : message_to_abandon x w.flight ≡ message_to_abandon x t.flight
         same-message = abandon-same t.flight (kept_of t.kept) g.shadow.chunks g.shadow.like x
 
         some : (k : ℕ) (o : Option ChunkPayloadData) → find (has_tsn x) g.shadow.chunks ≡ o → to_abandon o ≡ Some k → message_to_abandon x t.flight ≡ Some k
             → n + (if has_tail (Some k) t.flight.queue then 1 else 0) < 2 ^ 31
-            → Goes first size max most limits (record t { flight = after_abandonment (Some k) t.flight }) s
+            → Goes first others (record t { flight = after_abandonment (Some k) t.flight }) s
             (n + (if has_tail (Some k) t.flight.queue then 1 else 0)) (gone ++ k ∷ []) m
         some k None e is at short = absurd (none-some k is)
         some k (Some d) e is at short =
@@ -187,7 +186,7 @@ module _ (first size max most : ℕ) (limits : Option Limits) (small : first < 2
             let far = end-far (Some k) t.flight near in
             let there : is_held g.shadow.chunks x ≡ true = ap is_some e in
             let message : message_to_abandon x w.flight ≡ Some k = same-message ∙ at in
-            let after = calls-too first size max most limits t u s s n gone m g (outgoing.abandons x b) refl refl refl refl (outgoing.abandons x b)
+            let after = calls-too first others t u s s n gone m g (outgoing.abandons x b) refl refl refl refl (outgoing.abandons x b)
             (change_where (has_number d.stream_identifier) (less_by left) g.shadow.streams) (chunks_of g') (
               omega (arith, less, total),
               (
@@ -206,8 +205,8 @@ module _ (first size max most : ℕ) (limits : Option Limits) (small : first < 2
             (g.shadow.alike ∙ sym (one-less d.stream_identifier left g.shadow.streams))
             (are-gone (base first) n t.flight (kept_of t.kept) g.shadow.chunks g.shadow.like room numbered-is fresh-is (Some k)) (λ ms. refl) (λ ws. refl) refl
             (ap option_to_list same-message) in
-            subst (λ (j : ℕ). Goes first size max most limits u s (n + j) (gone ++ k ∷ []) m) far
-            (subst (λ o. Goes first size max most limits u s (n + distance t.flight.next_tsn u.flight.next_tsn) (gone ++ option_to_list o) m) at after)
+            subst (λ (j : ℕ). Goes first others u s (n + j) (gone ++ k ∷ []) m) far
+            (subst (λ o. Goes first others u s (n + distance t.flight.next_tsn u.flight.next_tsn) (gone ++ option_to_list o) m) at after)
           where
             refusal : (k : ℕ) → n + (if has_tail (Some k) t.flight.queue then 1 else 0) < 2 ^ 31 → is_held g.shadow.chunks x ≡ true
                 → message_to_abandon x (flight_with t.flight g.shadow.chunks) ≡ Some k → abandon_refusal x (flight_with t.flight g.shadow.chunks) ≡ None
@@ -226,26 +225,26 @@ module _ (first size max most : ℕ) (limits : Option Limits) (small : first < 2
                 (λ _ _. refl) short
 
         by : (o : Option ℕ) → message_to_abandon x t.flight ≡ o → n + (if has_tail (message_to_abandon x t.flight) t.flight.queue then 1 else 0) < 2 ^ 31
-            → Goes first size max most limits (record t { flight = after_abandonment (message_to_abandon x t.flight) t.flight }) s
+            → Goes first others (record t { flight = after_abandonment (message_to_abandon x t.flight) t.flight }) s
             (n + (if has_tail (message_to_abandon x t.flight) t.flight.queue then 1 else 0)) (gone ++ option_to_list (message_to_abandon x t.flight)) m
         by None e short =
-            subst (λ o. Goes first size max most limits (record t { flight = after_abandonment o t.flight }) s
+            subst (λ o. Goes first others (record t { flight = after_abandonment o t.flight }) s
             (n + (if has_tail o t.flight.queue then 1 else 0)) (gone ++ option_to_list o) m)
-            (sym e) (subst (λ k. Goes first size max most limits t s k (gone ++ []) m) {x = n} {y = n + 0} (omega arith)
-            (subst (λ xs. Goes first size max most limits t s n xs m) (sym (append-nil gone)) g))
+            (sym e) (subst (λ k. Goes first others t s k (gone ++ []) m) {x = n} {y = n + 0} (omega arith)
+            (subst (λ xs. Goes first others t s n xs m) (sym (append-nil gone)) g))
         by (Some k) e short =
-            subst (λ o. Goes first size max most limits (record t { flight = after_abandonment o t.flight }) s
+            subst (λ o. Goes first others (record t { flight = after_abandonment o t.flight }) s
             (n + (if has_tail o t.flight.queue then 1 else 0)) (gone ++ option_to_list o) m)
             (sym e) (some k (find (has_tsn x) g.shadow.chunks) refl (same-message
             ∙ e) e (subst (λ o. n + (if has_tail o t.flight.queue then 1 else 0) < 2 ^ 31) e short))
 
   leave-each : (xs : List ℕ) (t : Transmission) (s : Session) (n : ℕ) (gone : List ℕ) (m : Modes) → n + ends xs t.flight < 2 ^ 31
-      → Goes first size max most limits t s n gone m
-      → Goes first size max most limits (record t { flight = abandoned_each xs t.flight }) s (n + ends xs t.flight)
+      → Goes first others t s n gone m
+      → Goes first others (record t { flight = abandoned_each xs t.flight }) s (n + ends xs t.flight)
       (gone ++ map (λ (a : AbandonedMessage). a.number) (leaving_each xs t.flight)) m
   leave-each [] t s n gone m few g =
-      subst (λ k. Goes first size max most limits t s k (gone ++ []) m) {x = n} {y = n + 0} (omega arith)
-      (subst (λ xs. Goes first size max most limits t s n xs m) (sym (append-nil gone)) g)
+      subst (λ k. Goes first others t s k (gone ++ []) m) {x = n} {y = n + 0} (omega arith)
+      (subst (λ xs. Goes first others t s n xs m) (sym (append-nil gone)) g)
   leave-each (x ∷ xs) t s n gone m few g =
       let u : Transmission = record t { flight = abandoned_at x t.flight } in
       let one : ℕ = if has_tail_at t.flight x then 1 else 0 in
@@ -258,18 +257,18 @@ module _ (first size max most : ℕ) (limits : Option Limits) (small : first < 2
       let all : (gone ++ left) ++ rest ≡ gone ++ map number (leaving_at x t.flight ++ leaving_each xs u.flight) =
       append_assoc gone left rest ∙ ap (λ ys. gone ++ ys) (ap (λ ys. ys ++ rest) (sym (told-one (find (has_tsn x) t.flight.queue.inflight.chunks) _))
       ∙ sym (map-append number (leaving_at x t.flight) (leaving_each xs u.flight))) in
-      subst (λ k. Goes first size max most limits (record t { flight = abandoned_each (x ∷ xs) t.flight }) s k
+      subst (λ k. Goes first others (record t { flight = abandoned_each (x ∷ xs) t.flight }) s k
       (gone ++ map number (leaving_each (x ∷ xs) t.flight)) m) sum
-      (subst (λ ys. Goes first size max most limits (record t { flight = abandoned_each (x ∷ xs) t.flight }) s ((n + one) + ends xs u.flight) ys m) all then')
+      (subst (λ ys. Goes first others (record t { flight = abandoned_each (x ∷ xs) t.flight }) s ((n + one) + ends xs u.flight) ys m) all then')
 
   -- the streams have other amounts
   restreamed : (t : Transmission) (ks : List OutboundStream) (s v : Session) (n : ℕ) (gone : List ℕ) (m : Modes) → AreAlike ks t.streams
-      → v.receiving ≡ s.receiving → v.sacks ≡ s.sacks → v.made ≡ s.made → v.written ≡ s.written → Goes first size max most limits t s n gone m
-      → Goes first size max most limits (record t { streams = ks }) v n gone m
+      → v.receiving ≡ s.receiving → v.sacks ≡ s.sacks → v.made ≡ s.made → v.written ≡ s.written → Goes first others t s n gone m
+      → Goes first others (record t { streams = ks }) v n gone m
   restreamed t ks s v n gone m alike received reported made written g = grind (arith, nat_tests, common_steps)
 
-module _ (first size max most : ℕ) (limits : Option Limits) (small : first < 2 ^ 32) (s v : Session) (n : ℕ) (gone : List ℕ) (m : Modes) (room : n < 2 ^ 31)
-    (g : Goes first size max most limits s.sending.sender s n gone m) where
+module _ (first : ℕ) (others : Others first) (s v : Session) (n : ℕ) (gone : List ℕ) (m : Modes) (room : n < 2 ^ 31)
+    (g : Goes first others s.sending.sender s n gone m) where
   abbrev t : Transmission
   t = s.sending.sender
 
@@ -283,20 +282,20 @@ module _ (first size max most : ℕ) (limits : Option Limits) (small : first < 2
   abbrev w : Transmission
   w = as_plain s.sending.sender g.shadow.streams g.shadow.chunks
 
-  i : IsInStep (base first) n g.other
-  i = step-is first size max most limits small s.sending.sender s n gone m room g
+  i : IsInStepBut others.dropped (base first) n g.other
+  i = step-is first others s.sending.sender s n gone m room g
 
   numbered : IsNumbered (base first) n (flight_with s.sending.sender.flight g.shadow.chunks)
-  numbered = numbered-is first size max most limits small s.sending.sender s n gone m room g
+  numbered = numbered-is first others s.sending.sender s n gone m room g
 
   fresh : IsFresh s.sending.sender.flight.queue
-  fresh = fresh-is first size max most limits small s.sending.sender s n gone m room g
+  fresh = fresh-is first others s.sending.sender s n gone m room g
 
   near : s.sending.sender.flight.next_tsn < 2 ^ 32
-  near = small-next first size max most limits s.sending.sender s n gone m small room g
+  near = small-next first others s.sending.sender s n gone m room g
 
   abbrev Result : SenderCall → Type 0
-  Result call = Goes first size max most limits v.sending.sender v (n + distance (next_tsn s) (next_tsn v)) (gone ++ abandoned_by call s.sending.sender)
+  Result call = Goes first others v.sending.sender v (n + distance (next_tsn s) (next_tsn v)) (gone ++ abandoned_by call s.sending.sender)
       (modes_after call m)
 
   by-call : (call : SenderCall) → SenderFollows call s v → (u : Transmission) → v.sending.sender ≡ u → (c : SenderCall) (ls' : List OutboundStream)
@@ -314,9 +313,9 @@ module _ (first size max most : ℕ) (limits : Option Limits) (small : first < 2
       → abandoned_by call s.sending.sender ≡ [] → Result call
   by-none call f u e alike like same made written modes left =
       subst
-      (λ (y : Transmission). Goes first size max most limits y v (n + distance (next_tsn s) y.flight.next_tsn) (gone ++ abandoned_by call s.sending.sender)
+      (λ (y : Transmission). Goes first others y v (n + distance (next_tsn s) y.flight.next_tsn) (gone ++ abandoned_by call s.sending.sender)
       (modes_after call m)) (sym e)
-      (stays-so first size max most limits s.sending.sender u s v n gone m g call (ap (λ (x : Session). x.receiving) f.after)
+      (stays-so first others s.sending.sender u s v n gone m g call (ap (λ (x : Session). x.receiving) f.after)
       (ap (λ (x : Session). x.sacks) f.after)
       (ap (λ (x : Session). x.made) f.after) (ap (λ (x : Session). x.written) f.after) alike like same near made written modes left)
 
@@ -350,8 +349,7 @@ module _ (first size max most : ℕ) (limits : Option Limits) (small : first < 2
 
       fits : SenderFollows (outgoing.writes stream ppi (b ∷ bs)) s v → nat_lt (total_bytes (with_inflight t.flight.queue ds) + length (b ∷ bs)) (2 ^ 64) ≡ true
       fits f =
-          let p = g.plays in
-          let all = accounted first size max most limits p.calls g.other p.run in
+          let all = others.accounted g.other n gone m room g.plays in
           let held : held_by_sender g.other.sending.sender ≡ total_bytes (with_inflight t.flight.queue ds) = ap held_by_sender g.shadow.sender in
           let before : bytes_written g.other ≡ bytes_written s = ap (λ ws. sum_by (λ (x : Write). length x.bytes) ws) g.shadow.written in
           let after : bytes_written v ≡ bytes_written s + length (b ∷ bs) =
@@ -579,17 +577,17 @@ module _ (first size max most : ℕ) (limits : Option Limits) (small : first < 2
       let far : distance t.flight.next_tsn u.flight.next_tsn ≡ ends xs t.flight =
       far-along t.flight.next_tsn u.flight.next_tsn (ends xs t.flight) near (omega (arith, few-ends, short, long, total, room)) (ends-next xs t.flight near) in
       let all : distance (next_tsn s) (next_tsn v) ≡ ends xs t.flight = ap (λ (y : Transmission). distance (next_tsn s) y.flight.next_tsn) e ∙ far in
-      let after = leave-each first size max most limits small xs t s n gone m (omega (arith, few, all)) g in
-      let there = restreamed first size max most limits small (record t { flight = abandoned_each xs t.flight })
+      let after = leave-each first others xs t s n gone m (omega (arith, few, all)) g in
+      let there = restreamed first others (record t { flight = abandoned_each xs t.flight })
       (after_leaving (leaving_each xs t.flight) t.streams) s v
       (n + ends xs t.flight) (gone ++ map (λ (a : AbandonedMessage). a.number) (leaving_each xs t.flight)) m (left-alike (leaving_each xs t.flight) t.streams)
       (ap (λ (x : Session). x.receiving) f.after) (ap (λ (x : Session). x.sacks) f.after) (ap (λ (x : Session). x.made) f.after ∙ made)
       (ap (λ (x : Session). x.written) f.after ∙ written) after in
       subst (λ (y : Transmission).
-      Goes first size max most limits y v (n + distance (next_tsn s) (next_tsn v)) (gone ++ abandoned_by call t) (modes_after call m)) (sym e)
-      (subst (λ k. Goes first size max most limits u v (n + k) (gone ++ abandoned_by call t) (modes_after call m)) (sym all)
-      (subst (λ ys. Goes first size max most limits u v (n + ends xs t.flight) (gone ++ ys) (modes_after call m)) (sym left)
-      (subst (λ o. Goes first size max most limits u v (n + ends xs t.flight) (gone ++ map (λ (a : AbandonedMessage). a.number) (leaving_each xs t.flight)) o)
+      Goes first others y v (n + distance (next_tsn s) (next_tsn v)) (gone ++ abandoned_by call t) (modes_after call m)) (sym e)
+      (subst (λ k. Goes first others u v (n + k) (gone ++ abandoned_by call t) (modes_after call m)) (sym all)
+      (subst (λ ys. Goes first others u v (n + ends xs t.flight) (gone ++ ys) (modes_after call m)) (sym left)
+      (subst (λ o. Goes first others u v (n + ends xs t.flight) (gone ++ map (λ (a : AbandonedMessage). a.number) (leaving_each xs t.flight)) o)
       (sym modes) there)))
 
   -- ## Every call

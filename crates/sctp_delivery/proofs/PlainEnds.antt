@@ -19,7 +19,7 @@ use Rattle.sctp_delivery.proofs.NoneAbandoned.{each-of-others}
 use Rattle.sctp_delivery.proofs.Plain.{AreLike, are-long, rest_of}
 use Rattle.sctp_delivery.proofs.PlainLaws.{acknowledged-came}
 use Rattle.sctp_delivery.proofs.PlainRuns.{goes, other, shadow}
-use Rattle.sctp_delivery.proofs.PlainSessions.{as_plain, kept_of, step-of}
+use Rattle.sctp_delivery.proofs.PlainSessions.{as_plain, kept_of, plain, step-of}
 use Rattle.sctp_delivery.proofs.RefusedLaw.{limits-same}
 use Rattle.sctp_delivery.proofs.SackLaws.{IsInStep}
 use Rattle.sctp_delivery.proofs.TakenCalls.{HasCome}
@@ -64,7 +64,7 @@ module _ (reported : Reported) (first size max' most : ℕ) (limits : Option Lim
     where
       step : IsInStep (base first) (tsns_given_so (at_start_with reported first size max' most limits) calls s run)
           (other reported first size max' most limits calls s run small few short)
-      step = step-of first size max' most limits t s n _ _ small few (goes reported first size max' most limits calls s run small few short)
+      step = step-of first (plain first size max' most limits small) t s n _ _ few (goes reported first size max' most limits calls s run small few short)
 
       each : Every (HasCome (base first) n s.receiving.receiver) s.receiving.accepted
       each =

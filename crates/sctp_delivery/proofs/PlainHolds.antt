@@ -1,16 +1,17 @@
 -- A session of a sender that keeps what is reported holds what the session beside it does: what got TSNs, and how all that waits follows on.
 use Rattle.sctp_delivery.proofs.Names.{arith, nat_tests, common_steps, ◌≡◌, ℕ, ◌<◌, ◌^◌, true, List, [], ◌∷◌, map, refl, ap, sym, subst, ◌∙◌, if◌then◌else◌}
 use Rattle.sctp_delivery.proofs.Names.{◌==◌, ◌||◌, Option, list_any, negated, both, ChunkPayloadData, OutboundStream, Limits, Transmission, Session, Modes}
-use Rattle.sctp_delivery.proofs.Names.{is_of, is_outstanding, data_of}
+use Rattle.sctp_delivery.proofs.Names.{is_of, is_outstanding, data_of, sum_by-cons}
 use Rattle.sctp_delivery.proofs.AmountLaws.{HasMade, made-in}
+use Rattle.sctp_delivery.proofs.Cases.{all_streams}
 use Rattle.sctp_delivery.proofs.Every.{every-all}
 use Rattle.sctp_delivery.proofs.InFlight.{IsKnown, placed-alike}
-use Rattle.sctp_delivery.proofs.Numbers.{AreSized, IsSteady, all-open, is_there, number_of}
+use Rattle.sctp_delivery.proofs.Numbers.{AreSized, IsSteady, all-open, count_of, is_there, number_of}
 use Rattle.sctp_delivery.proofs.Plain.{IsLike, any-plain, are-plain, paired}
-use Rattle.sctp_delivery.proofs.PlainSessions.{Goes, kept_of}
+use Rattle.sctp_delivery.proofs.PlainSessions.{Goes, kept_of, plain}
 use Rattle.sctp_delivery.proofs.PlainStreams.{AreAlike, bare}
 use Rattle.sctp_delivery.proofs.Senders.{IsHeld, renumbered}
-use Rattle.sctp_delivery.proofs.Sent.{Entry}
+use Rattle.sctp_delivery.proofs.Sent.{Entry, WasSent}
 
 -- ## Streams that are alike
 
@@ -22,6 +23,12 @@ there-bare : (s : ℕ) (ls : List OutboundStream) → is_there s (map bare ls) �
 there-bare s [] = refl
 there-bare s (l ∷ ls) = ap (λ b. (l.stream_identifier == s) || b) (there-bare s ls)
 
+counts-bare : (s : ℕ) (ls : List OutboundStream) → count_of s (map bare ls) ≡ count_of s ls
+counts-bare s [] = refl
+counts-bare s (l ∷ ls) =
+    let one : OutboundStream → ℕ = λ k. if k.stream_identifier == s then 1 else 0 in
+    omega (arith, counts-bare s ls, sum_by-cons one (bare l) (map bare ls), sum_by-cons one l ls)
+
 sized-alike : (ls ms : List OutboundStream) → AreAlike ms ls → AreSized ls → AreSized ms
 sized-alike ls [] e z = tt
 sized-alike [] (m ∷ ms) e z = absurd (cc)
@@ -31,7 +38,15 @@ sized-alike (l ∷ ls) (m ∷ ms) e z =
     (subst (λ (x : OutboundStream). 0 < x.max_payload_size) (sym one) z.0, sized-alike ls ms rest z.1)
 
 steady-alike : (ls ms : List OutboundStream) → AreAlike ms ls → IsSteady ls ms
-steady-alike ls ms e = grind (arith, nat_tests, common_steps, numbers-bare, there-bare, sized-alike)
+steady-alike ls ms e = record {
+  numbers = λ s. sym (numbers-bare s ms) ∙ ap (number_of s) e ∙ numbers-bare s ls;
+  there = λ s o. sym (there-bare s ms) ∙ ap (is_there s) e ∙ there-bare s ls ∙ o;
+  sized = sized-alike ls ms e;
+  apart = λ a s.
+      let k = a s in
+      let same : count_of s ms ≡ count_of s ls = sym (counts-bare s ms) ∙ ap (count_of s) e ∙ counts-bare s ls in
+      omega (arith, k, same);
+}
 
 -- ## One session
 
@@ -41,10 +56,20 @@ pub outstanding-like : (k : Option (List ℕ)) (c d : ChunkPayloadData) → IsLi
 outstanding-like k c d i o = grind (arith, nat_tests, common_steps, both, negated)
 
 known-like : (first : ℕ) (sent : List Entry) (k : Option (List ℕ)) (c d : ChunkPayloadData) → IsLike k c d → Unit {0} → IsKnown first sent d → IsKnown first sent c
-known-like first sent k c d i h6 h = grind (arith, nat_tests, common_steps, outstanding-like, placed-alike)
+known-like first sent k c d i h6 h = (
+  λ o. let x = outstanding-like k c d i o in subst (WasSent sent) (sym x.1) (h.0 x.0),
+  placed-alike all_streams first sent d c (record {
+    kind = ap (λ (x : ChunkPayloadData). x.unordered) i.same;
+    stream = ap (λ (x : ChunkPayloadData). x.stream_identifier) i.same;
+    number = ap (λ (x : ChunkPayloadData). x.stream_sequence_number) i.same;
+    tsn = ap (λ (x : ChunkPayloadData). x.tsn) i.same;
+    message = ap (λ (x : ChunkPayloadData). x.message_id) i.same;
+    ends = ap (λ (x : ChunkPayloadData). x.ending_fragment) i.same;
+  }) h.1,
+)
 
 module _ (first size max most : ℕ) (limits : Option Limits) (small : first < 2 ^ 32) (some : 0 < size) (s : Session) (n : ℕ) (gone : List ℕ) (m : Modes)
-    (g : Goes first size max most limits s.sending.sender s n gone m) where
+    (g : Goes first (plain first size max most limits small) s.sending.sender s n gone m) where
   there : HasMade first g.other
   there = made-in first size max most limits g.plays.calls g.other small some g.plays.run
 
@@ -60,8 +85,8 @@ module _ (first size max most : ℕ) (limits : Option Limits) (small : first < 2
       let ds = g.shadow.chunks in
       let h = subst (λ u. IsHeld there.numbered first u there.sent) g.shadow.sender there.holds.held in
       let steady = steady-alike g.shadow.streams t.streams g.shadow.alike in
-      let st = renumbered there.numbered first (λ r. number_of r g.shadow.streams) (λ r. number_of r t.streams) _ t.flight.next_tsn there.sent steady.numbers
-      h.stands in
+      let st = renumbered all_streams there.numbered first (λ r. number_of r g.shadow.streams) (λ r. number_of r t.streams) _ t.flight.next_tsn there.sent
+      (λ r _. steady.numbers r) h.stands in
       let any : (k : ℕ) → list_any (is_of k) cs ≡ list_any (is_of k) ds = λ k. any-plain (is_of k) (λ c. refl) cs ds (are-plain ks cs ds g.shadow.like) in
       record {
         stands = record {
@@ -79,8 +104,9 @@ module _ (first size max most : ℕ) (limits : Option Limits) (small : first < 2
           begun' = st.begun';
           ids = st.ids;
         };
-        open' = all-open g.shadow.streams t.streams steady.there there.numbered h.open';
+        open' = all-open all_streams g.shadow.streams t.streams (λ r _. steady.there r) there.numbered h.open';
         sized = steady.sized h.sized;
+        apart = steady.apart h.apart;
         size = h.size;
       }
 

@@ -1,6 +1,6 @@
 -- Sessions of a sender that keeps what is reported: beside each there is one in which no gap ack block is taken, with the same chunks.
 use Rattle.sctp_delivery.proofs.Names.{nat_tests, common_steps, ◌≡◌, AllPairs, ℕ, ◌<◌, ◌≤◌, ◌+◌, ◌^◌, true, List, [], ◌∷◌, ◌++◌, length, refl, ap, ap₂, sym}
-use Rattle.sctp_delivery.proofs.Names.{subst, ◌∙◌, arith, append_assoc, Option, Some, None, if◌then◌else◌, ◌==◌, ◌&&◌, nat_lt, list_all, list_any, list_any_at}
+use Rattle.sctp_delivery.proofs.Names.{subst, ◌∙◌, arith, append-nil, append_assoc, Option, Some, None, if◌then◌else◌, ◌==◌, ◌&&◌, nat_lt, list_all, list_any, list_any_at}
 use Rattle.sctp_delivery.proofs.Names.{All, Contains, sum_by, Sack, Limits, Transmission, Drop, total_bytes, with_inflight, is_outdated, sack_refusal, Session}
 use Rattle.sctp_delivery.proofs.Names.{RunsTo, at_start, bytes_written, of_receiver, of_sender, abandoned_in, tsns_given, Modes, at_first, modes_from, Write}
 use Rattle.sctp_delivery.proofs.Names.{chunk_count, is_exhausted, reads_nothing, reports_tsn, held_by_sender, StandAt, AreMade, AreMessages, Stand, Call, Data}
@@ -37,7 +37,7 @@ use Rattle.sctp_delivery.proofs.OthersOnce as others
 use Rattle.sctp_delivery.proofs.Plain.{are-long}
 use Rattle.sctp_delivery.proofs.PlainCalls.{sender-goes}
 use Rattle.sctp_delivery.proofs.PlainReturns.{back-fits, back-like, back-more}
-use Rattle.sctp_delivery.proofs.PlainSessions.{Goes, IsThere, Shadows, gone_by, kept_of, modes_by, receives-too, small-next, step-of}
+use Rattle.sctp_delivery.proofs.PlainSessions.{Goes, IsThere, Shadows, Others, gone_by, kept_of, modes_by, plain, receives-too, small-next, step-of}
 use Rattle.sctp_delivery.proofs.PlainStreams.{returned-alike}
 use Rattle.sctp_delivery.proofs.ReadOnce as read_once
 use Rattle.sctp_delivery.proofs.SackLaws as sacks
@@ -110,32 +110,36 @@ modes-cons (makes (of_sender call)) cs m = refl
 modes-cons (makes (of_receiver call)) cs m = refl
 modes-cons (takes_back sack back) cs m = refl
 
-module _ (first size max most : ℕ) (limits : Option Limits) (small : first < 2 ^ 32) where
-  returns-goes : (sack : Sack) (back : List TakenBack) (s v : Session) (n : ℕ) (gone : List ℕ) (m : Modes) → TakesBack sack back s v
-      → Goes first size max most limits s.sending.sender s n gone m → Goes first size max most limits v.sending.sender v n gone m
+module _ (first : ℕ) (others : Others first) where
+  pub returns-goes : (sack : Sack) (back : List TakenBack) (s v : Session) (n : ℕ) (gone : List ℕ) (m : Modes) → TakesBack sack back s v
+      → Goes first others s.sending.sender s n gone m → Goes first others v.sending.sender v n gone m
   returns-goes sack back s v n gone m f g = grind (arith, nat_tests, common_steps, returned-alike, back-like)
 
   -- no TSN is given out, and no message abandoned
-  unmoved : (s v : Session) (n : ℕ) (gone : List ℕ) (m : Modes) → next_tsn v ≡ next_tsn s → n + distance (next_tsn s) (next_tsn v) < 2 ^ 31
-      → Goes first size max most limits s.sending.sender s n gone m → Goes first size max most limits v.sending.sender v n gone m
-      → Goes first size max most limits v.sending.sender v (n + distance (next_tsn s) (next_tsn v)) (gone ++ []) m
-  unmoved s v n gone m same few g h = grind (arith, nat_tests, common_steps, small-next, no-way)
+  pub unmoved : (s v : Session) (n : ℕ) (gone : List ℕ) (m : Modes) → next_tsn v ≡ next_tsn s → n + distance (next_tsn s) (next_tsn v) < 2 ^ 31
+      → Goes first others s.sending.sender s n gone m → Goes first others v.sending.sender v n gone m
+      → Goes first others v.sending.sender v (n + distance (next_tsn s) (next_tsn v)) (gone ++ []) m
+  unmoved s v n gone m same few g h =
+      let none : distance (next_tsn s) (next_tsn v) ≡ 0 = ap (distance (next_tsn s)) same
+      ∙ no-way (next_tsn s) (small-next first others s.sending.sender s n gone m (omega (arith, few)) g) in
+      subst (λ k. Goes first others v.sending.sender v k (gone ++ []) m) {x = n} {y = n + distance (next_tsn s) (next_tsn v)} (omega (arith, none))
+      (subst (λ xs. Goes first others v.sending.sender v n xs m) (sym (append-nil gone)) h)
 
   -- one call
   pub one-goes : (c : CallOrReturn) (s v : Session) (n : ℕ) (gone : List ℕ) (m : Modes) → FollowsOrReturns c s v
-      → n + distance (next_tsn s) (next_tsn v) < 2 ^ 31 → bytes_written v < 2 ^ 64 → Goes first size max most limits s.sending.sender s n gone m
-      → Goes first size max most limits v.sending.sender v (n + distance (next_tsn s) (next_tsn v)) (gone ++ gone_so c s) (modes_so c m)
+      → n + distance (next_tsn s) (next_tsn v) < 2 ^ 31 → bytes_written v < 2 ^ 64 → Goes first others s.sending.sender s n gone m
+      → Goes first others v.sending.sender v (n + distance (next_tsn s) (next_tsn v)) (gone ++ gone_so c s) (modes_so c m)
   one-goes (makes (of_sender call)) s v n gone m f few short g =
-      sender-goes first size max most limits small s v n gone m (omega (arith, few)) g call short few f
+      sender-goes first others s v n gone m (omega (arith, few)) g call short few f
   one-goes (makes (of_receiver call)) s v n gone m f few short g =
       unmoved s v n gone m (ap (λ (y : Session). next_tsn y) f.after) few g
-      (receives-too first size max most limits call s v n gone m small (omega (arith, few)) g f)
+      (receives-too first others call s v n gone m (omega (arith, few)) g f)
   one-goes (takes_back sack back) s v n gone m f few short g =
       unmoved s v n gone m (ap (λ (y : Transmission). y.flight.next_tsn) f.exact) few g (returns-goes sack back s v n gone m f g)
 
   all-go : (cs : List CallOrReturn) (s new : Session) (r : RunsWithReturns s cs new) (n : ℕ) (gone : List ℕ) (m : Modes) → n + tsns_given_so s cs new r < 2 ^ 31
-      → bytes_written new < 2 ^ 64 → Goes first size max most limits s.sending.sender s n gone m
-      → Goes first size max most limits new.sending.sender new (n + tsns_given_so s cs new r) (gone ++ abandoned_so s cs new r) (modes_from m (other_calls cs))
+      → bytes_written new < 2 ^ 64 → Goes first others s.sending.sender s n gone m
+      → Goes first others new.sending.sender new (n + tsns_given_so s cs new r) (gone ++ abandoned_so s cs new r) (modes_from m (other_calls cs))
   all-go [] s new r n gone m few short g = grind (arith, nat_tests, common_steps)
   all-go (c ∷ cs) s new r n gone m few short g =
       let d = distance (next_tsn s) (next_tsn r.0) in
@@ -146,18 +150,18 @@ module _ (first size max most : ℕ) (limits : Option Limits) (small : first < 2
       let sum : (n + d) + rest ≡ n + (d + rest) = omega arith in
       let left : (gone ++ gone_so c s) ++ abandoned_so r.0 cs new r.1.1 ≡ gone ++ abandoned_so s (c ∷ cs) new r =
       append_assoc gone (gone_so c s) (abandoned_so r.0 cs new r.1.1) ∙ ap (λ xs. gone ++ xs) (sym (gone-cons c cs s new r)) in
-      subst (λ k. Goes first size max most limits new.sending.sender new k (gone ++ abandoned_so s (c ∷ cs) new r) (modes_from m (other_calls (c ∷ cs)))) sum
-      (subst (λ xs. Goes first size max most limits new.sending.sender new ((n + d) + rest) xs (modes_from m (other_calls (c ∷ cs)))) left
-      (subst (Goes first size max most limits new.sending.sender new ((n + d) + rest) ((gone ++ gone_so c s) ++ abandoned_so r.0 cs new r.1.1))
+      subst (λ k. Goes first others new.sending.sender new k (gone ++ abandoned_so s (c ∷ cs) new r) (modes_from m (other_calls (c ∷ cs)))) sum
+      (subst (λ xs. Goes first others new.sending.sender new ((n + d) + rest) xs (modes_from m (other_calls (c ∷ cs)))) left
+      (subst (Goes first others new.sending.sender new ((n + d) + rest) ((gone ++ gone_so c s) ++ abandoned_so r.0 cs new r.1.1))
       (sym (modes-cons c cs m)) then'))
 
-pub at-start : (reported : Reported) (first size max most : ℕ) (limits : Option Limits)
-    → Goes first size max most limits (at_start_with reported first size max most limits).sending.sender
+pub at-start : (reported : Reported) (first size max most : ℕ) (limits : Option Limits) (small : first < 2 ^ 32)
+    → Goes first (plain first size max most limits small) (at_start_with reported first size max most limits).sending.sender
     (at_start_with reported first size max most limits) 0 [] at_first
-at-start reported first size max most limits = by reported
+at-start reported first size max most limits small = by reported
   where
     by : (k : Reported)
-        → Goes first size max most limits (at_start_with k first size max most limits).sending.sender (at_start_with k first size max most limits) 0 [] at_first
+        → Goes first (plain first size max most limits small) (at_start_with k first size max most limits).sending.sender (at_start_with k first size max most limits) 0 [] at_first
     by Drop = record {
       other = at_start first size max most limits;
       shadow =
@@ -175,13 +179,13 @@ at-start reported first size max most limits = by reported
 module _ (reported : Reported) (first size max most : ℕ) (limits : Option Limits) (calls : List CallOrReturn) (s : Session)
     (run : RunsWithReturns (at_start_with reported first size max most limits) calls s) (small : first < 2 ^ 32)
     (few : tsns_given_so (at_start_with reported first size max most limits) calls s run < 2 ^ 31) (short : bytes_written s < 2 ^ 64) where
-  pub goes : Goes first size max most limits s.sending.sender s (tsns_given_so (at_start_with reported first size max most limits) calls s run)
+  pub goes : Goes first (plain first size max most limits small) s.sending.sender s (tsns_given_so (at_start_with reported first size max most limits) calls s run)
       (abandoned_so (at_start_with reported first size max most limits) calls s run) (modes_from at_first (other_calls calls))
   goes =
-      subst (λ k. Goes first size max most limits s.sending.sender s k (abandoned_so (at_start_with reported first size max most limits) calls s run)
+      subst (λ k. Goes first (plain first size max most limits small) s.sending.sender s k (abandoned_so (at_start_with reported first size max most limits) calls s run)
       (modes_from at_first (other_calls calls))) {x = 0 + tsns_given_so (at_start_with reported first size max most limits) calls s run} (omega arith)
-      (all-go first size max most limits small calls (at_start_with reported first size max most limits) s run 0 [] at_first (omega (arith, few)) short
-      (at-start reported first size max most limits))
+      (all-go first (plain first size max most limits small) calls (at_start_with reported first size max most limits) s run 0 [] at_first (omega (arith, few)) short
+      (at-start reported first size max most limits small))
 
   abbrev pub other : Session
   other = goes.other
@@ -216,8 +220,8 @@ module _ (reported : Reported) (first size max most : ℕ) (limits : Option Limi
   pub tells-so : EachSackTells s
   tells-so =
       let n = tsns_given_so (at_start_with reported first size max most limits) calls s run in
-      let i = step-of first size max most limits s.sending.sender s n (abandoned_so (at_start_with reported first size max most limits) calls s run)
-      (modes_from at_first (other_calls calls)) small few goes in
+      let i = step-of first (plain first size max most limits small) s.sending.sender s n (abandoned_so (at_start_with reported first size max most limits) calls s run)
+      (modes_from at_first (other_calls calls)) few goes in
       let kn = known_or none_dropped goes.other in
       let same = goes.shadow.receiving in
       each-sack-tells (base first) n s kn few (subst (λ (q : Stand). IsArrived (base first) n kn q.receiver.cumulative_tsn q.receiver.beyond) same i.arrived)

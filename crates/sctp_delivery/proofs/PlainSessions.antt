@@ -3,7 +3,7 @@ use Rattle.sctp_delivery.proofs.Names.{nat_tests, common_steps, ◌≡◌, ℕ, 
 use Rattle.sctp_delivery.proofs.Names.{append_assoc, Option, Some, None, Contains, ChunkPayloadData, Sack, Limits, OutboundStream, distance, Transmission, Call}
 use Rattle.sctp_delivery.proofs.Names.{Follows, ReceiverFollows, RunsTo, Session, IsReported, at_start, of_receiver, of_sender, abandoned_by, abandoned_in}
 use Rattle.sctp_delivery.proofs.Names.{tsns_given, Modes, at_first, modes_after, modes_from, SenderCall, SenderMakes, ReceiverCall, made_after, written_after}
-use Rattle.sctp_delivery.proofs.Names.{reports_after, Made, Write}
+use Rattle.sctp_delivery.proofs.Names.{reports_after, Made, Write, IsAccounted, Bool}
 use Rattle.sctp_delivery.specs.Session.{IsSent}
 use Rattle.sctp_delivery.specs.SenderCalls as outgoing
 use Rattle.sctp_delivery.specs.ReceiverCalls as incoming
@@ -15,7 +15,9 @@ use Rattle.sctp_delivery.proofs.OneRead.{given-then, no-way, run-then}
 use Rattle.sctp_delivery.proofs.Plain.{AreLike, IsBareSack}
 use Rattle.sctp_delivery.proofs.PlainFlights.{flight_with}
 use Rattle.sctp_delivery.proofs.PlainStreams.{AreAlike, bare}
-use Rattle.sctp_delivery.proofs.SackLaws.{IsInStep, in-step}
+use Rattle.sctp_delivery.proofs.SackLaws.{IsInStep, IsInStepBut, in-step}
+use Rattle.sctp_delivery.proofs.SackSteps.{none_dropped}
+use Rattle.sctp_delivery.proofs.Sessions.{accounted}
 use Rattle.sctp_delivery.proofs.Stands.{contains-more, sender-follows, sender_after}
 use Rattle.sctp_delivery.proofs.TsnPlaces.{base, tsn-small}
 
@@ -86,15 +88,15 @@ sent-too h0 h1 h2 h3 h4 = grind (arith, nat_tests, common_steps)
 
 module _ (first size max most : ℕ) (limits : Option Limits) where
   -- it is one that gives out so many TSNs, abandons these messages and has these modes
-  pub record Plays (d : Session) (n : ℕ) (gone : List ℕ) (m : Modes) : Type 0 where
+  pub record PlainPlays (d : Session) (n : ℕ) (gone : List ℕ) (m : Modes) : Type 0 where
     pub calls : List Call
     pub run : RunsTo (at_start first size max most limits) calls d
     pub given : tsns_given (at_start first size max most limits) calls d run ≡ n
     pub left : abandoned_in (at_start first size max most limits) calls d run ≡ gone
     pub said : modes_from at_first calls ≡ m
 
-  plays-then : (d e : Session) (n : ℕ) (gone : List ℕ) (m : Modes) → Plays d n gone m → (c : Call) → Follows c d e
-      → Plays e (n + distance (next_tsn d) (next_tsn e)) (gone ++ gone_by c d) (modes_by c m)
+  pub plays-then : (d e : Session) (n : ℕ) (gone : List ℕ) (m : Modes) → PlainPlays d n gone m → (c : Call) → Follows c d e
+      → PlainPlays e (n + distance (next_tsn d) (next_tsn e)) (gone ++ gone_by c d) (modes_by c m)
   plays-then d e n gone m p c f =
       let start = at_start first size max most limits in
       record {
@@ -105,23 +107,42 @@ module _ (first size max most : ℕ) (limits : Option Limits) where
         said = modes-then p.calls c at_first ∙ ap (modes_by c) p.said;
       }
 
+-- sessions of a sender that keeps nothing, and what is so of each that gives out so many TSNs, abandons these messages and has these modes
+pub record Others (first : ℕ) : Type 1 where
+  pub dropped : ℕ → Bool
+  pub Plays : Session → ℕ → List ℕ → Modes → Type 0
+  pub onward : (d e : Session) (n : ℕ) (gone : List ℕ) (m : Modes) → Plays d n gone m → (c : Call) → Follows c d e
+      → Plays e (n + distance (next_tsn d) (next_tsn e)) (gone ++ gone_by c d) (modes_by c m)
+  pub step : (d : Session) (n : ℕ) (gone : List ℕ) (m : Modes) → n < 2 ^ 31 → Plays d n gone m → IsInStepBut dropped (base first) n d
+  pub accounted : (d : Session) (n : ℕ) (gone : List ℕ) (m : Modes) → n < 2 ^ 31 → Plays d n gone m → IsAccounted d
+
+-- those without any other calls
+abbrev pub plain : (first size max most : ℕ) (limits : Option Limits) → first < 2 ^ 32 → Others first
+plain first size max most limits small = record {
+  dropped = none_dropped;
+  Plays = PlainPlays first size max most limits;
+  onward = plays-then first size max most limits;
+  step = λ d n gone m few p.
+      subst (λ k. IsInStep (base first) k d) p.given
+      (in-step first size max most limits p.calls d p.run small (let e = p.given in omega (arith, e, few)));
+  accounted = λ d n gone m few p. accounted first size max most limits p.calls d p.run;
+}
+
+module _ (first : ℕ) (others : Others first) where
   -- such a session, where the first one has come to this
   pub record Goes (t : Transmission) (s : Session) (n : ℕ) (gone : List ℕ) (m : Modes) : Type 0 where
     pub other : Session
     pub shadow : Shadows t s other
-    pub plays : Plays other n gone m
+    pub plays : others.Plays other n gone m
 
-  abbrev pub step-of : (t : Transmission) (s : Session) (n : ℕ) (gone : List ℕ) (m : Modes) → first < 2 ^ 32 → n < 2 ^ 31 → (g : Goes t s n gone m)
-      → IsInStep (base first) n g.other
-  step-of t s n gone m small few g =
-      let p = g.plays in
-      subst (λ k. IsInStep (base first) k g.other) p.given
-      (in-step first size max most limits p.calls g.other p.run small (let e = p.given in omega (arith, e, few)))
+  abbrev pub step-of : (t : Transmission) (s : Session) (n : ℕ) (gone : List ℕ) (m : Modes) → n < 2 ^ 31 → (g : Goes t s n gone m)
+      → IsInStepBut others.dropped (base first) n g.other
+  step-of t s n gone m few g = others.step g.other n gone m few g.plays
 
-  pub small-next : (t : Transmission) (s : Session) (n : ℕ) (gone : List ℕ) (m : Modes) → first < 2 ^ 32 → n < 2 ^ 31 → (g : Goes t s n gone m)
+  pub small-next : (t : Transmission) (s : Session) (n : ℕ) (gone : List ℕ) (m : Modes) → n < 2 ^ 31 → (g : Goes t s n gone m)
       → t.flight.next_tsn < 2 ^ 32
-  small-next t s n gone m small few g =
-      let i = step-of t s n gone m small few g in
+  small-next t s n gone m few g =
+      let i = step-of t s n gone m few g in
       let is = i.numbered.next_is in
       let near = tsn-small (base first) (n + 1) in
       let same : next_tsn g.other ≡ t.flight.next_tsn = ap (λ (u : Transmission). u.flight.next_tsn) g.shadow.sender in
@@ -147,7 +168,7 @@ module _ (first size max most : ℕ) (limits : Option Limits) where
         let d = g.other in
         let e = sender_after c d (as_plain u ls ds) in
         let f = sender-follows c d (as_plain u ls ds) (subst (λ y. SenderMakes c y (as_plain u ls ds)) (sym x.sender) makes) handed in
-        let p = plays-then d e n gone m g.plays (of_sender c) f in
+        let p = others.onward d e n gone m g.plays (of_sender c) f in
         let far : distance (next_tsn d) (next_tsn e) ≡ distance t.flight.next_tsn u.flight.next_tsn =
         ap (λ (y : Transmission). distance y.flight.next_tsn u.flight.next_tsn) x.sender in
         let lost : gone_by (of_sender c) d ≡ abandoned_by call t = ap (abandoned_by c) x.sender ∙ same-gone in
@@ -164,13 +185,10 @@ module _ (first size max most : ℕ) (limits : Option Limits) where
             written = same-written d.written ∙ ap (written_after call) x.written ∙ sym wrote;
             sacks = subst (Every (IsThere d.sacks)) (sym reported) x.sacks;
           };
-          plays = record {
-            calls = p.calls;
-            run = p.run;
-            given = p.given ∙ ap (λ k. n + k) far;
-            left = p.left ∙ ap (λ xs. gone ++ xs) lost;
-            said = p.said ∙ same-modes;
-          };
+          plays =
+              subst (λ k. others.Plays e (n + k) (gone ++ abandoned_by call t) (modes_after call m)) far
+              (subst (λ xs. others.Plays e (n + distance (next_tsn d) (next_tsn e)) (gone ++ xs) (modes_after call m)) lost
+              (subst (others.Plays e (n + distance (next_tsn d) (next_tsn e)) (gone ++ gone_by (of_sender c) d)) same-modes p));
         }
 
     -- none
@@ -199,9 +217,9 @@ module _ (first size max most : ℕ) (limits : Option Limits) where
   there-after h0 h1 h2 h3 h4 = grind (arith, nat_tests, common_steps, there-new, there-more)
 
   -- the receiver makes the same, and before it a SACK without blocks
-  pub receives-too : (call : ReceiverCall) (s v : Session) (n : ℕ) (gone : List ℕ) (m : Modes) → first < 2 ^ 32 → n < 2 ^ 31
+  pub receives-too : (call : ReceiverCall) (s v : Session) (n : ℕ) (gone : List ℕ) (m : Modes) → n < 2 ^ 31
       → Goes s.sending.sender s n gone m → ReceiverFollows call s v → Goes v.sending.sender v n gone m
-  receives-too call s v n gone m small few g f =
+  receives-too call s v n gone m few g f =
       let x = g.shadow in
       let d = g.other in
       let r = d.receiving.receiver in
@@ -223,10 +241,10 @@ module _ (first size max most : ℕ) (limits : Option Limits) where
       } in
       let near : next_tsn d < 2 ^ 32 =
       let same : next_tsn d ≡ s.sending.sender.flight.next_tsn = ap (λ (u : Transmission). u.flight.next_tsn) x.sender in
-      let a = small-next s.sending.sender s n gone m small few g in omega (arith, same, a) in
+      let a = small-next s.sending.sender s n gone m few g in omega (arith, same, a) in
       let zero = no-way (next_tsn d) near in
-      let p = plays-then e w (n + distance (next_tsn d) (next_tsn e))
-      (gone ++ []) m (plays-then d e n gone m g.plays (of_receiver (incoming.makes_sack 0 0)) one)
+      let p = others.onward e w (n + distance (next_tsn d) (next_tsn e))
+      (gone ++ []) m (others.onward d e n gone m g.plays (of_receiver (incoming.makes_sack 0 0)) one)
       (of_receiver call) two in
       let still : v.sending ≡ s.sending = ap (λ (y : Session). y.sending) f.after in
       record {
@@ -244,11 +262,9 @@ module _ (first size max most : ℕ) (limits : Option Limits) where
               (ap (λ (y : receiver_runs.Stand). reports_after call y.receiver s.sacks) x.receiving ∙ sym (ap (λ (y : Session). y.sacks) f.after))
               (there-after call r d.sacks s.sacks x.sacks);
         };
-        plays = record {
-          calls = p.calls;
-          run = p.run;
-          given = p.given ∙ (let z : n + distance (next_tsn d) (next_tsn e) + distance (next_tsn e) (next_tsn w) ≡ n = omega (arith, zero) in z);
-          left = p.left ∙ append-nil (gone ++ []) ∙ append-nil gone;
-          said = p.said;
-        };
+        plays =
+            subst (λ k. others.Plays w k gone m)
+            {x = n + distance (next_tsn d) (next_tsn e) + distance (next_tsn e) (next_tsn w)} {y = n} (omega (arith, zero))
+            (subst (λ xs. others.Plays w (n + distance (next_tsn d) (next_tsn e) + distance (next_tsn e) (next_tsn w)) xs m)
+            (append-nil (gone ++ []) ∙ append-nil gone) p);
       }

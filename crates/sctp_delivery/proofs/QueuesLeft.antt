@@ -19,6 +19,7 @@ use Rattle.sctp_delivery.proofs.Continued.{left-continued, sent-continued, facts
 use Rattle.sctp_delivery.proofs.ValidMarks.{IsUnmarked, started-valid}
 use Rattle.sctp_sender.proofs.InLine.{put-behind}
 use Rattle.sctp_delivery.specs.SenderCalls as outgoing
+use Rattle.sctp_delivery.proofs.Cases.{all_streams}
 use Rattle.sctp_delivery.proofs.Every.{Every, every-contained}
 use Rattle.sctp_delivery.proofs.GivenTsns.{IsNumbered}
 use Rattle.sctp_delivery.proofs.Queues.{Stands, abandoned, started}
@@ -308,7 +309,7 @@ gone-each ws first number (t ∷ ts) f sent s place =
     let o = message_to_abandon t f in
     let partial = found-partial f.queue s.sendable t (find (has_tsn t) f.queue.inflight.chunks) refl in
     let a = abandoned-goes f.queue f.next_tsn s.sendable o partial place in
-    let b = abandoned ws first number f.queue f.next_tsn sent s o partial in
+    let b = abandoned all_streams ws first number f.queue f.next_tsn sent s o partial in
     goes-then f.queue (abandoned_at t f).queue (abandoned_each ts (abandoned_at t f)).queue a.goes
     (gone-each ws first number ts (abandoned_at t f) b.more b.stands a.place)
 
@@ -337,7 +338,7 @@ module _ (p n : ℕ) (old new : Session) (few : n < 2 ^ 31) (h : IsNumbered p n 
   sends now =
       let q = all_started now queue in
       let next = old.sending.sender.flight.next_tsn in
-      let s = started ws first (λ st. number_of st old.sending.sender.streams) now queue next sent held.stands in
+      let s = started all_streams ws first (λ st. number_of st old.sending.sender.streams) now queue next sent held.stands in
       let w = started-valid _ _ now queue v in
       goes-then queue q (sent_next queue next now) (started-goes now queue)
       (sent-goes q next now s.sendable (subst (λ (i : payload.Payload). CanPut i.chunks next) (sym (started-inflight now queue)) place)

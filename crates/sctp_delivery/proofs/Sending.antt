@@ -1,25 +1,34 @@
 -- A fragment is sent: it goes on where the last entry ends, and what waits behind it goes on with it.
 use Rattle.sctp_delivery.proofs.Names.{◌≡◌, ℕ, ◌+◌, ◌%◌, ◌^◌, ◌≤◌, Bool, true, false, not, List, [], ◌∷◌, length, Option, Some, None, slice_get, inl, inr, refl}
 use Rattle.sctp_delivery.proofs.Names.{ap, sym, subst, ◌∙◌, arith, ⊤, ◌==◌, if◌then◌else◌, none-some, nat_tests, some-same, same-yes, and, not_both}
-use Rattle.sctp_delivery.proofs.Names.{ChunkPayloadData, data_of, Selected, as_sent, Pending, list_to_pop, next_pending, rest_after, rest_from, selected_after}
+use Rattle.sctp_delivery.proofs.Names.{ChunkPayloadData, Data, data_of, Selected, as_sent, Pending, list_to_pop, next_pending, rest_after, rest_from, selected_after}
 use Rattle.sctp_delivery.proofs.Names.{IsSendable, IsWhole, begun, free, made}
 use Rattle.std.proofs.Common.{◌⊎◌}
-use Rattle.sctp_delivery.proofs.OrderedEntries.{AreIndexed, AreJoined, AreRanked, AreRising, IsIndexed, IsOpen, IsUnder, Joins, begins-inner, begins-ordered}
+use Rattle.sctp_delivery.proofs.Cases.{Where, all_streams, where-map, where-yes}
+use Rattle.sctp_delivery.proofs.OrderedEntries.{AreIndexedOn, AreJoined, AreRanked, AreRising, IsIndexed, IsOpen, IsUnder, Joins, begins-inner, begins-ordered}
 use Rattle.sctp_delivery.proofs.OrderedEntries.{begins-unordered, begins_on, begun_on, one, ranked-ordered, ranked-unordered, under-more}
-use Rattle.sctp_delivery.proofs.Sent.{AreApart, Entry, Fits, GoesOn, IsLine, Numbered, fragment, terminal}
+use Rattle.sctp_delivery.proofs.Sent.{Entry, Fits, GoesOn, IsLine, Numbered, fragment, terminal}
 use Rattle.sctp_delivery.proofs.Waiting.{Goes, Place, Waits, between, inside, nowhere, place_after, place_of, within}
-use Rattle.sctp_delivery.proofs.Turns.{IsAfter, Turns, counts, inner-not, number_after}
+use Rattle.sctp_delivery.proofs.Turns.{Turns, counts, number_after}
 
--- what got TSNs, from the first one on, and what waits behind it: fragments of these writes, where the next write on a stream has this number
-pub record Queued (ws : List Numbered) (first : ℕ) (number : ℕ → ℕ) (q : Pending) (sent : List Entry) : Type 0 where
+-- the number of the first message of the stream that waits, up to this one of the next write: so many were begun
+abbrev pub IsTurn : ℕ → List ChunkPayloadData → ℕ → List Entry → Type 0
+IsTurn s os next sent = (n : ℕ) × (Turns s os n next × (n ≡ begun_on s sent % 2 ^ 16))
+
+-- what got TSNs, from the first one on, and what waits behind it: fragments of these writes, where the next write on a stream has this
+-- number. Of numbers that is so on these streams
+pub record QueuedOn (on : ℕ → Bool) (ws : List Numbered) (first : ℕ) (number : ℕ → ℕ) (q : Pending) (sent : List Entry) : Type 0 where
   pub line : IsLine ws first sent
   pub ordered : Waits ws q.ordered (place_of false q.selected sent)
   pub unordered : Waits ws q.unordered (place_of true q.selected sent)
-  pub turns : (s : ℕ) → (n : ℕ) × (Turns s q.ordered n (number s) × IsAfter s n sent × (n ≡ begun_on s sent % 2 ^ 16))
-  pub indexed : AreIndexed sent
+  pub turns : (s : ℕ) → Where (on s) (IsTurn s q.ordered (number s) sent)
+  pub indexed : AreIndexedOn on sent
   pub ranked : AreRanked ws q.ordered sent
   pub joined : AreJoined sent
   pub open' : IsOpen sent q.selected
+
+abbrev pub Queued : List Numbered → ℕ → (ℕ → ℕ) → Pending → List Entry → Type 0
+Queued ws first number q sent = QueuedOn all_streams ws first number q sent
 
 -- ## The places
 
@@ -61,22 +70,9 @@ module _ (c : ChunkPayloadData) (tsn now : ℕ) (w : Numbered) (after : List ℕ
   abbrev Starts : Type 0
   Starts = (c.beginning_fragment ≡ true) ⊎ ((m : ℕ) × Goes (inside m sent) c w after)
 
-  -- it is told apart from the last entry, where it begins a message
-  abbrev IsNew : List Entry → Type 0
-  IsNew [] = ⊤
-  IsNew (terminal ∷ xs) = ⊤
-  IsNew (fragment e v rest ∷ xs) = AreApart (data_of (as_sent tsn now c)) e
-
-  goes-behind : (xs : List Entry) → (c.beginning_fragment ≡ true → IsNew xs) → (c.beginning_fragment ≡ true) ⊎ ((m : ℕ) × Goes (inside m xs) c w after)
+  goes-behind : (xs : List Entry) → (c.beginning_fragment ≡ true) ⊎ ((m : ℕ) × Goes (inside m xs) c w after)
       → GoesOn (data_of (as_sent tsn now c)) w after xs
-  goes-behind xs h2 h3 = grind (arith, nat_tests, not_both)
-
-  -- a number that is the next one is another one
-  new-number : (s n : ℕ) → c.stream_identifier ≡ s → c.stream_sequence_number ≡ n → (xs : List Entry) → IsAfter s n xs → IsNew xs
-  new-number s n h3 h4 xs h6 = grind (arith, nat_tests)
-
-  new-unordered : c.unordered ≡ true → (xs : List Entry) → IsNew xs
-  new-unordered h1 xs = grind (arith, nat_tests, not_both)
+  goes-behind xs h = grind (arith, nat_tests, not_both)
 
   -- ## Messages
 
@@ -104,20 +100,27 @@ module _ (c : ChunkPayloadData) (tsn now : ℕ) (w : Numbered) (after : List ℕ
 
   -- ## Numbers
 
-  -- the number after the chunk, where it begins a message
-  after-first : (s n : ℕ) → (counts s c ≡ true → c.stream_sequence_number ≡ n) → c.beginning_fragment ≡ true → c.stream_identifier ≡ s
-      → (c.stream_sequence_number + 1) % 2 ^ 16 ≡ number_after (counts s c) n
-  after-first s n is b on = grind (arith, nat_tests, and, same-yes)
-
-  -- and where it goes on
-  after-inner : (ws : List Numbered) (first s n m : ℕ) (xs : List Entry) → Fits ws c.tsn (data_of c) w after → IsLine ws first xs → IsAfter s n xs
-      → Goes (inside m xs) c w after → c.unordered ≡ false → c.stream_identifier ≡ s → (c.stream_sequence_number + 1) % 2 ^ 16 ≡ number_after (counts s c) n
-  after-inner ws first s n m xs h7 h8 h9 h10 h11 h12 = grind (arith, nat_tests, inner-not)
-
   -- one that goes on has the number of the last entry, and its place
-  index-inner : (ws : List Numbered) (first m : ℕ) (xs : List Entry) → Fits ws c.tsn (data_of c) w after → IsLine ws first xs → AreIndexed xs
-      → Goes (inside m xs) c w after → IsIndexed (data_of (as_sent tsn now c)) xs
-  index-inner ws first m xs h5 h6 h7 h8 = grind (arith, nat_tests, begins-inner)
+  index-inner : (on : ℕ → Bool) (ws : List Numbered) (first m : ℕ) (xs : List Entry) → Fits ws c.tsn (data_of c) w after → IsLine ws first xs
+      → AreIndexedOn on xs → Goes (inside m xs) c w after → Where (on c.stream_identifier) (IsIndexed (data_of (as_sent tsn now c)) xs)
+  index-inner on ws first m [] fits line i g = absurd g
+  index-inner on ws first m (terminal ∷ xs) fits line i g = absurd g
+  index-inner on ws first m (fragment e v rest ∷ xs) fits line i g =
+      subst (λ s. Where (on s) (IsIndexed d (fragment e v rest ∷ xs))) (sym same)
+      (where-map (on e.stream_identifier) (IsIndexed e xs) (IsIndexed d (fragment e v rest ∷ xs)) next i.0)
+    where
+      d : Data
+      d = data_of (as_sent tsn now c)
+
+      same : c.stream_identifier ≡ e.stream_identifier
+      same = fits.stream ∙ ap (λ (x : Numbered). x.stream) g.write ∙ sym line.0.stream
+
+      next : IsIndexed e xs → IsIndexed d (fragment e v rest ∷ xs)
+      next j k =
+          let x = j (sym g.same_kind ∙ k) in
+          let none = ap one (begins-inner c.stream_identifier d g.inner) in
+          let all = subst (λ s. x.0 + 1 ≡ one (begins_on s e) + begun_on s xs) (sym same) x.1 in
+          (x.0, omega (arith, all, none), g.same_number ∙ x.2)
 
   under-inner : (m : ℕ) (xs : List Entry) → c.unordered ≡ false → AreRising xs → Goes (inside m xs) c w after → IsUnder w.place xs
   under-inner m xs h3 h4 h5 = grind (arith, nat_tests)
@@ -130,27 +133,23 @@ module _ (c : ChunkPayloadData) (tsn now : ℕ) (w : Numbered) (after : List ℕ
   begun-next n m true e = omega (arith, e)
   begun-next n m false e = omega (arith, e)
 
-  -- an unordered one counts nowhere
-  after-unordered : (s n : ℕ) (xs : List Entry) → c.unordered ≡ true → IsAfter s n (sent_entry ∷ xs)
-  after-unordered s n xs k = λ dk on. absurd (not_both (sym dk ∙ k))
-
 -- ## The queue behind it
 
 -- the entry of a chunk that is sent, and what is queued behind it
-abbrev pub SendsOn : List Numbered → ℕ → (ℕ → ℕ) → Pending → List Entry → ChunkPayloadData → ℕ → ℕ → Type 0
-SendsOn ws first number q sent c tsn now =
+abbrev pub SendsOn : (ℕ → Bool) → List Numbered → ℕ → (ℕ → ℕ) → Pending → List Entry → ChunkPayloadData → ℕ → ℕ → Type 0
+SendsOn on ws first number q sent c tsn now =
     (w : Numbered) × (after : List ℕ)
-    × (Queued ws first number (rest_after c.beginning_fragment c.unordered q) (fragment (data_of (as_sent tsn now c)) w after ∷ sent)
+    × (QueuedOn on ws first number (rest_after c.beginning_fragment c.unordered q) (fragment (data_of (as_sent tsn now c)) w after ∷ sent)
     × (w.place ≡ c.message_id))
 
-module _ (ws : List Numbered) (first : ℕ) (number : ℕ → ℕ) (sent : List Entry) (tsn now : ℕ) (next : tsn ≡ (first + length sent) % 2 ^ 32) (ro ru : ℕ)
-    (c : ChunkPayloadData) where
+module _ (on : ℕ → Bool) (ws : List Numbered) (first : ℕ) (number : ℕ → ℕ) (sent : List Entry) (tsn now : ℕ)
+    (next : tsn ≡ (first + length sent) % 2 ^ 32) (ro ru : ℕ) (c : ChunkPayloadData) where
   in-line : (w : Numbered) (after : List ℕ) → Fits ws c.tsn (data_of c) w after → GoesOn (data_of (as_sent tsn now c)) w after sent → IsLine ws first sent
       → IsLine ws first (fragment (data_of (as_sent tsn now c)) w after ∷ sent)
   in-line w after f g l = (subst (λ k. Fits ws k (data_of (as_sent tsn now c)) w after) next (fits-sent c tsn now w after sent ws f), (g, l))
 
   from-ordered : (sel : Option Selected) (os us : List ChunkPayloadData) → list_to_pop sel c.beginning_fragment c.unordered ≡ Some false → c.unordered ≡ false
-      → OnTurn sel false c → Queued ws first number (made (c ∷ os) us sel ro ru) sent → SendsOn ws first number (made (c ∷ os) us sel ro ru) sent c tsn now
+      → OnTurn sel false c → QueuedOn on ws first number (made (c ∷ os) us sel ro ru) sent → SendsOn on ws first number (made (c ∷ os) us sel ro ru) sent c tsn now
   from-ordered sel os us pops kind turn q =
       let w = q.ordered.0 in
       let after = q.ordered.1 in
@@ -158,13 +157,14 @@ module _ (ws : List Numbered) (first : ℕ) (number : ℕ → ℕ) (sent : List 
         w,
         after,
         (
-          subst (λ k. Queued ws first number (rest_from k (made (c ∷ os) us sel ro ru)) (fragment (data_of (as_sent tsn now c)) w after ∷ sent)) (sym pops)
+          subst (λ k. QueuedOn on ws first number (rest_from k (made (c ∷ os) us sel ro ru)) (fragment (data_of (as_sent tsn now c)) w after ∷ sent)) (sym pops)
               (record {
-                line = in-line w after fits (goes-behind c tsn now w after sent sent new start) q.line;
+                line = in-line w after fits (goes-behind c tsn now w after sent sent start) q.line;
                 ordered = subst (Waits ws os) (sym (own-place c tsn now w after sent false sel turn)) q.ordered.2.1.1;
                 unordered = subst (Waits ws us)
                     (sym (other-place c tsn now w after sent false sel (fragment (data_of (as_sent tsn now c)) w after ∷ sent) turn)) q.unordered;
-                turns = λ s. (number_after (counts s c) (q.turns s).0, ((q.turns s).1.0.1, (λ dk on. numbered s on start), begun-so s));
+                turns = λ s. where-map (on s) (IsTurn s (c ∷ os) (number s) sent) (IsTurn s os (number s) (entry ∷ sent))
+                    (λ t. (number_after (counts s c) t.0, (t.1.0.1, begun-so s t.0 t.1.1))) (q.turns s);
                 indexed = (index start, q.indexed);
                 ranked = ranked-ordered (data_of (as_sent tsn now c)) w after ws c os sent q.ranked (under start) (at-most start)
                     (λ s. begins-ordered s (data_of (as_sent tsn now c)) kind);
@@ -185,18 +185,27 @@ module _ (ws : List Numbered) (first : ℕ) (number : ℕ → ℕ) (sent : List 
       start : Starts c tsn now q.ordered.0 q.ordered.1 sent
       start = starts sel turn q.ordered.2.1.0
 
-      begun-so : (s : ℕ) → number_after (counts s c) (q.turns s).0 ≡ (one (begins_on s (data_of (as_sent tsn now c))) + begun_on s sent) % 2 ^ 16
-      begun-so s = grind (arith, nat_tests, begins-ordered, begun-next)
+      d : Data
+      d = data_of (as_sent tsn now c)
+
+      entry : Entry
+      entry = fragment (data_of (as_sent tsn now c)) q.ordered.0 q.ordered.1
+
+      begun-so : (s n : ℕ) → n ≡ begun_on s sent % 2 ^ 16 → number_after (counts s c) n ≡ (one (begins_on s d) + begun_on s sent) % 2 ^ 16
+      begun-so s n e =
+          begun-next c tsn now q.ordered.0 q.ordered.1 sent n (begun_on s sent) (counts s c) e
+          ∙ ap (λ b. (one b + begun_on s sent) % 2 ^ 16) (sym (begins-ordered s d kind))
 
       counted : c.beginning_fragment ≡ true → counts c.stream_identifier c ≡ true
       counted b = and (c.stream_identifier == c.stream_identifier) c.beginning_fragment (same-yes c.stream_identifier) b
 
-      index : Starts c tsn now q.ordered.0 q.ordered.1 sent → IsIndexed (data_of (as_sent tsn now c)) sent
-      index (inl b) = λ k.
-          let t = q.turns c.stream_identifier in
-          let z = ap one (begins-ordered c.stream_identifier (data_of (as_sent tsn now c)) kind ∙ counted b) in
-          (begun_on c.stream_identifier sent, omega (arith, z), t.1.0.0 (counted b) ∙ t.1.2)
-      index (inr g) = index-inner c tsn now q.ordered.0 q.ordered.1 sent ws first g.0 sent q.ordered.2.0 q.line q.indexed g.1
+      index : Starts c tsn now q.ordered.0 q.ordered.1 sent → Where (on c.stream_identifier) (IsIndexed d sent)
+      index (inl b) =
+          let st = c.stream_identifier in
+          let z = ap one (begins-ordered st d kind ∙ counted b) in
+          where-map (on st) (IsTurn st (c ∷ os) (number st) sent) (IsIndexed d sent)
+          (λ t k. (begun_on st sent, omega (arith, z), t.1.0.0 (counted b) ∙ t.1.1)) (q.turns st)
+      index (inr g) = index-inner c tsn now q.ordered.0 q.ordered.1 sent on ws first g.0 sent q.ordered.2.0 q.line q.indexed g.1
 
       at-most : Starts c tsn now q.ordered.0 q.ordered.1 sent → q.ordered.0.place ≤ c.message_id
       at-most h1 = grind (arith, nat_tests, place-inner, placed)
@@ -204,19 +213,8 @@ module _ (ws : List Numbered) (first : ℕ) (number : ℕ → ℕ) (sent : List 
       under : Starts c tsn now q.ordered.0 q.ordered.1 sent → IsUnder q.ordered.0.place sent
       under h1 = grind (arith, nat_tests, placed, under-inner, under-more)
 
-      new : c.beginning_fragment ≡ true → IsNew c tsn now q.ordered.0 q.ordered.1 sent sent
-      new b =
-          let t = q.turns c.stream_identifier in
-          let it : counts c.stream_identifier c ≡ true =
-          and (c.stream_identifier == c.stream_identifier) c.beginning_fragment (same-yes c.stream_identifier) b in
-          new-number c tsn now q.ordered.0 q.ordered.1 sent c.stream_identifier t.0 refl (t.1.0.0 it) sent t.1.1
-
-      numbered : (s : ℕ) → c.stream_identifier ≡ s → Starts c tsn now q.ordered.0 q.ordered.1 sent
-          → (c.stream_sequence_number + 1) % 2 ^ 16 ≡ number_after (counts s c) (q.turns s).0
-      numbered s h2 h3 = grind (arith, nat_tests, after-first, after-inner)
-
   from-unordered : (sel : Option Selected) (os us : List ChunkPayloadData) → list_to_pop sel c.beginning_fragment c.unordered ≡ Some true → c.unordered ≡ true
-      → OnTurn sel true c → Queued ws first number (made os (c ∷ us) sel ro ru) sent → SendsOn ws first number (made os (c ∷ us) sel ro ru) sent c tsn now
+      → OnTurn sel true c → QueuedOn on ws first number (made os (c ∷ us) sel ro ru) sent → SendsOn on ws first number (made os (c ∷ us) sel ro ru) sent c tsn now
   from-unordered sel os us pops kind turn q =
       let w = q.unordered.0 in
       let after = q.unordered.1 in
@@ -224,16 +222,16 @@ module _ (ws : List Numbered) (first : ℕ) (number : ℕ → ℕ) (sent : List 
         w,
         after,
         (
-          subst (λ k. Queued ws first number (rest_from k (made os (c ∷ us) sel ro ru)) (fragment (data_of (as_sent tsn now c)) w after ∷ sent)) (sym pops)
+          subst (λ k. QueuedOn on ws first number (rest_from k (made os (c ∷ us) sel ro ru)) (fragment (data_of (as_sent tsn now c)) w after ∷ sent)) (sym pops)
               (record {
-                line = in-line w after fits
-                    (goes-behind c tsn now w after sent sent (λ b. new-unordered c tsn now w after sent kind sent) (starts sel turn q.unordered.2.1.0)) q.line;
+                line = in-line w after fits (goes-behind c tsn now w after sent sent (starts sel turn q.unordered.2.1.0)) q.line;
                 ordered =
                     subst (Waits ws os)
                     (sym (other-place c tsn now w after sent true sel (fragment (data_of (as_sent tsn now c)) w after ∷ sent) turn)) q.ordered;
                 unordered = subst (Waits ws us) (sym (own-place c tsn now w after sent true sel turn)) q.unordered.2.1.1;
-                turns = λ s. ((q.turns s).0, ((q.turns s).1.0, after-unordered c tsn now w after sent s (q.turns s).0 sent kind, begun-so s));
-                indexed = ((λ k. absurd (not_both (sym k ∙ kind))), q.indexed);
+                turns = λ s. where-map (on s) (IsTurn s os (number s) sent) (IsTurn s os (number s) (fragment d w after ∷ sent))
+                    (λ t. (t.0, (t.1.0, begun-so s t.0 t.1.1))) (q.turns s);
+                indexed = (where-yes (on c.stream_identifier) (IsIndexed d sent) (λ _ k. absurd (not_both (sym k ∙ kind))), q.indexed);
                 ranked = ranked-unordered (data_of (as_sent tsn now c)) w after ws os sent kind q.ranked;
                 joined = (joins-sent c tsn now w after sent ws first true sel turn fits q.line q.open' q.unordered.2.1.0, q.joined);
                 open' = stays-open c tsn now w after sent true sel turn own;
@@ -250,53 +248,56 @@ module _ (ws : List Numbered) (first : ℕ) (number : ℕ → ℕ) (sent : List 
       starts None t g = inl g.0
       starts (Some s) t g = inr (s.message_id, subst (λ b. Goes (if b then inside s.message_id sent else between) c q.unordered.0 q.unordered.1) t.0 g)
 
-      begun-so : (s : ℕ) → (q.turns s).0 ≡ (one (begins_on s (data_of (as_sent tsn now c))) + begun_on s sent) % 2 ^ 16
-      begun-so s = let z = ap one (begins-unordered s (data_of (as_sent tsn now c)) kind) in let e = (q.turns s).1.2 in omega (arith, z, e)
+      d : Data
+      d = data_of (as_sent tsn now c)
+
+      begun-so : (s n : ℕ) → n ≡ begun_on s sent % 2 ^ 16 → n ≡ (one (begins_on s d) + begun_on s sent) % 2 ^ 16
+      begun-so s n e = let z = ap one (begins-unordered s d kind) in omega (arith, z, e)
 
   -- what is next is sent
   pub queued-sent : (sel : Option Selected) (os us xs : List ChunkPayloadData) (n : ℕ) → IsSendable (made os us sel ro ru) xs n
-      → next_pending (made os us sel ro ru) ≡ Some c → Queued ws first number (made os us sel ro ru) sent
-      → SendsOn ws first number (made os us sel ro ru) sent c tsn now
+      → next_pending (made os us sel ro ru) ≡ Some c → QueuedOn on ws first number (made os us sel ro ru) sent
+      → SendsOn on ws first number (made os us sel ro ru) sent c tsn now
   queued-sent None os (u ∷ us) xs n k e q = at u (some-same e) k.unordered q
     where
-      at : (x : ChunkPayloadData) → x ≡ c → IsWhole true n (free 0) (x ∷ us) → Queued ws first number (made os (x ∷ us) None ro ru) sent
-          → SendsOn ws first number (made os (x ∷ us) None ro ru) sent c tsn now
+      at : (x : ChunkPayloadData) → x ≡ c → IsWhole true n (free 0) (x ∷ us) → QueuedOn on ws first number (made os (x ∷ us) None ro ru) sent
+          → SendsOn on ws first number (made os (x ∷ us) None ro ru) sent c tsn now
       at x same v r =
           let whole = subst (λ y. IsWhole true n (free 0) (y ∷ us)) same v in
-          subst (λ y. SendsOn ws first number (made os (y ∷ us) None ro ru) sent c tsn now) (sym same)
+          subst (λ y. SendsOn on ws first number (made os (y ∷ us) None ro ru) sent c tsn now) (sym same)
           (from-unordered None os us (ap (λ b. if b then Some c.unordered else None) whole.0.0
-          ∙ ap Some whole.1) whole.1 tt (subst (λ y. Queued ws first number (made os (y ∷ us) None ro ru) sent) same r))
+          ∙ ap Some whole.1) whole.1 tt (subst (λ y. QueuedOn on ws first number (made os (y ∷ us) None ro ru) sent) same r))
   queued-sent None (o ∷ os) [] xs n k e q = at o (some-same e) k.ordered q
     where
-      at : (x : ChunkPayloadData) → x ≡ c → IsWhole false n (free 0) (x ∷ os) → Queued ws first number (made (x ∷ os) [] None ro ru) sent
-          → SendsOn ws first number (made (x ∷ os) [] None ro ru) sent c tsn now
+      at : (x : ChunkPayloadData) → x ≡ c → IsWhole false n (free 0) (x ∷ os) → QueuedOn on ws first number (made (x ∷ os) [] None ro ru) sent
+          → SendsOn on ws first number (made (x ∷ os) [] None ro ru) sent c tsn now
       at x same v r =
           let whole = subst (λ y. IsWhole false n (free 0) (y ∷ os)) same v in
-          subst (λ y. SendsOn ws first number (made (y ∷ os) [] None ro ru) sent c tsn now) (sym same)
+          subst (λ y. SendsOn on ws first number (made (y ∷ os) [] None ro ru) sent c tsn now) (sym same)
           (from-ordered None os [] (ap (λ b. if b then Some c.unordered else None) whole.0.0
-          ∙ ap Some whole.1) whole.1 tt (subst (λ y. Queued ws first number (made (y ∷ os) [] None ro ru) sent) same r))
+          ∙ ap Some whole.1) whole.1 tt (subst (λ y. QueuedOn on ws first number (made (y ∷ os) [] None ro ru) sent) same r))
   queued-sent None [] [] xs n k e q = absurd (none-some c e)
   queued-sent (Some s) os us xs n k e q = by s.unordered refl
     where
       unordered : s.unordered ≡ true → (us : List ChunkPayloadData) → IsWhole true n (begun s.message_id) us → slice_get us 0 ≡ Some c
-          → Queued ws first number (made os us (Some s) ro ru) sent → SendsOn ws first number (made os us (Some s) ro ru) sent c tsn now
+          → QueuedOn on ws first number (made os us (Some s) ro ru) sent → SendsOn on ws first number (made os us (Some s) ro ru) sent c tsn now
       unordered h [] v f r = absurd v
       unordered h (u ∷ us) v f r =
           let same : u ≡ c = some-same f in
           let whole = subst (λ y. IsWhole true n (begun s.message_id) (y ∷ us)) same v in
-          subst (λ y. SendsOn ws first number (made os (y ∷ us) (Some s) ro ru) sent c tsn now) (sym same)
-          (from-unordered (Some s) os us (ap Some h) whole.1 (h, whole.0.1) (subst (λ y. Queued ws first number (made os (y ∷ us) (Some s) ro ru) sent) same r))
+          subst (λ y. SendsOn on ws first number (made os (y ∷ us) (Some s) ro ru) sent c tsn now) (sym same)
+          (from-unordered (Some s) os us (ap Some h) whole.1 (h, whole.0.1) (subst (λ y. QueuedOn on ws first number (made os (y ∷ us) (Some s) ro ru) sent) same r))
 
       ordered : s.unordered ≡ false → (os : List ChunkPayloadData) → IsWhole false n (begun s.message_id) os → slice_get os 0 ≡ Some c
-          → Queued ws first number (made os us (Some s) ro ru) sent → SendsOn ws first number (made os us (Some s) ro ru) sent c tsn now
+          → QueuedOn on ws first number (made os us (Some s) ro ru) sent → SendsOn on ws first number (made os us (Some s) ro ru) sent c tsn now
       ordered h [] v f r = absurd v
       ordered h (o ∷ os) v f r =
           let same : o ≡ c = some-same f in
           let whole = subst (λ y. IsWhole false n (begun s.message_id) (y ∷ os)) same v in
-          subst (λ y. SendsOn ws first number (made (y ∷ os) us (Some s) ro ru) sent c tsn now) (sym same)
-          (from-ordered (Some s) os us (ap Some h) whole.1 (h, whole.0.1) (subst (λ y. Queued ws first number (made (y ∷ os) us (Some s) ro ru) sent) same r))
+          subst (λ y. SendsOn on ws first number (made (y ∷ os) us (Some s) ro ru) sent c tsn now) (sym same)
+          (from-ordered (Some s) os us (ap Some h) whole.1 (h, whole.0.1) (subst (λ y. QueuedOn on ws first number (made (y ∷ os) us (Some s) ro ru) sent) same r))
 
-      by : (b : Bool) → s.unordered ≡ b → SendsOn ws first number (made os us (Some s) ro ru) sent c tsn now
+      by : (b : Bool) → s.unordered ≡ b → SendsOn on ws first number (made os us (Some s) ro ru) sent c tsn now
       by b h2 = grind (arith, nat_tests, ordered, slice_get, unordered)
 
 -- ## What is next
@@ -309,6 +310,6 @@ first-fits : (ws : List Numbered) (cs : List ChunkPayloadData) (p : Place) (c : 
 first-fits ws [] p c e h = absurd (none-some c e)
 first-fits ws (x ∷ xs) p c e h = subst (IsOfWrite ws) (some-same e) (h.0, h.1, h.2.0)
 
-pub next-fits : (ws : List Numbered) (first : ℕ) (number : ℕ → ℕ) (q : Pending) (sent : List Entry) (c : ChunkPayloadData) → next_pending q ≡ Some c
-    → Queued ws first number q sent → IsOfWrite ws c
-next-fits ws first number q sent c e h = grind (arith, nat_tests, between, first-fits, slice_get)
+pub next-fits : (on : ℕ → Bool) (ws : List Numbered) (first : ℕ) (number : ℕ → ℕ) (q : Pending) (sent : List Entry) (c : ChunkPayloadData) → next_pending q ≡ Some c
+    → QueuedOn on ws first number q sent → IsOfWrite ws c
+next-fits on ws first number q sent c e h = grind (arith, nat_tests, between, first-fits, slice_get)

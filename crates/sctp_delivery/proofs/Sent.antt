@@ -15,17 +15,11 @@ pub data Entry : Type 0 where
   terminal : Entry
   fragment : Data → Numbered → List ℕ → Entry
 
--- fragments of two ordered messages, told apart by their stream or its number
-abbrev pub AreApart : Data → Data → Type 0
-AreApart d e =
-    d.unordered ≡ false → e.unordered ≡ false → d.stream_identifier ≡ e.stream_identifier → d.stream_sequence_number ≡ e.stream_sequence_number → ⊥
-
 -- behind these entries, the last one first: it goes on with the same write, or begins a message
 abbrev pub GoesOn : Data → Numbered → List ℕ → List Entry → Type 0
 GoesOn d w after [] = ⊤
 GoesOn d w after (terminal ∷ xs) = ⊤
-GoesOn d w after (fragment e v rest ∷ xs) =
-    (d.beginning_fragment ≡ false → (w ≡ v) × (rest ≡ d.user_data ++ after)) × (d.beginning_fragment ≡ true → AreApart d e)
+GoesOn d w after (fragment e v rest ∷ xs) = d.beginning_fragment ≡ false → (w ≡ v) × (rest ≡ d.user_data ++ after)
 
 -- the chunk is of this write, with these bytes behind it, and has this TSN
 pub record Fits (ws : List Numbered) (tsn : ℕ) (d : Data) (w : Numbered) (after : List ℕ) : Type 0 where

@@ -56,7 +56,7 @@ written-more (writes stream ppi (b ∷ bs)) ws =
     let e = sum_by-cons (λ (w : Write). length w.bytes) (record { stream = stream; payload_type = ppi; bytes = b ∷ bs }) ws in omega (arith, e)
 written-more call ws = omega arith
 
-none-back : (call : SenderCall) → taken_back_by (outgoing.as_run call) ≡ 0
+pub none-back : (call : SenderCall) → taken_back_by (outgoing.as_run call) ≡ 0
 none-back (writes stream ppi bytes) = refl
 none-back call = refl
 

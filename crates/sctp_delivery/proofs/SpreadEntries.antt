@@ -2,6 +2,7 @@
 use Rattle.sctp_delivery.proofs.Names.{◌≡◌, ℕ, ◌+◌, ◌%◌, ◌^◌, ◌<◌, ◌≤◌, Bool, true, false, not, List, [], ◌∷◌, length, inl, inr, refl, ap, sym, subst, ◌∙◌}
 use Rattle.sctp_delivery.proofs.Names.{arith, ⊤, ◌==◌, ◌&&◌, if◌then◌else◌, nat_le, cases_lt, nat_tests, negated, same-is, same-yes, and, both, not_both, tsn}
 use Rattle.sctp_delivery.proofs.Names.{ChunkPayloadData, Data, data_of, is_ordered_on}
+use Rattle.sctp_delivery.proofs.Cases.{Where, all_streams, where-map}
 use Rattle.sctp_delivery.proofs.OrderedEntries.{AreIndexed, AreJoined, IsIndexed, IsLatest, IsNumberOf, begins-inner, begun_on, ends_on, latest-here, one}
 use Rattle.sctp_delivery.proofs.OrderedEntries.{part-fewer, part-indexed}
 use Rattle.sctp_delivery.proofs.Sent.{Entry, IsLine, IsPart, Numbered, WasSent, fragment, part-itself, part-length, part-line, same-parts, tail-part, terminal}
@@ -22,15 +23,18 @@ abbrev pub IsFor : ChunkPayloadData → Entry → Type 0
 IsFor c terminal = ⊤
 IsFor c (fragment d w after) = (w.place ≡ c.message_id) × (d.ending_fragment ≡ c.ending_fragment)
 
--- the chunk stands for the entry with its TSN
-pub record IsPlaced (first : ℕ) (sent : List Entry) (c : ChunkPayloadData) : Type 0 where
+-- the chunk stands for the entry with its TSN; on these streams it has the number of a message
+pub record IsPlacedOn (on' : ℕ → Bool) (first : ℕ) (sent : List Entry) (c : ChunkPayloadData) : Type 0 where
   pub entry : Entry
   pub entries : List Entry
   pub part : IsPart (entry ∷ entries) sent
   pub number : c.tsn ≡ (first + length entries) % 2 ^ 32
-  pub step : (st : ℕ) → IsStep st (begun_on st entries) (begun_on st (entry ∷ entries)) c
+  pub step : (st : ℕ) → Where (on' st) (IsStep st (begun_on st entries) (begun_on st (entry ∷ entries)) c)
   pub on : (st : ℕ) → is_ordered_on st c ≡ ends_on st (entry ∷ entries)
   pub for' : IsFor c entry
+
+abbrev pub IsPlaced : ℕ → List Entry → ChunkPayloadData → Type 0
+IsPlaced first sent c = IsPlacedOn all_streams first sent c
 
 pub one-most : (b : Bool) → one b ≤ 1
 one-most true = omega arith
@@ -39,12 +43,12 @@ one-most false = omega arith
 pub begins-none : (a b u : Bool) → (a && u) ≡ false → (a && (b && u)) ≡ false
 begins-none a b u h4 = grind (arith, nat_tests)
 
-pub step-fragment : (st : ℕ) (t : ChunkPayloadData) (w : Numbered) (after : List ℕ) (xs : List Entry) → IsIndexed (data_of t) xs
-    → IsStep st (begun_on st xs) (begun_on st (fragment (data_of t) w after ∷ xs)) t
+pub step-fragment : (st : ℕ) (t : ChunkPayloadData) (w : Numbered) (after : List ℕ) (xs : List Entry)
+    → (t.stream_identifier ≡ st → IsIndexed (data_of t) xs) → IsStep st (begun_on st xs) (begun_on st (fragment (data_of t) w after ∷ xs)) t
 step-fragment st t w after xs i = grind (arith, nat_tests, begins-none, both, latest-here, negated, one-most, same-is)
 
 pub step-terminal : (st : ℕ) (t : ChunkPayloadData) (sent : List Entry)
-    → (t.unordered ≡ false → IsLatest (begun_on t.stream_identifier sent) t.stream_sequence_number)
+    → (t.stream_identifier ≡ st → t.unordered ≡ false → IsLatest (begun_on t.stream_identifier sent) t.stream_sequence_number)
     → IsStep st (begun_on st sent) (begun_on st (terminal ∷ sent)) t
 step-terminal st t sent h = grind (arith, nat_tests, both, negated, same-is)
 
@@ -60,19 +64,23 @@ pub for-alike : (c d : ChunkPayloadData) (x : Entry) → d.message_id ≡ c.mess
 for-alike c d terminal m e f = tt
 for-alike c d (fragment x w after) m e f = (f.0 ∙ sym m, f.1 ∙ sym e)
 
-pub placed-more : (first : ℕ) (x : Entry) (sent : List Entry) (c : ChunkPayloadData) → IsPlaced first sent c → IsPlaced first (x ∷ sent) c
-placed-more first x sent c i = record { entry = i.entry; entries = i.entries; part = inr i.part; number = i.number; step = i.step; on = i.on; for' = i.for' }
+pub placed-more : (on : ℕ → Bool) (first : ℕ) (x : Entry) (sent : List Entry) (c : ChunkPayloadData) → IsPlacedOn on first sent c
+    → IsPlacedOn on first (x ∷ sent) c
+placed-more on first x sent c i = record { entry = i.entry; entries = i.entries; part = inr i.part; number = i.number; step = i.step; on = i.on; for' = i.for' }
 
 -- an ordered one has the number of a message that was begun
-pub number-of : (first : ℕ) (sent : List Entry) (c : ChunkPayloadData) → IsPlaced first sent c → c.unordered ≡ false
-    → IsNumberOf sent c.stream_identifier c.stream_sequence_number
-number-of first sent c i k =
-    let it : is_ordered_on c.stream_identifier c ≡ true =
-    and (c.stream_identifier == c.stream_identifier) (not c.unordered) (same-yes c.stream_identifier) (ap not k) in
-    let n = (i.step c.stream_identifier).number it in
+pub number-of : (on : ℕ → Bool) (first : ℕ) (sent : List Entry) (c : ChunkPayloadData) → IsPlacedOn on first sent c → c.unordered ≡ false
+    → Where (on c.stream_identifier) (IsNumberOf sent c.stream_identifier c.stream_sequence_number)
+number-of on first sent c i k =
+    let st = c.stream_identifier in
+    where-map (on c.stream_identifier) (IsStep st (begun_on st i.entries) (begun_on st (i.entry ∷ i.entries)) c)
+    (IsNumberOf sent c.stream_identifier c.stream_sequence_number)
+    (λ s.
+    let it : is_ordered_on st c ≡ true = and (st == st) (not c.unordered) (same-yes st) (ap not k) in
+    let n = s.number it in
     let e = n.1 in
-    let le = part-fewer c.stream_identifier sent (i.entry ∷ i.entries) i.part in
-    (n.0, omega (arith, e, le), n.2)
+    let le = part-fewer st sent (i.entry ∷ i.entries) i.part in
+    (n.0, omega (arith, e, le), n.2)) (i.step st)
 
 -- ## Up to a place
 
@@ -193,7 +201,7 @@ pub made-entry : (ws : List Numbered) (first : ℕ) (sent : List Entry) → IsLi
     (c : ChunkPayloadData) → WasSent sent (data_of c) → IsEntry st first sent c
 made-entry ws first sent line indexed joined st c (w, after, xs, part) =
     let l = part-line ws first sent (fragment (data_of c) w after ∷ xs) part line in
-    let i = part-indexed sent (fragment (data_of c) w after ∷ xs) part indexed in
+    let i = part-indexed all_streams sent (fragment (data_of c) w after ∷ xs) part indexed in
     let number = l.0.number in
     let long : length (fragment (data_of c) w after ∷ xs) ≡ length xs + 1 = omega arith in
     let before = to-part st sent xs (tail-part sent xs (fragment (data_of c) w after) part) in
@@ -205,7 +213,7 @@ made-entry ws first sent line indexed joined st c (w, after, xs, part) =
       is = omega (arith, number);
       step =
           subst (λ m. IsStep st m (begun_to st (length xs + 1) sent) c) (sym before)
-          (subst (λ m. IsStep st (begun_on st xs) m c) (sym upto) (step-fragment st c w after xs i.0));
+          (subst (λ m. IsStep st (begun_on st xs) m c) (sym upto) (step-fragment st c w after xs (λ _. i.0)));
       inner = λ e. let none = ap one (begins-inner st (data_of c) e) in omega (arith, none, upto, before);
       on = ap (λ k. is_at st k sent) (sym long) ∙ at-part st sent (fragment (data_of c) w after ∷ xs) part;
       prior = λ e. at-before st sent (data_of c) w after xs joined part e;

@@ -10,7 +10,7 @@ use Rattle.sctp_delivery.proofs.Delivered.{next_tsn, sender-step}
 use Rattle.sctp_delivery.proofs.OneRead.{no-way}
 use Rattle.sctp_delivery.proofs.PlainHolds.{has-made}
 use Rattle.sctp_delivery.proofs.PlainRuns.{goes, two-calls}
-use Rattle.sctp_delivery.proofs.PlainSessions.{small-next}
+use Rattle.sctp_delivery.proofs.PlainSessions.{plain, small-next}
 use Rattle.sctp_delivery.proofs.Stands.{more-made, more-reported, one-given, receiver-follows, receiver_after, sender-follows, sender_after}
 
 -- ## One call more
@@ -31,7 +31,7 @@ module _ (st : StandSo) where
   same-way : distance (next_tsn st.session) (next_tsn st.session) ≡ 0
   same-way =
       no-way (next_tsn st.session)
-      (small-next st.tsn st.size st.max st.most st.limits st.session.sending.sender st.session _ _ _ st.small st.few
+      (small-next st.tsn (plain st.tsn st.size st.max st.most st.limits st.small) st.session.sending.sender st.session _ _ _ st.few
       (goes st.reported st.tsn st.size st.max st.most st.limits st.calls st.session st.run st.small st.few st.short))
 
   -- a call of the sender gives out one at most

@@ -145,7 +145,7 @@ module _ (p n : ℕ) (r : Reception) (kn : ℕ → Bool) (few : n < 2 ^ 31) (h :
           (any-inserted (λ u. u == c.tsn) comes_before c.tsn r.beyond (or-left (c.tsn == c.tsn) (list_any (λ u. u == c.tsn) r.beyond) (same-yes c.tsn)))
 
   -- what came has come after a FORWARD-TSN
-  skip-come : (f : ForwardTsn) → IsGiven p n f.new_cumulative_tsn → (u : ℕ) → IsGiven p n u → come u r.cumulative_tsn r.beyond ≡ true
+  pub skip-come : (f : ForwardTsn) → IsGiven p n f.new_cumulative_tsn → (u : ℕ) → IsGiven p n u → come u r.cumulative_tsn r.beyond ≡ true
       → come u (after_forward_tsn f r).cumulative_tsn (after_forward_tsn f r).beyond ≡ true
   skip-come f g u k e = at-test (λ b. Knows u (if b then r else without_incomplete f.new_cumulative_tsn (if b then r else follow_forward_tsn f r)))
       (is_stale f r)
@@ -276,7 +276,7 @@ module _ (p n : ℕ) (kn now : ℕ → Bool) (old new : Session) (few : n < 2 ^ 
           each = every-passing (IsKnown p n now) (λ t. not (at_or_before t f.new_cumulative_tsn)) old.receiving.receiver.beyond still.each;
         }
 
-    follows-arrived : (f : ForwardTsn) → Contains old.made (forward_tsn f) → IsKnownUpTo f → Hears (after_forward_tsn f old.receiving.receiver)
+    pub follows-arrived : (f : ForwardTsn) → Contains old.made (forward_tsn f) → IsKnownUpTo f → Hears (after_forward_tsn f old.receiving.receiver)
     follows-arrived f in' passed = at-test (λ b. Hears (if b then old.receiving.receiver else without_incomplete f.new_cumulative_tsn
         (if b then old.receiving.receiver else follow_forward_tsn f old.receiving.receiver))) (is_stale f old.receiving.receiver)
         (λ e. still)

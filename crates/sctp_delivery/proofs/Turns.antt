@@ -1,9 +1,8 @@
 -- The numbers of ordered messages that wait: on each stream one higher from message to message, modulo 2^16.
-use Rattle.sctp_delivery.proofs.Names.{◌≡◌, ℕ, ◌+◌, ◌%◌, ◌^◌, ◌<◌, Bool, true, false, not, List, [], ◌∷◌, ◌++◌, refl, ap, sym, subst, ◌∙◌, arith, ⊤, ◌==◌, ◌&&◌}
+use Rattle.sctp_delivery.proofs.Names.{◌≡◌, ℕ, ◌+◌, ◌%◌, ◌^◌, ◌<◌, Bool, true, false, not, List, [], ◌∷◌, ◌++◌, refl, ap, sym, subst, ◌∙◌, arith, ◌==◌, ◌&&◌}
 use Rattle.sctp_delivery.proofs.Names.{◌||◌, if◌then◌else◌, list_any, change_where, same-is, same-yes, both, not_both, ChunkPayloadData, is_of, one_lower}
 use Rattle.sctp_delivery.proofs.Names.{with_deadline, without_message, IsWhole, begun, free, none_before, is_on}
 use Rattle.sctp_delivery.proofs.Cases.{at-if, at-test}
-use Rattle.sctp_delivery.proofs.Sent.{Entry, fragment, terminal}
 use Rattle.sctp_delivery.proofs.Waiting.{lower}
 
 -- the chunk begins a message of the stream
@@ -17,12 +16,6 @@ number_after b n = if b then (n + 1) % 2 ^ 16 else n
 abbrev pub Turns : ℕ → List ChunkPayloadData → ℕ → ℕ → Type 0
 Turns s [] n next = n ≡ next
 Turns s (c ∷ cs) n next = (counts s c ≡ true → c.stream_sequence_number ≡ n) × Turns s cs (number_after (counts s c) n) next
-
--- if the last entry is an ordered fragment of the stream, then n is the number after it
-abbrev pub IsAfter : ℕ → ℕ → List Entry → Type 0
-IsAfter s n [] = ⊤
-IsAfter s n (terminal ∷ xs) = ⊤
-IsAfter s n (fragment d w after ∷ xs) = d.unordered ≡ false → d.stream_identifier ≡ s → (d.stream_sequence_number + 1) % 2 ^ 16 ≡ n
 
 pub turns-behind : (s : ℕ) (xs ys : List ChunkPayloadData) (n m next : ℕ) → Turns s xs n m → Turns s ys m next → Turns s (xs ++ ys) n next
 turns-behind s [] ys n m next t u = subst (λ k. Turns s ys k next) (sym t) u

@@ -13,7 +13,7 @@ use Rattle.sctp_delivery.proofs.Kept as kept
 use Rattle.sctp_delivery.proofs.KeptOrGone.{HeldWell, IsHeldWell, IsKeptBut, IsLate, IsPassedBy}
 use Rattle.sctp_delivery.proofs.MessagePlaces.{EndsAt, IsEntryAt, cut-part, next-of, same-entry, within, entry-at, entry-of, place-tsn, IsSpan, shown-at}
 use Rattle.sctp_delivery.proofs.MessagePlaces.{span-of}
-use Rattle.sctp_delivery.proofs.OrderedEntries.{AreJoined}
+use Rattle.sctp_delivery.proofs.OrderedEntries.{AreIndexed, AreJoined}
 use Rattle.sctp_delivery.proofs.PassedMessages.{AreCutGone, AreTakenOrGone, EndsMessage, is_gone}
 use Rattle.sctp_delivery.proofs.FragmentPlaces.{Shows, at_place, shown}
 use Rattle.sctp_delivery.proofs.ReadOnce as read_once
@@ -26,8 +26,8 @@ use Rattle.sctp_delivery.proofs.KeptSets.{IsOrdered, IsTidySet}
 use Rattle.sctp_delivery.proofs.TsnPlaces.{base, same-place, upto-is}
 use Rattle.sctp_delivery.proofs.Whole.{read-whole, whole-of}
 
-module _ (ws : List Numbered) (first : ℕ) (sent : List Entry) (line : IsLine ws first sent) (joined : AreJoined sent) (n : ℕ)
-    (long : length sent ≡ n) (few : n < 2 ^ 31) (gone : List ℕ) (cut : AreCutGone gone sent) (s : Session) (sent-made : AreSent sent s.made)
+module _ (ws : List Numbered) (first : ℕ) (sent : List Entry) (line : IsLine ws first sent) (indexed : AreIndexed sent)
+    (joined : AreJoined sent) (n : ℕ) (long : length sent ≡ n) (few : n < 2 ^ 31) (gone : List ℕ) (cut : AreCutGone gone sent) (s : Session) (sent-made : AreSent sent s.made)
     (made : list_all (sessions.made_among s.made) s.receiving.accepted ≡ true) (apart : are_apart s.receiving.accepted ≡ true)
     (whole : All (λ m. (is_complete m.fragments ≡ true) × (is_one_message m.fragments ≡ true) × EachSent sent m.fragments) s.receiving.read)
     (st a : ℕ) (k : IsKeptBut first sent st n a gone s.made s.receiving) where
@@ -193,7 +193,7 @@ module _ (ws : List Numbered) (first : ℕ) (sent : List Entry) (line : IsLine w
         at [] e o w lt = absurd (omega (arith, lt))
         at (x ∷ xs) e o w lt = by-test (list_any (has_tsn (tsn p j)) x.chunks)
             (λ h.
-            let there = whole-of ws first sent (omega (arith, long, few)) line f show b j y begins upto inner le to open' x.chunks ec.0 oc.0
+            let there = whole-of ws first sent (omega (arith, long, few)) line indexed f show b j y begins upto inner le to open' x.chunks ec.0 oc.0
             w.0 h in
             omega (arith, some-of (tsn p y) x.chunks there, sum_by-cons (set_weight (one (tsn p y))) x xs))
             (λ h.
@@ -250,7 +250,7 @@ module _ (ws : List Numbered) (first : ℕ) (sent : List Entry) (line : IsLine w
           let open' : (l' : ℕ) → g.start ≤ l' → l' < y → (f l').ending_fragment ≡ false = λ l' ge lt. g.open' l' ge (omega (arith, lt, g.from)) in
           any-of (tsn p j) q.unassembled (elim (cases_lt 0 (R (tsn p j))) [
             | inl read ↦
-                let x = read-whole ws first sent (omega (arith, long, few)) line f show g.start j y g.begins from inner within' start open' st
+                let x = read-whole ws first sent (omega (arith, long, few)) line indexed f show g.start j y g.begins from inner within' start open' st
                 s.receiving.read whole read in
                 absurd (omega (arith, x, v, z, here))
             | inr no-read ↦ elim (cases_lt 0 (S (tsn p j))) [

@@ -8,6 +8,7 @@ use Rattle.sctp_delivery.proofs.Delivered.{EachSent, follows, inner-of}
 use Rattle.sctp_delivery.proofs.Every.{Every}
 use Rattle.sctp_delivery.proofs.FragmentPlaces.{Shows, part-place}
 use Rattle.sctp_delivery.proofs.InTheEnd.{some-of}
+use Rattle.sctp_delivery.proofs.OrderedEntries.{AreIndexed}
 use Rattle.sctp_delivery.proofs.ReadOnce.{none-count, one}
 use Rattle.sctp_delivery.proofs.Sent.{Entry, IsLine, Numbered, WasSent, fragment, part-length, part-line}
 use Rattle.sctp_delivery.proofs.TsnPlaces.{base, next-place, same-place}
@@ -19,8 +20,8 @@ pub record IsOn (p n : ℕ) (f : ℕ → Data) (c : ChunkPayloadData) (j : ℕ) 
   pub is : c.tsn ≡ tsn p j
   pub data' : data_of c ≡ f j
 
-module _ (ws : List Numbered) (first : ℕ) (sent : List Entry) (few : length sent < 2 ^ 31) (line : IsLine ws first sent) (f : ℕ → Data)
-    (agr : Shows f sent) where
+module _ (ws : List Numbered) (first : ℕ) (sent : List Entry) (few : length sent < 2 ^ 31) (line : IsLine ws first sent)
+    (indexed : AreIndexed sent) (f : ℕ → Data) (agr : Shows f sent) where
   abbrev p : ℕ
   p = base first
 
@@ -99,7 +100,7 @@ module _ (ws : List Numbered) (first : ℕ) (sent : List Entry) (few : length se
     whole-of (c ∷ cs) e o s there =
         let b = both c.beginning_fragment (completes c cs) e in
         let h = place-of c s.0 in
-        let none = (follows ws first sent (omega (arith, few)) line c cs s.0.0 s.0.1 s.0.2 s.0.3 b.1 s.1 (inner-of c cs o)).2 in
+        let none = (follows ws first sent (omega (arith, few)) line indexed c cs s.0.0 s.0.1 s.0.2 s.0.3 b.1 s.1 (inner-of c cs o)).2 in
         let r = back c cs h.0 h.1 b.1 s.1 none j within there in
         let first' : (f h.0).beginning_fragment ≡ true = ap (λ (d : Data). d.beginning_fragment) (sym h.1.data') ∙ b.0 in
         let same : h.0 ≡ a = elim (cases_lt h.0 a) [

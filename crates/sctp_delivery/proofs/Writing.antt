@@ -6,11 +6,12 @@ use Rattle.sctp_delivery.proofs.Names.{is_expired, passing, with_message_id, nex
 use Rattle.sctp_delivery.proofs.Names.{wrote, Transmission, after_expire, write_refusal, written_to, OutboundStream, fragment_at, Made}
 use Rattle.sctp_sender.specs.Sender.{stream_of}
 use Rattle.sctp_sender.proofs.SenderStreams.{made, one-message, unknown}
+use Rattle.sctp_delivery.proofs.Cases.{where-is, where-yes}
 use Rattle.sctp_delivery.proofs.Fragments.{fragments-turn, fragments-wait, nth}
-use Rattle.sctp_delivery.proofs.Numbers.{all-open, found-there, is_there, number-changed, number-elsewhere, number-found, number-is, number_of, open-of}
+use Rattle.sctp_delivery.proofs.Numbers.{all-open, apart-changed, found-there, is_there, number-changed, number-elsewhere, number-found, number-is, number_of, open-of}
 use Rattle.sctp_delivery.proofs.Numbers.{size-found, steady-changed, sized-changed, there-changed, there-found}
 use Rattle.sctp_delivery.proofs.Pushing.{IsLower, expired, pushed}
-use Rattle.sctp_delivery.proofs.Senders.{IsHeld, Result, calm}
+use Rattle.sctp_delivery.proofs.Senders.{IsHeldOn, ResultOn, calm}
 use Rattle.sctp_delivery.proofs.Sending.{next-fits}
 use Rattle.sctp_delivery.proofs.Sent.{Entry, Numbered}
 use Rattle.sctp_delivery.proofs.Turns.{Turns, counts, number_after}
@@ -19,7 +20,7 @@ use Rattle.sctp_delivery.proofs.Sessions.{unnot}
 
 -- ## A write
 
-module _ (ws : List Numbered) (first : ℕ) (t : Transmission) (sent : List Entry) (ms : List Made) (h : IsHeld ws first t sent) (stream : ℕ)
+module _ (on : ℕ → Bool) (ws : List Numbered) (first : ℕ) (t : Transmission) (sent : List Entry) (ms : List Made) (h : IsHeldOn on ws first t sent) (stream : ℕ)
     (ppi : PayloadProtocolIdentifier) (b : ℕ) (bs : List ℕ) (l : OutboundStream) (found : stream_of stream t ≡ Some l) where
   abbrev next_id : ℕ
   next_id = t.flight.queue.next_message_id
@@ -76,17 +77,20 @@ module _ (ws : List Numbered) (first : ℕ) (t : Transmission) (sent : List Entr
       next : number_of r after ≡ number_after (counts r (nth ws next_id l ppi (b ∷ bs) some 0)) (number_of r t.streams)
       next = grind (arith, nat_tests, by_same, counts-are, first-number, is-stream, number-elsewhere, rises, same-is, there)
 
-  pub writes-some : Result None ws (write ∷ ws) first sent (written_to l stream ppi (b ∷ bs) t) ms ms
-  writes-some = calm ws (write ∷ ws) first sent (written_to l stream ppi (b ∷ bs) t) ms (record {
-    stands = pushed ws first (λ s. number_of s t.streams) (λ s. number_of s after) t.flight.queue t.flight.next_tsn sent h.stands write
+  pub writes-some : ResultOn on None ws (write ∷ ws) first sent (written_to l stream ppi (b ∷ bs) t) ms ms
+  writes-some = calm on ws (write ∷ ws) first sent (written_to l stream ppi (b ∷ bs) t) ms (record {
+    stands = pushed on ws first (λ s. number_of s t.streams) (λ s. number_of s after) t.flight.queue t.flight.next_tsn sent h.stands write
         (made l ppi (b ∷ bs) 0)
         (map (with_reliability l.reliability_type l.reliability_value) (map (fragment_at l ppi (b ∷ bs)) (numbers_where always (0 + 1) later)))
         (one-message l ppi (b ∷ bs) (omega arith)) is-stream waits unordered-same ordered-turns;
     open' =
         let kept : (s : ℕ) → is_there s t.streams ≡ true
-        → is_there s after ≡ true = λ s o. there-changed (has_number stream) (wrote ppi (b ∷ bs)) (λ x. refl) s t.streams ∙ o in
-        (kept stream (there-found stream t.streams l found), all-open t.streams after kept ws h.open');
+        → is_there s after ≡ true = λ s o. there-changed (has_number stream) (wrote ppi (b ∷ bs)) (λ x. refl) s t.streams ∙ o in (
+          where-yes (on stream) (is_there stream after ≡ true) (λ _. kept stream (there-found stream t.streams l found)),
+          all-open on t.streams after (λ s _. kept s) ws h.open',
+        );
     sized = sized-changed (has_number stream) (wrote ppi (b ∷ bs)) (λ x. refl) t.streams h.sized;
+    apart = apart-changed (has_number stream) (wrote ppi (b ∷ bs)) (λ x. refl) t.streams h.apart;
     size = h.size;
   })
 
@@ -101,12 +105,13 @@ pub in-front : (now : ℕ) (o : Option ChunkPayloadData) (c : ChunkPayloadData) 
     → (o ≡ Some c) × (c.beginning_fragment ≡ true)
 in-front now o c h4 = grind (arith, nat_tests, both, none-some, some-same)
 
-pub expires-one : (ws : List Numbered) (first : ℕ) (t : Transmission) (sent : List Entry) (ms : List Made) → IsHeld ws first t sent
-    → (now : ℕ) (c : ChunkPayloadData) (bytes : ℕ) → expiring now t.flight.queue ≡ Some c → Result None ws ws first sent (after_expire c bytes now t) ms ms
-expires-one ws first t sent ms h now c bytes e = calm ws ws first sent (after_expire c bytes now t) ms (record {
-  stands = expired ws first (λ s. number_of s t.streams) (λ s. number_of s after) t.flight.queue t.flight.next_tsn sent h.stands c front.0 front.1 same lowers;
-  open' = all-open t.streams after (λ s o. there-changed (has_number c.stream_identifier) (after_expiry c.unordered bytes) keeps s t.streams ∙ o) ws h.open';
+pub expires-one : (on : ℕ → Bool) (ws : List Numbered) (first : ℕ) (t : Transmission) (sent : List Entry) (ms : List Made) → IsHeldOn on ws first t sent
+    → (now : ℕ) (c : ChunkPayloadData) (bytes : ℕ) → expiring now t.flight.queue ≡ Some c → ResultOn on None ws ws first sent (after_expire c bytes now t) ms ms
+expires-one on ws first t sent ms h now c bytes e = calm on ws ws first sent (after_expire c bytes now t) ms (record {
+  stands = expired on ws first (λ s. number_of s t.streams) (λ s. number_of s after) t.flight.queue t.flight.next_tsn sent h.stands c front.0 front.1 same lowers;
+  open' = all-open on t.streams after (λ s _ o. there-changed (has_number c.stream_identifier) (after_expiry c.unordered bytes) keeps s t.streams ∙ o) ws h.open';
   sized = sized-changed (has_number c.stream_identifier) (after_expiry c.unordered bytes) sizes t.streams h.sized;
+  apart = apart-changed (has_number c.stream_identifier) (after_expiry c.unordered bytes) keeps t.streams h.apart;
   size = h.size;
 })
   where
@@ -127,15 +132,17 @@ expires-one ws first t sent ms h now c bytes e = calm ws ws first sent (after_ex
         subst (λ b. number_of r (change_where (has_number c.stream_identifier) (after_expiry b bytes) t.streams) ≡ number_of r t.streams) (sym k)
         ((steady-changed (has_number c.stream_identifier) (after_expiry true bytes) (λ l. refl) (λ l. refl) (λ l. refl) t.streams).numbers r)
 
-    lowers : c.unordered ≡ false → IsLower c.stream_identifier (λ s. number_of s t.streams) (λ s. number_of s after)
+    lowers : c.unordered ≡ false → IsLower on c.stream_identifier (λ s. number_of s t.streams) (λ s. number_of s after)
     lowers k =
         let s = c.stream_identifier in
-        let f = next-fits ws first (λ r. number_of r t.streams) t.flight.queue.pending sent c front.0 h.stands.queued in
-        let there = open-of t.streams ws f.0 f.2.written h.open' in
-        let l = found-there s t.streams (subst (λ r. is_there r t.streams ≡ true) (sym f.2.stream) there) in
+        let f = next-fits on ws first (λ r. number_of r t.streams) t.flight.queue.pending sent c front.0 h.stands.queued in
         record {
-          here = subst (λ b. number_of s (change_where (has_number s) (after_expiry b bytes) t.streams) ≡ lower (number_of s t.streams)) (sym k)
-              (number-changed s (after_expiry false bytes) (λ x. refl) t.streams l.0 l.1 ∙ ap lower (sym (number-found s t.streams l.0 l.1)));
+          here = where-yes (on s) (number_of s after ≡ lower (number_of s t.streams)) (λ e.
+              let there = where-is (on f.0.stream) (is_there f.0.stream t.streams ≡ true) (ap on (sym f.2.stream) ∙ e)
+              (open-of on t.streams ws f.0 f.2.written h.open') in
+              let l = found-there s t.streams (subst (λ r. is_there r t.streams ≡ true) (sym f.2.stream) there) in
+              subst (λ b. number_of s (change_where (has_number s) (after_expiry b bytes) t.streams) ≡ lower (number_of s t.streams)) (sym k)
+              (number-changed s (after_expiry false bytes) (λ x. refl) t.streams l.0 l.1 ∙ ap lower (sym (number-found s t.streams l.0 l.1))));
           elsewhere = λ r differ. subst (λ b. number_of r (change_where (has_number s) (after_expiry b bytes) t.streams) ≡ number_of r t.streams) (sym k)
               (number-elsewhere r s differ (after_expiry false bytes) (λ x. refl) t.streams);
         }

@@ -21,3 +21,4 @@ pub mod InOrder
 pub mod Stand
 pub mod Delivering
 pub mod BothWays
+pub mod EveryCall

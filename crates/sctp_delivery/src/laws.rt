@@ -5,6 +5,7 @@ pub mod both_ways;
 pub mod complete;
 pub mod counters;
 pub mod discards;
+pub mod every_call;
 pub mod expiry;
 pub mod messages;
 pub mod modes;

@@ -1,0 +1,236 @@
+-- Sessions of every call: each message of which no fragment but the first begins one is a write, and no write is read twice.
+use Rattle.sctp_delivery.proofs.Names.{◌≡◌, ℕ, zero, suc, ◌+◌, ◌<◌, ◌^◌, Bool, true, false, not, List, [], ◌∷◌, ◌++◌, length, Option, refl, ap, sym, subst}
+use Rattle.sctp_delivery.proofs.Names.{◌∙◌, arith, All, AllPairs, Contains, slice_index_or, filter, list_all, list_any, AllPass-from_list_all, and, both, negated}
+use Rattle.sctp_delivery.proofs.Names.{completes, fails, following_tsn, same-is, ◌==◌}
+use Rattle.sctp_delivery.proofs.Names.{not_both, list_any-append, ChunkPayloadData, Message, has_tsn, is_complete, is_one_message, is_on}
+use Rattle.sctp_delivery.proofs.Names.{data_of, data_chunk, StandAt, fragments_of_all, are_apart, AreMade, AreMessages, Session, Write, Limits, Transmission}
+use Rattle.sctp_delivery.proofs.Names.{Sack, NoneIsReadTwice, IsAccounted, bytes_written, held_by_sender, total_bytes, with_inflight, sum_by, ◌||◌, ap₂}
+use Rattle.std.proofs.Common.{◌≢◌}
+use Rattle.sctp_sender.specs.declared.sender.Reported.{Reported}
+use Rattle.sctp_delivery.specs.EveryCall.{AfterEachAny, AfterEachAnyOfFewBytes, AnyCall, AreSingle, AreSingleWhereSteady, AreSingleWritesOfTheirOwn, AreWritesWhereSingle, RunsAny}
+use Rattle.sctp_delivery.specs.EveryCall.{AreToldApart, is_single, is_steady, single_messages, tsns_given_any, was_dropped}
+use Rattle.sctp_delivery.specs.Messages.{AreParts, AreSame, IsPart as IsPartOf}
+use Rattle.sctp_delivery.specs.Returns.{NoneIsRefusedSo, at_start_with}
+use Rattle.sctp_delivery.proofs.Begun.{AreOnce}
+use Rattle.sctp_delivery.proofs.Calls.{contains-forgotten, forget, forgotten}
+use Rattle.sctp_delivery.proofs.Cases.{at-if}
+use Rattle.sctp_delivery.proofs.Delivered.{AreInner, EachSent, IsReadOf, inner-of, each-sent-on, found-sent-on, single-is, single-on}
+use Rattle.sctp_delivery.proofs.EveryRuns as runs
+use Rattle.sctp_delivery.proofs.EveryShadows.{HasBeside, IsPlayed, has-beside, played-accounted}
+use Rattle.sctp_delivery.proofs.Every.{Every, every-of-all}
+use Rattle.sctp_delivery.proofs.OnceWritten.{EachRead, apart, each-read, places, stand}
+use Rattle.sctp_delivery.proofs.OrderedEntries.{AreIndexedOn}
+use Rattle.sctp_delivery.proofs.PlainReturns.{back-fits}
+use Rattle.sctp_delivery.proofs.Senders.{AreSentOn}
+use Rattle.sctp_delivery.proofs.Sent.{Entry, IsLine, Numbered, fragment, part-line, same-tsn}
+use Rattle.sctp_delivery.proofs.Sessions as sessions
+use Rattle.sctp_delivery.proofs.Sessions.{neither}
+
+-- ## Tests of fragments
+
+none-begin : (cs : List ChunkPayloadData) → list_all (λ d. not d.beginning_fragment) cs ≡ true → Every (λ (d : ChunkPayloadData). d.beginning_fragment ≡ false) cs
+none-begin [] e = tt
+none-begin (c ∷ cs) e =
+    let b = both (not c.beginning_fragment) (list_all (λ d. not d.beginning_fragment) cs) e in
+    (negated c.beginning_fragment b.0, none-begin cs b.1)
+
+none-begins : (cs : List ChunkPayloadData) → Every (λ (d : ChunkPayloadData). d.beginning_fragment ≡ false) cs → list_all (λ d. not d.beginning_fragment) cs ≡ true
+none-begins [] e = refl
+none-begins (c ∷ cs) e = and (not c.beginning_fragment) (list_all (λ d. not d.beginning_fragment) cs) (ap not e.0) (none-begins cs e.1)
+
+-- messages that pass a test are some of all, so no two of their fragments have one TSN
+some-apart : (p : Message → Bool) (ms : List Message) → are_apart (fragments_of_all ms) ≡ true → are_apart (fragments_of_all (filter p ms)) ≡ true
+some-apart p [] e = refl
+some-apart p (m ∷ ms) e = at-if (λ z. are_apart (fragments_of_all z) ≡ true) (p m)
+    (λ _. with-front m.fragments e (some-apart p ms (rest m.fragments e)))
+    (λ _. some-apart p ms (rest m.fragments e))
+  where
+    rest : (cs : List ChunkPayloadData) → are_apart (cs ++ fragments_of_all ms) ≡ true → are_apart (fragments_of_all ms) ≡ true
+    rest [] h = h
+    rest (c ∷ cs) h = rest cs (both (not (list_any (has_tsn c.tsn) (cs ++ fragments_of_all ms))) (are_apart (cs ++ fragments_of_all ms)) h).1
+
+    fewer : (t : ℕ) (ks : List Message) → list_any (has_tsn t) (fragments_of_all ks) ≡ false → list_any (has_tsn t) (fragments_of_all (filter p ks)) ≡ false
+    fewer t [] h = refl
+    fewer t (k ∷ ks) h =
+        let n = neither (list_any (has_tsn t) k.fragments) (list_any (has_tsn t) (fragments_of_all ks))
+        (sym (list_any-append (has_tsn t) k.fragments (fragments_of_all ks)) ∙ h) in
+        at-if (λ z. list_any (has_tsn t) (fragments_of_all z) ≡ false) (p k)
+        (λ _. list_any-append (has_tsn t) k.fragments (fragments_of_all (filter p ks)) ∙ nor n.0 (fewer t ks n.1))
+        (λ _. fewer t ks n.1)
+      where
+        nor : {a b : Bool} → a ≡ false → b ≡ false → (a || b) ≡ false
+        nor x y = ap₂ (λ a b. a || b) x y
+
+    with-front : (cs : List ChunkPayloadData) → are_apart (cs ++ fragments_of_all ms) ≡ true → are_apart (fragments_of_all (filter p ms)) ≡ true
+        → are_apart (cs ++ fragments_of_all (filter p ms)) ≡ true
+    with-front [] h k = k
+    with-front (c ∷ cs) h k =
+        let b = both (not (list_any (has_tsn c.tsn) (cs ++ fragments_of_all ms))) (are_apart (cs ++ fragments_of_all ms)) h in
+        let n = neither (list_any (has_tsn c.tsn) cs) (list_any (has_tsn c.tsn) (fragments_of_all ms))
+        (sym (list_any-append (has_tsn c.tsn) cs (fragments_of_all ms)) ∙ negated (list_any (has_tsn c.tsn) (cs ++ fragments_of_all ms)) b.0) in
+        and (not (list_any (has_tsn c.tsn) (cs ++ fragments_of_all (filter p ms)))) (are_apart (cs ++ fragments_of_all (filter p ms)))
+        (ap not (list_any-append (has_tsn c.tsn) cs (fragments_of_all (filter p ms)) ∙ ap₂ (λ x y. x || y) n.0 (fewer c.tsn ms n.1)))
+        (with-front cs b.1 k)
+
+-- ## What was read
+
+-- of a session whose messages are of chunks that were made, where these entries got TSNs
+module _ (on : ℕ → Bool) (first : ℕ) (s : Session) (ns : List Numbered) (sent : List Entry) (few : length sent < 2 ^ 32) (line : IsLine ns first sent)
+    (indexed : AreIndexedOn on sent) (once : AreOnce sent) (sent-made : AreSentOn on sent s.made) (writes : forgotten ns ≡ s.written)
+    (reads-on : sessions.AreOn s) (whole : AreMessages s) (made : AreMade s) where
+  module _ (k : ℕ) (m : Message) (lt : k < length s.receiving.read) where
+    abbrev it : Message
+    it = slice_index_or s.receiving.read k m
+
+    complete : is_complete it.fragments ≡ true
+    complete = AllPass-from_list_all (λ x. is_complete x.fragments) s.receiving.read whole.0 k m lt
+
+    there : list_all (is_on it.stream) it.fragments ≡ true
+    there = AllPass-from_list_all (λ x. list_all (is_on x.stream) x.fragments) s.receiving.read reads-on k m lt
+
+    gave : EachSent sent it.fragments
+    gave = each-sent-on on sent s.made it.fragments sent-made (made k m lt)
+
+    -- one of which no fragment but the first begins one
+    pub read-single : is_single it.fragments ≡ true → IsReadOf ns sent it
+    read-single e = by it.fragments refl
+      where
+        by : (cs : List ChunkPayloadData) → it.fragments ≡ cs → IsReadOf ns sent it
+        by [] is = absurd (not_both (sym (ap is_complete is) ∙ complete))
+        by (c ∷ cs) is =
+            single-is ns first sent few line it complete c cs is (subst (EachSent sent) is gave) (none-begin cs (ap is_single (sym is) ∙ e))
+            (ap (list_all (is_on it.stream)) (sym is) ∙ there)
+
+    pub single-steady : on it.stream ≡ true → is_single it.fragments ≡ true
+    single-steady o = by it.fragments refl
+      where
+        by : (cs : List ChunkPayloadData) → it.fragments ≡ cs → is_single it.fragments ≡ true
+        by [] is = ap is_single is
+        by (c ∷ cs) is =
+            ap is_single is
+            ∙ none-begins cs (single-on ns first sent few line on indexed it complete
+            (AllPass-from_list_all (λ x. is_one_message x.fragments) s.receiving.read whole.1 k m lt) gave there o c cs is)
+
+  pub writes-single : AreWritesWhereSingle s
+  writes-single k m lt e =
+      let x = read-single k m lt e in
+      (forget x.numbered, subst (λ ws. Contains ws (forget x.numbered)) writes (contains-forgotten ns x.numbered x.written), x.write)
+
+  -- those that are so, each with its write
+  singles : (ms : List Message) → All (λ m. is_single m.fragments ≡ true → IsReadOf ns sent m) ms → EachRead ns sent once (single_messages ms)
+  singles [] all = tt
+  singles (m ∷ ms) all = at-if (λ z. EachRead ns sent once z) (is_single m.fragments)
+      (λ e. (all zero m (omega arith) e, singles ms (λ k d lt. all (suc k) d (omega (arith, lt)))))
+      (λ e. singles ms (λ k d lt. all (suc k) d (omega (arith, lt))))
+
+  pub own-single : NoneIsReadTwice s → AreSingleWritesOfTheirOwn s
+  own-single apart' =
+      let ms = single_messages s.receiving.read in
+      let e = singles s.receiving.read (λ k m lt. read-single k m lt) in (
+        places ns sent once ms e,
+        subst (λ ws. StandAt ws ms (places ns sent once ms e)) writes (stand ns sent once ms e),
+        apart ns sent once ms e (some-apart (λ m. is_single m.fragments) s.receiving.read apart'),
+      )
+
+-- where ordered messages are told apart by their numbers, none is read with another one
+apart-single : (s : Session) → AreMessages s → AreMade s → AreToldApart s → AreSingle s
+apart-single s whole made told k m lt = by it.fragments refl
+  where
+    it : Message
+    it = slice_index_or s.receiving.read k m
+
+    none : (c : ChunkPayloadData) (cs : List ChunkPayloadData) → completes c cs ≡ true → AreInner c cs
+        → Every (λ (d : ChunkPayloadData). Contains s.made (data_chunk (data_of d))) (c ∷ cs)
+        → Every (λ (d : ChunkPayloadData). d.beginning_fragment ≡ false) cs
+    none c [] e i h = tt
+    none c (d ∷ ds) e i h =
+        let b = both (d.tsn == following_tsn c.tsn) (completes d ds) e in (
+          fails d.beginning_fragment (λ begins.
+              let a = i.0 begins in
+              told (data_of c) (data_of d) h.0 h.1.0 (same-is d.tsn (following_tsn c.tsn) b.0) begins a.1 a.0 (sym a.2) (sym a.3)),
+          none d ds b.1 i.1 h.1,
+        )
+
+    by : (cs : List ChunkPayloadData) → (slice_index_or s.receiving.read k m).fragments ≡ cs → is_single (slice_index_or s.receiving.read k m).fragments ≡ true
+    by [] is = ap is_single is
+    by (c ∷ cs) is =
+        let complete = AllPass-from_list_all (λ x. is_complete x.fragments) s.receiving.read whole.0 k m lt in
+        let alike = AllPass-from_list_all (λ x. is_one_message x.fragments) s.receiving.read whole.1 k m lt in
+        let all = every-of-all (λ (d : ChunkPayloadData). Contains s.made (data_chunk (data_of d))) it.fragments (made k m lt) in
+        ap is_single is
+        ∙ none-begins cs (none c cs (both c.beginning_fragment (completes c cs) (ap is_complete (sym is) ∙ complete)).1
+        (inner-of c cs (ap is_one_message (sym is) ∙ alike))
+        (subst (Every (λ (d : ChunkPayloadData). Contains s.made (data_chunk (data_of d)))) is all))
+
+pub told-apart : AfterEachAny (λ calls s. AreToldApart s → AreSingle s)
+told-apart reported size tsn max most limits cs s r =
+    apart-single s (runs.messages reported size tsn max most limits cs s r) (runs.made reported size tsn max most limits cs s r)
+
+-- ## Each session
+
+module _ (reported : Reported) (first size max most : ℕ) (limits : Option Limits) (cs : List AnyCall) (s : Session)
+    (r : RunsAny (at_start_with reported first size max most limits) cs s) (small : first < 2 ^ 32) (some : 0 < size)
+    (few : tsns_given_any (at_start_with reported first size max most limits) cs s r < 2 ^ 31) (short : bytes_written s < 2 ^ 64) where
+  abbrev n : ℕ
+  n = tsns_given_any (at_start_with reported first size max most limits) cs s r
+
+  beside : HasBeside (is_steady cs) (was_dropped cs) first s n
+  beside =
+      has-beside (is_steady cs) (was_dropped cs) first reported size max most limits cs s r small some few short (λ t e. e) (λ q e. ap not e)
+
+  i : IsPlayed (is_steady cs) (was_dropped cs) first beside.2.other n
+  i = beside.2.plays few
+
+  on-each : sessions.AreOn s
+  on-each = sessions.read-on-so first most limits (runs.receiver_calls cs) s (runs.receiver-runs cs (at_start_with reported first size max most limits) s r)
+
+  made : AreSentOn (is_steady cs) i.sent s.made
+  made = subst (AreSentOn (is_steady cs) i.sent) beside.2.shadow.made i.holds.made
+
+  writes : forgotten i.numbered ≡ s.written
+  writes = i.holds.writes ∙ beside.2.shadow.written
+
+  pub are-writes : AreWritesWhereSingle s
+  are-writes = writes-single (is_steady cs) first s i.numbered i.sent (let a = i.few in omega (arith, a, few)) i.holds.held.stands.queued.line
+      i.holds.held.stands.queued.indexed i.holds.held.stands.begun'.once made writes on-each
+      (runs.messages reported first size max most limits cs s r) (runs.made reported first size max most limits cs s r)
+
+  pub are-single : AreSingleWhereSteady cs s
+  are-single k m lt = single-steady (is_steady cs) first s i.numbered i.sent (let a = i.few in omega (arith, a, few)) i.holds.held.stands.queued.line
+      i.holds.held.stands.queued.indexed i.holds.held.stands.begun'.once made writes on-each
+      (runs.messages reported first size max most limits cs s r) (runs.made reported first size max most limits cs s r) k m lt
+
+  pub of-their-own : AreSingleWritesOfTheirOwn s
+  of-their-own = own-single (is_steady cs) first s i.numbered i.sent (let a = i.few in omega (arith, a, few)) i.holds.held.stands.queued.line
+      i.holds.held.stands.queued.indexed i.holds.held.stands.begun'.once made writes on-each
+      (runs.messages reported first size max most limits cs s r) (runs.made reported first size max most limits cs s r)
+      (runs.none-read-twice reported first size max most limits cs s r small few)
+
+  -- a DATA chunk that was made is a part of a write, and the only one with its TSN
+  pub parts : AreParts s
+  parts d c =
+      let x = found-sent-on (is_steady cs) i.sent s.made d made c in
+      let f = (part-line i.numbered first i.sent (fragment d x.0 x.1 ∷ x.2) x.3 i.holds.held.stands.queued.line).0 in (
+        forget x.0,
+        subst (λ ws. Contains ws (forget x.0)) writes (contains-forgotten i.numbered x.0 f.written),
+        record { stream = f.stream; payload_type = f.payload; bytes = (f.part.0, x.1, f.part.1) },
+      )
+
+  pub same : AreSame s
+  same d e c k is =
+      same-tsn i.numbered first i.sent (let a = i.few in omega (arith, a, few)) i.holds.held.stands.queued.line d e
+      (found-sent-on (is_steady cs) i.sent s.made d made c) (found-sent-on (is_steady cs) i.sent s.made e made k) is
+
+  -- what comes back is not refused
+  pub none-refused-back : NoneIsRefusedSo s
+  none-refused-back =
+      let x = beside.2.shadow in
+      let t = s.sending.sender in
+      let all = beside-accounted in
+      let held : held_by_sender beside.2.other.sending.sender ≡ total_bytes (with_inflight t.flight.queue x.chunks) = ap held_by_sender x.sender in
+      let before : bytes_written beside.2.other ≡ bytes_written s = ap (λ ws. sum_by (λ (y : Write). length y.bytes) ws) x.written in
+      let refused = runs.none-refused reported first size max most limits cs s r small few in
+      λ k d lt. back-fits (slice_index_or s.sacks k d) t x.chunks x.like (omega (arith, all, held, before, short)) (refused k d lt)
+    where
+      beside-accounted : IsAccounted beside.2.other
+      beside-accounted = played-accounted (is_steady cs) (was_dropped cs) first beside.2.other n i

@@ -1,0 +1,18 @@
+use Rattle.sctp_delivery.proofs.EveryRuns as runs
+use Rattle.sctp_delivery.proofs.laws.every_call.whatever_is_called_sacks_tell_what_came.Goals as goal
+
+pub returns : goal.returns
+returns c = record {
+  can = runs.all-can;
+  refused = runs.none-refused;
+  reported = runs.report-arrived;
+  told = runs.each-tells;
+  came = runs.acknowledged-arrived;
+  released = runs.released-arrived;
+  left = runs.left-arrived;
+  passed = runs.pass-abandoned;
+  stays = runs.stays-acknowledged;
+  all = runs.all-leaves;
+  once = runs.none-taken-twice;
+  read = runs.none-read-twice;
+}

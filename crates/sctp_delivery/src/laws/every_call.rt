@@ -1,0 +1,56 @@
+//! What holds of sessions in which both hosts make any call but those of `replay`: streams are closed and reset, chunks dropped, names of
+//! streams that are not open passed over, and what a SACK no longer reports is taken back, too.
+//!
+//! Where the sender resets or closes a stream, and the receiver does not, two messages may have one number. Where one is sent right behind
+//! the other, and the receiver has not read the first one, it reads both as one message.
+//!
+//! Not said here: in which order messages are read, that each is read in the end, and that a chunk in flight is not refused.
+
+ghost use Rattle.sctp_delivery.specs.EveryCall.{AcknowledgedArrived, AfterEachAny, AfterEachAnyOfFewBytes, AfterEachAnyOfFewTsns, AreSingle, AreSingleWhereSteady, AreSingleWritesOfTheirOwn, AreToldApart, AreWritesWhereSingle, LeftArrived, ReleasedArrived, ReportWhatArrived};
+ghost use Rattle.sctp_delivery.specs.Messages.{AreParts, AreSame, NoneIsReadTwice};
+ghost use Rattle.sctp_delivery.specs.Returns.{IsAccountedSo, NoneIsRefusedSo};
+ghost use Rattle.sctp_delivery.specs.Rounds.{CanBeAnswered};
+ghost use Rattle.sctp_delivery.specs.Sacks.{AllReportedLeaves, EachSackTells, NoneIsRefused, NoneIsTakenTwice, PassAbandoned, StaysAcknowledged};
+ghost use Rattle.sctp_delivery.specs.Session.{AreMade, AreMessages};
+
+/// Each byte that was written, or came back, waits, is in flight, or was answered as gone: what of a stream waits or is in flight stays so
+/// where the stream is closed. And each message that is read is whole and of one message, and each of its fragments is a chunk that the
+/// sender made.
+pub fn whatever_is_called_bytes_and_fragments_are_accounted_for()
+    ensures bytes { AfterEachAny (λ calls s. IsAccountedSo s) }
+    ensures made { AfterEachAny (λ calls s. AreMade s) }
+    ensures whole { AfterEachAny (λ calls s. AreMessages s) }
+{}
+
+/// While the sender has given out fewer than 2^31 TSNs, and fewer than 2^64 bytes were written: each message that is read, and of which no
+/// fragment but the first begins one, is one that was written, on the stream that it is read on, with its payload type and byte for byte.
+/// No write is read twice so. On a stream that the sender neither resets nor closes each message is so; and each is, in every session, where
+/// of two ordered messages of a stream that are sent one right behind another the second has a number of its own.
+pub fn whatever_is_called_messages_are_writes()
+    ensures written { AfterEachAnyOfFewBytes (λ calls s. AreWritesWhereSingle s) }
+    ensures single { AfterEachAnyOfFewBytes AreSingleWhereSteady }
+    ensures apart { AfterEachAny (λ calls s. AreToldApart s → AreSingle s) }
+    ensures own { AfterEachAnyOfFewBytes (λ calls s. AreSingleWritesOfTheirOwn s) }
+    ensures part { AfterEachAnyOfFewBytes (λ calls s. AreParts s) }
+    ensures same { AfterEachAnyOfFewBytes (λ calls s. AreSame s) }
+    ensures back { AfterEachAnyOfFewBytes (λ calls s. NoneIsRefusedSo s) }
+{}
+
+/// While the sender has given out fewer than 2^31 TSNs: the receiver can make a SACK at any time, and the sender refuses none of them.
+/// A SACK reports, a chunk in flight is acknowledged, and one leaves, only where the receiver took the chunk or dropped it, or a
+/// FORWARD-TSN went past it. A SACK leaves out nothing that was taken. One that has the last TSN as its cumulative one leaves nothing in
+/// flight; and no TSN is taken, or read, twice.
+pub fn whatever_is_called_sacks_tell_what_came()
+    ensures can { AfterEachAnyOfFewTsns (λ first count calls s. CanBeAnswered s) }
+    ensures refused { AfterEachAnyOfFewTsns (λ first count calls s. NoneIsRefused s) }
+    ensures reported { AfterEachAnyOfFewTsns ReportWhatArrived }
+    ensures told { AfterEachAnyOfFewTsns (λ first count calls s. EachSackTells s) }
+    ensures came { AfterEachAnyOfFewTsns (λ first count calls s. AcknowledgedArrived calls s) }
+    ensures released { AfterEachAnyOfFewTsns (λ first count calls s. ReleasedArrived calls s) }
+    ensures left { AfterEachAnyOfFewTsns (λ first count calls s. LeftArrived first calls s) }
+    ensures passed { AfterEachAnyOfFewTsns (λ first count calls s. PassAbandoned s) }
+    ensures stays { AfterEachAnyOfFewTsns (λ first count calls s. StaysAcknowledged s) }
+    ensures all { AfterEachAnyOfFewTsns (λ first count calls s. AllReportedLeaves s) }
+    ensures once { AfterEachAnyOfFewTsns (λ first count calls s. NoneIsTakenTwice s) }
+    ensures read { AfterEachAnyOfFewTsns (λ first count calls s. NoneIsReadTwice s) }
+{}
