@@ -6,8 +6,7 @@ use Rattle.sctp_delivery.proofs.Names.{Follows, Call, of_receiver, of_sender, Re
 use Rattle.sctp_delivery.proofs.Names.{made_after, Outbound, reports_after, data_of, has_tsn, bytes_written, held_by_sender, total_bytes, with_inflight}
 use Rattle.sctp_delivery.proofs.Names.{all_started, next_pending, sent_next, started-inflight, next_after_send, with_flight, count_again, sent_again, resent_at}
 use Rattle.sctp_delivery.proofs.Names.{skip_end, named_up_to, is_outdated, sack_refusal, after_sack, after_acked, released_by, with_lows, distance}
-use Rattle.sctp_delivery.proofs.Names.{accepted_after, is_exhausted, EachOtherIsReadOnce, chunks_waiting, tsn}
-use Rattle.sctp_outbound.specs.payload_queue.PayloadQueue as payload
+use Rattle.sctp_delivery.proofs.Names.{accepted_after, is_exhausted, EachOtherIsReadOnce, chunks_waiting}
 use Rattle.sctp_sender.specs.Abandonment.{Name}
 use Rattle.sctp_sender.specs.declared.sender.flight.Released.{Released}
 use Rattle.sctp_sender.specs.declared.sender.flight.kept.TakenBack.{TakenBack}
@@ -16,7 +15,6 @@ use Rattle.sctp_sender.specs.Totals.{bytes_in}
 use Rattle.sctp_sender.proofs.Lows.{released-same}
 use Rattle.sctp_sender.proofs.Settled.{sack-bytes}
 use Rattle.sctp_receiver.specs.Receiver.{sack_within}
-use Rattle.sctp_receiver.specs.ReceiverRuns as receiver_runs
 use Rattle.sctp_delivery.specs.Ending.{is_delivery}
 use Rattle.sctp_delivery.specs.ReceiverCalls as incoming
 use Rattle.sctp_delivery.specs.ReceiverCalls.{makes_sack}

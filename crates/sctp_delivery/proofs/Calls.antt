@@ -106,7 +106,8 @@ module _ (on : ℕ → Bool) (ws : List Numbered) (first : ℕ) (t : Transmissio
   stepped (expires_tail now m') u m x a = expires-tail-call now m' u x
   stepped (expires_late now gone) u m x a =
       subst (λ y. ResultOn on None ws ws first sent y ms ms) (sym x) (abandons-all on ws first t sent ms h (late_order now t.flight))
-  stepped (expires_rexmit gone) u m x a = subst (λ y. ResultOn on None ws ws first sent y ms ms) (sym x) (abandons-all on ws first t sent ms h (worn_order t.flight))
+  stepped (expires_rexmit gone) u m x a = subst (λ y. ResultOn on None ws ws first sent y ms ms) (sym x)
+      (abandons-all on ws first t sent ms h (worn_order t.flight))
   stepped (forwards tsn f) u m x a = forwards-call f u x a.1
   stepped (forwards_within bytes f) u m x a = forwards-call f u x a.2
   stepped marks u m x a =
@@ -129,7 +130,8 @@ module _ (on : ℕ → Bool) (ws : List Numbered) (first : ℕ) (t : Transmissio
       (calm on ws ws first sent _ ms (steady on ws first t sent h _
       (steady-changed (has_number stream) (with_low bytes) (λ l. refl) (λ l. refl) (λ l. refl) t.streams) t.flight sent h.stands))
   stepped (reserves count) u m x a = grind (arith, nat_tests, calm, steady, steady-same)
-  stepped (takes_sack sack gone) u m x a = subst (λ y. ResultOn on None ws ws first sent y ms ms) (sym x) (calm on ws ws first sent _ ms (acked on ws first t sent sack h))
+  stepped (takes_sack sack gone) u m x a = subst (λ y. ResultOn on None ws ws first sent y ms ms) (sym x)
+      (calm on ws ws first sent _ ms (acked on ws first t sent sack h))
 
 -- ## Writes without their places
 

@@ -162,7 +162,8 @@ found-sent sent ms d a c = found-sent-on all_streams sent ms d a c
 abbrev pub EachSent : List Entry → List ChunkPayloadData → Type 0
 EachSent sent cs = Every (λ c. WasSent sent (data_of c)) cs
 
-pub each-sent-on : (on : ℕ → Bool) (sent : List Entry) (ms : List Made) (cs : List ChunkPayloadData) → AreSentOn on sent ms → All (λ c. Contains ms (data_chunk (data_of c))) cs
+pub each-sent-on : (on : ℕ → Bool) (sent : List Entry) (ms : List Made) (cs : List ChunkPayloadData) → AreSentOn on sent ms
+    → All (λ c. Contains ms (data_chunk (data_of c))) cs
     → EachSent sent cs
 each-sent-on on sent ms cs a all =
     every-of-all (λ c. WasSent sent (data_of c)) cs (λ k d lt. found-sent-on on sent ms (data_of (get_or cs k d)) a (all k d lt))
@@ -407,7 +408,8 @@ read-from tsn s on whole made ns sent few h = record {
   placed = h.placed;
   each = λ k m lt.
       let it = slice_index_or s.receiving.read k m in
-      message-is ns tsn sent few h.held.stands.queued.line h.held.stands.queued.indexed it (AllPass-from_list_all (λ x. is_complete x.fragments) s.receiving.read whole.0 k m lt)
+      message-is ns tsn sent few h.held.stands.queued.line h.held.stands.queued.indexed it
+      (AllPass-from_list_all (λ x. is_complete x.fragments) s.receiving.read whole.0 k m lt)
       (AllPass-from_list_all (λ x. is_one_message x.fragments) s.receiving.read whole.1 k m lt)
       (each-sent sent s.made it.fragments h.made (made k m lt))
       (AllPass-from_list_all (λ x. list_all (is_on x.stream) x.fragments) s.receiving.read on k m lt);

@@ -1,10 +1,10 @@
 -- Sessions in which the receiver drops chunks are some of those of every call.
 use Rattle.sctp_delivery.proofs.Names.{◌≡◌, ℕ, ◌+◌, ◌<◌, ◌≤◌, ◌^◌, ◌||◌, Bool, List, [], ◌∷◌, length, Option, refl, ap, sym, subst, ◌∙◌, arith, distance}
-use Rattle.sctp_delivery.proofs.Names.{ChunkPayloadData, Limits, has_tsn, CallOrDiscard, RunsWithDiscards, discards, makes, AreWrites, AreWritesOfTheirOwn}
+use Rattle.sctp_delivery.proofs.Names.{Limits, has_tsn, CallOrDiscard, RunsWithDiscards, discards, makes, AreWrites, AreWritesOfTheirOwn}
 use Rattle.sctp_delivery.proofs.Names.{NoneIsReadTwice, CanBeAnswered, AllReportedLeaves, EachSackTells, NoneIsRefused, NoneIsTakenTwice, PassAbandoned}
-use Rattle.sctp_delivery.proofs.Names.{StaysAcknowledged, was_passed, was_taken, AreMade, AreMessages, IsAccounted, Session, at_start, bytes_written}
-use Rattle.sctp_delivery.proofs.Names.{of_receiver, of_sender, slice_index_or, released_by, Drop, list_any}
-use Rattle.sctp_delivery.specs.Discards.{AfterEachWithDiscards, AfterEachWithDiscardsOfFewTsns, AcknowledgedCameSo, LeftCameSo, ReleasedCameSo}
+use Rattle.sctp_delivery.proofs.Names.{StaysAcknowledged, was_passed, was_taken, AreMade, AreMessages, IsAccounted, Session, at_start}
+use Rattle.sctp_delivery.proofs.Names.{of_receiver, of_sender, slice_index_or, released_by, Drop}
+use Rattle.sctp_delivery.specs.Discards.{AfterEachWithDiscards, AcknowledgedCameSo, LeftCameSo, ReleasedCameSo}
 use Rattle.sctp_delivery.specs.Discards.{ReportWhatCameSo, WhileFewerTsnsWithDiscards, tsns_given_so, was_discarded}
 use Rattle.sctp_delivery.specs.EveryCall as any
 use Rattle.sctp_delivery.specs.EveryCall.{AnyCall, RunsAny, drops, of_receiving, tsns_given_any, was_dropped}

@@ -18,7 +18,6 @@ use Rattle.sctp_receiver.specs.Inbound.{has_number, named_forwarded, numbers_of}
 use Rattle.sctp_receiver.specs.Limits.{chunk_cost}
 use Rattle.sctp_receiver.specs.Receiver.{open_stream}
 use Rattle.sctp_delivery.specs.Ending.{is_delivery, left_on, rest_cost, waiting_cost}
-use Rattle.sctp_delivery.specs.ReceiverCalls as incoming
 use Rattle.sctp_delivery.specs.ReceiverCalls.{opens}
 use Rattle.sctp_delivery.proofs.Besides.{EachEnds, receiver-so}
 use Rattle.sctp_delivery.proofs.Delivered.{next_tsn}

@@ -127,7 +127,16 @@ session = (
                           acknowledged,
                           (
                             takes-sack,
-                            (reset, (resets-it, (two_written, (writes-two, (two_sent, (sends-two, (two_taken, (takes-two, (both_read, (reads-both, refl)))))))))),
+                            (
+                              reset,
+                              (
+                                resets-it,
+                                (
+                                  two_written,
+                                  (writes-two, (two_sent, (sends-two, (two_taken, (takes-two, (both_read, (reads-both, refl))))))),
+                                ),
+                              ),
+                            ),
                           ),
                         ),
                       ),

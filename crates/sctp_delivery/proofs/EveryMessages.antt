@@ -1,40 +1,50 @@
 -- Sessions of every call: each message of which no fragment but the first begins one is a write, and no write is read twice.
 use Rattle.sctp_delivery.proofs.Names.{◌≡◌, ℕ, zero, suc, ◌+◌, ◌<◌, ◌^◌, Bool, true, false, not, List, [], ◌∷◌, ◌++◌, length, Option, refl, ap, sym, subst}
-use Rattle.sctp_delivery.proofs.Names.{◌∙◌, arith, All, AllPairs, Contains, slice_index_or, filter, list_all, list_any, AllPass-from_list_all, and, both, negated}
-use Rattle.sctp_delivery.proofs.Names.{completes, fails, following_tsn, same-is, ◌==◌}
+use Rattle.sctp_delivery.proofs.Names.{◌∙◌, arith, All, Contains, slice_index_or, filter, list_all, list_any, AllPass-from_list_all, and, both, negated}
+use Rattle.sctp_delivery.proofs.Names.{◌≤◌, None, Released, SenderCall, SenderFollows, distance, completes, fails, following_tsn, same-is, ◌==◌}
 use Rattle.sctp_delivery.proofs.Names.{not_both, list_any-append, ChunkPayloadData, Message, has_tsn, is_complete, is_one_message, is_on}
 use Rattle.sctp_delivery.proofs.Names.{data_of, data_chunk, StandAt, fragments_of_all, are_apart, AreMade, AreMessages, Session, Write, Limits, Transmission}
 use Rattle.sctp_delivery.proofs.Names.{Sack, NoneIsReadTwice, IsAccounted, bytes_written, held_by_sender, total_bytes, with_inflight, sum_by, ◌||◌, ap₂}
-use Rattle.std.proofs.Common.{◌≢◌}
 use Rattle.sctp_sender.specs.declared.sender.Reported.{Reported}
-use Rattle.sctp_delivery.specs.EveryCall.{AfterEachAny, AfterEachAnyOfFewBytes, AnyCall, AreSingle, AreSingleWhereSteady, AreSingleWritesOfTheirOwn, AreWritesWhereSingle, RunsAny}
-use Rattle.sctp_delivery.specs.EveryCall.{AreToldApart, is_single, is_steady, single_messages, tsns_given_any, was_dropped}
-use Rattle.sctp_delivery.specs.Messages.{AreParts, AreSame, IsPart as IsPartOf}
-use Rattle.sctp_delivery.specs.Returns.{NoneIsRefusedSo, at_start_with}
+use Rattle.sctp_sender.specs.declared.sender.flight.kept.TakenBack.{TakenBack}
+use Rattle.sctp_sender.specs.Keeping.{bytes_back}
+use Rattle.sctp_sender.specs.Sender.{take_back_refusal}
+use Rattle.sctp_sender.specs.Totals.{bytes_in}
+use Rattle.sctp_delivery.specs.EveryCall.{AfterEachAny, AnyCall, AreSingle, AreSingleWhereSteady, AreSingleWritesOfTheirOwn, AreWritesWhereSingle, RunsAny}
+use Rattle.sctp_delivery.specs.EveryCall.{SenderDoes, takes_back, AreToldApart, is_single, is_steady, single_messages, tsns_given_any, was_dropped}
+use Rattle.sctp_delivery.specs.Messages.{AreParts, AreSame}
+use Rattle.sctp_delivery.specs.Returns.{NoneIsRefusedSo, after_return, at_start_with}
+use Rattle.sctp_delivery.specs.SenderCalls.{TakesBackAndSack, takes_sack}
 use Rattle.sctp_delivery.proofs.Begun.{AreOnce}
 use Rattle.sctp_delivery.proofs.Calls.{contains-forgotten, forget, forgotten}
 use Rattle.sctp_delivery.proofs.Cases.{at-if}
-use Rattle.sctp_delivery.proofs.Delivered.{AreInner, EachSent, IsReadOf, inner-of, each-sent-on, found-sent-on, single-is, single-on}
+use Rattle.sctp_delivery.proofs.Delivered.{HoldsOn, next_tsn, sender-step-on, AreInner, EachSent, IsReadOf, inner-of, each-sent-on, found-sent-on, single-is, single-on}
 use Rattle.sctp_delivery.proofs.EveryRuns as runs
-use Rattle.sctp_delivery.proofs.EveryShadows.{HasBeside, IsPlayed, has-beside, played-accounted}
+use Rattle.sctp_delivery.proofs.EveryShadows.{every, HasBeside, IsPlayed, has-beside, played-accounted}
 use Rattle.sctp_delivery.proofs.Every.{Every, every-of-all}
-use Rattle.sctp_delivery.proofs.OnceWritten.{EachRead, apart, each-read, places, stand}
+use Rattle.sctp_delivery.proofs.OnceWritten.{EachRead, apart, places, stand}
 use Rattle.sctp_delivery.proofs.OrderedEntries.{AreIndexedOn}
-use Rattle.sctp_delivery.proofs.PlainReturns.{back-fits}
-use Rattle.sctp_delivery.proofs.Senders.{AreSentOn}
+use Rattle.sctp_delivery.proofs.PlainHolds.{held-like}
+use Rattle.sctp_delivery.proofs.PlainReturns.{back-fits, back-more}
+use Rattle.sctp_delivery.proofs.PlainSessions.{small-next}
+use Rattle.sctp_delivery.proofs.OneRead.{no-way}
+use Rattle.sctp_delivery.proofs.Stands.{one-given}
+use Rattle.sctp_delivery.proofs.Senders.{AreSentOn, IsHeldOn}
 use Rattle.sctp_delivery.proofs.Sent.{Entry, IsLine, Numbered, fragment, part-line, same-tsn}
 use Rattle.sctp_delivery.proofs.Sessions as sessions
 use Rattle.sctp_delivery.proofs.Sessions.{neither}
 
 -- ## Tests of fragments
 
-none-begin : (cs : List ChunkPayloadData) → list_all (λ d. not d.beginning_fragment) cs ≡ true → Every (λ (d : ChunkPayloadData). d.beginning_fragment ≡ false) cs
+none-begin : (cs : List ChunkPayloadData) → list_all (λ d. not d.beginning_fragment) cs ≡ true
+    → Every (λ (d : ChunkPayloadData). d.beginning_fragment ≡ false) cs
 none-begin [] e = tt
 none-begin (c ∷ cs) e =
     let b = both (not c.beginning_fragment) (list_all (λ d. not d.beginning_fragment) cs) e in
     (negated c.beginning_fragment b.0, none-begin cs b.1)
 
-none-begins : (cs : List ChunkPayloadData) → Every (λ (d : ChunkPayloadData). d.beginning_fragment ≡ false) cs → list_all (λ d. not d.beginning_fragment) cs ≡ true
+none-begins : (cs : List ChunkPayloadData) → Every (λ (d : ChunkPayloadData). d.beginning_fragment ≡ false) cs
+    → list_all (λ d. not d.beginning_fragment) cs ≡ true
 none-begins [] e = refl
 none-begins (c ∷ cs) e = and (not c.beginning_fragment) (list_all (λ d. not d.beginning_fragment) cs) (ap not e.0) (none-begins cs e.1)
 
@@ -234,3 +244,58 @@ module _ (reported : Reported) (first size max most : ℕ) (limits : Option Limi
     where
       beside-accounted : IsAccounted beside.2.other
       beside-accounted = played-accounted (is_steady cs) (was_dropped cs) first beside.2.other n i
+
+  -- the sender holds what got TSNs, too; so a call of it gives out one at most
+  holds : HoldsOn (is_steady cs) first s i.numbered i.sent
+  holds =
+      let x = beside.2.shadow in
+      record {
+        held = held-like (is_steady cs) first s.sending.sender x.streams x.chunks i.numbered i.sent x.alike x.like
+            (subst (λ u. IsHeldOn (is_steady cs) i.numbered first u i.sent) x.sender i.holds.held);
+        made = made;
+        writes = writes;
+        placed = i.holds.placed;
+      }
+
+  pub given-once : (call : SenderCall) (t : Session) → SenderFollows call s t → distance (next_tsn s) (next_tsn t) ≤ 1
+  given-once call t f =
+      let h = holds in
+      let x = sender-step-on (is_steady cs) first call s t i.numbered i.sent f h in
+      one-given first i.sent x.more (next_tsn s) (next_tsn t) h.held.stands.counted x.holds.held.stands.counted x.once
+
+  -- no way from the TSN that is next to itself
+  pub same-way : distance (next_tsn s) (next_tsn s) ≡ 0
+  same-way = no-way (next_tsn s) (small-next first (every (is_steady cs) (was_dropped cs) first) s.sending.sender s n beside.0 beside.1 few beside.2)
+
+  -- what `acked` makes of the sender is two calls
+  pub two-calls : (sack : Sack) (back : List TakenBack) (gone : List Released) (new : Transmission) → Contains s.sacks sack
+      → TakesBackAndSack sack back gone s.sending.sender new
+      → SenderDoes (takes_back sack back) s (after_return sack back s)
+      × (t : Session) × SenderFollows (takes_sack sack gone) (after_return sack back s) t × (t.sending.sender ≡ new)
+  two-calls sack back gone new handed x =
+      let h = beside.2.shadow in
+      let t = s.sending.sender in
+      let more = back-more sack t h.chunks h.like in
+      let same = ap bytes_back x.returned in
+      let all = x.bytes in
+      let refused = none-refused-back in (
+        record {
+          handed = handed;
+          step = record { sender = omega (arith, more, same); written = omega arith; released = omega arith; taken_back = refl };
+          exact = refl;
+          accepted = (subst (λ k. take_back_refusal k t ≡ None) handed.2 (refused handed.0 sack handed.1), x.returned);
+          after = refl;
+        },
+        record (after_return sack back s) {
+          sending = record (after_return sack back s).sending { sender = new; released = s.sending.released + bytes_in gone };
+        },
+        record {
+          handed = handed;
+          step = record { sender = omega (arith, more, same, all); written = omega arith; released = refl; taken_back = omega arith };
+          exact = x.exact;
+          accepted = x.accepted;
+          answered = x.answered;
+          after = refl;
+        },
+        refl,
+      )

@@ -1,11 +1,11 @@
 -- Sessions of every call: what stays true of them, whatever the two hosts are called for.
-use Rattle.sctp_delivery.proofs.Names.{◌≡◌, ℕ, ◌+◌, ◌<◌, ◌≤◌, ◌^◌, Bool, true, false, not, List, [], ◌∷◌, length, Option, Some, None, refl, ap, sym, subst}
+use Rattle.sctp_delivery.proofs.Names.{◌≡◌, ℕ, ◌+◌, ◌<◌, ◌≤◌, ◌^◌, Bool, true, false, not, List, [], ◌∷◌, Option, Some, None, refl, ap, sym, subst}
 use Rattle.sctp_delivery.proofs.Names.{◌∙◌, ◌&&◌, arith, distance, comes_before, or-left, or-right, same-yes, not_both, negated, both, ChunkPayloadData, Limits}
-use Rattle.sctp_delivery.proofs.Names.{has_tsn, tsns, Sack, Call, Flight, with_inflight, is_outdated, reports, NoneIsReadTwice, ReceiverCall}
+use Rattle.sctp_delivery.proofs.Names.{has_tsn, tsns, Sack, Flight, is_outdated, reports, NoneIsReadTwice}
 use Rattle.sctp_delivery.proofs.Names.{CanBeAnswered, AllReportedLeaves, EachSackTells, NoneIsRefused, NoneIsTakenTwice, PassAbandoned, StaysAcknowledged}
-use Rattle.sctp_delivery.proofs.Names.{are_apart, was_passed, was_taken, SenderCall, data_chunk, forward_tsn, AreMade, AreMessages, ReceiverFollows}
-use Rattle.sctp_delivery.proofs.Names.{SenderFollows, Session, at_start, bytes_written, of_receiver, of_sender, if◌then◌else◌, list_any, insert_before, data_of}
-use Rattle.sctp_delivery.proofs.Names.{Reception, filter_of, with_filter, has_come, with_tsn, ForwardTsn, after_forward_tsn, passes, tsn, Transmission}
+use Rattle.sctp_delivery.proofs.Names.{are_apart, was_passed, was_taken, data_chunk, forward_tsn, AreMade, AreMessages}
+use Rattle.sctp_delivery.proofs.Names.{Session, at_start, bytes_written, of_receiver, of_sender, if◌then◌else◌, list_any, insert_before, data_of}
+use Rattle.sctp_delivery.proofs.Names.{Reception, filter_of, with_filter, has_come, with_tsn, after_forward_tsn, passes, tsn, Transmission}
 use Rattle.sctp_receiver.specs.Receiver.{after_discard, close_stream, repeat_tsn}
 use Rattle.sctp_receiver.specs.Resets.{reset_stream}
 use Rattle.sctp_receiver.specs.ReceiverRuns as receiver_runs

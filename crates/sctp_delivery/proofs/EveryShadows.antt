@@ -1,8 +1,8 @@
 -- Sessions of every call: beside each there is one of a sender that keeps nothing, with the same chunks. So what is read is what was written.
 use Rattle.sctp_delivery.proofs.Names.{◌≡◌, ℕ, ◌+◌, ◌<◌, ◌≤◌, ◌^◌, Bool, true, false, not, List, [], ◌∷◌, ◌++◌, length, map, Option, refl, ap, sym, subst}
-use Rattle.sctp_delivery.proofs.Names.{◌∙◌, arith, distance, not_both, both, or-left, or-right, filter, list_all, change_where, Limits, Modes, OutboundStream}
-use Rattle.sctp_delivery.proofs.Names.{Call, Follows, Session, SenderCall, ReceiverCall, bytes_written, of_receiver, of_sender, at_first, has_number, Transmission}
-use Rattle.sctp_delivery.proofs.Names.{IsAccounted, Contains, at_start, list_any, same-yes, sum_by, Write, data_chunk, forward_tsn, data_of, append-nil, if◌then◌else◌, ◌==◌}
+use Rattle.sctp_delivery.proofs.Names.{◌∙◌, arith, distance, not_both, or-left, or-right, filter, change_where, Limits, Modes, OutboundStream}
+use Rattle.sctp_delivery.proofs.Names.{Call, Follows, Session, bytes_written, of_receiver, of_sender, at_first, has_number, Transmission}
+use Rattle.sctp_delivery.proofs.Names.{IsAccounted, Contains, at_start, list_any, same-yes, sum_by, Write, data_chunk, forward_tsn, data_of, if◌then◌else◌}
 use Rattle.sctp_receiver.specs.ReceiverRuns as receiver_runs
 use Rattle.sctp_sender.specs.declared.sender.Reported.{Reported}
 use Rattle.sctp_sender.specs.declared.sender.Reported.TheVariants.{Drop, Keep}
@@ -26,7 +26,6 @@ use Rattle.sctp_delivery.proofs.Delivered.{HoldsOn, next_tsn, sender-step-on, be
 use Rattle.sctp_delivery.proofs.EveryRuns as runs
 use Rattle.sctp_delivery.proofs.Numbers.{all-open, apart-changed, apart-closed, number-elsewhere, number_of, numbers-closed, sized-changed, sized-closed}
 use Rattle.sctp_delivery.proofs.Numbers.{there-changed, there-closed}
-use Rattle.sctp_delivery.proofs.OneRead.{no-way}
 use Rattle.sctp_delivery.proofs.PlainCalls.{sender-goes}
 use Rattle.sctp_delivery.proofs.PlainRuns.{returns-goes, unmoved}
 use Rattle.sctp_delivery.proofs.PlainSessions.{Goes, IsThere, Others, gone_by, modes_by, receives-too}
@@ -36,7 +35,7 @@ use Rattle.sctp_delivery.proofs.SackLaws as sacks
 use Rattle.sctp_delivery.proofs.SackLaws.{IsInStepBut}
 use Rattle.sctp_delivery.proofs.Senders.{IsHeldOn, renumbered}
 use Rattle.sctp_delivery.proofs.Sent.{Entry, Numbered}
-use Rattle.sctp_delivery.proofs.Sessions.{IsCounted, sender-counts, written-more}
+use Rattle.sctp_delivery.proofs.Sessions.{IsCounted, sender-counts}
 use Rattle.sctp_delivery.proofs.TsnPlaces.{base}
 
 -- ## What a sender does by its calls, and one more
@@ -87,7 +86,8 @@ both-closed s ls ms e = out ls ∙ ap (swapped_out (has_number s)) e ∙ sym (ou
 
     left : (ks : List OutboundStream) → map bare (without ks) ≡ without (map bare ks)
     left [] = refl
-    left (l ∷ ks) = at-test (λ b. map bare (if not b then l ∷ without ks else without ks) ≡ (if not b then bare l ∷ without (map bare ks) else without (map bare ks)))
+    left (l ∷ ks) = at-test (λ b. map bare (if not b then l ∷ without ks else without ks) ≡
+        (if not b then bare l ∷ without (map bare ks) else without (map bare ks)))
         (has_number s l) (λ _. left ks) (λ _. ap (λ xs. bare l ∷ xs) (left ks))
 
     out : (ks : List OutboundStream) → map bare (swapped_out (has_number s) ks) ≡ swapped_out (has_number s) (map bare ks)

@@ -192,7 +192,8 @@ module _ (first size max most : ℕ) (limits : Option Limits) (cs : List Call) (
           → IsPart (terminal ∷ fragment d w i.after ∷ i.entries) sent → ⊥
       uncut y d w i over le part =
           let c = one-of (λ c. WasSent sent (data_of c)) (has_tsn (tsn p (suc y))) s.receiving.accepted (taken-past (suc y) over le)
-          (unassembled.was-taken ns first sent line k.unwrapped.spread.holds.held.stands.queued.indexed joined n long few gone k.passed.cut s k.unwrapped.spread.holds.made made
+          (unassembled.was-taken ns first sent line k.unwrapped.spread.holds.held.stands.queued.indexed joined n long few gone k.passed.cut s
+          k.unwrapped.spread.holds.made made
           k.unwrapped.spread.step.taken.apart whole st a (k.kept st)) in
           let e = entry-at ns first sent line joined n long few c.0 c.2 (suc y) le (same-is c.0.tsn (tsn p (suc y)) c.1) in
           let same : terminal ∷ fragment d w i.after ∷ i.entries ≡ fragment (data_of c.0) e.0 e.1.after ∷ e.1.entries =
@@ -224,7 +225,8 @@ module _ (first size max most : ℕ) (limits : Option Limits) (cs : List Call) (
           (uncut z e v o (omega (arith, h)) (omega (arith, lt)))) y (data_of c) r.1 le i over in
           let start : to.floor < g.start = past-start g over in
           let below = g.below in
-          unassembled.none-stays ns first sent line k.unwrapped.spread.holds.held.stands.queued.indexed joined n long few gone k.passed.cut s k.unwrapped.spread.holds.made made
+          unassembled.none-stays ns first sent line k.unwrapped.spread.holds.held.stands.queued.indexed joined n long few gone k.passed.cut s
+          k.unwrapped.spread.holds.made made
           k.unwrapped.spread.step.taken.apart whole st a (k.kept st) l found n (omega (arith, long)) y (data_of c) r.1 i kind
           (subst (λ t. 0 < sum_by (one t) q.unassembled) at some) g (λ j from upto'. taken-past j (omega (arith, start, from)) (omega (arith, upto', below)))
           (λ j from upto'. none-lost-past j (omega (arith, start, from)) (omega (arith, upto', below)))
@@ -244,7 +246,8 @@ module _ (first size max most : ℕ) (limits : Option Limits) (cs : List Call) (
 
       all-assembled : q.unassembled ≡ []
       all-assembled = by q.unassembled refl
-          (unassembled.was-unassembled ns first sent line k.unwrapped.spread.holds.held.stands.queued.indexed joined n long few gone k.passed.cut s k.unwrapped.spread.holds.made made
+          (unassembled.was-unassembled ns first sent line k.unwrapped.spread.holds.held.stands.queued.indexed joined n long few gone k.passed.cut s
+          k.unwrapped.spread.holds.made made
           k.unwrapped.spread.step.taken.apart whole st a (k.kept st) l found) well.tidy.kinds (subst (IsPast first sent st to.floor) found to.past)
         where
           by : (cs : List ChunkPayloadData) → q.unassembled ≡ cs → Every (λ c. WasSent sent (data_of c)) cs → Every (λ c. c.unordered ≡ true) cs
@@ -281,9 +284,11 @@ module _ (first size max most : ℕ) (limits : Option Limits) (cs : List Call) (
       let le : suc (length xs) ≤ n = omega (arith, part-length sent (fragment d w after ∷ xs) part, long) in
       let law = (k.kept st).weighs (one (tsn p (suc (length xs)))) in
       let held = none-held st (tsn p (suc (length xs))) in
-      let lost = unassembled.none-lost ns first sent line k.unwrapped.spread.holds.held.stands.queued.indexed joined n long few gone k.passed.cut s k.unwrapped.spread.holds.made made
+      let lost = unassembled.none-lost ns first sent line k.unwrapped.spread.holds.held.stands.queued.indexed joined n long few gone k.passed.cut s
+      k.unwrapped.spread.holds.made made
       k.unwrapped.spread.step.taken.apart whole st a (k.kept st) (suc (length xs)) d w i alive in
-      let on = unassembled.taken-there ns first sent line k.unwrapped.spread.holds.held.stands.queued.indexed joined n long few gone k.passed.cut s k.unwrapped.spread.holds.made made
+      let on = unassembled.taken-there ns first sent line k.unwrapped.spread.holds.held.stands.queued.indexed joined n long few gone k.passed.cut s
+      k.unwrapped.spread.holds.made made
       k.unwrapped.spread.step.taken.apart whole st a (k.kept st) (suc (length xs)) d w i refl (subst (λ t. was_taken t s ≡ true) is taken) in (
         st,
         subst (λ t. 0 < sum_by (one t) (fragments_read st s.receiving.read)) (sym is) (omega (arith, law, held, lost, on)),

@@ -1,5 +1,5 @@
 -- What is outstanding was sent: it is in the line of entries, with the same wire fields. And each chunk stands for the entry with its TSN.
-use Rattle.sctp_delivery.proofs.Names.{◌≡◌, ℕ, Bool, true, not, List, ◌∷◌, ◌++◌, take, drop, refl, ap, sym, subst, ◌∙◌, arith, change_where, both, not_both}
+use Rattle.sctp_delivery.proofs.Names.{◌≡◌, ℕ, Bool, true, not, List, ◌∷◌, ◌++◌, take, drop, refl, ap, sym, subst, ◌∙◌, change_where, both, not_both}
 use Rattle.sctp_delivery.proofs.Names.{ChunkPayloadData, data_of, as_abandoned, as_acknowledged, is_outstanding}
 use Rattle.sctp_delivery.proofs.Sent.{Entry, WasSent, sent-more}
 use Rattle.sctp_delivery.proofs.Cases.{all_streams, where-map}

@@ -603,12 +603,14 @@ module _ (first n : ℕ) (few : n < 2 ^ 31) (old new : Session) (ns : List Numbe
             let xs = l.queue.held.unassembled in
             let y = slice_index_or xs x c in
             let sent' = every-at (λ (z : ChunkPayloadData). WasSent sent (data_of z)) xs x c lt
-            (was-unassembled ns first sent line i.spread.holds.held.stands.queued.indexed joined n i.spread.long few gone cut old i.spread.holds.made made i.spread.step.taken.apart
+            (was-unassembled ns first sent line i.spread.holds.held.stands.queued.indexed joined n i.spread.long few gone cut old i.spread.holds.made made
+            i.spread.step.taken.apart
             whole st a k l e) in
             let place' = entry-of ns first sent line joined n i.spread.long few y sent' in
             let within' = place'.3 in (
               (
-                gone-unassembled ns first sent line i.spread.holds.held.stands.queued.indexed joined n i.spread.long few gone cut old i.spread.holds.made made i.spread.step.taken.apart whole st a k l e
+                gone-unassembled ns first sent line i.spread.holds.held.stands.queued.indexed joined n i.spread.long few gone cut old i.spread.holds.made
+                    made i.spread.step.taken.apart whole st a k l e
                     pass.passed pass.part pass.ends pass.came y sent'
                     (every-at IsUnordered xs x c lt h.tidy.kinds) (some-of y.tsn xs (list_any_at (has_tsn y.tsn) xs x c lt (same-yes y.tsn)))
                     (ap (at_or_before y.tsn) (sym pass.is) ∙ b),

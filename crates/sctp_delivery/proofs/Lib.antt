@@ -43,6 +43,7 @@ pub mod EveryRuns
 pub mod EveryShadows
 pub mod EveryMessages
 pub mod EveryExamples
+pub mod StandsAny
 pub mod DiscardRuns
 pub mod DiscardExamples
 pub mod OrderedMessages

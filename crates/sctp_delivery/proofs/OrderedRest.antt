@@ -134,7 +134,8 @@ last-named on sent (c ∷ []) h = (h.0, tt)
 last-named on sent (c ∷ d ∷ ds) h = last-named on sent (d ∷ ds) h.1
 
 -- each pair is one of those of its stream
-own-pairs : (on : ℕ → Bool) (sent : List Entry) (ns : List ChunkForwardTsnStream) → ((s : ℕ) → AreNamed on sent (filter (is_pair_of s) ns)) → AreNamed on sent ns
+own-pairs : (on : ℕ → Bool) (sent : List Entry) (ns : List ChunkForwardTsnStream) → ((s : ℕ) → AreNamed on sent (filter (is_pair_of s) ns))
+    → AreNamed on sent ns
 own-pairs on sent [] h = tt
 own-pairs on sent (n ∷ ns) h = (here, own-pairs on sent ns later)
   where
@@ -148,7 +149,8 @@ own-pairs on sent (n ∷ ns) h = (here, own-pairs on sent ns later)
         (λ e k. k.1)
         (λ e k. k) (h s)
 
-pub names-known : (on : ℕ → Bool) (first : ℕ) (sent : List Entry) (ns : List ChunkForwardTsnStream) (tsn : ℕ) (f : Flight) → AreKnownOn on first sent f.queue.inflight.chunks
+pub names-known : (on : ℕ → Bool) (first : ℕ) (sent : List Entry) (ns : List ChunkForwardTsnStream) (tsn : ℕ) (f : Flight)
+    → AreKnownOn on first sent f.queue.inflight.chunks
     → Name ns (named_up_to tsn f) → AreNamed on sent ns
 names-known on first sent ns tsn f known name =
     own-pairs on sent ns (λ s. subst (AreNamed on sent) (sym (name s))

@@ -210,13 +210,15 @@ module _ (first size max most : ℕ) (limits : Option Limits) (small : first < 2
         ≡ held (only st) old.sending.sender.flight.queue + (written_on st (other_calls cs) + returned_on st cs)
 
   counts : (cs : List CallOrReturn) (s new : Session) (r : RunsWithReturns s cs new) (n : ℕ) (gone : List ℕ) (m : Modes)
-      → n + tsns_given_so s cs new r < 2 ^ 31 → bytes_written new < 2 ^ 64 → Goes first (plain first size max most limits small) s.sending.sender s n gone m → AreCounted s
+      → n + tsns_given_so s cs new r < 2 ^ 31 → bytes_written new < 2 ^ 64
+      → Goes first (plain first size max most limits small) s.sending.sender s n gone m → AreCounted s
       → GoesSo cs s new
   counts [] s new r n gone m few short g k = subst (GoesSo [] s) (sym r) (record { counted = k; balance = λ st. omega arith })
   counts (makes (of_sender call) ∷ cs) s new r n gone m few short g k =
       let f = r.1.0 in
       let bytes = grows cs r.0 new r.1.1 in
-      let h = one-goes first (plain first size max most limits small) (makes (of_sender call)) s r.0 n gone m f (omega (arith, few)) (omega (arith, bytes, short)) g in
+      let h = one-goes first (plain first size max most limits small) (makes (of_sender call)) s r.0 n gone m f (omega (arith, few))
+      (omega (arith, bytes, short)) g in
       let x = has-made first size max most limits small some s n gone m g in
       let rest = counts cs r.0 new r.1.1 (n + distance (next_tsn s) (next_tsn r.0)) _ _ (omega (arith, few)) short h
       (counted-then first call s r.0 x.numbered x.sent f x.holds k) in
@@ -233,7 +235,8 @@ module _ (first size max most : ℕ) (limits : Option Limits) (small : first < 2
   counts (makes (of_receiver call) ∷ cs) s new r n gone m few short g k =
       let f = r.1.0 in
       let bytes = grows cs r.0 new r.1.1 in
-      let h = one-goes first (plain first size max most limits small) (makes (of_receiver call)) s r.0 n gone m f (omega (arith, few)) (omega (arith, bytes, short)) g in
+      let h = one-goes first (plain first size max most limits small) (makes (of_receiver call)) s r.0 n gone m f (omega (arith, few))
+      (omega (arith, bytes, short)) g in
       let rest = counts cs r.0 new r.1.1 (n + distance (next_tsn s) (next_tsn r.0)) _ _ (omega (arith, few)) short h
       (subst AreCounted (sym f.after) (record { all = k.all; amounts = k.amounts })) in
       record {
@@ -250,7 +253,8 @@ module _ (first size max most : ℕ) (limits : Option Limits) (small : first < 2
       let f = r.1.0 in
       let bytes = grows cs r.0 new r.1.1 in
       let same = ap bytes_written f.after in
-      let h = one-goes first (plain first size max most limits small) (takes_back sack back) s r.0 n gone m f (omega (arith, few)) (omega (arith, bytes, short)) g in
+      let h = one-goes first (plain first size max most limits small) (takes_back sack back) s r.0 n gone m f (omega (arith, few))
+      (omega (arith, bytes, short)) g in
       let b = returned s n gone m g sack back r.0 f k (omega (arith, same, bytes, short)) in
       let rest = counts cs r.0 new r.1.1 (n + distance (next_tsn s) (next_tsn r.0)) _ _ (omega (arith, few)) short h b.counted in
       record {

@@ -2,7 +2,7 @@
 use Rattle.sctp_delivery.proofs.Names.{common_steps, ◌≡◌, ℕ, ◌<◌, ◌≤◌, ◌+◌, ◌-◌, ◌^◌, Bool, true, false, not, List, [], ◌∷◌, ◌++◌, length, map, refl, ap, ap₂}
 use Rattle.sctp_delivery.proofs.Names.{sym, subst, ◌∙◌, arith, append-nil, append_assoc, Option, Some, None, option_map, option_to_list, is_some, IfSome, find}
 use Rattle.sctp_delivery.proofs.Names.{change_where, sum_by-cons, sum_by-inserted, sum_by, both, negated, none-some, some-same, nat_tests, if◌then◌else◌}
-use Rattle.sctp_delivery.proofs.Names.{nat_lt, ◌||◌, ◌&&◌, ChunkPayloadData, Sack, Limits, OutboundStream, ExpiredMessage, AbandonedMessage, Released, as_sent}
+use Rattle.sctp_delivery.proofs.Names.{nat_lt, ◌||◌, ◌&&◌, ChunkPayloadData, Sack, OutboundStream, ExpiredMessage, AbandonedMessage, Released, as_sent}
 use Rattle.sctp_delivery.proofs.Names.{all_started, bytes_of, data_of, expiring_tail, has_tsn, is_outstanding, message_of, next_pending, sent_next, sent_of}
 use Rattle.sctp_delivery.proofs.Names.{total_bytes, with_inflight, with_message, with_retransmit, Outbound, Flight, after_abandonment, after_sack}
 use Rattle.sctp_delivery.proofs.Names.{is_outstanding_in, message_to_abandon, next_after_send, released_by, tsn, with_room, count_again, sent_again, missed}

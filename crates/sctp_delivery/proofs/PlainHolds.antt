@@ -1,17 +1,17 @@
 -- A session of a sender that keeps what is reported holds what the session beside it does: what got TSNs, and how all that waits follows on.
-use Rattle.sctp_delivery.proofs.Names.{arith, nat_tests, common_steps, ◌≡◌, ℕ, ◌<◌, ◌^◌, true, List, [], ◌∷◌, map, refl, ap, sym, subst, ◌∙◌, if◌then◌else◌}
+use Rattle.sctp_delivery.proofs.Names.{arith, nat_tests, common_steps, ◌≡◌, ℕ, ◌<◌, ◌^◌, Bool, true, List, [], ◌∷◌, map, refl, ap, sym, subst, ◌∙◌, if◌then◌else◌}
 use Rattle.sctp_delivery.proofs.Names.{◌==◌, ◌||◌, Option, list_any, negated, both, ChunkPayloadData, OutboundStream, Limits, Transmission, Session, Modes}
 use Rattle.sctp_delivery.proofs.Names.{is_of, is_outstanding, data_of, sum_by-cons}
 use Rattle.sctp_delivery.proofs.AmountLaws.{HasMade, made-in}
 use Rattle.sctp_delivery.proofs.Cases.{all_streams}
 use Rattle.sctp_delivery.proofs.Every.{every-all}
-use Rattle.sctp_delivery.proofs.InFlight.{IsKnown, placed-alike}
+use Rattle.sctp_delivery.proofs.InFlight.{IsKnownOn, placed-alike}
 use Rattle.sctp_delivery.proofs.Numbers.{AreSized, IsSteady, all-open, count_of, is_there, number_of}
-use Rattle.sctp_delivery.proofs.Plain.{IsLike, any-plain, are-plain, paired}
-use Rattle.sctp_delivery.proofs.PlainSessions.{Goes, kept_of, plain}
+use Rattle.sctp_delivery.proofs.Plain.{AreLike, IsLike, any-plain, are-plain, paired}
+use Rattle.sctp_delivery.proofs.PlainSessions.{Goes, as_plain, kept_of, plain}
 use Rattle.sctp_delivery.proofs.PlainStreams.{AreAlike, bare}
-use Rattle.sctp_delivery.proofs.Senders.{IsHeld, renumbered}
-use Rattle.sctp_delivery.proofs.Sent.{Entry, WasSent}
+use Rattle.sctp_delivery.proofs.Senders.{IsHeld, IsHeldOn, renumbered}
+use Rattle.sctp_delivery.proofs.Sent.{Entry, Numbered, WasSent}
 
 -- ## Streams that are alike
 
@@ -55,10 +55,10 @@ pub outstanding-like : (k : Option (List ℕ)) (c d : ChunkPayloadData) → IsLi
     → (is_outstanding d ≡ true) × (data_of c ≡ data_of d)
 outstanding-like k c d i o = grind (arith, nat_tests, common_steps, both, negated)
 
-known-like : (first : ℕ) (sent : List Entry) (k : Option (List ℕ)) (c d : ChunkPayloadData) → IsLike k c d → Unit {0} → IsKnown first sent d → IsKnown first sent c
-known-like first sent k c d i h6 h = (
+known-like : (on : ℕ → Bool) (first : ℕ) (sent : List Entry) (k : Option (List ℕ)) (c d : ChunkPayloadData) → IsLike k c d → Unit {0} → IsKnownOn on first sent d → IsKnownOn on first sent c
+known-like on first sent k c d i h6 h = (
   λ o. let x = outstanding-like k c d i o in subst (WasSent sent) (sym x.1) (h.0 x.0),
-  placed-alike all_streams first sent d c (record {
+  placed-alike on first sent d c (record {
     kind = ap (λ (x : ChunkPayloadData). x.unordered) i.same;
     stream = ap (λ (x : ChunkPayloadData). x.stream_identifier) i.same;
     number = ap (λ (x : ChunkPayloadData). x.stream_sequence_number) i.same;
@@ -68,6 +68,38 @@ known-like first sent k c d i h6 h = (
   }) h.1,
 )
 
+-- a sender whose streams and chunks in flight are alike those of one that keeps nothing holds what that one does
+pub held-like : (on : ℕ → Bool) (first : ℕ) (t : Transmission) (ls : List OutboundStream) (ds : List ChunkPayloadData) (ns : List Numbered)
+    (sent : List Entry) → AreAlike t.streams ls → AreLike (kept_of t.kept) t.flight.queue.inflight.chunks ds → IsHeldOn on ns first (as_plain t ls ds) sent
+    → IsHeldOn on ns first t sent
+held-like on first t ls ds ns sent alike like h =
+    let ks = kept_of t.kept in
+    let cs = t.flight.queue.inflight.chunks in
+    let steady = steady-alike ls t.streams alike in
+    let st = renumbered on ns first (λ r. number_of r ls) (λ r. number_of r t.streams) _ t.flight.next_tsn sent (λ r _. steady.numbers r) h.stands in
+    let any : (k : ℕ) → list_any (is_of k) cs ≡ list_any (is_of k) ds = λ k. any-plain (is_of k) (λ c. refl) cs ds (are-plain ks cs ds like) in
+    record {
+      stands = record {
+        queued = st.queued;
+        sendable = record {
+          ordered = st.sendable.ordered;
+          unordered = st.sendable.unordered;
+          apart = st.sendable.apart;
+          sent = λ k e. st.sendable.sent k (sym (any k) ∙ e);
+          below = λ k le. any k ∙ st.sendable.below k le;
+        };
+        known = paired (λ c. Unit {0}) (IsKnownOn on first sent) (IsKnownOn on first sent) (known-like on first sent) ks cs ds like
+            (every-all (λ c. Unit {0}) (λ c. tt) cs) st.known;
+        counted = st.counted;
+        begun' = st.begun';
+        ids = st.ids;
+      };
+      open' = all-open on ls t.streams (λ r _. steady.there r) ns h.open';
+      sized = steady.sized h.sized;
+      apart = steady.apart h.apart;
+      size = h.size;
+    }
+
 module _ (first size max most : ℕ) (limits : Option Limits) (small : first < 2 ^ 32) (some : 0 < size) (s : Session) (n : ℕ) (gone : List ℕ) (m : Modes)
     (g : Goes first (plain first size max most limits small) s.sending.sender s n gone m) where
   there : HasMade first g.other
@@ -76,39 +108,10 @@ module _ (first size max most : ℕ) (limits : Option Limits) (small : first < 2
   abbrev t : Transmission
   t = s.sending.sender
 
-  abbrev cs : List ChunkPayloadData
-  cs = s.sending.sender.flight.queue.inflight.chunks
-
   held : IsHeld there.numbered first s.sending.sender there.sent
   held =
-      let ks = kept_of t.kept in
-      let ds = g.shadow.chunks in
-      let h = subst (λ u. IsHeld there.numbered first u there.sent) g.shadow.sender there.holds.held in
-      let steady = steady-alike g.shadow.streams t.streams g.shadow.alike in
-      let st = renumbered all_streams there.numbered first (λ r. number_of r g.shadow.streams) (λ r. number_of r t.streams) _ t.flight.next_tsn there.sent
-      (λ r _. steady.numbers r) h.stands in
-      let any : (k : ℕ) → list_any (is_of k) cs ≡ list_any (is_of k) ds = λ k. any-plain (is_of k) (λ c. refl) cs ds (are-plain ks cs ds g.shadow.like) in
-      record {
-        stands = record {
-          queued = st.queued;
-          sendable = record {
-            ordered = st.sendable.ordered;
-            unordered = st.sendable.unordered;
-            apart = st.sendable.apart;
-            sent = λ k e. st.sendable.sent k (sym (any k) ∙ e);
-            below = λ k le. any k ∙ st.sendable.below k le;
-          };
-          known = paired (λ c. Unit {0}) (IsKnown first there.sent) (IsKnown first there.sent) (known-like first there.sent) ks cs ds g.shadow.like
-              (every-all (λ c. Unit {0}) (λ c. tt) cs) st.known;
-          counted = st.counted;
-          begun' = st.begun';
-          ids = st.ids;
-        };
-        open' = all-open all_streams g.shadow.streams t.streams (λ r _. steady.there r) there.numbered h.open';
-        sized = steady.sized h.sized;
-        apart = steady.apart h.apart;
-        size = h.size;
-      }
+      held-like all_streams first t g.shadow.streams g.shadow.chunks there.numbered there.sent g.shadow.alike g.shadow.like
+      (subst (λ u. IsHeld there.numbered first u there.sent) g.shadow.sender there.holds.held)
 
   -- it has made what got TSNs, too
   pub has-made : HasMade first s

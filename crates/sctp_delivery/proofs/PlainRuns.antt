@@ -161,7 +161,8 @@ pub at-start : (reported : Reported) (first size max most : ℕ) (limits : Optio
 at-start reported first size max most limits small = by reported
   where
     by : (k : Reported)
-        → Goes first (plain first size max most limits small) (at_start_with k first size max most limits).sending.sender (at_start_with k first size max most limits) 0 [] at_first
+        → Goes first (plain first size max most limits small) (at_start_with k first size max most limits).sending.sender
+        (at_start_with k first size max most limits) 0 [] at_first
     by Drop = record {
       other = at_start first size max most limits;
       shadow =
@@ -179,12 +180,15 @@ at-start reported first size max most limits small = by reported
 module _ (reported : Reported) (first size max most : ℕ) (limits : Option Limits) (calls : List CallOrReturn) (s : Session)
     (run : RunsWithReturns (at_start_with reported first size max most limits) calls s) (small : first < 2 ^ 32)
     (few : tsns_given_so (at_start_with reported first size max most limits) calls s run < 2 ^ 31) (short : bytes_written s < 2 ^ 64) where
-  pub goes : Goes first (plain first size max most limits small) s.sending.sender s (tsns_given_so (at_start_with reported first size max most limits) calls s run)
+  pub goes : Goes first (plain first size max most limits small) s.sending.sender s
+      (tsns_given_so (at_start_with reported first size max most limits) calls s run)
       (abandoned_so (at_start_with reported first size max most limits) calls s run) (modes_from at_first (other_calls calls))
   goes =
-      subst (λ k. Goes first (plain first size max most limits small) s.sending.sender s k (abandoned_so (at_start_with reported first size max most limits) calls s run)
+      subst (λ k. Goes first (plain first size max most limits small) s.sending.sender s k
+      (abandoned_so (at_start_with reported first size max most limits) calls s run)
       (modes_from at_first (other_calls calls))) {x = 0 + tsns_given_so (at_start_with reported first size max most limits) calls s run} (omega arith)
-      (all-go first (plain first size max most limits small) calls (at_start_with reported first size max most limits) s run 0 [] at_first (omega (arith, few)) short
+      (all-go first (plain first size max most limits small) calls (at_start_with reported first size max most limits) s run 0 [] at_first
+      (omega (arith, few)) short
       (at-start reported first size max most limits small))
 
   abbrev pub other : Session
@@ -220,7 +224,8 @@ module _ (reported : Reported) (first size max most : ℕ) (limits : Option Limi
   pub tells-so : EachSackTells s
   tells-so =
       let n = tsns_given_so (at_start_with reported first size max most limits) calls s run in
-      let i = step-of first (plain first size max most limits small) s.sending.sender s n (abandoned_so (at_start_with reported first size max most limits) calls s run)
+      let i = step-of first (plain first size max most limits small) s.sending.sender s n
+      (abandoned_so (at_start_with reported first size max most limits) calls s run)
       (modes_from at_first (other_calls calls)) few goes in
       let kn = known_or none_dropped goes.other in
       let same = goes.shadow.receiving in

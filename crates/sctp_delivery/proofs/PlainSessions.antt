@@ -5,7 +5,6 @@ use Rattle.sctp_delivery.proofs.Names.{Follows, ReceiverFollows, RunsTo, Session
 use Rattle.sctp_delivery.proofs.Names.{tsns_given, Modes, at_first, modes_after, modes_from, SenderCall, SenderMakes, ReceiverCall, made_after, written_after}
 use Rattle.sctp_delivery.proofs.Names.{reports_after, Made, Write, IsAccounted, Bool}
 use Rattle.sctp_delivery.specs.Session.{IsSent}
-use Rattle.sctp_delivery.specs.SenderCalls as outgoing
 use Rattle.sctp_delivery.specs.ReceiverCalls as incoming
 use Rattle.sctp_receiver.specs.ReceiverRuns as receiver_runs
 use Rattle.sctp_receiver.specs.Receiver.{sack_within}

@@ -207,7 +207,8 @@ module _ (on : ℕ → Bool) (ws : List Numbered) (first : ℕ) (number number' 
       (lowers (ap (λ (x : ChunkPayloadData). x.unordered) (sym it) ∙ s.sendable.ordered.1))))
   front-expired None [] [] c e begins s same lowers = absurd (none-some c e)
 
-pub expired : (on : ℕ → Bool) (ws : List Numbered) (first : ℕ) (number number' : ℕ → ℕ) (q : Outbound) (next : ℕ) (sent : List Entry) → StandsOn on ws first number q next sent
+pub expired : (on : ℕ → Bool) (ws : List Numbered) (first : ℕ) (number number' : ℕ → ℕ) (q : Outbound) (next : ℕ) (sent : List Entry)
+    → StandsOn on ws first number q next sent
     → (c : ChunkPayloadData) → next_pending q.pending ≡ Some c → c.beginning_fragment ≡ true → (c.unordered ≡ true → (r : ℕ) → number' r ≡ number r)
     → (c.unordered ≡ false → IsLower on c.stream_identifier number number') → StandsOn on ws first number' (expired_of (Some c) q) next sent
 expired on ws first number number' q next sent s c e begins same lowers =

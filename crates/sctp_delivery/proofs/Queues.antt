@@ -37,7 +37,8 @@ Stands ws first number q next sent = StandsOn all_streams ws first number q next
 
 -- ## Lifetimes
 
-pub started : (on : ℕ → Bool) (ws : List Numbered) (first : ℕ) (number : ℕ → ℕ) (now : ℕ) (q : Outbound) (next : ℕ) (sent : List Entry) → StandsOn on ws first number q next sent
+pub started : (on : ℕ → Bool) (ws : List Numbered) (first : ℕ) (number : ℕ → ℕ) (now : ℕ) (q : Outbound) (next : ℕ) (sent : List Entry)
+    → StandsOn on ws first number q next sent
     → StandsOn on ws first number (all_started now q) next sent
 started on ws first number now q next sent s = by (q.next_unstarted == q.next_message_id)
   where
@@ -143,7 +144,8 @@ pub record Abandons (on : ℕ → Bool) (ws : List Numbered) (first : ℕ) (numb
   pub last : (more ≡ sent) ⊎ (partially_sent r.pending ≡ None)
   pub none : partially_sent q.pending ≡ None → (more ≡ sent) × (partially_sent r.pending ≡ None)
 
-pub no-abandons : (on : ℕ → Bool) (ws : List Numbered) (first : ℕ) (number : ℕ → ℕ) (sent : List Entry) (q : Outbound) (next : ℕ) → StandsOn on ws first number q next sent
+pub no-abandons : (on : ℕ → Bool) (ws : List Numbered) (first : ℕ) (number : ℕ → ℕ) (sent : List Entry) (q : Outbound) (next : ℕ)
+    → StandsOn on ws first number q next sent
     → Abandons on ws first number sent q q next
 no-abandons on ws first number sent q next s = record { more = sent; stands = s; ended = inl refl; last = inl refl; none = λ h. (refl, h) }
 
@@ -178,7 +180,8 @@ marked on ws first number q next sent p f keeps keeps' s = record {
 
 -- with other chunks in flight, of no other messages
 pub refilled : (on : ℕ → Bool) (ws : List Numbered) (first : ℕ) (number : ℕ → ℕ) (q : Outbound) (next : ℕ) (sent : List Entry) (cs : List ChunkPayloadData)
-    → ((m : ℕ) → list_any (is_of m) cs ≡ true → list_any (is_of m) q.inflight.chunks ≡ true) → AreKnownOn on first sent cs → StandsOn on ws first number q next sent
+    → ((m : ℕ) → list_any (is_of m) cs ≡ true → list_any (is_of m) q.inflight.chunks ≡ true) → AreKnownOn on first sent cs
+    → StandsOn on ws first number q next sent
     → StandsOn on ws first number (with_inflight q cs) next sent
 refilled on ws first number q next sent cs fewer known s = record {
   queued = s.queued;
@@ -189,7 +192,8 @@ refilled on ws first number q next sent cs fewer known s = record {
   ids = s.ids;
 }
 
-module _ (on : ℕ → Bool) (ws : List Numbered) (first : ℕ) (number : ℕ → ℕ) (q : Outbound) (next : ℕ) (sent : List Entry) (s : StandsOn on ws first number q next sent) (m : ℕ) where
+module _ (on : ℕ → Bool) (ws : List Numbered) (first : ℕ) (number : ℕ → ℕ) (q : Outbound) (next : ℕ) (sent : List Entry)
+    (s : StandsOn on ws first number q next sent) (m : ℕ) where
   abbrev xs : List ChunkPayloadData
   xs = change_where (is_of m) as_abandoned q.inflight.chunks
 
@@ -255,7 +259,8 @@ module _ (on : ℕ → Bool) (ws : List Numbered) (first : ℕ) (number : ℕ �
       turned b h2 h3 st i h6 = grind (arith, nat_tests, not_both, there, turns-rest, without-none)
 
   rest-abandoned : waits m q.pending ≡ true → partially_sent q.pending ≡ Some m → (o : Option ChunkPayloadData) → last_removed m q.pending ≡ o
-      → Abandons on ws first number sent q (record q { pending = without m q.pending; inflight = with_terminal_chunk o next (payload.with_chunks q.inflight xs) })
+      → Abandons on ws first number sent q
+      (record q { pending = without m q.pending; inflight = with_terminal_chunk o next (payload.with_chunks q.inflight xs) })
       (following_tsn next)
   rest-abandoned e partial None f = absurd (no_last m q.pending e f)
   rest-abandoned e partial (Some c) f =
@@ -303,7 +308,8 @@ module _ (on : ℕ → Bool) (ws : List Numbered) (first : ℕ) (number : ℕ �
       selected (Some t) h k r =
           front t q.pending.ordered q.pending.unordered q.pending.ordered_room q.pending.unordered_room q.next_message_id q.inflight.chunks (some-same h) k r
 
-pub abandoned : (on : ℕ → Bool) (ws : List Numbered) (first : ℕ) (number : ℕ → ℕ) (q : Outbound) (next : ℕ) (sent : List Entry) → StandsOn on ws first number q next sent
+pub abandoned : (on : ℕ → Bool) (ws : List Numbered) (first : ℕ) (number : ℕ → ℕ) (q : Outbound) (next : ℕ) (sent : List Entry)
+    → StandsOn on ws first number q next sent
     → (o : Option ℕ) → ((m : ℕ) → o ≡ Some m → waits m q.pending ≡ true → partially_sent q.pending ≡ Some m)
     → Abandons on ws first number sent q (abandoned_of o next q) (tsn_after_of o next q)
 abandoned on ws first number q next sent s None partial = no-abandons on ws first number sent q next s

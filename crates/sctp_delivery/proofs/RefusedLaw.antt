@@ -407,7 +407,8 @@ none-with-room tsn size max most limits cs s small some run few enough x f t roo
     let spread = k.unwrapped.spread in
     let queued = spread.holds.held.stands.queued in
     not-refused tsn (tsns_given (at_start tsn size max most limits) cs s run) few (abandoned_in (at_start tsn size max most limits) cs s run) s h
-    (λ st. was-unassembled h.numbered tsn h.sent queued.line queued.indexed queued.joined (tsns_given (at_start tsn size max most limits) cs s run) spread.long few
+    (λ st. was-unassembled h.numbered tsn h.sent queued.line queued.indexed queued.joined
+    (tsns_given (at_start tsn size max most limits) cs s run) spread.long few
     (abandoned_in (at_start tsn size max most limits) cs s run) k.passed.cut s spread.holds.made
     (made_in.all-made cs (at_start tsn size max most limits) s run refl) spread.step.taken.apart
     (complete-messages tsn size max most limits cs s run h.sent spread.holds.made) st spread.step.numbered.acked (k.kept st))

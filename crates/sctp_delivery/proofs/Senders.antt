@@ -49,7 +49,8 @@ IsMoreBy None sent more = IsEnded sent more
 IsMoreBy (Some c) sent more = (w : Numbered) × (after : List ℕ) × (more ≡ fragment (data_of c) w after ∷ sent) × (w.place ≡ c.message_id)
 
 -- what a call makes of it, by which this chunk is sent, if there is one
-pub record ResultOn (on : ℕ → Bool) (o : Option ChunkPayloadData) (ws vs : List Numbered) (first : ℕ) (sent : List Entry) (u : Transmission) (ms ns : List Made) : Type 0 where
+pub record ResultOn (on : ℕ → Bool) (o : Option ChunkPayloadData) (ws vs : List Numbered) (first : ℕ) (sent : List Entry) (u : Transmission)
+    (ms ns : List Made) : Type 0 where
   pub more : List Entry
   pub held : IsHeldOn on vs first u more
   pub once : IsOnceMore sent more
@@ -61,7 +62,8 @@ pub calm : (on : ℕ → Bool) (ws vs : List Numbered) (first : ℕ) (sent : Lis
     → ResultOn on None ws vs first sent u ms ms
 calm on ws vs first sent u ms h = record { more = sent; held = h; once = inl refl; grown = inl refl; made = λ a. a }
 
-pub renumbered : (on : ℕ → Bool) (ws : List Numbered) (first : ℕ) (number number' : ℕ → ℕ) (q : Outbound) (next : ℕ) (sent : List Entry) → ((s : ℕ) → on s ≡ true → number' s ≡ number s)
+pub renumbered : (on : ℕ → Bool) (ws : List Numbered) (first : ℕ) (number number' : ℕ → ℕ) (q : Outbound) (next : ℕ) (sent : List Entry)
+    → ((s : ℕ) → on s ≡ true → number' s ≡ number s)
     → StandsOn on ws first number q next sent → StandsOn on ws first number' q next sent
 renumbered on ws first number number' q next sent same s = record {
   queued = record {
@@ -84,7 +86,8 @@ renumbered on ws first number number' q next sent same s = record {
 }
 
 -- other streams, as steady, and what stands then
-pub steady : (on : ℕ → Bool) (ws : List Numbered) (first : ℕ) (t : Transmission) (sent : List Entry) (h : IsHeldOn on ws first t sent) (ls : List OutboundStream)
+pub steady : (on : ℕ → Bool) (ws : List Numbered) (first : ℕ) (t : Transmission) (sent : List Entry) (h : IsHeldOn on ws first t sent)
+    (ls : List OutboundStream)
     → IsSteady t.streams ls → (f : Flight) (more : List Entry) → StandsOn on ws first (λ s. number_of s t.streams) f.queue f.next_tsn more
     → IsHeldOn on ws first (record t { streams = ls; flight = f }) more
 steady on ws first t sent h ls st f more s = record {
@@ -98,9 +101,15 @@ steady on ws first t sent h ls st f more s = record {
 -- ## What is in flight changes
 
 -- a change of some chunks in flight
-pub changed : (on : ℕ → Bool) (ws : List Numbered) (first : ℕ) (t : Transmission) (sent : List Entry) (p : ChunkPayloadData → Bool) (f : ChunkPayloadData → ChunkPayloadData)
+pub changed : (on : ℕ → Bool) (ws : List Numbered) (first : ℕ) (t : Transmission) (sent : List Entry) (p : ChunkPayloadData → Bool)
+    (f : ChunkPayloadData → ChunkPayloadData)
     → KeepsMessage f → KeepsData f → IsHeldOn on ws first t sent
-    → IsHeldOn on ws first (record t { flight = record t.flight { queue = with_inflight t.flight.queue (change_where p f t.flight.queue.inflight.chunks) } }) sent
+    → IsHeldOn on ws first (record t {
+      flight = record t.flight {
+        queue = with_inflight t.flight.queue
+            (change_where p f t.flight.queue.inflight.chunks);
+      };
+    }) sent
 changed on ws first t sent p f keeps keeps' h =
     steady on ws first t sent h t.streams (steady-same t.streams)
     (record t.flight { queue = with_inflight t.flight.queue (change_where p f t.flight.queue.inflight.chunks) }) sent
@@ -128,7 +137,8 @@ first-changed on ws first t sent p f i keeps keeps' h =
         ∙ sym (list_any-append (is_of m) (take i cs) (drop i cs))
         ∙ ap (list_any (is_of m)) (take-append-drop i cs)
 
-pub acked : (on : ℕ → Bool) (ws : List Numbered) (first : ℕ) (t : Transmission) (sent : List Entry) (s : Sack) → IsHeldOn on ws first t sent → IsHeldOn on ws first (after_acked s t) sent
+pub acked : (on : ℕ → Bool) (ws : List Numbered) (first : ℕ) (t : Transmission) (sent : List Entry) (s : Sack) → IsHeldOn on ws first t sent
+    → IsHeldOn on ws first (after_acked s t) sent
 acked on ws first t sent s h =
     let st = steady-released (released_by s t.flight) t.streams in
     record {
@@ -154,13 +164,15 @@ acked on ws first t sent s h =
 
 -- ## Messages are abandoned
 
-gone-one : (on : ℕ → Bool) (ws : List Numbered) (first : ℕ) (number : ℕ → ℕ) (f : Flight) (sent : List Entry) → StandsOn on ws first number f.queue f.next_tsn sent → (tsn : ℕ)
+gone-one : (on : ℕ → Bool) (ws : List Numbered) (first : ℕ) (number : ℕ → ℕ) (f : Flight) (sent : List Entry)
+    → StandsOn on ws first number f.queue f.next_tsn sent → (tsn : ℕ)
     → Abandons on ws first number sent f.queue (abandoned_at tsn f).queue (abandoned_at tsn f).next_tsn
 gone-one on ws first number f sent s tsn =
     abandoned on ws first number f.queue f.next_tsn sent s (message_to_abandon tsn f)
     (found-partial f.queue s.sendable tsn (find (has_tsn tsn) f.queue.inflight.chunks) refl)
 
-gone-each : (on : ℕ → Bool) (ws : List Numbered) (first : ℕ) (number : ℕ → ℕ) (tsns : List ℕ) (f : Flight) (sent : List Entry) → StandsOn on ws first number f.queue f.next_tsn sent
+gone-each : (on : ℕ → Bool) (ws : List Numbered) (first : ℕ) (number : ℕ → ℕ) (tsns : List ℕ) (f : Flight) (sent : List Entry)
+    → StandsOn on ws first number f.queue f.next_tsn sent
     → Abandons on ws first number sent f.queue (abandoned_each tsns f).queue (abandoned_each tsns f).next_tsn
 gone-each on ws first number [] f sent s = no-abandons on ws first number sent f.queue f.next_tsn s
 gone-each on ws first number (tsn ∷ tsns) f sent s =
@@ -174,7 +186,8 @@ grown on sent more ms (inl e) a = subst (λ xs. AreSentOn on xs ms) (sym e) a
 grown on sent more ms (inr x) a = subst (λ xs. AreSentOn on xs ms) (sym x.1) (sent-then on x.0 sent ms a)
 
 -- the streams have less, and the flight is what is left
-left : (on : ℕ → Bool) (ws : List Numbered) (first : ℕ) (t : Transmission) (sent : List Entry) (ms : List Made) (ls : List OutboundStream) (f : Flight) → IsHeldOn on ws first t sent
+left : (on : ℕ → Bool) (ws : List Numbered) (first : ℕ) (t : Transmission) (sent : List Entry) (ms : List Made) (ls : List OutboundStream) (f : Flight)
+    → IsHeldOn on ws first t sent
     → IsSteady t.streams ls → Abandons on ws first (λ s. number_of s t.streams) sent t.flight.queue f.queue f.next_tsn
     → ResultOn on None ws ws first sent (record t { streams = ls; flight = f }) ms ms
 left on ws first t sent ms ls f h st a = record {
@@ -185,14 +198,17 @@ left on ws first t sent ms ls f h st a = record {
   made = grown on sent a.more ms (once-ended sent a.more a.ended);
 }
 
-pub abandons-message : (on : ℕ → Bool) (ws : List Numbered) (first : ℕ) (t : Transmission) (sent : List Entry) (ms : List Made) → IsHeldOn on ws first t sent → (o : Option ℕ)
+pub abandons-message : (on : ℕ → Bool) (ws : List Numbered) (first : ℕ) (t : Transmission) (sent : List Entry) (ms : List Made)
+    → IsHeldOn on ws first t sent → (o : Option ℕ)
     → ((m : ℕ) → o ≡ Some m → waits m t.flight.queue.pending ≡ true → partially_sent t.flight.queue.pending ≡ Some m) → (stream bytes : ℕ)
     → ResultOn on None ws ws first sent (after_abandon o stream bytes t) ms ms
 abandons-message on ws first t sent ms h o partial stream bytes =
-    left on ws first t sent ms (change_where (has_number stream) (less_by bytes) t.streams) (after_abandonment o t.flight) h (steady-less stream bytes t.streams)
+    left on ws first t sent ms (change_where (has_number stream) (less_by bytes) t.streams) (after_abandonment o t.flight) h
+    (steady-less stream bytes t.streams)
     (abandoned on ws first (λ s. number_of s t.streams) t.flight.queue t.flight.next_tsn sent h.stands o partial)
 
-pub abandons-all : (on : ℕ → Bool) (ws : List Numbered) (first : ℕ) (t : Transmission) (sent : List Entry) (ms : List Made) → IsHeldOn on ws first t sent → (tsns : List ℕ)
+pub abandons-all : (on : ℕ → Bool) (ws : List Numbered) (first : ℕ) (t : Transmission) (sent : List Entry) (ms : List Made) → IsHeldOn on ws first t sent
+    → (tsns : List ℕ)
     → ResultOn on None ws ws first sent (after_abandoning tsns t) ms ms
 abandons-all on ws first t sent ms h tsns =
     left on ws first t sent ms (after_leaving (leaving_each tsns t.flight) t.streams)
@@ -201,7 +217,8 @@ abandons-all on ws first t sent ms h tsns =
 
 -- ## Sending
 
-sent-of : (on : ℕ → Bool) (ws : List Numbered) (first : ℕ) (t : Transmission) (sent : List Entry) (ms : List Made) (now : ℕ) → IsHeldOn on ws first t sent → (q : Outbound)
+sent-of : (on : ℕ → Bool) (ws : List Numbered) (first : ℕ) (t : Transmission) (sent : List Entry) (ms : List Made) (now : ℕ) → IsHeldOn on ws first t sent
+    → (q : Outbound)
     → StandsOn on ws first (λ s. number_of s t.streams) q t.flight.next_tsn sent → (o : Option ChunkPayloadData) → next_pending q.pending ≡ o
     → ResultOn on (option_map (as_sent t.flight.next_tsn now) o) ws ws first sent (record t {
       flight =
@@ -215,14 +232,16 @@ sent-of on ws first t sent ms now h q s (Some c) e =
     let entry = fragment (data_of (as_sent next now c)) x.write x.after in
     record {
       more = entry ∷ sent;
-      held = steady on ws first t sent h t.streams (steady-same t.streams) (record t.flight { queue = sent_of (Some c) q next now; next_tsn = following_tsn next })
+      held = steady on ws first t sent h t.streams (steady-same t.streams)
+          (record t.flight { queue = sent_of (Some c) q next now; next_tsn = following_tsn next })
           (entry ∷ sent) x.stands;
       once = inr (entry, refl);
       grown = (x.write, x.after, refl, x.place);
       made = λ a. ((x.write, x.after, sent, inl refl), sent-then on entry sent ms a);
     }
 
-pub sends-next : (on : ℕ → Bool) (ws : List Numbered) (first : ℕ) (t : Transmission) (sent : List Entry) (ms : List Made) (now : ℕ) → IsHeldOn on ws first t sent
+pub sends-next : (on : ℕ → Bool) (ws : List Numbered) (first : ℕ) (t : Transmission) (sent : List Entry) (ms : List Made) (now : ℕ)
+    → IsHeldOn on ws first t sent
     → ResultOn on (next_chunk now t) ws ws first sent (with_flight
     (record t.flight { queue = sent_next t.flight.queue t.flight.next_tsn now; next_tsn = next_after_send t.flight }) t) ms (with_chunk (next_chunk now t) ms)
 sends-next on ws first t sent ms now h =

@@ -149,7 +149,8 @@ module _ (on : ℕ → Bool) (ws : List Numbered) (first : ℕ) (number : ℕ �
   in-line w after f g l = (subst (λ k. Fits ws k (data_of (as_sent tsn now c)) w after) next (fits-sent c tsn now w after sent ws f), (g, l))
 
   from-ordered : (sel : Option Selected) (os us : List ChunkPayloadData) → list_to_pop sel c.beginning_fragment c.unordered ≡ Some false → c.unordered ≡ false
-      → OnTurn sel false c → QueuedOn on ws first number (made (c ∷ os) us sel ro ru) sent → SendsOn on ws first number (made (c ∷ os) us sel ro ru) sent c tsn now
+      → OnTurn sel false c → QueuedOn on ws first number (made (c ∷ os) us sel ro ru) sent
+      → SendsOn on ws first number (made (c ∷ os) us sel ro ru) sent c tsn now
   from-ordered sel os us pops kind turn q =
       let w = q.ordered.0 in
       let after = q.ordered.1 in
@@ -214,7 +215,8 @@ module _ (on : ℕ → Bool) (ws : List Numbered) (first : ℕ) (number : ℕ �
       under h1 = grind (arith, nat_tests, placed, under-inner, under-more)
 
   from-unordered : (sel : Option Selected) (os us : List ChunkPayloadData) → list_to_pop sel c.beginning_fragment c.unordered ≡ Some true → c.unordered ≡ true
-      → OnTurn sel true c → QueuedOn on ws first number (made os (c ∷ us) sel ro ru) sent → SendsOn on ws first number (made os (c ∷ us) sel ro ru) sent c tsn now
+      → OnTurn sel true c → QueuedOn on ws first number (made os (c ∷ us) sel ro ru) sent
+      → SendsOn on ws first number (made os (c ∷ us) sel ro ru) sent c tsn now
   from-unordered sel os us pops kind turn q =
       let w = q.unordered.0 in
       let after = q.unordered.1 in
@@ -286,7 +288,8 @@ module _ (on : ℕ → Bool) (ws : List Numbered) (first : ℕ) (number : ℕ �
           let same : u ≡ c = some-same f in
           let whole = subst (λ y. IsWhole true n (begun s.message_id) (y ∷ us)) same v in
           subst (λ y. SendsOn on ws first number (made os (y ∷ us) (Some s) ro ru) sent c tsn now) (sym same)
-          (from-unordered (Some s) os us (ap Some h) whole.1 (h, whole.0.1) (subst (λ y. QueuedOn on ws first number (made os (y ∷ us) (Some s) ro ru) sent) same r))
+          (from-unordered (Some s) os us (ap Some h) whole.1 (h, whole.0.1)
+          (subst (λ y. QueuedOn on ws first number (made os (y ∷ us) (Some s) ro ru) sent) same r))
 
       ordered : s.unordered ≡ false → (os : List ChunkPayloadData) → IsWhole false n (begun s.message_id) os → slice_get os 0 ≡ Some c
           → QueuedOn on ws first number (made os us (Some s) ro ru) sent → SendsOn on ws first number (made os us (Some s) ro ru) sent c tsn now
@@ -295,7 +298,8 @@ module _ (on : ℕ → Bool) (ws : List Numbered) (first : ℕ) (number : ℕ �
           let same : o ≡ c = some-same f in
           let whole = subst (λ y. IsWhole false n (begun s.message_id) (y ∷ os)) same v in
           subst (λ y. SendsOn on ws first number (made (y ∷ os) us (Some s) ro ru) sent c tsn now) (sym same)
-          (from-ordered (Some s) os us (ap Some h) whole.1 (h, whole.0.1) (subst (λ y. QueuedOn on ws first number (made (y ∷ os) us (Some s) ro ru) sent) same r))
+          (from-ordered (Some s) os us (ap Some h) whole.1 (h, whole.0.1)
+          (subst (λ y. QueuedOn on ws first number (made (y ∷ os) us (Some s) ro ru) sent) same r))
 
       by : (b : Bool) → s.unordered ≡ b → SendsOn on ws first number (made os us (Some s) ro ru) sent c tsn now
       by b h2 = grind (arith, nat_tests, ordered, slice_get, unordered)
@@ -310,6 +314,7 @@ first-fits : (ws : List Numbered) (cs : List ChunkPayloadData) (p : Place) (c : 
 first-fits ws [] p c e h = absurd (none-some c e)
 first-fits ws (x ∷ xs) p c e h = subst (IsOfWrite ws) (some-same e) (h.0, h.1, h.2.0)
 
-pub next-fits : (on : ℕ → Bool) (ws : List Numbered) (first : ℕ) (number : ℕ → ℕ) (q : Pending) (sent : List Entry) (c : ChunkPayloadData) → next_pending q ≡ Some c
+pub next-fits : (on : ℕ → Bool) (ws : List Numbered) (first : ℕ) (number : ℕ → ℕ) (q : Pending) (sent : List Entry) (c : ChunkPayloadData)
+    → next_pending q ≡ Some c
     → QueuedOn on ws first number q sent → IsOfWrite ws c
 next-fits on ws first number q sent c e h = grind (arith, nat_tests, between, first-fits, slice_get)

@@ -27,7 +27,8 @@ use Rattle.sctp_delivery.proofs.TsnPlaces.{base, same-place, upto-is}
 use Rattle.sctp_delivery.proofs.Whole.{read-whole, whole-of}
 
 module _ (ws : List Numbered) (first : ℕ) (sent : List Entry) (line : IsLine ws first sent) (indexed : AreIndexed sent)
-    (joined : AreJoined sent) (n : ℕ) (long : length sent ≡ n) (few : n < 2 ^ 31) (gone : List ℕ) (cut : AreCutGone gone sent) (s : Session) (sent-made : AreSent sent s.made)
+    (joined : AreJoined sent) (n : ℕ) (long : length sent ≡ n) (few : n < 2 ^ 31) (gone : List ℕ) (cut : AreCutGone gone sent) (s : Session)
+    (sent-made : AreSent sent s.made)
     (made : list_all (sessions.made_among s.made) s.receiving.accepted ≡ true) (apart : are_apart s.receiving.accepted ≡ true)
     (whole : All (λ m. (is_complete m.fragments ≡ true) × (is_one_message m.fragments ≡ true) × EachSent sent m.fragments) s.receiving.read)
     (st a : ℕ) (k : IsKeptBut first sent st n a gone s.made s.receiving) where

@@ -108,8 +108,10 @@ in-front now o c h4 = grind (arith, nat_tests, both, none-some, some-same)
 pub expires-one : (on : ℕ → Bool) (ws : List Numbered) (first : ℕ) (t : Transmission) (sent : List Entry) (ms : List Made) → IsHeldOn on ws first t sent
     → (now : ℕ) (c : ChunkPayloadData) (bytes : ℕ) → expiring now t.flight.queue ≡ Some c → ResultOn on None ws ws first sent (after_expire c bytes now t) ms ms
 expires-one on ws first t sent ms h now c bytes e = calm on ws ws first sent (after_expire c bytes now t) ms (record {
-  stands = expired on ws first (λ s. number_of s t.streams) (λ s. number_of s after) t.flight.queue t.flight.next_tsn sent h.stands c front.0 front.1 same lowers;
-  open' = all-open on t.streams after (λ s _ o. there-changed (has_number c.stream_identifier) (after_expiry c.unordered bytes) keeps s t.streams ∙ o) ws h.open';
+  stands = expired on ws first (λ s. number_of s t.streams)
+      (λ s. number_of s after) t.flight.queue t.flight.next_tsn sent h.stands c front.0 front.1 same lowers;
+  open' = all-open on t.streams after
+      (λ s _ o. there-changed (has_number c.stream_identifier) (after_expiry c.unordered bytes) keeps s t.streams ∙ o) ws h.open';
   sized = sized-changed (has_number c.stream_identifier) (after_expiry c.unordered bytes) sizes t.streams h.sized;
   apart = apart-changed (has_number c.stream_identifier) (after_expiry c.unordered bytes) keeps t.streams h.apart;
   size = h.size;

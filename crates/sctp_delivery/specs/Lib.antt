@@ -22,3 +22,4 @@ pub mod Stand
 pub mod Delivering
 pub mod BothWays
 pub mod EveryCall
+pub mod StandAny

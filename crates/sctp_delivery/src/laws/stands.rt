@@ -1,6 +1,7 @@
 //! In which session two hosts stand, and to which one each call leads: what a caller composes the other laws with.
 
 ghost use Rattle.sctp_delivery.specs.Stand.{EachAckedStepsSo, EachKeepsNothing, EachReceiverCallSteps, EachReceiverCallStepsSo, EachSenderCallSteps, EachSenderCallStepsSo, EachTwoBegin, EachTwoBeginSo};
+ghost use Rattle.sctp_delivery.specs.StandAny.{EachAckedStepsAny, EachReceiverCallStepsAny, EachReceiverOtherStepsAny, EachSenderCallStepsAny, EachSenderOtherStepsAny, EachTwoBeginAny};
 
 /// A new sender and a new receiver that begin with the same TSN stand in a session.
 pub fn two_hosts_begin_a_session()
@@ -31,4 +32,20 @@ pub fn each_call_leads_to_a_session_whatever_comes_back()
     ensures sender { EachSenderCallStepsSo }
     ensures receiver { EachReceiverCallStepsSo }
     ensures acked { EachAckedStepsSo }
+{}
+
+/// A new sender, which keeps what gap ack blocks report or not, and a new receiver that begin with the same TSN stand in a session of every
+/// call.
+pub fn two_hosts_begin_a_session_of_every_call()
+    ensures { EachTwoBeginAny }
+{}
+
+/// From a session of every call, what each call makes leads to one in which the hosts stand then: the calls of other sessions, those by which
+/// streams are closed or reset, chunks dropped, and names passed over; and what `acked` makes is two steps.
+pub fn each_call_leads_to_a_session_of_every_call()
+    ensures sender { EachSenderCallStepsAny }
+    ensures receiver { EachReceiverCallStepsAny }
+    ensures sender_other { EachSenderOtherStepsAny }
+    ensures receiver_other { EachReceiverOtherStepsAny }
+    ensures acked { EachAckedStepsAny }
 {}
