@@ -5,15 +5,18 @@ use Rattle.std.proofs.lemmas.List.Elements.{All-contains, All-from_recursion, Co
 use Rattle.std.specs.Prelude.{◌⊎◌, Contains}
 use Rattle.std.specs.List.{sum_by}
 use Rattle.sctp_association.proofs.Sessions.{made_more, none_taken}
+use Rattle.sctp_association.proofs.Tsns.{Uses, makes-uses, ready-in, sack-uses, small-in, then-used, used, waiting_in}
 use Rattle.sctp_association.specs.Acks.{without_blocks}
+use Rattle.sctp_association.specs.Hosts.{fragments_by}
 use Rattle.sctp_association.specs.Runs.{AcksBy, Runs, SendsBy, is_sending, made_by, reported_by}
 use Rattle.sctp_data.specs.SelectiveAck.{Sack}
 use Rattle.sctp_delivery.proofs.StandsSo.{acked-steps-so, receiver-steps-so, sender-steps-so}
 use Rattle.sctp_delivery.specs.ReceiverCalls.{ReceiverCall, ReceiverMakes, forgets, makes_sack}
-use Rattle.sctp_delivery.specs.SenderCalls.{Made, SenderCall, SenderMakes, TakesBackAndSack, Write, written_after}
+use Rattle.sctp_delivery.specs.SenderCalls.{Made, SenderCall, SenderMakes, TakesBackAndSack, Write, takes_sack, written_after}
 use Rattle.sctp_delivery.specs.SenderCalls.{expires, expires_late, expires_rexmit, expires_tail, forwards_within, resends, sends, starts}
-use Rattle.sctp_delivery.specs.Session.{IsReported, IsSent, ReceiverFollows, SenderFollows, Session}
-use Rattle.sctp_delivery.specs.Stand.{StandSo, given_so}
+use Rattle.sctp_delivery.specs.Returns.{TakesBack, makes}
+use Rattle.sctp_delivery.specs.Session.{IsReported, IsSent, ReceiverFollows, SenderFollows, Session, of_sender}
+use Rattle.sctp_delivery.specs.Stand.{StandSo}
 use Rattle.sctp_receiver.specs.Receiver.{Reception, sack_within}
 use Rattle.sctp_sender.specs.Sender.{Transmission}
 use Rattle.sctp_sender.specs.declared.sender.flight.Released.{Released}
@@ -42,35 +45,48 @@ more-same st = record { made = λ m c. c; sacks = λ k c. c }
 pub more-then : (x y z : StandSo) → IsMore x y → IsMore y z → IsMore x z
 more-then x y z f g = record { made = λ m c. g.made m (f.made m c); sacks = λ k c. g.sacks k (f.sacks k c) }
 
--- calls of the sender lead to this one
+-- of the same session
+more-as : (st x y : StandSo) → y.session ≡ x.session → IsMore st x → IsMore st y
+more-as st x y e m = record {
+  made = λ k c. subst (λ (s : Session). Contains s.made k) (sym e) (m.made k c);
+  sacks = λ k c. subst (λ (s : Session). Contains s.sacks k) (sym e) (m.sacks k c);
+}
+
+-- calls of the sender lead to this one, by which so many fragments more were written
 pub record Sent (st : StandSo) (n : ℕ) (ws : List Write) (new : Transmission) : Type 0 where
   pub next : StandSo
   pub sends : next.session.sending.sender ≡ new
   pub receiving : next.session.receiving ≡ st.session.receiving
   pub written : next.session.written ≡ ws
-  pub given : given_so next ≤ given_so st + n
+  pub given : used next ≤ used st + n
   pub more : IsMore st next
 
 pub record SentOne (call : SenderCall) (st : StandSo) (new : Transmission) : Type 0 where
-  pub sent : Sent st 1 (written_after call st.session.written) new
+  pub sent : Sent st (fragments_by call st.session.sending.sender) (written_after call st.session.written) new
   pub follows : SenderFollows call st.session sent.next.session
 
 pub send-one : (call : SenderCall) (new : Transmission) (st : StandSo) → SenderMakes call st.session.sending.sender new → IsReported call st.session
-    → given_so st + 1 < 2 ^ 31 → bytes-of (written_after call st.session.written) < 2 ^ 64
+    → used st + fragments_by call st.session.sending.sender + 1 < 2 ^ 31 → bytes-of (written_after call st.session.written) < 2 ^ 64
     → SentOne call st new
 send-one call new st m h room bytes =
-    let x = sender-steps-so call st.session.sending.sender new st.session.receiving.receiver st (record { sends = refl; receives = refl }) m h room bytes in
+    let n = fragments_by call st.session.sending.sender in
+    let x = sender-steps-so call st.session.sending.sender new st.session.receiving.receiver st (record { sends = refl; receives = refl }) m h
+    (omega (arith, room)) bytes in
     let f : SenderFollows call st.session x.0.session = x.2.step in
+    let u : Uses (fragments_by call st.session.sending.sender) st.session.sending.sender.flight x.0.session.sending.sender.flight =
+    subst (λ (t : Transmission). Uses (fragments_by call st.session.sending.sender) st.session.sending.sender.flight t.flight) (sym x.1.sends)
+    (makes-uses st.session.sending.sender (small-in st) (ready-in st) call new m) in
+    let y = then-used st (makes (of_sender call)) x.0.session n f u (omega (arith, room)) x.0.short in
     record {
       sent = record {
-        next = x.0;
-        sends = x.1.sends;
-        receiving = ap (λ (s : Session). s.receiving) f.after;
-        written = ap (λ (s : Session). s.written) f.after;
-        given = x.2.given;
-        more = record { made = x.2.made; sacks = x.2.sacks };
+        next = y.next;
+        sends = ap (λ (s : Session). s.sending.sender) y.there ∙ x.1.sends;
+        receiving = ap (λ (s : Session). s.receiving) y.there ∙ ap (λ (s : Session). s.receiving) f.after;
+        written = ap (λ (s : Session). s.written) y.there ∙ ap (λ (s : Session). s.written) f.after;
+        given = y.used';
+        more = more-as st x.0 y.next y.there (record { made = x.2.made; sacks = x.2.sacks });
       };
-      follows = f;
+      follows = subst (λ (s : Session). SenderFollows call st.session s) (sym y.there) f;
     }
 
 -- calls of the receiver lead to this one
@@ -78,7 +94,7 @@ pub record Called (call : ReceiverCall) (st : StandSo) (new : Reception) : Type 
   pub next : StandSo
   pub receives : next.session.receiving.receiver ≡ new
   pub step : ReceiverFollows call st.session next.session
-  pub given : given_so next ≤ given_so st
+  pub given : used next ≤ used st
   pub more : IsMore st next
 
 pub call-one : (call : ReceiverCall) (new : Reception) (st : StandSo) → ReceiverMakes call st.session.receiving.receiver new → IsSent call st.session
@@ -86,11 +102,13 @@ pub call-one : (call : ReceiverCall) (new : Reception) (st : StandSo) → Receiv
 call-one call new st m h =
     let x = receiver-steps-so call st.session.receiving.receiver new st.session.sending.sender st (record { sends = refl; receives = refl }) m h in
     let given = x.2.given in
+    let f : ReceiverFollows call st.session x.0.session = x.2.step in
+    let same = ap (λ (s : Session). waiting_in s.sending.sender.flight) f.after in
     record {
       next = x.0;
       receives = x.1.receives;
-      step = x.2.step;
-      given = omega (arith, given);
+      step = f;
+      given = omega (arith, given, same);
       more = record { made = x.2.made; sacks = x.2.sacks };
     }
 
@@ -107,23 +125,35 @@ none-written (expires_late now gone) ws e = refl
 none-written (expires_rexmit gone) ws e = refl
 none-written _ ws e = absurd (false≢true e)
 
-pub record SentEach (st : StandSo) (n : ℕ) (ms : List Made) (new : Transmission) : Type 0 where
-  pub sent : Sent st n st.session.written new
+none-cut : (c : SenderCall) (t : Transmission) → is_sending c ≡ true → fragments_by c t ≡ 0
+none-cut (sends now) t e = refl
+none-cut (resends tsn now c) t e = refl
+none-cut (forwards_within bytes f) t e = refl
+none-cut (starts now) t e = refl
+none-cut (expires now m) t e = refl
+none-cut (expires_tail now m) t e = refl
+none-cut (expires_late now gone) t e = refl
+none-cut (expires_rexmit gone) t e = refl
+none-cut _ t e = absurd (false≢true e)
+
+pub record SentEach (st : StandSo) (ms : List Made) (new : Transmission) : Type 0 where
+  pub sent : Sent st 0 st.session.written new
   pub own : (m : Made) → Contains ms m → Contains sent.next.session.made m
 
-pub send-each : (cs : List SenderCall) (ms : List Made) (new : Transmission) (st : StandSo) → given_so st + length cs < 2 ^ 31
-    → Runs SendsBy made_by cs ms st.session.sending.sender new → SentEach st (length cs) ms new
+pub send-each : (cs : List SenderCall) (ms : List Made) (new : Transmission) (st : StandSo) → used st + 1 < 2 ^ 31
+    → Runs SendsBy made_by cs ms st.session.sending.sender new → SentEach st ms new
 send-each [] ms new st few r = record {
   sent = record { next = st; sends = sym r.1; receiving = refl; written = refl; given = omega arith; more = more-same st };
   own = λ m c. absurd (contains-none m (subst (λ (l : List Made). Contains l m) r.0 c));
 }
 send-each (c ∷ cs) ms new st few r =
     let none = none-written c st.session.written r.made.0 in
-    let y = send-one c r.mid st r.made.1 (none_taken c st.session r.made.0) (omega (arith, few))
+    let cut = none-cut c st.session.sending.sender r.made.0 in
+    let y = send-one c r.mid st r.made.1 (none_taken c st.session r.made.0) (omega (arith, few, cut))
     (subst (λ (ws : List Write). bytes-of ws < 2 ^ 64) (sym none) st.short) in
     let x = y.sent in
     let one = x.given in
-    let g = send-each cs r.later new x.next (omega (arith, few, one))
+    let g = send-each cs r.later new x.next (omega (arith, few, one, cut))
     (subst (λ (t : Transmission). Runs SendsBy made_by cs r.later t new) (sym x.sends) r.rest) in
     let rest = g.sent.given in
     let f : SenderFollows c st.session x.next.session = y.follows in
@@ -135,7 +165,7 @@ send-each (c ∷ cs) ms new st few r =
         sends = g.sent.sends;
         receiving = g.sent.receiving ∙ x.receiving;
         written = g.sent.written ∙ x.written ∙ none;
-        given = omega (arith, one, rest);
+        given = omega (arith, one, rest, cut);
         more = more-then st x.next g.sent.next x.more g.sent.more;
       };
       own = λ m h.
@@ -162,7 +192,7 @@ pub record Reported (st : StandSo) (ks : List Sack) (new : Reception) : Type 0 w
   pub sending : next.session.sending ≡ st.session.sending
   pub read : next.session.receiving.read ≡ st.session.receiving.read
   pub written : next.session.written ≡ st.session.written
-  pub given : given_so next ≤ given_so st
+  pub given : used next ≤ used st
   pub more : IsMore st next
   pub own : (k : Sack) → Contains ks k → IsThere next.session k
 
@@ -255,19 +285,25 @@ plain-sack k back gone t u h = record {
 }
 
 pub ack-one : (k : Sack) (back : List TakenBack) (gone : List Released) (new : Transmission) (st : StandSo)
-    → TakesBackAndSack k back gone st.session.sending.sender new → Contains st.session.sacks k → given_so st + 1 < 2 ^ 31 → Sent st 1 st.session.written new
+    → TakesBackAndSack k back gone st.session.sending.sender new → Contains st.session.sacks k → used st + 1 < 2 ^ 31 → Sent st 0 st.session.written new
 ack-one k back gone new st h handed room =
     let x = acked-steps-so k back gone st.session.sending.sender new st.session.receiving.receiver st
-    (record { sends = refl; receives = refl }) h handed room in
-    let a = x.1.step in
-    let b = x.4.step in
+    (record { sends = refl; receives = refl }) h handed (omega (arith, room)) in
+    let a : TakesBack k back st.session x.0.session = x.1.step in
+    let b : SenderFollows (takes_sack k gone) x.0.session x.2.session = x.4.step in
     let first = x.1.given in
-    let second = x.4.given in
+    let same = ap (λ (t : Transmission). waiting_in t.flight) a.exact in
+    let u : Uses 0 x.0.session.sending.sender.flight x.2.session.sending.sender.flight =
+    subst (λ (t : Transmission). Uses 0 x.0.session.sending.sender.flight t.flight) (sym b.exact)
+    (sack-uses k x.0.session.sending.sender.flight (small-in x.0)) in
+    let y = then-used x.0 (makes (of_sender (takes_sack k gone))) x.2.session 0 b u (omega (arith, first, same, room)) x.2.short in
+    let second = y.used' in
     record {
-      next = x.2;
-      sends = x.3.sends;
-      receiving = ap (λ (s : Session). s.receiving) b.after ∙ ap (λ (s : Session). s.receiving) a.after;
-      written = ap (λ (s : Session). s.written) b.after ∙ ap (λ (s : Session). s.written) a.after;
-      given = omega (arith, first, second);
-      more = record { made = λ m c. x.4.made m (x.1.made m c); sacks = λ j c. x.4.sacks j (x.1.sacks j c) };
+      next = y.next;
+      sends = ap (λ (s : Session). s.sending.sender) y.there ∙ x.3.sends;
+      receiving = ap (λ (s : Session). s.receiving) y.there ∙ ap (λ (s : Session). s.receiving) b.after ∙ ap (λ (s : Session). s.receiving) a.after;
+      written = ap (λ (s : Session). s.written) y.there ∙ ap (λ (s : Session). s.written) b.after ∙ ap (λ (s : Session). s.written) a.after;
+      given = omega (arith, first, same, second);
+      more = more-as st x.2 y.next y.there
+          (record { made = λ m c. x.4.made m (x.1.made m c); sacks = λ j c. x.4.sacks j (x.1.sacks j c) });
     }

@@ -14,6 +14,7 @@ pub mod Others
 pub mod Making
 pub mod Sessions
 pub mod Delivered
+pub mod Seldom
 pub mod Arriving
 pub mod Arrived
 pub mod Begun
@@ -21,5 +22,7 @@ pub mod Carrying
 pub mod Cut
 pub mod Named
 pub mod HostSteps
+pub mod Tsns
 pub mod Hosts
 pub mod HostCalls
+pub mod Links

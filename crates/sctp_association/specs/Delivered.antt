@@ -1,7 +1,8 @@
 -- What comes was made: what a datagram carries that the peer wrote, and so each call that it brings, is of what the peer's halves made.
-use Rattle.std.specs.Prelude.{◌≡◌, ◌⊎◌, ⊤, true, List, ◌++◌, ℕ, Contains, Some, map}
+use Rattle.std.specs.Prelude.{◌≡◌, ◌⊎◌, ⊤, Bool, true, false, List, ◌++◌, ℕ, Contains, Some, map}
 use Rattle.std.specs.List.{AllByRecursion}
-use Rattle.sctp_association.specs.Arrivals.{Arrival, Arrives, Halves, IsNamed, acks, begins, counts, hears, passes, receives, renews, restarts, without_gaps}
+use Rattle.sctp_association.specs.Arrivals.{Arrival, Arrives, Halves, HasType, IsBrought, IsNamed, acks, begins, counts, hears, passes, receives, renews}
+use Rattle.sctp_association.specs.Arrivals.{restarts, without_gaps}
 use Rattle.sctp_association.specs.Packets.{IsAcked, IsOf, IsWritten, Sides, Transmits}
 use Rattle.sctp_association.specs.Sessions.{GoesOn}
 use Rattle.sctp_chunks.specs.Wire.{Wire}
@@ -80,6 +81,23 @@ abbrev pub EachBringsOnly : Type 0
 EachBringsOnly =
     (ms : List Made) (sacks : List Sack) (datagram : List ℕ) → IsWritten ms sacks datagram
     → BringsOnly ms sacks datagram
+
+-- ## What few datagrams bring
+
+-- a stream is reset, or an association begins
+abbrev pub is_seldom : Arrival → Bool
+is_seldom (receives (resets stream last)) = true
+is_seldom (receives _) = false
+is_seldom (hears (restarts stream)) = true
+is_seldom (hears _) = false
+is_seldom (begins tsn max limits) = true
+is_seldom (renews tsn size max) = true
+
+-- only a datagram with a COOKIE-ECHO, a COOKIE-ACK or a RE-CONFIG chunk brings that
+abbrev pub EachSeldomIsCarried : Type 0
+EachSeldomIsCarried =
+    (datagram : List ℕ) (a : Arrival) → IsBrought datagram a → is_seldom a ≡ true
+    → HasType datagram 10 ⊎ HasType datagram 11 ⊎ HasType datagram 130
 
 -- ## In sessions
 

@@ -1,7 +1,7 @@
 -- Two associations, and a network that loses, delays, repeats and reorders the datagrams that they write.
-use Rattle.std.specs.Prelude.{◌≡◌, ⊤, ℕ, ◌+◌, ◌^◌, ◌<◌, Bool, true, false, if◌then◌else◌, List, [], ◌∷◌, length, Contains, Option, Some, None}
+use Rattle.std.specs.Prelude.{◌≡◌, ⊤, ℕ, ◌+◌, ◌^◌, ◌<◌, ◌≤◌, Bool, true, false, if◌then◌else◌, List, [], ◌∷◌, length, Contains, Option, Some, None}
 use Rattle.std.specs.List.{sum_by}
-use Rattle.sctp_association.specs.Arrivals.{Arrival, Does, Follows, Halves, IsBrought, begins, halves, hears, new_sender, receives, renews, restarts}
+use Rattle.sctp_association.specs.Arrivals.{Arrival, Arrives, Does, Halves, IsBrought, Steps, begins, halves, hears, new_sender, receives, renews, restarts}
 use Rattle.sctp_association.specs.Packets.{Transmits, sides}
 use Rattle.sctp_data.specs.ForwardTsn.{ForwardTsn}
 use Rattle.sctp_delivery.specs.Abandoned.{IsEachOtherReadInTheEnd}
@@ -16,18 +16,21 @@ use Rattle.sctp_receiver.specs.Receiver.{Reception, after_read, at_first, is_ope
 use Rattle.sctp_receiver.specs.ReceiverRuns as runs
 use Rattle.sctp_receiver.specs.ReceiverRuns.{Message, with_message}
 use Rattle.sctp_receiver.specs.Skips.{names_closed}
-use Rattle.sctp_sender.specs.Sender.{Transmission}
+use Rattle.sctp_sender.specs.Sender.{Transmission, stream_of}
+use Rattle.sctp_stream.specs.Stream.{pieces_of}
+use Rattle.sctp_stream.specs.declared.outbound_stream.OutboundStream.{OutboundStream}
 
 -- ## One association
 
--- its halves, what it wrote and read, the datagrams that it wrote, and how many calls its sender had; each list has the last one first
+-- its halves, what it wrote and read, the datagrams that it wrote, and into how many fragments what it wrote was cut; each list has the
+-- last one first
 pub record Host : Type 0 where
   pub sender : Transmission
   pub receiver : Option Reception
   pub written : List Write
   pub read : List Message
   pub sent : List (List ℕ)
-  pub calls : ℕ
+  pub fragments : ℕ
 
 -- one way between two: the first TSN, the size of a fragment and the longest message of the sender; the longest message and the limits
 -- of the receiver
@@ -46,7 +49,7 @@ first_host w = record {
   written = [];
   read = [];
   sent = [];
-  calls = 0;
+  fragments = 0;
 }
 
 -- ## What it does
@@ -61,13 +64,22 @@ is_asking (sets_size size) = true
 is_asking marks = true
 is_asking _ = false
 
+-- a write is cut into so many fragments
+abbrev pub pieces_on : Option OutboundStream → List ℕ → ℕ
+pieces_on None bytes = 0
+pieces_on (Some l) bytes = length (pieces_of l bytes)
+
+abbrev pub fragments_by : SenderCall → Transmission → ℕ
+fragments_by (writes stream ppi bytes) t = pieces_on (stream_of stream t) bytes
+fragments_by _ t = 0
+
 pub record Asks (call : SenderCall) (old new : Host) : Type 0 where
   pub asking : is_asking call ≡ true
   pub makes : SenderMakes call old.sender new.sender
   pub after : new ≡ record old {
     sender = new.sender;
     written = written_after call old.written;
-    calls = old.calls + 1;
+    fragments = old.fragments + fragments_by call old.sender;
   }
 
 -- `read` of an open stream
@@ -89,8 +101,50 @@ pub record Polls (is_sent : Bool) (datagram : List ℕ) (old new : Host) : Type 
     sender = new.sender;
     receiver = new.receiver;
     sent = if is_sent then datagram ∷ old.sent else old.sent;
-    calls = old.calls + length transmits.sent.calls;
   }
+
+-- `handle_datagram` of a datagram that the peer wrote, at whatever time and however often: what `came` says of it
+pub record Handles (peer : List (List ℕ)) (datagram : List ℕ) (old new : Host) : Type 0 where
+  pub handed : Contains peer datagram
+  pub arrives : Arrives datagram (halves old.sender old.receiver)
+      (halves new.sender new.receiver)
+  pub after : new ≡ record old { sender = new.sender; receiver = new.receiver }
+
+pub data Act : Type 0 where
+  asks : SenderCall → Act
+  reads_on : ℕ → Act
+  polls : Bool → List ℕ → Act
+  handles : List ℕ → Act
+
+-- the datagrams are the peer's
+abbrev pub Acts : List (List ℕ) → Act → Host → Host → Type 0
+Acts peer (asks call) old new = Asks call old new
+Acts peer (reads_on stream) old new = ReadsOn stream old new
+Acts peer (polls is_sent datagram) old new = Polls is_sent datagram old new
+Acts peer (handles datagram) old new = Handles peer datagram old new
+
+-- ## Two of them
+
+pub record Hosts : Type 0 where
+  pub one : Host
+  pub other : Host
+
+abbrev pub hosts : Host → Host → Hosts
+hosts a b = record { one = a; other = b }
+
+pub data Move : Type 0 where
+  one_acts : Act → Move
+  other_acts : Act → Move
+
+abbrev pub Moves : Move → Hosts → Hosts → Type 0
+Moves (one_acts act) old new = Acts old.other.sent act old.one new.one × (new.other ≡ old.other)
+Moves (other_acts act) old new = Acts old.one.sent act old.other new.other × (new.one ≡ old.one)
+
+abbrev pub MovesTo : Hosts → List Move → Hosts → Type 0
+MovesTo old [] new = new ≡ old
+MovesTo old (m ∷ ms) new = (mid : Hosts) × (Moves m old mid × MovesTo mid ms new)
+
+-- ## What sessions have
 
 abbrev pub NamesOpen : ForwardTsn → Option Reception → Type 0
 NamesOpen f None = ⊤
@@ -109,59 +163,35 @@ IsPlain w (begins tsn max limits) h =
     (h.receiver ≡ None) × ((tsn ≡ w.tsn) × ((max ≡ w.most) × (limits ≡ w.limits)))
 IsPlain w (renews tsn size max) h = ⊥
 
-pub record DoesPlainly (w : Way) (a : Arrival) (old new : Halves) : Type 0 where
-  pub does : Does a old new
-  pub plain : IsPlain w a old
+-- each call that a datagram brings is plain
+abbrev pub ArePlain : (w : Way) (datagram : List ℕ) (calls : List Arrival) (old new : Halves)
+    → Steps (IsBrought datagram) Does calls old new → Type 0
+ArePlain w datagram [] old new run = ⊤
+ArePlain w datagram (a ∷ calls) old new run =
+    IsPlain w a old × ArePlain w datagram calls run.0 new run.1.1
 
--- `handle_datagram` of a datagram that the peer wrote, at whatever time and however often: what `came` says of it
-pub record Handles (w : Way) (peer : List (List ℕ)) (datagram : List ℕ) (old new : Host)
-    : Type 0 where
-  pub handed : Contains peer datagram
-  pub arrives : Follows (IsBrought datagram) (DoesPlainly w)
-      (halves old.sender old.receiver) (halves new.sender new.receiver)
-  pub after : new ≡ record old {
-    sender = new.sender;
-    receiver = new.receiver;
-    calls = old.calls + length arrives.calls;
-  }
-
-pub data Act : Type 0 where
-  asks : SenderCall → Act
-  reads_on : ℕ → Act
-  polls : Bool → List ℕ → Act
-  handles : List ℕ → Act
-
--- the way is that on which it receives, and the datagrams are the peer's
-abbrev pub Acts : Way → List (List ℕ) → Act → Host → Host → Type 0
-Acts w peer (asks call) old new = Asks call old new
-Acts w peer (reads_on stream) old new = ReadsOn stream old new
-Acts w peer (polls is_sent datagram) old new = Polls is_sent datagram old new
-Acts w peer (handles datagram) old new = Handles w peer datagram old new
-
--- ## Two of them
-
-pub record Hosts : Type 0 where
-  pub one : Host
-  pub other : Host
-
-abbrev pub hosts : Host → Host → Hosts
-hosts a b = record { one = a; other = b }
-
-pub data Move : Type 0 where
-  one_acts : Act → Move
-  other_acts : Act → Move
+-- the way is that on which the host receives
+abbrev pub IsPlainAct : (w : Way) (peer : List (List ℕ)) (act : Act) (old new : Host)
+    → Acts peer act old new → Type 0
+IsPlainAct w peer (asks call) old new done = ⊤
+IsPlainAct w peer (reads_on stream) old new done = ⊤
+IsPlainAct w peer (polls is_sent datagram) old new done = ⊤
+IsPlainAct w peer (handles datagram) old new done =
+    ArePlain w datagram done.arrives.calls (halves old.sender old.receiver)
+    (halves new.sender new.receiver) done.arrives.run
 
 -- forth is the way from the one to the other
-abbrev pub Moves : (forth back : Way) → Move → Hosts → Hosts → Type 0
-Moves forth back (one_acts act) old new =
-    Acts back old.other.sent act old.one new.one × (new.other ≡ old.other)
-Moves forth back (other_acts act) old new =
-    Acts forth old.one.sent act old.other new.other × (new.one ≡ old.one)
+abbrev pub IsPlainMove : (forth back : Way) (m : Move) (old new : Hosts) → Moves m old new → Type 0
+IsPlainMove forth back (one_acts act) old new done =
+    IsPlainAct back old.other.sent act old.one new.one done.0
+IsPlainMove forth back (other_acts act) old new done =
+    IsPlainAct forth old.one.sent act old.other new.other done.0
 
-abbrev pub MovesTo : (forth back : Way) → Hosts → List Move → Hosts → Type 0
-MovesTo forth back old [] new = new ≡ old
-MovesTo forth back old (m ∷ ms) new =
-    (mid : Hosts) × (Moves forth back m old mid × MovesTo forth back mid ms new)
+abbrev pub ArePlainMoves : (forth back : Way) (old : Hosts) (moves : List Move) (new : Hosts)
+    → MovesTo old moves new → Type 0
+ArePlainMoves forth back old [] new run = ⊤
+ArePlainMoves forth back old (m ∷ ms) new run =
+    IsPlainMove forth back m old run.0 run.1.0 × ArePlainMoves forth back run.0 ms new run.1.1
 
 -- ## The law
 
@@ -169,9 +199,12 @@ MovesTo forth back old (m ∷ ms) new =
 abbrev pub IsFit : Way → Type 0
 IsFit w = (w.tsn < 2 ^ 32) × (0 < w.size)
 
--- its sender had fewer than 2^31 calls, and took fewer than 2^64 bytes
-abbrev pub HadFew : Host → Type 0
-HadFew h = (h.calls < 2 ^ 31) × (sum_by (λ w. length w.bytes) h.written < 2 ^ 64)
+abbrev pub bytes_of : List Write → ℕ
+bytes_of ws = sum_by (λ w. length w.bytes) ws
+
+-- what it wrote is fewer than 2^64 bytes, and was cut into so few fragments that no TSN is given out twice: each takes one at most
+abbrev pub WroteFew : Host → Type 0
+WroteFew h = (h.fragments + 1 < 2 ^ 31) × (bytes_of h.written < 2 ^ 64)
 
 abbrev pub IsReceiver : Way → Option Reception → Reception → Type 0
 IsReceiver w None r = r ≡ at_first w.tsn w.most (Some w.limits)
@@ -201,6 +234,15 @@ pub record Delivers (w : Way) (a b : Host) : Type 0 where
 abbrev pub EachDelivers : Type 0
 EachDelivers =
     (forth back : Way) (moves : List Move) (new : Hosts)
-    → MovesTo forth back (hosts (first_host forth) (first_host back)) moves new
-    → IsFit forth → IsFit back → HadFew new.one → HadFew new.other
+    (run : MovesTo (hosts (first_host forth) (first_host back)) moves new)
+    → ArePlainMoves forth back (hosts (first_host forth) (first_host back)) moves new run
+    → IsFit forth → IsFit back → WroteFew new.one → WroteFew new.other
     → Delivers forth new.one new.other × Delivers back new.other new.one
+
+-- what an association wrote was cut into no more fragments than it has bytes, whatever comes
+abbrev pub EachIsCut : Type 0
+EachIsCut =
+    (forth back : Way) (moves : List Move) (new : Hosts)
+    → MovesTo (hosts (first_host forth) (first_host back)) moves new
+    → (new.one.fragments ≤ bytes_of new.one.written)
+    × (new.other.fragments ≤ bytes_of new.other.written)

@@ -12,6 +12,7 @@ pub mod Halves
 pub mod Held
 pub mod HostCalls
 pub mod Hosts
+pub mod Links
 pub mod Once
 pub mod Packets
 pub mod Reached

@@ -1,9 +1,10 @@
 //! What holds of every association: laws, each the contract of a function that does nothing.
 
-ghost use Rattle.sctp_association.specs.Delivered.{EachBringsOnly, EachCarriesOnly, EachComes};
+ghost use Rattle.sctp_association.specs.Delivered.{EachBringsOnly, EachCarriesOnly, EachComes, EachSeldomIsCarried};
 ghost use Rattle.sctp_association.specs.Held.{CostsLittle, HoldsFewChunks, KeepsFewTsns, NotesFewDuplicates, OfEach, OpensFewStreams};
 ghost use Rattle.sctp_association.specs.HostCalls.{EachAskActs, EachBegins, EachDatagramActs, EachOtherIsQuiet, EachPollActs, EachReadActs, EachSizeActs, EachTimeoutActs};
-ghost use Rattle.sctp_association.specs.Hosts.{EachDelivers};
+ghost use Rattle.sctp_association.specs.Hosts.{EachDelivers, EachIsCut};
+ghost use Rattle.sctp_association.specs.Links.{EachLinkDelivers, EachLinkGoesOn, EachLinkIsCut, EachLinkTurns, EachTwoBegin};
 ghost use Rattle.sctp_association.specs.Sessions.{EachIsSent};
 
 /// Whatever a peer sends, and whatever calls an association had, what it holds of the peer's messages is within its `Config`. By 400 a
@@ -30,19 +31,23 @@ pub fn what_is_sent_was_made()
 pub fn what_comes_was_made()
     ensures carried { EachCarriesOnly }
     ensures brought { EachBringsOnly }
+    ensures seldom { EachSeldomIsCarried }
     ensures sessions { EachComes }
 {}
 
 // Not said yet of associations that reset or close streams, or begin anew: sessions of sctp_delivery have no such calls.
 /// Two associations, from `new` on: whatever their applications call, and whichever datagrams of the peer come, late, again, in another order or
 /// never. What one reads the other wrote, on that stream, with that payload type and those bytes, no write twice, and ordered ones in order.
-/// In the end each other write was read.
+/// In the end each other write was read. It holds while they write fewer than 2^31 - 1 fragments: no more than bytes.
 pub fn what_is_read_was_written()
-    ensures { EachDelivers }
+    ensures hosts { EachDelivers }
+    ensures cut { EachIsCut }
+    ensures linked { EachLinkDelivers }
+    ensures few { EachLinkIsCut }
 {}
 
-/// What the clauses of a call ensure of an association is what acts of a `Host` do, of which `what_is_read_was_written` speaks. Not said: which acts
-/// those of `read`, `set_mtu` and `handle_timeout` are, nor how many calls of the sender `poll_transmit` makes.
+/// What the clauses of a call ensure of an association is what these acts of a `Host` do: of such acts `what_is_read_was_written` speaks, and
+/// `two_associations_go_on` leads on by them.
 pub fn each_call_is_what_a_host_does()
     ensures begun { EachBegins }
     ensures asked { EachAskActs }
@@ -52,4 +57,11 @@ pub fn each_call_is_what_a_host_does()
     ensures polled { EachPollActs }
     ensures handled { EachDatagramActs }
     ensures quiet { EachOtherIsQuiet }
+{}
+
+/// Two associations that were made by `new` are linked, and stay so by acts of either: so a caller has `what_is_read_was_written` of them.
+pub fn two_associations_go_on()
+    ensures begun { EachTwoBegin }
+    ensures acts { EachLinkGoesOn }
+    ensures turned { EachLinkTurns }
 {}

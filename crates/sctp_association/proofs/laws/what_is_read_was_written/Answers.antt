@@ -1,5 +1,6 @@
-use Rattle.sctp_association.proofs.Hosts.{each-delivers}
+use Rattle.sctp_association.proofs.Hosts as hosts
+use Rattle.sctp_association.proofs.Links as links
 use Rattle.sctp_association.proofs.laws.what_is_read_was_written.Goals as goal
 
 pub returns : goal.returns
-returns c = each-delivers
+returns c = record { hosts = hosts.each-delivers; cut = hosts.each-cut; linked = links.each-link-delivers; few = links.each-link-is-cut }
