@@ -4,17 +4,16 @@ use Rattle.std.specs.Prelude.{if◌then◌else◌}
 use Rattle.sctp_association.proofs.Opened.{none-of}
 use Rattle.sctp_association.specs.declared.association.Association.{Association}
 use Rattle.sctp_association.specs.declared.inbound.Inbound.{Inbound}
-use Rattle.sctp_association.specs.Arrivals.{Halves, halves, new_sender}
+use Rattle.sctp_association.specs.Arrivals.{Halves, new_sender}
 use Rattle.sctp_association.specs.Asked.{calls_on}
-use Rattle.sctp_association.specs.Halves.{expires_t3, fragment_size, marked, receiver_of, sides_of}
+use Rattle.sctp_association.specs.Halves.{expires_t3, fragment_size, marked, receiver_of}
 use Rattle.sctp_association.specs.HostCalls.{ActsEach, EachAskActs, EachBegins, EachDatagramActs, EachOtherIsQuiet, EachPollActs, EachReadActs, EachSizeActs}
 use Rattle.sctp_association.specs.HostCalls.{EachTimeoutActs, Log, acts_of_read, asked_of, host_of, no_log, read_of, sent_of}
-use Rattle.sctp_association.specs.Hosts.{Act, Host, asks, fragments_by, is_asking, reads_on}
+use Rattle.sctp_association.specs.Hosts.{Host, asks, fragments_by, is_asking, reads_on}
 use Rattle.sctp_association.specs.Reads.{AreReadOff, message_in}
-use Rattle.sctp_association.specs.Waiting.{opened}
 use Rattle.sctp_delivery.specs.SenderCalls.{SenderCall, SenderMakes, SenderMakesEach, Write, marks, opens, sets_size, written_after}
 use Rattle.sctp_receiver.specs.Receiver.{Reception, after_read, is_open, message_of, message_on, stream_of}
-use Rattle.sctp_receiver.specs.ReceiverRuns.{Message, with_message}
+use Rattle.sctp_receiver.specs.ReceiverRuns.{with_message}
 use Rattle.sctp_sender.specs.Sender.{Transmission, open_stream}
 use Rattle.sctp_sender.specs.Sender as sender
 

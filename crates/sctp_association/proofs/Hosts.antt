@@ -15,7 +15,7 @@ use Rattle.sctp_association.specs.Arrivals.{acks, begins, counts, hears, passes,
 use Rattle.sctp_association.specs.Delivered.{IsFor, IsForMade}
 use Rattle.sctp_association.specs.Hosts.{Act, Acts, ArePlain, ArePlainMoves, Asks, Delivers, EachDelivers, EachIsCut, Handles, Host, Hosts, IsFit, IsPlain}
 use Rattle.sctp_association.specs.Hosts.{IsPlainAct, IsReceiver, Move, MovesTo, Polls, ReadsOn, Way, WroteFew, asks, bytes_of, first_host, fragments_by, handles}
-use Rattle.sctp_association.specs.Hosts.{hosts, is_asking, one_acts, other_acts, pieces_on, polls, reads_on}
+use Rattle.sctp_association.specs.Hosts.{hosts, is_asking, one_acts, other_acts, polls, reads_on}
 use Rattle.sctp_association.specs.Packets.{IsWritten}
 use Rattle.sctp_association.specs.Runs.{AcksBy, ReportsIn, Runs, SendsBy, made_by, reported_by}
 use Rattle.sctp_data.specs.SelectiveAck.{Sack}

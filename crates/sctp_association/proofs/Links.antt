@@ -1,11 +1,11 @@
 -- Two associations go on from where moves led them, and change places.
-use Rattle.std.proofs.Common.{◌≡◌, List, [], ◌∷◌, ◌++◌, map, refl, ap, sym, subst, ◌∙◌}
+use Rattle.std.proofs.Common.{List, [], ◌∷◌, ◌++◌, map, refl, ap, subst, ◌∙◌}
 use Rattle.std.specs.Prelude.{⊤}
 use Rattle.sctp_association.proofs.Hosts.{each-cut, each-delivers}
 use Rattle.sctp_association.specs.HostCalls.{ActsEach}
 use Rattle.sctp_association.specs.Hosts.{Act, ArePlainMoves, Host, Hosts, Move, MovesTo, Way, first_host, hosts, one_acts, other_acts}
-use Rattle.sctp_association.specs.Links.{AreInOrder, AreLinked, ArePlainActs, EachLinkDelivers, EachLinkGoesOn, EachLinkIsCut, EachLinkTurns, EachTwoBegin}
-use Rattle.sctp_association.specs.Links.{IsPlainLink, IsReadAsWritten, Party, host_at}
+use Rattle.sctp_association.specs.Links.{AreInOrder, ArePlainActs, EachLinkDelivers, EachLinkGoesOn, EachLinkIsCut, EachLinkTurns, EachTwoBegin}
+use Rattle.sctp_association.specs.Links.{IsReadAsWritten, Party, host_at}
 use Rattle.sctp_association.specs.Hosts.{Delivers}
 use Rattle.sctp_delivery.specs.SenderCalls.{Write}
 use Rattle.sctp_receiver.specs.ReceiverRuns.{Message}

@@ -1,12 +1,12 @@
 -- A stream is reset, and an association begins, by few datagrams.
-use Rattle.std.proofs.Common.{◌≡◌, ℕ, true, List, subst, ◌∙◌, inl, inr}
+use Rattle.std.proofs.Common.{◌≡◌, ℕ, true, List, subst, inl, inr}
 use Rattle.std.proofs.lemmas.Bool.{false≢true}
 use Rattle.std.specs.Prelude.{◌⊎◌}
-use Rattle.sctp_association.specs.Arrivals.{Arrival, Asks, AsksFor, AsksToHear, HasParam, HasType, Hearing, IsBrought, TypeAsks}
+use Rattle.sctp_association.specs.Arrivals.{Arrival, Asks, AsksFor, AsksToHear, HasType, IsBrought, TypeAsks}
 use Rattle.sctp_association.specs.Arrivals.{begins, by_chunk, by_param, by_type, hears, receives, renews, restarts}
 use Rattle.sctp_association.specs.Delivered.{EachSeldomIsCarried, is_seldom}
 use Rattle.sctp_chunks.specs.Wire.{Wire, data_chunk, forward_tsn_chunk, sack_chunk, shutdown_chunk}
-use Rattle.sctp_receiver.specs.ReceiverRuns.{Call, resets}
+use Rattle.sctp_receiver.specs.ReceiverRuns.{resets}
 
 never-reset : (w : Wire) (stream last : ℕ) → AsksFor w (resets stream last) → ⊥
 never-reset (data_chunk d) stream last h = h

@@ -1,5 +1,5 @@
 -- What the clauses of an association's calls say of it is what a host does (`Hosts`).
-use Rattle.std.specs.Prelude.{◌≡◌, ⊤, ℕ, ◌+◌, Bool, true, if◌then◌else◌, List, [], ◌∷◌, map, Contains, Option, Some, None}
+use Rattle.std.specs.Prelude.{◌≡◌, ℕ, ◌+◌, Bool, true, if◌then◌else◌, List, [], ◌∷◌, map, Contains, Option, Some, None}
 use Rattle.sctp_association.specs.declared.association.Association.{Association}
 use Rattle.sctp_association.specs.declared.inbound.Inbound.{Inbound}
 use Rattle.sctp_association.specs.Arrivals.{Arrives}
