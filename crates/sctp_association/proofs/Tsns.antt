@@ -10,6 +10,7 @@ use Rattle.sctp_association.specs.Hosts.{fragments_by, pieces_on}
 use Rattle.sctp_data.specs.declared.chunk.chunk_payload_data.ChunkPayloadData.{ChunkPayloadData}
 use Rattle.sctp_data.specs.declared.chunk.chunk_payload_data.PayloadProtocolIdentifier.{PayloadProtocolIdentifier}
 use Rattle.sctp_data.specs.SelectiveAck.{Sack}
+use Rattle.sctp_delivery.proofs.Cases.{all_streams}
 use Rattle.sctp_delivery.proofs.Changes.{Change, acknowledges, all_start, changes, each_leaves, flight_after, front_expires, more_room, nothing, one_leaves}
 use Rattle.sctp_delivery.proofs.Changes.{some_marked, some_missed}
 use Rattle.sctp_delivery.proofs.Numbers.{number_of}
@@ -258,7 +259,7 @@ module _ (st : StandSo) where
       let h = has-made st.tsn st.size st.max st.most st.limits st.small st.some st.session _ _ _
       (goes st.reported st.tsn st.size st.max st.most st.limits st.calls st.session st.run st.small st.few st.short) in
       let t = st.session.sending.sender in
-      (started h.numbered st.tsn (λ s. number_of s t.streams) now t.flight.queue t.flight.next_tsn h.sent h.holds.held.stands).sendable
+      (started all_streams h.numbered st.tsn (λ s. number_of s t.streams) now t.flight.queue t.flight.next_tsn h.sent h.holds.held.stands).sendable
 
   -- the session after a call that leads there
   pub record Then (c : CallOrReturn) (t : Session) (n : ℕ) : Type 0 where
