@@ -6,7 +6,7 @@ ghost use Rattle.std.specs.Prelude.{◌≡◌, ◌<◌, ◌^◌, ◌+◌, ◌-�
 ghost use Rattle.std.specs.List.{AllByRecursion};
 ghost use Rattle.std.specs.Prelude.{[]};
 ghost use Rattle.sctp_util.specs.Field.{le32, u16_at, u32_at};
-ghost use Rattle.sctp_util.specs.declared.error.Error.TheVariants.{ErrOutOfMemory};
+ghost use Rattle.sctp_util.specs.declared.error.Error.TheVariants.{ErrOutOfMemory, ErrParseSctpChunkNotEnoughData};
 ghost use Rattle.sctp_util.specs.Outcome.{OrMemory, GivesUnlessMemory};
 ghost use Rattle.sctp_chunks.specs.Check.{EncodingFault, IsEncodingError};
 ghost use Rattle.sctp_chunks.specs.Kind.{wire_of, IsFreshKind};
@@ -104,9 +104,19 @@ fn read_front(alloc: Global, rest: &Bytes) -> Result<(ChunkKind, usize)>
     let length = read_u16(rest.as_slice(), 2) as usize;
     let length = length + get_padding_size(length);
     if rest.len() < length {
-        return Err(Error::ErrParseSctpChunkNotEnoughData);
+        return Err(cut_off(chunk));
     }
     Ok((chunk, length))
+}
+
+// Drops a chunk whose padding is not there, and answers the refusal. It stands apart, so that other chunks are moved as a whole.
+#[cold]
+#[inline(never)]
+fn cut_off(chunk: ChunkKind) -> Error
+    ensures { result ≡ ErrParseSctpChunkNotEnoughData }
+{
+    drop(chunk);
+    Error::ErrParseSctpChunkNotEnoughData
 }
 
 /// Reads the chunk at the front to the end of the list, and gives how many bytes it takes with its padding. Refuses as `read_front`
