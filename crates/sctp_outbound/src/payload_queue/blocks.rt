@@ -170,19 +170,20 @@ fn long_run_from(
     (next, behind)
 }
 
-// How many blocks more a full list gets room for, at least.
-const MORE_ROOM: usize = 16;
+// For how many blocks, beside the next, a full list gets room at most: 256 have 1,024 bytes, the most that glibc hands out at once.
+const MORE_ROOM: usize = 255;
 
-// The list with room for one block more. It stands apart, as it is seldom called.
+// The list with room for one block more, and for one for each of so many places behind it, up to `MORE_ROOM`. It stands apart, as it is
+// seldom called.
 #[cold]
 #[inline(never)]
-fn grown(blocks: Vec<GapAckBlock>) -> Result<Vec<GapAckBlock>>
+fn grown(blocks: Vec<GapAckBlock>, behind: usize) -> Result<Vec<GapAckBlock>>
     ensures items { IfOk result (λ more. more.items ≡ blocks.items) }
     ensures room { IfOk result (λ more. vec_len more < vec_capacity more) }
     ensures memory { IsOkUnless result ErrOutOfMemory }
 {
     let mut blocks = blocks;
-    blocks.reserve(MORE_ROOM)?;
+    blocks.reserve(1 + behind.min(MORE_ROOM))?;
     Ok(blocks)
 }
 
@@ -218,7 +219,7 @@ impl PayloadQueue {
             }
             let run = run_from(&self.held, &tsns, cumulative_tsn, place, offset, turns);
             if blocks.len() == blocks.capacity() {
-                blocks = grown(blocks)?;
+                blocks = grown(blocks, self.held.len().saturating_sub(run.next))?;
             }
             blocks.push_reserved(GapAckBlock {
                 start: offset as u16,
