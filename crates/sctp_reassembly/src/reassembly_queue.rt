@@ -49,7 +49,7 @@ use self::unassembled_places::{front_upto, place_for};
 use self::undo::{MessageUndo, PushChange, PushUndo};
 use sctp_data::chunk::chunk_payload_data::{ChunkPayloadData, PayloadProtocolIdentifier};
 use sctp_serial::turns::Turns;
-use sctp_util::error::Result;
+use sctp_util::error::{Error, Result};
 use sctp_util::util::{sna16gt, sna16lt, sna16lte, sna32lte};
 use std::alloc::Global;
 use std::collections::VecDeque;
@@ -365,7 +365,7 @@ impl ReassemblyQueue {
         unassembled.is_serial() && all <= self.max_message_size as usize
     }
 
-    /// Takes an ordered chunk, and says how it is undone. Refuses only for memory. Its turns are added.
+    /// Takes an ordered chunk, and says how it is undone. Refuses as `push` does. Its turns are added.
     fn push_ordered(
         &mut self,
         chunk: ChunkPayloadData,
@@ -375,22 +375,33 @@ impl ReassemblyQueue {
         ensures answer { IfOk result (λ put. put.0 ≡ is_complete_with chunk self.old.held) }
         ensures undo { IfOk result (λ put. undone put.1 self.new ≡ self.old) }
         ensures can { IfOk result (λ put. CanUndo put.1 self.new) }
+        ensures fits { IsOk result → nat_lt self.old.max_message_size
+            (bytes_of (chunks_of_ssn chunk.stream_sequence_number self.old.held.ordered)
+            + length chunk.user_data) ≡ false }
+        ensures refused { IfErr result (λ e. e ≡ (if nat_lt self.old.max_message_size
+            (bytes_of (chunks_of_ssn chunk.stream_sequence_number self.old.held.ordered)
+            + length chunk.user_data)
+            then ErrInboundPacketTooLarge else ErrOutOfMemory)) }
         ensures err { OnErr result (self.new ≡ self.old) }
-        ensures memory { IfErr result (λ e. e ≡ ErrOutOfMemory) }
         ensures not_back { turns.old ≤ turns.new }
         ensures cost { turns.new ≤ turns.old + 2 * length self.old.held.ordered
-            + 3 * length (chunks_of_ssn chunk.stream_sequence_number self.old.held.ordered) + 11 }
+            + 3 * length (chunks_of_ssn chunk.stream_sequence_number self.old.held.ordered) + 12 }
         ensures few { IsOrderly self.old.held.ordered → IsOrderly self.new.held.ordered
             → turns.new ≤ turns.old + digits (length self.old.held.ordered) + digits
             (length (chunks_of_ssn chunk.stream_sequence_number self.old.held.ordered)) + 11 }
     {
         let before = self.n_bytes;
-        if sna16lt(chunk.stream_sequence_number, self.next_ssn) {
+        let ssn = chunk.stream_sequence_number;
+        let len = chunk.user_data.len();
+        let (spot, there) = self.ordered.spot_of(ssn, turns);
+        if there.saturating_add(len) > self.max_message_size as usize {
+            return Err(Error::ErrInboundPacketTooLarge);
+        }
+        if sna16lt(ssn, self.next_ssn) {
             return Ok((false, PushUndo::of(PushChange::NotKept, before)));
         }
-        let len = chunk.user_data.len();
         let fragment = Fragment::new(self.alloc, chunk)?;
-        let Some(put) = self.ordered.put(fragment, turns)? else {
+        let Some(put) = self.ordered.put(spot, fragment, turns)? else {
             return Ok((false, PushUndo::of(PushChange::NotKept, before)));
         };
         self.n_bytes = before.saturating_add(len);

@@ -163,10 +163,13 @@ fn put_beside(stored: &mut Stored, place: usize, fragment: Fragment) -> Result<(
     ensures memory { IfErr result (λ e. e ≡ ErrOutOfMemory) }
 {
     let mut list = Vec::with_capacity(fragment.alloc(), FEW)?;
-    list.push_reserved(take_alone(stored));
-    match list.insert(place, fragment) {
-        Ok(()) => {}
-        Err(_) => unreachable!(),
+    let alone = take_alone(stored);
+    if place == 0 {
+        list.push_reserved(fragment);
+        list.push_reserved(alone);
+    } else {
+        list.push_reserved(alone);
+        list.push_reserved(fragment);
     }
     *stored = Stored::Many(list);
     Ok(())

@@ -162,8 +162,39 @@ impl OrderedSets {
         set
     }
 
-    /// The bytes of the first set of a number, up to the greatest number.
+    /// Where the first set of a number is, or where a set of it is put in; and the bytes of that set, up to the greatest number.
     /// Its turns are added: where numbers ascend, the digits of the number of sets and five more at most.
+    #[inline]
+    pub(crate) fn spot_of(
+        &self,
+        ssn: u16,
+        turns: &mut Turns,
+    ) -> (result::Result<usize, Insertion>, usize)
+        ensures there { IfOk result.0 (λ place. (place ≡ position_or_len (has_ssn ssn) self.now)
+            × (place < length self.now)) }
+        ensures free { IfErr result.0 (λ at. IsInsertion
+            (has_ssn ssn) (λ s. upper_half s.ssn) set_before self.now at.place at.ascending) }
+        ensures exact { IfErr result.0 (λ at. (x : ChunkSet) → x.ssn ≡ ssn → IsOffOnlyOutOfOrder
+            at.ascending (map (λ s. upper_half s.ssn) (insert self.now at.place x))) }
+        ensures bytes { result.1 ≡ min (bytes_of (chunks_of_ssn ssn self.now)) (2 ^ 64 - 1) }
+        ensures not_back { turns.old ≤ turns.new }
+        ensures cost { turns.new ≤ turns.old + 2 * length self.now + 5 }
+        ensures few { IsAscending (map (λ s. upper_half s.ssn) self.now)
+            → turns.new ≤ turns.old + digits (length self.now) + 5 }
+    {
+        let sets = self.sets.as_deque();
+        let spot = seek(self.ascending, sets, ssn, turns);
+        let bytes = match spot {
+            Ok(place) => {
+                turns.tick();
+                sets[place].len()
+            }
+            Err(_) => 0,
+        };
+        (spot, bytes)
+    }
+
+    /// The bytes of the first set of a number, up to the greatest number. Its turns are added as by `spot_of`.
     pub(crate) fn bytes_there(&self, ssn: u16, turns: &mut Turns) -> usize
         ensures value { result ≡ min (bytes_of (chunks_of_ssn ssn self.now)) (2 ^ 64 - 1) }
         ensures not_back { turns.old ≤ turns.new }
@@ -171,21 +202,29 @@ impl OrderedSets {
         ensures few { IsAscending (map (λ s. upper_half s.ssn) self.now)
             → turns.new ≤ turns.old + digits (length self.now) + 5 }
     {
-        let sets = self.sets.as_deque();
-        match seek(self.ascending, sets, ssn, turns) {
-            Ok(place) => {
-                turns.tick();
-                sets[place].len()
-            }
-            Err(_) => 0,
-        }
+        let (_spot, bytes) = self.spot_of(ssn, turns);
+        bytes
     }
 
     /// Puts a chunk into the first set of its number, or into a new one at its place, and says whether that set
     /// is complete then, and how it is undone; None where its TSN is there already.
-    /// Refuses only for memory, and nothing changes then. Its turns are added: where numbers ascend, and TSNs in each set before and
-    /// after, the digits of the number of sets, those of the fragments of the chunk's set, and eleven more at most.
-    pub(crate) fn put(&mut self, chunk: Fragment, turns: &mut Turns) -> Result<Option<OrderedPut>>
+    /// Precondition: the spot is that of the chunk's number (`spot_of`).
+    /// Refuses only for memory, and nothing changes then. Its turns are added: where TSNs ascend in each set before and
+    /// after, the digits of the number of the fragments of the chunk's set, and six more at most.
+    pub(crate) fn put(
+        &mut self,
+        spot: result::Result<usize, Insertion>,
+        chunk: Fragment,
+        turns: &mut Turns,
+    ) -> Result<Option<OrderedPut>>
+        requires there { IfOk spot (λ place.
+            (place ≡ position_or_len (has_ssn chunk.stream_sequence_number) self.old)
+            × (place < length self.old)) }
+        requires free { IfErr spot (λ at. IsInsertion (has_ssn chunk.stream_sequence_number)
+            (λ s. upper_half s.ssn) set_before self.old at.place at.ascending) }
+        requires exact { IfErr spot (λ at. (x : ChunkSet) → x.ssn ≡ chunk.stream_sequence_number
+            → IsOffOnlyOutOfOrder at.ascending
+            (map (λ s. upper_half s.ssn) (insert self.old at.place x))) }
         ensures ok { OnOk result (self.new ≡ sets_with chunk self.old) }
         ensures answer { IfOk result (λ put. option_map (λ (p : OrderedPut). p.whole) put
             ≡ answer_with chunk (chunks_of_ssn chunk.stream_sequence_number self.old)) }
@@ -194,14 +233,13 @@ impl OrderedSets {
         ensures err { OnErr result (self.new ≡ self.old) }
         ensures memory { IfErr result (λ e. e ≡ ErrOutOfMemory) }
         ensures not_back { turns.old ≤ turns.new }
-        ensures cost { turns.new ≤ turns.old + 2 * length self.old
-            + 3 * length (chunks_of_ssn chunk.stream_sequence_number self.old) + 11 }
+        ensures cost { turns.new ≤ turns.old
+            + 3 * length (chunks_of_ssn chunk.stream_sequence_number self.old) + 7 }
         ensures few { IsOrderly self.old → IsOrderly self.new
-            → turns.new ≤ turns.old + digits (length self.old)
-            + digits (length (chunks_of_ssn chunk.stream_sequence_number self.old)) + 11 }
+            → turns.new ≤ turns.old
+            + digits (length (chunks_of_ssn chunk.stream_sequence_number self.old)) + 6 }
     {
-        let ssn = chunk.stream_sequence_number;
-        match seek(self.ascending, self.sets.as_deque(), ssn, turns) {
+        match spot {
             Ok(set) => {
                 let noted = self.noted();
                 let set_noted = self.sets.noted_at(set);

@@ -127,15 +127,14 @@ impl ReassemblyQueue {
         if chunk.stream_identifier != self.si {
             return Ok((false, PushUndo::of(PushChange::NotKept, self.n_bytes)));
         }
+        if !chunk.unordered {
+            return self.push_ordered(chunk, turns);
+        }
         let place = self.place_of(&chunk, turns);
         if self.is_too_large_at(&chunk, place, turns) {
             return Err(Error::ErrInboundPacketTooLarge);
         }
-        if chunk.unordered {
-            self.push_unordered(chunk, place, turns)
-        } else {
-            self.push_ordered(chunk, turns)
-        }
+        self.push_unordered(chunk, place, turns)
     }
 
     /// Undoes a `push_undoable`: the queue is again what it was before that call. It takes no memory.

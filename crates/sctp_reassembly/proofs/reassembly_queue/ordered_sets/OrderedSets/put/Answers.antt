@@ -10,7 +10,6 @@ use Rattle.sctp_serial.specs.Ascending.{IsOrder, upper_half}
 use Rattle.sctp_reassembly.specs.reassembly_queue.Orders.{digits, IsInOrder, IsOrderly, IsOffOnlyOutOfOrder}
 use Rattle.sctp_reassembly.specs.reassembly_queue.Undo.{AreNoted, IsNotedOf}
 use Rattle.std.proofs.Math.Seq.{map-set_same}
-use Rattle.sctp_reassembly.proofs.lemmas.reassembly_queue.ExactFlags.{flag_on}
 use Rattle.sctp_reassembly.proofs.lemmas.reassembly_queue.Undone.{stood-there}
 use Rattle.sctp_reassembly.proofs.reassembly_queue.ordered_sets.OrderedSets.put.Goals as goal
 
@@ -45,15 +44,15 @@ module _ (x : ChunkPayloadData) (xs : List ChunkSet) (i : ℕ) (at : IsThere x x
       put d ∙ ap (λ k. answer_with x (get_or xs k d).chunks) at.0 ∙ ap (answer_with x) (sym (chunks_at ssn xs d within))
 
   -- in any sets
-  walk_there : (t u v : ℕ) → u ≤ t + 2 * length xs + 4 → v ≤ u + 3 * length (get_or xs i (new_set x)).chunks + 7
-      → v ≤ t + 2 * length xs + 3 * length (chunks_of_ssn x.stream_sequence_number xs) + 11
-  walk_there t u v seek put = let e = ap length held_there in omega arith
+  walk_there : (t v : ℕ) → v ≤ t + 3 * length (get_or xs i (new_set x)).chunks + 7
+      → v ≤ t + 3 * length (chunks_of_ssn x.stream_sequence_number xs) + 7
+  walk_there t v put = let e = ap length held_there in omega arith
 
   -- in orderly ones
-  few_there : (t u v : ℕ) (ys : List ChunkSet) → length ys ≡ length xs → u ≤ t + digits (length xs) + 4
-      → ((d : ChunkSet) → IsInOrder (get_or xs i d) → IsInOrder (get_or ys i d) → v ≤ u + digits (length (get_or xs i d).chunks) + 6)
-      → IsOrderly xs → IsOrderly ys → v ≤ t + digits (length xs) + digits (length (chunks_of_ssn x.stream_sequence_number xs)) + 11
-  few_there t u v ys long seek put a b =
+  few_there : (t v : ℕ) (ys : List ChunkSet) → length ys ≡ length xs
+      → ((d : ChunkSet) → IsInOrder (get_or xs i d) → IsInOrder (get_or ys i d) → v ≤ t + digits (length (get_or xs i d).chunks) + 6)
+      → IsOrderly xs → IsOrderly ys → v ≤ t + digits (length (chunks_of_ssn x.stream_sequence_number xs)) + 6
+  few_there t v ys long put a b =
       let d = new_set x in
       let h = put d (a.fragments i d at.1) (b.fragments i d (omega (arith, long, at.1))) in
       let e = ap (λ cs. digits (length cs)) held_there in
@@ -61,12 +60,12 @@ module _ (x : ChunkPayloadData) (xs : List ChunkSet) (i : ℕ) (at : IsThere x x
 
 pub returns-in_default-clause-ok : goal.returns-in_default-clause-ok
 returns-in_default-clause-ok c =
-    let at = rw (c.deref.ensures, c.as_deque.ensures) at c.in-Ok.ensures.there in
+    let at = rw (c.in-Ok.is, ← c.self.view_is) at c.requires.there in
     rw (← c.self.view_is) (put_there c.args.chunk c.self.inside.sets.items c.in-Ok.set at _ c.in_ok-put-in-Ok.ensures.ok)
 
 pub returns-in_default-clause-answer : goal.returns-in_default-clause-answer
 returns-in_default-clause-answer c =
-    let at = rw (c.deref.ensures, c.as_deque.ensures) at c.in-Ok.ensures.there in
+    let at = rw (c.in-Ok.is, ← c.self.view_is) at c.requires.there in
     rw (← c.self.view_is) (answer_there c.args.chunk c.self.inside.sets.items c.in-Ok.set at _ (rw c.in_default.is at c.in_ok-put-in-Ok.ensures.answer))
 
 pub invariant_of-self-in-Ok : goal.invariant_of-self-in-Ok
@@ -84,12 +83,12 @@ invariant_of-self-in-Ok c =
 
 pub returns-in-Some-clause-ok : goal.returns-in-Some-clause-ok
 returns-in-Some-clause-ok c =
-    let at = rw (c.deref.ensures, c.as_deque.ensures) at c.in-Ok.ensures.there in
+    let at = rw (c.in-Ok.is, ← c.self.view_is) at c.requires.there in
     rw (← c.self.view_is) (put_there c.args.chunk c.self.inside.sets.items c.in-Ok.set at _ c.in_ok-put-in-Ok.ensures.ok)
 
 pub returns-in-Some-clause-answer : goal.returns-in-Some-clause-answer
 returns-in-Some-clause-answer c =
-    let at = rw (c.deref.ensures, c.as_deque.ensures) at c.in-Ok.ensures.there in
+    let at = rw (c.in-Ok.is, ← c.self.view_is) at c.requires.there in
     rw (← c.self.view_is) (answer_there c.args.chunk c.self.inside.sets.items c.in-Ok.set at _ (rw c.in-Some.is at c.in_ok-put-in-Ok.ensures.answer))
 
 pub returns-in-Some-clause-undo : goal.returns-in-Some-clause-undo
@@ -97,7 +96,7 @@ returns-in-Some-clause-undo c =
     let xs = c.self.inside.sets.items in
     let i = c.in-Ok.set in
     let d = new_set c.args.chunk in
-    let at = rw (c.deref.ensures, c.as_deque.ensures) at c.in-Ok.ensures.there in
+    let at = rw (c.in-Ok.is, ← c.self.view_is) at c.requires.there in
     let undo = rw c.in-Some.is at c.in_ok-put-in-Ok.ensures.undo in
     let ys = c.put_into.new.self.items in
     let long = ap length (c.in_ok-put-in-Ok.ensures.ok d) in
@@ -120,9 +119,8 @@ returns-in-Some-clause-undo c =
 
 pub returns-in_err-put-in-Ok-clause-cost : goal.returns-in_err-put-in-Ok-clause-cost
 returns-in_err-put-in-Ok-clause-cost c =
-    let at = rw (c.deref.ensures, c.as_deque.ensures) at c.in-Ok.ensures.there in
-    let seek = rw c.as_deque.ensures at c.seek.ensures.cost in
-    rw (← c.self.view_is) (walk_there c.args.chunk c.self.inside.sets.items c.in-Ok.set at c.args.turns.now c.seek.new.turns c.put_into.new.turns seek
+    let at = rw (c.in-Ok.is, ← c.self.view_is) at c.requires.there in
+    rw (← c.self.view_is) (walk_there c.args.chunk c.self.inside.sets.items c.in-Ok.set at c.args.turns.now c.put_into.new.turns
     (c.put_into.ensures.cost (new_set c.args.chunk)))
 
 pub returns-in_err-put-in-Ok-clause-few : goal.returns-in_err-put-in-Ok-clause-few
@@ -130,18 +128,16 @@ returns-in_err-put-in-Ok-clause-few c =
     let xs = c.self.inside.sets.items in
     let i = c.in-Ok.set in
     let d = new_set c.args.chunk in
-    let at = rw (c.deref.ensures, c.as_deque.ensures) at c.in-Ok.ensures.there in
-    let seek = rw c.as_deque.ensures at c.seek.ensures.few in
+    let at = rw (c.in-Ok.is, ← c.self.view_is) at c.requires.there in
     let long : length c.put_into.new.self.items ≡ length xs = ap length c.in_err-put-in-Ok.ensures.err in
     rw (← c.self.view_is) (λ a b.
-    few_there c.args.chunk xs i at c.args.turns.now c.seek.new.turns c.put_into.new.turns c.put_into.new.self.items long
-    (seek (flag_on c.self.inside.ascending _ c.self.invariant.exact a.numbers)) c.put_into.ensures.few a b)
+    few_there c.args.chunk xs i at c.args.turns.now c.put_into.new.turns c.put_into.new.self.items long
+    c.put_into.ensures.few a b)
 
 pub returns-in_default-clause-cost : goal.returns-in_default-clause-cost
 returns-in_default-clause-cost c =
-    let at = rw (c.deref.ensures, c.as_deque.ensures) at c.in-Ok.ensures.there in
-    let seek = rw c.as_deque.ensures at c.seek.ensures.cost in
-    rw (← c.self.view_is) (walk_there c.args.chunk c.self.inside.sets.items c.in-Ok.set at c.args.turns.now c.seek.new.turns c.put_into.new.turns seek
+    let at = rw (c.in-Ok.is, ← c.self.view_is) at c.requires.there in
+    rw (← c.self.view_is) (walk_there c.args.chunk c.self.inside.sets.items c.in-Ok.set at c.args.turns.now c.put_into.new.turns
     (c.put_into.ensures.cost (new_set c.args.chunk)))
 
 pub returns-in_default-clause-few : goal.returns-in_default-clause-few
@@ -149,19 +145,17 @@ returns-in_default-clause-few c =
     let xs = c.self.inside.sets.items in
     let i = c.in-Ok.set in
     let d = new_set c.args.chunk in
-    let at = rw (c.deref.ensures, c.as_deque.ensures) at c.in-Ok.ensures.there in
-    let seek = rw c.as_deque.ensures at c.seek.ensures.few in
+    let at = rw (c.in-Ok.is, ← c.self.view_is) at c.requires.there in
     let long : length c.put_into.new.self.items ≡ length xs = ap length (c.in_ok-put-in-Ok.ensures.ok d)
     ∙ length-set xs i (with_chunk c.args.chunk (get_or xs i d)) in
     rw (← c.self.view_is) (λ a b.
-    few_there c.args.chunk xs i at c.args.turns.now c.seek.new.turns c.put_into.new.turns c.put_into.new.self.items long
-    (seek (flag_on c.self.inside.ascending _ c.self.invariant.exact a.numbers)) c.put_into.ensures.few a b)
+    few_there c.args.chunk xs i at c.args.turns.now c.put_into.new.turns c.put_into.new.self.items long
+    c.put_into.ensures.few a b)
 
 pub returns-in-Some-clause-cost : goal.returns-in-Some-clause-cost
 returns-in-Some-clause-cost c =
-    let at = rw (c.deref.ensures, c.as_deque.ensures) at c.in-Ok.ensures.there in
-    let seek = rw c.as_deque.ensures at c.seek.ensures.cost in
-    rw (← c.self.view_is) (walk_there c.args.chunk c.self.inside.sets.items c.in-Ok.set at c.args.turns.now c.seek.new.turns c.put_into.new.turns seek
+    let at = rw (c.in-Ok.is, ← c.self.view_is) at c.requires.there in
+    rw (← c.self.view_is) (walk_there c.args.chunk c.self.inside.sets.items c.in-Ok.set at c.args.turns.now c.put_into.new.turns
     (c.put_into.ensures.cost (new_set c.args.chunk)))
 
 pub returns-in-Some-clause-few : goal.returns-in-Some-clause-few
@@ -169,10 +163,9 @@ returns-in-Some-clause-few c =
     let xs = c.self.inside.sets.items in
     let i = c.in-Ok.set in
     let d = new_set c.args.chunk in
-    let at = rw (c.deref.ensures, c.as_deque.ensures) at c.in-Ok.ensures.there in
-    let seek = rw c.as_deque.ensures at c.seek.ensures.few in
+    let at = rw (c.in-Ok.is, ← c.self.view_is) at c.requires.there in
     let long : length c.put_into.new.self.items ≡ length xs = ap length (c.in_ok-put-in-Ok.ensures.ok d)
     ∙ length-set xs i (with_chunk c.args.chunk (get_or xs i d)) in
     rw (← c.self.view_is) (λ a b.
-    few_there c.args.chunk xs i at c.args.turns.now c.seek.new.turns c.put_into.new.turns c.put_into.new.self.items long
-    (seek (flag_on c.self.inside.ascending _ c.self.invariant.exact a.numbers)) c.put_into.ensures.few a b)
+    few_there c.args.chunk xs i at c.args.turns.now c.put_into.new.turns c.put_into.new.self.items long
+    c.put_into.ensures.few a b)
