@@ -29,6 +29,7 @@ use sctp_stream::stream_numbers::put;
 /// them that the blocks report. What the known blocks report is acknowledged, and not looked at. Refuses only for memory.
 /// Turns: at most one for each block and each known one, and two for each of these places; and at most two for each block and each
 /// known one, two for each of these places that no known block reports, and one more.
+#[inline(always)]
 pub(super) fn tell_anew(
     queue: &OutboundQueue,
     known: &[GapAckBlock],
@@ -56,7 +57,6 @@ pub(super) fn tell_anew(
     ensures unknown { turns.new ≤ turns.old + 2 * length sorted.now + 2 * length known.now
         + 2 * unknown_in known.now count sorted.now + 1 }
 {
-    give_room(released, count, known)?;
     let mut next = 0;
     tell_between(queue, known, (0, count), &mut next, released, turns)?;
     for block in sorted {
@@ -68,16 +68,25 @@ pub(super) fn tell_anew(
     Ok(())
 }
 
-// Makes room in the list for so many chunks at once, where none of them stands in a known block. Refuses only for memory.
+// Makes room in the list for so many chunks at once, where no known block is left. Refuses only for memory.
+#[inline(always)]
 fn give_room(
     released: &mut Vec<Released>,
     count: usize,
-    known: &[GapAckBlock],
+    is_unknown: bool,
 ) -> Result<(), SenderRefusal>
     ensures same { released.new.items ≡ released.old.items }
     ensures memory { IfErr result (λ e. e ≡ OutOfMemory) }
 {
-    if known.is_empty() && released.reserve_exact(count).is_err() {
+    if !is_unknown {
+        return Ok(());
+    }
+    let given = if released.is_empty() {
+        released.reserve_exact(count)
+    } else {
+        released.reserve(count)
+    };
+    if given.is_err() {
         return Err(SenderRefusal::OutOfMemory);
     }
     Ok(())
@@ -85,6 +94,7 @@ fn give_room(
 
 // Tells of each chunk in flight from one place to before another that is not acknowledged. Known blocks before `next` are not looked
 // at; those that are passed lie before it then.
+#[inline(always)]
 fn tell_between(
     queue: &OutboundQueue,
     known: &[GapAckBlock],
@@ -116,6 +126,7 @@ fn tell_between(
     ensures unknown { turns.new + 2 * next.old ≤ turns.old + 2 * next.new
         + 2 * unknown_from known.now places.0 (places.1 - places.0) + 1 }
 {
+    give_room(released, places.1 - places.0, *next >= known.len())?;
     let mut place = places.0;
     while place < places.1 {
         if *next < known.len() {
@@ -137,6 +148,7 @@ fn tell_between(
 }
 
 // Tells of the chunk in flight at a place, if it is not acknowledged.
+#[inline(always)]
 fn tell_at(
     queue: &OutboundQueue,
     place: usize,

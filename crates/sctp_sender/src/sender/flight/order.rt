@@ -15,6 +15,7 @@ use std::alloc::Global;
 
 /// Blocks that ascend and report the same distances from 1 on: these, where they ascend, else one for each distance. Refuses only
 /// for memory. Turns: at most three for each block, and two for each distance up to the greatest, where they do not ascend.
+#[inline(always)]
 pub(super) fn sorted_blocks(
     alloc: Global,
     blocks: &[GapAckBlock],
@@ -28,6 +29,9 @@ pub(super) fn sorted_blocks(
     ensures cost { turns.new
         ≤ turns.old + 3 * length blocks.now + 2 * to_sort blocks.now }
 {
+    if blocks.is_empty() {
+        return Ok(Vec::new(alloc));
+    }
     if ascend(blocks, turns) {
         return copied(alloc, blocks, turns);
     }
