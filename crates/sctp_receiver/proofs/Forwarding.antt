@@ -153,7 +153,8 @@ module _ {X : Type 0} (f : X → X) (any inc : X → Bool) (out : TsnSpan → X 
               (λ q. ap any (some-same (sym e ∙ ap (slice_get zs) q ∙ at-it)) ∙ holds)
               (λ ne _. g.visited p y (sym (elsewhere p ne) ∙ e) (sym (ap (is_visited p) is) ∙ yes) (sym (others-left p ne) ∙ no));
           spans = λ p t y ts e. by_same p k
-              (λ q. let a : t ≡ s = some-same (sym ts ∙ ap (slice_get w.spans) q ∙ ap (λ (o : VisitOrder). slice_get o.spans k) is ∙ set-here v.spans k s few) in
+              (λ q. let a : t ≡ s = some-same (sym ts ∙ ap (slice_get w.spans) q
+              ∙ ap (λ (o : VisitOrder). slice_get o.spans k) is ∙ set-here v.spans k s few) in
               let b : y ≡ f x = some-same (sym e ∙ ap (slice_get zs) q ∙ at-it) in
               ap (λ r. out r y) a ∙ ap (out s) b ∙ inside)
               (λ ne _. g.spans p t y (sym (set-there v.spans k p s ne) ∙ sym (ap (λ (o : VisitOrder). slice_get o.spans p) is) ∙ ts)

@@ -1,12 +1,15 @@
 -- Stretches of TSNs: past one of them a skip discards nothing, and what calls leave of a stream stays inside.
 use Rattle.sctp_receiver.proofs.Names.{◌≡◌, ℕ, suc, ◌+◌, ◌-◌, ◌<◌, ◌≤◌, ◌^◌, Bool, true, false, List, [], ◌∷◌, length, Option, Some, None, refl, ap, ap₂, sym}
-use Rattle.sctp_receiver.proofs.Names.{◌∙◌, arith, Result, Ok, Err, not, ◌==◌, ◌&&◌, ◌||◌, nat_lt, nat_le, nat_tests, if◌then◌else◌, slice_get, slice_index_or, le-ltb}
+use Rattle.sctp_receiver.proofs.Names.{◌∙◌, arith, Result, Ok, Err, not, ◌==◌, ◌&&◌, ◌||◌, nat_lt, nat_le, nat_tests, if◌then◌else◌, slice_get}
+use Rattle.sctp_receiver.proofs.Names.{slice_index_or, le-ltb}
 use Rattle.sctp_receiver.proofs.Names.{IfSome, list_any, filter, IfOk, OnErr, not_both, both, fails, neither, lt-ltb}
 use Rattle.sctp_util.specs.Serial.{distance, at_or_before, comes_before16}
 use Rattle.sctp_receiver.proofs.Names.{following_tsn, chunk_before, has_tsn, bytes_of, insert_before, change_first, after_leading}
-use Rattle.sctp_receiver.proofs.Names.{ChunkPayloadData, ChunkSet, is_complete, Reassembly, ReassemblyState, after_read, rest_among, front_readable, without_first}
+use Rattle.sctp_receiver.proofs.Names.{ChunkPayloadData, ChunkSet, is_complete, Reassembly, ReassemblyState, after_read, rest_among, front_readable}
+use Rattle.sctp_receiver.proofs.Names.{without_first}
 use Rattle.sctp_receiver.proofs.Names.{after_unordered_skip, BecomesComplete, OrderedSkips, PushUndo, cannot_complete, incomplete_agrees, InboundStream}
-use Rattle.sctp_receiver.proofs.Names.{ReceiverRefusal, Skip, Unassembled, Incomplete, Pushes, PushesAs, with_queue, stream_read, skip_forwarded, holds_incomplete}
+use Rattle.sctp_receiver.proofs.Names.{ReceiverRefusal, Skip, Unassembled, Incomplete, Pushes, PushesAs, with_queue, stream_read, skip_forwarded}
+use Rattle.sctp_receiver.proofs.Names.{holds_incomplete}
 use Rattle.sctp_serial.specs.DataChunks.{preceding_tsn}
 use Rattle.sctp_util.proofs.Edits.{list_any-inserted, list_any-those}
 use Rattle.sctp_reassembly.specs.reassembly_queue.Fragments.{has_ssn, set_before, with_chunk, new_set, sets_with}
@@ -327,8 +330,8 @@ complete-measured None set e = (e, refl)
 complete-measured (Some span) set e = (λ n. absurd (not_both (sym n ∙ e)), λ _. refl)
 
 -- an incomplete one more
-pub incomplete-more : (o : Option TsnSpan) (w : TsnSpan) (all : Bool) (set : ChunkSet) → IfSome o (λ s. (t : ℕ) → is_outside s t ≡ false → is_outside w t ≡ false)
-    → IsMeasured o all set → IsMeasured (Some w) all set
+pub incomplete-more : (o : Option TsnSpan) (w : TsnSpan) (all : Bool) (set : ChunkSet)
+    → IfSome o (λ s. (t : ℕ) → is_outside s t ≡ false → is_outside w t ≡ false) → IsMeasured o all set → IsMeasured (Some w) all set
 incomplete-more None w all set wider h = (λ n. absurd (not_both (sym n ∙ h.0)), λ _. h.1)
 incomplete-more (Some s) w all set wider h =
     (λ n. any-less (chunk_outside s) (chunk_outside w) (λ c k. wider c.tsn k) set.chunks (h.0 n), h.1)

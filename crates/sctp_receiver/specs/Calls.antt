@@ -11,8 +11,10 @@ use Rattle.sctp_receiver.specs.declared.receiver.arrival.Forwarded.{Forwarded}
 use Rattle.sctp_receiver.specs.declared.receiver.refusal.ReceiverRefusal.{ReceiverRefusal}
 use Rattle.sctp_receiver.specs.declared.receiver.refusal.ReceiverRefusal.TheVariants.{OutOfMemory}
 use Rattle.sctp_receiver.specs.Costs.{IsWithinBlocks, IsWithinData, forward_turns}
-use Rattle.sctp_receiver.specs.Receiver.{Reception, filter_of, stream_of, refusal_for, IsRefusedFor, takes_memory, arrival_of, is_answered_complete, Takes, TakesEachBy, StopsAtBy}
-use Rattle.sctp_receiver.specs.Receiver.{entries_wanted, sack, without_duplicates, sack_within, after_sack_within, window, forward_refusal, forwarded_of, after_forward}
+use Rattle.sctp_receiver.specs.Receiver.{Reception, filter_of, stream_of, refusal_for, IsRefusedFor, takes_memory, arrival_of, is_answered_complete, Takes}
+use Rattle.sctp_receiver.specs.Receiver.{TakesEachBy, StopsAtBy}
+use Rattle.sctp_receiver.specs.Receiver.{entries_wanted, sack, without_duplicates, sack_within, after_sack_within, window, forward_refusal, forwarded_of}
+use Rattle.sctp_receiver.specs.Receiver.{after_forward}
 use Rattle.sctp_receiver.specs.SkipCosts.{skips_walk}
 use Rattle.sctp_receiver.specs.Skips.{after_forward_tsn, has_incomplete}
 use Rattle.sctp_receiver.specs.Ssns.{is_kept_on}

@@ -1,5 +1,6 @@
 -- TSNs beyond the cumulative one as runs: each is told by its first and its last TSN, and none touches the next.
-use Rattle.std.specs.Prelude.{◌≡◌, ℕ, zero, suc, ◌+◌, ◌-◌, ◌<◌, ◌≤◌, ◌^◌, ◌==◌, Bool, false, nat_le, nat_lt, if◌then◌else◌, List, [], ◌∷◌, ◌++◌, length, map, slice_get, IfSome, Option, Some, None}
+use Rattle.std.specs.Prelude.{◌≡◌, ℕ, zero, suc, ◌+◌, ◌-◌, ◌<◌, ◌≤◌, ◌^◌, ◌==◌, Bool, false, nat_le, nat_lt, if◌then◌else◌, List, [], ◌∷◌, ◌++◌, length, map}
+use Rattle.std.specs.Prelude.{slice_get, IfSome, Option, Some, None}
 use Rattle.sctp_util.specs.Kept.{runs_of}
 use Rattle.sctp_util.specs.Serial.{distance}
 use Rattle.sctp_serial.specs.DataChunks.{following_tsn, preceding_tsn}

@@ -10,7 +10,8 @@ pub returns-in-Skipped : goal.returns-in-Skipped
 returns-in-Skipped c =
     let q = c.self.inside in
     let f = forward_tsn_of c.args.chunk.now in
-    let is : reception_in q.streams q.filter q.max_message_size q.limits ≡ after_forward f c.args.self.now = c.self.view_is ∙ c.in_ok-forwarded.ensures.names.ok in
+    let is : reception_in q.streams q.filter q.max_message_size q.limits ≡ after_forward f c.args.self.now =
+    c.self.view_is ∙ c.in_ok-forwarded.ensures.names.ok in
     let few = fewer-after f c.args.self.now in
     let visited = ap (λ (r : Reception). length (to_visit r.streams)) is in
     let beyond = ap (λ (r : Reception). length r.beyond) c.self.view_is in

@@ -1,4 +1,5 @@
-use Rattle.sctp_receiver.proofs.Names.{rules, arith, ◌≡◌, ◌<◌, Some, ap, sym, subst, ◌∙◌, length, list_any, slice_get, slice_get_within, by_same, some-same, ChunkSet}
+use Rattle.sctp_receiver.proofs.Names.{rules, arith, ◌≡◌, ◌<◌, Some, ap, sym, subst, ◌∙◌, length, list_any, slice_get, slice_get_within, by_same, some-same}
+use Rattle.sctp_receiver.proofs.Names.{ChunkSet}
 use Rattle.sctp_receiver.proofs.Names.{is_complete}
 use Rattle.sctp_receiver.specs.Spans.{chunk_outside, sets_outside}
 use Rattle.sctp_receiver.proofs.VisitOrders.{read-at}
@@ -24,8 +25,8 @@ loop-place-preserved c =
         turns = omega (arith, inv.turns, c.tick.ensures);
       }
       | else-is_complete w ↦ record {
-        here = λ k s less e. subst (λ o. IsMeasured o c.if-is_complete.all s) (sym w.span-is) (subst (λ b. IsMeasured (Some w.with_set.result) b s) (sym w.all-is)
-            (by_same k c.loop-place.place
+        here = λ k s less e. subst (λ o. IsMeasured o c.if-is_complete.all s) (sym w.span-is)
+            (subst (λ b. IsMeasured (Some w.with_set.result) b s) (sym w.all-is) (by_same k c.loop-place.place
             (λ q. let is : s ≡ c.index.result.now = some-same (sym e ∙ ap (slice_get sets) q ∙ here) in
             let there = read-at sets c.loop-place.place w.index-else-is_complete.result.now lt w.index-else-is_complete.ensures in
             let same : s ≡ w.index-else-is_complete.result.now = some-same (sym e ∙ ap (slice_get sets) q ∙ there) in

@@ -9,7 +9,8 @@ use Rattle.sctp_receiver.proofs.Spans.{past-stays, skip-inside, settled-inside}
 use Rattle.sctp_receiver.proofs.Listing.{any, incomplete, outside}
 use Rattle.sctp_receiver.proofs.VisitOrders.{read-at, set-here}
 use Rattle.sctp_receiver.proofs.Visiting.{few-visited, element}
-use Rattle.sctp_receiver.proofs.Forwarding.{Going, going-all, gone-all, gone-visited, in-range, same-span, same-stream, was-visited, going-past, going-again, going-off}
+use Rattle.sctp_receiver.proofs.Forwarding.{Going, going-all, gone-all, gone-visited, in-range, same-span, same-stream, was-visited, going-past}
+use Rattle.sctp_receiver.proofs.Forwarding.{going-again, going-off}
 use Rattle.sctp_receiver.proofs.receiver.visit.forward_each.Goals as goal
 
 pub loop-left-init : goal.loop-left-init
@@ -55,7 +56,8 @@ loop-left-preserved-then-lies_past c =
     (was-visited f any incomplete outside u xs inverse m k v ys g at (omega (arith, more, inv.few))) in
     let ws = walks_by_place c.args.skip c.args.tsn u.spans xs in
     let weight = unless_past c.args.tsn s (walk_on c.args.skip c.args.tsn x) in
-    let spending : spent c.loop-left.left u.order ws ≡ spent m u.order ws + weight = ap (λ n. spent n u.order ws) {x = c.loop-left.left} {y = suc m} (omega (arith, more))
+    let spending : spent c.loop-left.left u.order ws ≡ spent m u.order ws + weight =
+    ap (λ n. spent n u.order ws) {x = c.loop-left.left} {y = suc m} (omega (arith, more))
     ∙ spent-more m k weight u.order ws (sym (g.prefix m (omega arith)) ∙ at) (at-place c.args.skip c.args.tsn u.spans xs k s x was there.1) in
     let past : lies_past c.args.tsn s ≡ true = sym c.lies_past.ensures.value ∙ c.if-lies_past.true in
     let stays = past-stays c.args.tsn s c.lies_past.ensures.tsn_fits c.lies_past.ensures.first_fits past c.args.skip x (listing.spans k s x was there.1) in
@@ -147,7 +149,8 @@ loop-left-preserved-in-Some c =
     (was-visited f any incomplete outside u xs inverse m k v ys g at (omega (arith, more, inv.few))) in
     let ws = walks_by_place c.args.skip c.args.tsn u.spans xs in
     let weight = unless_past c.args.tsn s (walk_on c.args.skip c.args.tsn x) in
-    let spending : spent c.loop-left.left u.order ws ≡ spent m u.order ws + weight = ap (λ n. spent n u.order ws) {x = c.loop-left.left} {y = suc m} (omega (arith, more))
+    let spending : spent c.loop-left.left u.order ws ≡ spent m u.order ws + weight =
+    ap (λ n. spent n u.order ws) {x = c.loop-left.left} {y = suc m} (omega (arith, more))
     ∙ spent-more m k weight u.order ws (sym (g.prefix m (omega arith)) ∙ at) (at-place c.args.skip c.args.tsn u.spans xs k s x was there.1) in
     let zs = c.forward_at-cost.new.streams.items in
     let same = get_or_from_slice_get ys k x x (same-stream f any incomplete outside u xs inverse m k v ys g at x there.1) in
@@ -206,7 +209,8 @@ loop-left-preserved c =
     (was-visited f any incomplete outside u xs inverse m k v ys g at (omega (arith, more, inv.few))) in
     let ws = walks_by_place c.args.skip c.args.tsn u.spans xs in
     let weight = unless_past c.args.tsn s (walk_on c.args.skip c.args.tsn x) in
-    let spending : spent c.loop-left.left u.order ws ≡ spent m u.order ws + weight = ap (λ n. spent n u.order ws) {x = c.loop-left.left} {y = suc m} (omega (arith, more))
+    let spending : spent c.loop-left.left u.order ws ≡ spent m u.order ws + weight =
+    ap (λ n. spent n u.order ws) {x = c.loop-left.left} {y = suc m} (omega (arith, more))
     ∙ spent-more m k weight u.order ws (sym (g.prefix m (omega arith)) ∙ at) (at-place c.args.skip c.args.tsn u.spans xs k s x was there.1) in
     let zs = c.forward_at-cost.new.streams.items in
     let same = get_or_from_slice_get ys k x x (same-stream f any incomplete outside u xs inverse m k v ys g at x there.1) in

@@ -1,4 +1,5 @@
-use Rattle.sctp_receiver.proofs.Names.{rules, arith, ◌≡◌, ◌+◌, ◌++◌, ◌∷◌, [], slice_get, length, ap, ap₂, sym, subst, ◌∙◌, refl, sum_by, number, numbers_of, new_stream}
+use Rattle.sctp_receiver.proofs.Names.{rules, arith, ◌≡◌, ◌+◌, ◌++◌, ◌∷◌, [], slice_get, length, ap, ap₂, sym, subst, ◌∙◌, refl, sum_by, number, numbers_of}
+use Rattle.sctp_receiver.proofs.Names.{new_stream}
 use Rattle.sctp_receiver.proofs.Names.{cost_within, VisitOrder, IsListing, is_visited}
 use Rattle.std.proofs.Common.{length-append}
 use Rattle.std.proofs.lemmas.List.{map-append}

@@ -1,5 +1,6 @@
 use Rattle.std.specs.VecDeque.{deque_len}
-use Rattle.sctp_receiver.proofs.Names.{rules, ◌≡◌, ◌==◌, ◌<◌, ◌-◌, ◌^◌, ◌∙◌, refl, ap, sym, subst, length, length-set, arith, eq-eqb, some-same, IsWithinPushOn, IsOnlyPlace}
+use Rattle.sctp_receiver.proofs.Names.{rules, ◌≡◌, ◌==◌, ◌<◌, ◌-◌, ◌^◌, ◌∙◌, refl, ap, sym, subst, length, length-set, arith, eq-eqb, some-same}
+use Rattle.sctp_receiver.proofs.Names.{IsWithinPushOn, IsOnlyPlace}
 use Rattle.sctp_receiver.proofs.Names.{number, numbers_of, inside, numbers-stay}
 use Rattle.sctp_receiver.proofs.Listing.{renewed-more}
 use Rattle.sctp_receiver.proofs.SkipCosts.{at-map}

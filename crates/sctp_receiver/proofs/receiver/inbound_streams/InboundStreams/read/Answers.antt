@@ -56,8 +56,8 @@ returns-clause-message c =
 
 pub returns-clause-ok : goal.returns-clause-ok
 returns-clause-ok c =
-    rw (← c.self.view_is) (changed number c.self.inside.items.items c.self.inside.numbers c.self.invariant.numbers c.args.stream c.in-Some.place c.in-Some.ensures
-    stream_read c.index_mut-inbound.result.now c.read-message.new.self c.index_mut-inbound.ensures.value c.read-message.ensures.rest)
+    rw (← c.self.view_is) (changed number c.self.inside.items.items c.self.inside.numbers c.self.invariant.numbers c.args.stream c.in-Some.place
+    c.in-Some.ensures stream_read c.index_mut-inbound.result.now c.read-message.new.self c.index_mut-inbound.ensures.value c.read-message.ensures.rest)
 
 pub returns-clause-accepted : goal.returns-clause-accepted
 returns-clause-accepted c = λ _.
