@@ -1,6 +1,7 @@
 -- Fragments and chunks taken back.
 use Rattle.sctp_receiver.proofs.Names.{◌≡◌, ℕ, zero, suc, ◌<◌, Bool, List, [], ◌∷◌, ◌++◌, length, length-set, refl, ap, sym, subst, ◌∙◌, Some, Result, Ok, Err}
-use Rattle.sctp_receiver.proofs.Names.{arith, slice_get, slice_index_or, slice_set, IfOk, slice_get_read, PushUndo, InboundStream, ReceiverRefusal, number}
+use Rattle.sctp_receiver.proofs.Names.{arith, false, slice_get, slice_index_or, slice_set, IfOk, slice_get_read, PushUndo}
+use Rattle.sctp_receiver.proofs.Names.{InboundStream, ReceiverRefusal, number}
 use Rattle.sctp_receiver.proofs.Names.{ChunkUndo, stream_undone, CanUndoAt, Parts, chunk_undone, chunks_undone, CanUndoChunks}
 use Rattle.std.specs.Prelude.{IsSomeAnd}
 use Rattle.std.proofs.lemmas.List.{get_or-set_same}
@@ -8,7 +9,10 @@ use Rattle.sctp_reassembly.specs.declared.reassembly_queue.undo.PushChange.{Push
 use Rattle.sctp_reassembly.specs.declared.reassembly_queue.undo.PushChange.TheVariants.{NotKept}
 use Rattle.sctp_reassembly.specs.reassembly_queue.Undo.{change_undone, CanUndo}
 use Rattle.sctp_reassembly.proofs.lemmas.reassembly_queue.Undone.{changed-back}
-use Rattle.sctp_receiver.specs.Undo.{undone_at, CanUndoChunk}
+use Rattle.sctp_receiver.specs.Spans.{holds_outside}
+use Rattle.sctp_receiver.specs.Undo.{undone_at, CanUndoChunk, IsSpanAt}
+use Rattle.sctp_receiver.specs.Visited.{AreSpans}
+use Rattle.sctp_receiver.specs.declared.receiver.spans.TsnSpan.{TsnSpan}
 
 -- ## A fragment
 
@@ -43,6 +47,27 @@ pub can-here : (k : ℕ) (u : PushUndo) (ls : List InboundStream) (x : InboundSt
 can-here k u [] x at can = absurd can
 can-here zero u (l ∷ ls) x at can = subst (λ (m : InboundStream). CanUndo u m.queue) (sym at) can
 can-here (suc k) u (l ∷ ls) x at can = can-here k u ls x at can
+
+-- the stretch from before covers what it holds then
+pub span-undone : (k : ℕ) (s : TsnSpan) (u : PushUndo) (ls : List InboundStream) (x : InboundStream) → x ≡ slice_index_or ls k x
+    → IsSpanAt k s (undone_at k u ls) → holds_outside s (stream_undone u x).queue.held ≡ false
+span-undone k s u [] x at h = absurd h
+span-undone zero s u (l ∷ ls) x at h = subst (λ (m : InboundStream). holds_outside s (stream_undone u m).queue.held ≡ false) (sym at) h
+span-undone (suc k) s u (l ∷ ls) x at h = span-undone k s u ls x at h
+
+-- so does the one that is noted
+pub span-noted : (k : ℕ) (spans : List TsnSpan) (ls : List InboundStream) (s : TsnSpan) → k < length ls → slice_get spans k ≡ Some s
+    → AreSpans spans ls → IsSpanAt k s ls
+span-noted k spans ls s lt at are = there k ls lt (λ l. are k s l)
+  where
+    there : (n : ℕ) (ms : List InboundStream) → n < length ms
+        → ((l : InboundStream) → slice_get spans k ≡ Some s → slice_get ms n ≡ Some l → holds_outside s l.queue.held ≡ false) → IsSpanAt n s ms
+    there n [] lt f = absurd (none lt)
+      where
+        none : n < 0 → ⊥
+        none lt = omega (arith, lt)
+    there zero (m ∷ ms) lt f = f m at refl
+    there (suc n) (m ∷ ms) lt f = there n ms (omega (arith, lt)) f
 
 -- ## Several chunks
 

@@ -11,8 +11,10 @@ use Rattle.sctp_receiver.specs.declared.receiver.inbound_streams.InboundStream.{
 use Rattle.sctp_receiver.specs.declared.receiver.intake.ChunkUndo.{ChunkUndo}
 use Rattle.sctp_receiver.specs.declared.receiver.intake.ChunkUndo.TheVariants.{Repeat, New}
 use Rattle.sctp_receiver.specs.declared.receiver.intake.Rules.{Rules}
+use Rattle.sctp_receiver.specs.declared.receiver.spans.TsnSpan.{TsnSpan}
 use Rattle.sctp_receiver.specs.Inbound.{with_queue}
 use Rattle.sctp_receiver.specs.Receiver.{Reception}
+use Rattle.sctp_receiver.specs.Spans.{holds_outside}
 use Rattle.sctp_receiver.specs.TsnFilter.{Filter, rise_beyond}
 use Rattle.sctp_receiver.specs.TsnRuns.{count_of_runs, tsns_from}
 use Rattle.sctp_reassembly.specs.declared.reassembly_queue.undo.PushUndo.{PushUndo}
@@ -61,6 +63,11 @@ undone_at place u ls = change_at (stream_undone u) place ls
 abbrev pub CanUndoAt : ℕ → PushUndo → List InboundStream → Type 0
 CanUndoAt place u ls = IsSomeAnd (slice_get ls place) (λ l. CanUndo u l.queue)
 
+-- a stretch covers what the stream at a place holds
+abbrev pub IsSpanAt : ℕ → TsnSpan → List InboundStream → Type 0
+IsSpanAt place span ls =
+    IsSomeAnd (slice_get ls place) (λ l. holds_outside span l.queue.held ≡ false)
+
 -- ## Chunks
 
 -- what a chunk changes
@@ -96,13 +103,14 @@ repeat_undone false f = f
 -- a chunk is taken back
 abbrev pub chunk_undone : ChunkUndo → Parts → Parts
 chunk_undone (Repeat noted) p = record p { filter = repeat_undone noted p.filter }
-chunk_undone (New tsn place u) p =
+chunk_undone (New tsn place u span) p =
     parts (undone_at place u p.streams) (retracted tsn p.filter)
 
 abbrev pub CanUndoChunk : ChunkUndo → Parts → Type 0
 CanUndoChunk (Repeat noted) p = Unit {0}
-CanUndoChunk (New tsn place u) p =
-    CanRetract tsn p.filter × CanUndoAt place u p.streams
+CanUndoChunk (New tsn place u span) p =
+    CanRetract tsn p.filter
+    × (CanUndoAt place u p.streams × IsSpanAt place span (undone_at place u p.streams))
 
 -- several, the last one first
 abbrev pub chunks_undone : List ChunkUndo → Parts → Parts

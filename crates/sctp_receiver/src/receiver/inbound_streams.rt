@@ -12,7 +12,7 @@ ghost use Rattle.sctp_receiver.specs.Limits.{held_cost};
 ghost use Rattle.sctp_receiver.specs.Receiver.{readable_streams};
 ghost use Rattle.sctp_receiver.specs.Resets.{stream_reset, keeps_message};
 ghost use Rattle.sctp_receiver.specs.SkipCosts.{named_walk, visit_walk, settle_walk};
-ghost use Rattle.sctp_receiver.specs.Undo.{stream_undone, undone_at, CanUndoAt};
+ghost use Rattle.sctp_receiver.specs.Undo.{stream_undone, undone_at, CanUndoAt, IsSpanAt};
 ghost use Rattle.sctp_receiver.specs.Visited.{skip_forwarded, to_visit};
 
 use crate::receiver::limits::cost_of;
@@ -289,18 +289,35 @@ impl InboundStreams {
         pushed
     }
 
+    /// The stretch of the stream at a place, which is noted again where a fragment is taken back.
+    /// Precondition: it is a place.
+    pub(crate) fn span_at(&self, place: usize) -> TsnSpan
+        requires { place < length self.now }
+        ensures { IsSpanAt place result self.now }
+    {
+        self.visits.span_at(place)
+    }
+
     /// Takes a fragment of a stream back by what `push_undoable_at_counted` answered. It takes no memory.
-    /// Precondition: the stream at the place is as that left it (`CanUndoAt`).
-    pub(crate) fn undo_push_at(&mut self, place: usize, undo: PushUndo)
-        requires { CanUndoAt place undo self.old }
+    /// Precondition: the stream at the place is as that left it (`CanUndoAt`), and the stretch is the one from before.
+    pub(crate) fn undo_push_at(&mut self, place: usize, undo: PushUndo, span: TsnSpan)
+        requires can { CanUndoAt place undo self.old }
+        requires span { IsSpanAt place span (undone_at place undo self.old) }
         ensures { self.new ≡ undone_at place undo self.old }
     {
-        self.undo_push_at_counted(place, undo, &mut Turns::new());
+        self.undo_push_at_counted(place, undo, span, &mut Turns::new());
     }
 
     /// The same, and its turns are added: one for each fragment of an unordered message that it completed.
-    pub(crate) fn undo_push_at_counted(&mut self, place: usize, undo: PushUndo, turns: &mut Turns)
-        requires { CanUndoAt place undo self.old }
+    pub(crate) fn undo_push_at_counted(
+        &mut self,
+        place: usize,
+        undo: PushUndo,
+        span: TsnSpan,
+        turns: &mut Turns,
+    )
+        requires can { CanUndoAt place undo self.old }
+        requires span { IsSpanAt place span (undone_at place undo self.old) }
         ensures value { self.new ≡ undone_at place undo self.old }
         ensures not_back { turns.old ≤ turns.new }
         ensures cost { turns.new
@@ -310,7 +327,7 @@ impl InboundStreams {
         let before = cost_of(&inbound.queue);
         inbound.undo_push_counted(undo, turns);
         self.cost = moved(self.cost, before, cost_of(&inbound.queue));
-        renew_within(&mut self.visits, place, &inbound.queue, TsnSpan::whole());
+        renew_within(&mut self.visits, place, &inbound.queue, span);
     }
 
     /// Takes the next message of a stream out, where there is one. Refuses with `StreamUnknown`, where the stream is not open. It takes no

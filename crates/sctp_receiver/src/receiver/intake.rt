@@ -14,6 +14,7 @@ use crate::receiver::inbound_streams::InboundStreams;
 use crate::receiver::limits::{Limits, refusal_by};
 use crate::receiver::refusal::ReceiverRefusal;
 use crate::receiver::sack_out::MAX_SACK_ENTRIES;
+use crate::receiver::spans::TsnSpan;
 use crate::receiver::ssns::is_new_too_far;
 use crate::receiver::tsn_filter::TsnFilter;
 use crate::receiver::tsn_filter::undo::FilterUndo;
@@ -39,11 +40,12 @@ pub(crate) enum ChunkUndo {
     Repeat {
         noted: bool,
     },
-    /// Its TSN came, and the stream at a place has it.
+    /// Its TSN came, and the stream at a place has it, which had this stretch before.
     New {
         tsn: FilterUndo,
         place: usize,
         queue: PushUndo,
+        span: TsnSpan,
     },
 }
 
@@ -135,14 +137,20 @@ fn take_any_ssn(
     let Some(place) = streams.place_of(chunk.stream_identifier) else {
         return Err(ReceiverRefusal::StreamUnknown);
     };
+    let span = streams.span_at(place);
     let (complete, queue) = streams.push_undoable_at_counted(place, chunk, turns)?;
     let Ok(tsn) = filter.accept_undoable_counted(chunk.tsn, turns) else {
-        streams.undo_push_at(place, queue);
+        streams.undo_push_at(place, queue, span);
         return Err(ReceiverRefusal::OutOfMemory);
     };
     Ok((
         Arrival::New { complete },
-        ChunkUndo::New { tsn, place, queue },
+        ChunkUndo::New {
+            tsn,
+            place,
+            queue,
+            span,
+        },
     ))
 }
 
@@ -226,8 +234,13 @@ fn undo_chunk(
     turns.tick();
     match undo {
         ChunkUndo::Repeat { noted } => forget_repeat(filter, noted),
-        ChunkUndo::New { tsn, place, queue } => {
-            streams.undo_push_at_counted(place, queue, turns);
+        ChunkUndo::New {
+            tsn,
+            place,
+            queue,
+            span,
+        } => {
+            streams.undo_push_at_counted(place, queue, span, turns);
             filter.retract_counted(tsn, turns);
         }
     }

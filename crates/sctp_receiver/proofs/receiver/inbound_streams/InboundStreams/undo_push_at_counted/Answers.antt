@@ -1,21 +1,22 @@
 use Rattle.sctp_receiver.proofs.Names.{rules, ◌<◌, ◌^◌, ap, sym, ◌∙◌, length, length-set, arith, slice_set, sum_by-set, InboundStream, number, stream_undone}
-use Rattle.sctp_receiver.proofs.Names.{CanUndoAt, map-set_same}
+use Rattle.sctp_receiver.proofs.Names.{CanUndoAt, map-set_same, neither}
 use Rattle.sctp_reassembly.proofs.lemmas.reassembly_queue.Undone.{changed-set}
 use Rattle.sctp_receiver.proofs.Listing.{renewed-more}
-use Rattle.sctp_receiver.proofs.Spans.{whole-sets}
 use Rattle.sctp_receiver.proofs.CostSums.{is-part, changed-fits, changed-sum}
-use Rattle.sctp_receiver.proofs.Undone.{undone-number, can-here, can-inside}
+use Rattle.sctp_receiver.proofs.Undone.{undone-number, can-here, can-inside, span-undone}
+use Rattle.sctp_receiver.specs.Spans.{sets_outside}
+use Rattle.sctp_receiver.specs.Undo.{undone_at, IsSpanAt}
 use Rattle.sctp_receiver.proofs.receiver.inbound_streams.InboundStreams.undo_push_at_counted.Goals as goal
 
 pub index_mut-inbound-requires : goal.index_mut-inbound-requires
 index_mut-inbound-requires c =
-    let can : CanUndoAt c.args.place c.args.undo c.self.inside.items.items = rw (← c.self.view_is) at c.requires in
+    let can : CanUndoAt c.args.place c.args.undo c.self.inside.items.items = rw (← c.self.view_is) at c.requires.can in
     let lt = can-inside c.args.place c.args.undo c.self.inside.items.items can in search rules
 
 pub moved-self-inside-requires-clause-part : goal.moved-self-inside-requires-clause-part
 moved-self-inside-requires-clause-part c =
     let ls = c.self.inside.items.items in
-    let can : CanUndoAt c.args.place c.args.undo ls = rw (← c.self.view_is) at c.requires in
+    let can : CanUndoAt c.args.place c.args.undo ls = rw (← c.self.view_is) at c.requires.can in
     let lt = can-inside c.args.place c.args.undo ls can in
     let h = is-part ls c.args.place c.index_mut-inbound.result.now lt c.index_mut-inbound.ensures.value in
     omega (arith, h, c.self.invariant.cost, c.cost_of-before.ensures)
@@ -23,7 +24,7 @@ moved-self-inside-requires-clause-part c =
 pub moved-self-inside-requires-clause-fits : goal.moved-self-inside-requires-clause-fits
 moved-self-inside-requires-clause-fits c =
     let ls = c.self.inside.items.items in
-    let can : CanUndoAt c.args.place c.args.undo ls = rw (← c.self.view_is) at c.requires in
+    let can : CanUndoAt c.args.place c.args.undo ls = rw (← c.self.view_is) at c.requires.can in
     let lt = can-inside c.args.place c.args.undo ls can in
     let few : length ls < 2 ^ 64 = search rules in
     let h = changed-fits ls c.args.place c.index_mut-inbound.result.now lt c.index_mut-inbound.ensures.value few c.undo_push_counted.new.self in
@@ -32,7 +33,7 @@ moved-self-inside-requires-clause-fits c =
 pub invariant_of-self : goal.invariant_of-self
 invariant_of-self c =
     let ls = c.self.inside.items.items in
-    let can : CanUndoAt c.args.place c.args.undo ls = rw (← c.self.view_is) at c.requires in
+    let can : CanUndoAt c.args.place c.args.undo ls = rw (← c.self.view_is) at c.requires.can in
     let lt = can-inside c.args.place c.args.undo ls can in
     let h = changed-sum ls c.args.place c.index_mut-inbound.result.now lt c.index_mut-inbound.ensures.value c.undo_push_counted.new.self in
     record {
@@ -57,20 +58,20 @@ returns-clause-value c =
 
 pub undo_push_counted-requires : goal.undo_push_counted-requires
 undo_push_counted-requires c =
-    let can : CanUndoAt c.args.place c.args.undo c.self.inside.items.items = rw (← c.self.view_is) at c.requires in
+    let can : CanUndoAt c.args.place c.args.undo c.self.inside.items.items = rw (← c.self.view_is) at c.requires.can in
     can-here c.args.place c.args.undo c.self.inside.items.items c.index_mut-inbound.result.now c.index_mut-inbound.ensures.value can
 
 pub renew_within-requires-clause-place : goal.renew_within-requires-clause-place
 renew_within-requires-clause-place c =
     let ls = c.self.inside.items.items in
-    let can : CanUndoAt c.args.place c.args.undo ls = rw (← c.self.view_is) at c.requires in
+    let can : CanUndoAt c.args.place c.args.undo ls = rw (← c.self.view_is) at c.requires.can in
     let lt = can-inside c.args.place c.args.undo ls can in
     omega (arith, lt, c.self.invariant.visits.listed.places)
 
 pub returns-clause-cost : goal.returns-clause-cost
 returns-clause-cost c =
     let ls = c.self.inside.items.items in
-    let can : CanUndoAt c.args.place c.args.undo ls = rw (← c.self.view_is) at c.requires in
+    let can : CanUndoAt c.args.place c.args.undo ls = rw (← c.self.view_is) at c.requires.can in
     let lt = can-inside c.args.place c.args.undo ls can in
     let count = (λ (l : InboundStream). length l.queue.held.unassembled) in
     let sums = sum_by-set count ls c.args.place c.undo_push_counted.new.self c.index_mut-inbound.result.now lt in
@@ -78,4 +79,10 @@ returns-clause-cost c =
     rw (← c.self.view_is) (omega (arith, sums, read, c.undo_push_counted.ensures.cost))
 
 pub renew_within-requires-clause-within : goal.renew_within-requires-clause-within
-renew_within-requires-clause-within c = whole-sets c.whole.result c.whole.ensures.outside c.undo_push_counted.new.self.queue.held.ordered
+renew_within-requires-clause-within c =
+    let ls = c.self.inside.items.items in
+    let x = c.index_mut-inbound.result.now in
+    let span : IsSpanAt c.args.place c.args.span (undone_at c.args.place c.args.undo ls) = rw (← c.self.view_is) at c.requires.span in
+    let covers = span-undone c.args.place c.args.span c.args.undo ls x c.index_mut-inbound.ensures.value span in
+    let sets = (neither _ _ covers).1 in
+    ap (λ (l : InboundStream). sets_outside c.args.span l.queue.held.ordered) c.undo_push_counted.ensures.value ∙ sets
