@@ -33,7 +33,7 @@ none-on x (Some l) = record {
   unordered_walk = λ on. omega arith;
 }
 
-pub data-none : (x : ChunkPayloadData) (old new : Reception) (turns : ℕ) → turns ≤ filter_looks old new → IsWithinData x old new turns
+pub data-none : (x : ChunkPayloadData) (old new : Reception) (turns : ℕ) → turns ≤ filter_looks old → IsWithinData x old new turns
 data-none x old new turns few = record { pushing = 0; others = omega (arith, few); pushes = none-on x (stream_of x.stream_identifier old) }
 
 pub data-less : (x : ChunkPayloadData) (old new : Reception) (turns more : ℕ) → turns ≤ more → IsWithinData x old new more → IsWithinData x old new turns

@@ -123,6 +123,10 @@ module _ (base c : ℕ) (rs : List Run) (r : Run) (hb : base < 2 ^ 32) (hc : c <
       let b = length-append (tsns_from r.first (suc (distance r.first r.last))) (tsns_of (drop 1 rs)) in
       omega (arith, a, b)
 
+  -- it begins farther than runs do that stand behind this
+  pub begins-behind : (far : ℕ) → AreRuns base far rs → far + 1 < distance base r.first
+  begins-behind far behind = (subst (AreRuns base far) (split-at rs 0 r at) behind).0.apart
+
   -- it begins too far
   pub stands-off : distance base c + 1 < distance base r.first → AreRuns base (distance base c) rs
   stands-off lt = subst (AreRuns base (distance base c)) (sym (split-at rs 0 r at)) (

@@ -49,15 +49,14 @@ abbrev pub IsWithinPushOn : ChunkPayloadData → Option InboundStream → ℕ �
 IsWithinPushOn x None turns = turns ≡ 0
 IsWithinPushOn x (Some l) turns = IsWithinPush x l.queue turns
 
--- beside its stream's queue: three times the digits of the number of TSNs beyond, those of them that leave, and five more
-abbrev pub filter_looks : Reception → Reception → ℕ
-filter_looks old new =
-    3 * digits (length old.beyond) + (length old.beyond - length new.beyond) + 5
+-- beside its stream's queue: three times the digits of the number of TSNs beyond, and five more, however many of them leave
+abbrev pub filter_looks : Reception → ℕ
+filter_looks r = 3 * digits (length r.beyond) + 5
 
 -- and all
 pub record IsWithinData (x : ChunkPayloadData) (old new : Reception) (turns : ℕ) : Type 0 where
   pub pushing : ℕ
-  pub others : turns ≤ filter_looks old new + pushing
+  pub others : turns ≤ filter_looks old + pushing
   pub pushes : IsWithinPushOn x (stream_of x.stream_identifier old) pushing
 
 -- ## DATA chunks of one datagram
@@ -98,14 +97,9 @@ abbrev pub counts_of : List InboundStream → List ℕ → Counts
 counts_of streams beyond = record { beyond = length beyond; unassembled = unassembled_on streams }
 
 -- a chunk is taken back, where so many were there before it came and so many are since: two, and to find its TSN the digits of the number
--- of TSNs beyond; for each TSN that is beyond again one more than the digits of their number; one for each fragment that is unassembled
--- again
+-- of TSNs beyond; none for those that are beyond again; one for each fragment that is unassembled again
 abbrev pub undo_looks : Counts → Counts → ℕ
-undo_looks before since =
-    digits since.beyond
-    + (before.beyond - since.beyond) * (digits before.beyond + 1)
-    + (before.unassembled + 1 - since.unassembled)
-    + 1
+undo_looks before since = digits since.beyond + (before.unassembled + 1 - since.unassembled) + 1
 
 -- several are, the last one first
 abbrev pub counts_in : Parts → Counts

@@ -16,9 +16,9 @@ use sctp_data::chunk::chunk_payload_data::ChunkPayloadData;
 use sctp_data::chunk::chunk_selective_ack::ChunkSelectiveAck;
 use sctp_serial::turns::Turns;
 
-/// `Receiver::data`, and its turns are added: at most three times as many as the number of TSNs beyond has binary digits, one for each
-/// of these that leaves, five more, and those of the push in the queue of its stream (`IsWithinData`). A chunk that is refused, or a
-/// repeat, takes no more. What takes a fragment back where memory runs out for its TSN takes no turn.
+/// `Receiver::data`, and its turns are added: at most three times as many as the number of TSNs beyond has binary digits, five more, and
+/// those of the push in the queue of its stream (`IsWithinData`). A chunk that is refused, or a repeat, takes no more. What takes a
+/// fragment back where memory runs out for its TSN takes no turn.
 pub fn data(
     receiver: &mut Receiver,
     chunk: &ChunkPayloadData,

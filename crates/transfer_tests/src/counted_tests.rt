@@ -14,8 +14,8 @@ use sctp_serial::turns::Turns;
 use sctp_util::error::Error;
 use std::alloc::Global;
 
-// Takes DATA chunks together. Two of them, where no TSN is beyond the cumulative one, look at 24 at most beside the pushes: each three
-// times at both binary digits of two, and at six more.
+// Takes DATA chunks together. Two of them, where no TSN is beyond the cumulative one, look at 22 at most beside the pushes: each three
+// times at both binary digits of two, and at five more.
 fn take_each(
     receiver: &mut Receiver,
     chunks: &[ChunkPayloadData],
@@ -23,7 +23,7 @@ fn take_each(
 ) -> Result<Vec<Arrival>, ReceiverRefusal>
     ensures looks { OnOk result
         (IsWithinDatagram chunks.now receiver.old receiver.new (turns.new - turns.old)) }
-    ensures by_hand { datagram_looks 2 0 ≡ 24 }
+    ensures by_hand { datagram_looks 2 0 ≡ 22 }
 {
     a_datagram_costs_by_its_chunks();
     costs::data_each(receiver, chunks, turns)

@@ -271,7 +271,8 @@ pub(crate) fn take_tsn(runs: &mut VecDeque<Run>, base: u32, tsn: u32, turns: &mu
 }
 
 /// Takes out all runs up to a TSN, and the one that stands next to it or has it: answers the last TSN of that one, else the TSN. Its turns
-/// are added: one for each run that leaves, and one more. It takes no memory.
+/// are added: one for each run that leaves, and one more; two at most where the TSN is next to the base, since one run leaves then at
+/// most. It takes no memory.
 /// Precondition: the TSN comes after the base.
 pub(crate) fn pass(runs: &mut VecDeque<Run>, base: u32, tsn: u32, turns: &mut Turns) -> u32
     requires runs { AreRuns base 0 runs.old.items }
@@ -286,6 +287,7 @@ pub(crate) fn pass(runs: &mut VecDeque<Run>, base: u32, tsn: u32, turns: &mut Tu
     ensures not_back { turns.old ≤ turns.new }
     ensures cost { turns.new + length (tsns_of runs.new.items)
         ≤ turns.old + length (tsns_of runs.old.items) + 1 }
+    ensures next { distance base tsn ≤ 1 → turns.new ≤ turns.old + 2 }
 {
     let mut cumulative_tsn = tsn;
     while !runs.is_empty() {

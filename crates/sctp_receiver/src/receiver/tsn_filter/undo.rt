@@ -30,8 +30,8 @@ impl TsnFilter {
     ghost use Rattle.sctp_receiver.specs.Undo.{retracted, CanRetract};
 
     /// A new TSN comes. The one that is expected next is put nowhere: the cumulative TSN moves over it, and over the run that stands next
-    /// to it, and no memory is taken. Answers how it is taken back. Refuses only for memory. Its turns are added: as many as TSNs beyond
-    /// leave, and else at most one more than their number has binary digits.
+    /// to it, and no memory is taken. Answers how it is taken back. Refuses only for memory. Its turns are added: at most one more than the
+    /// number of TSNs beyond has binary digits, however many of them leave.
     /// Precondition: it did not come (`has_come`), and is not opposite to the cumulative one (`is_opposite`).
     pub(crate) fn accept_undoable_counted(
         &mut self,
@@ -47,8 +47,7 @@ impl TsnFilter {
         ensures err { OnErr result (self.new ≡ self.old) }
         ensures memory { IsOkUnless result ErrOutOfMemory }
         ensures not_back { turns.old ≤ turns.new }
-        ensures cost { turns.new ≤ turns.old + digits (length self.old.beyond)
-            + (length self.old.beyond - length self.new.beyond) + 1 }
+        ensures cost { turns.new ≤ turns.old + digits (length self.old.beyond) + 1 }
     {
         let undo = self.undo_of(tsn);
         self.accept(tsn, turns)?;
@@ -68,8 +67,7 @@ impl TsnFilter {
             ((tsn == following_tsn self.old.cumulative_tsn) ≡ false) }
         ensures memory { IsOkUnless result ErrOutOfMemory }
         ensures not_back { turns.old ≤ turns.new }
-        ensures cost { turns.new ≤ turns.old + digits (length self.old.beyond)
-            + (length self.old.beyond - length self.new.beyond) + 1 }
+        ensures cost { turns.new ≤ turns.old + digits (length self.old.beyond) + 1 }
     {
         let from = self.cumulative_tsn;
         if tsn == from.wrapping_add(1) {
@@ -101,14 +99,12 @@ impl TsnFilter {
     }
 
     /// What `accept_undoable_counted` did is taken back. It takes no memory. Its turns are added: to find its TSN at most as many as the
-    /// number of those beyond has binary digits; and for each that is beyond again at most one more than the number of these has.
+    /// number of those beyond has binary digits. For those that are beyond again it takes none.
     pub(crate) fn retract_counted(&mut self, undo: FilterUndo, turns: &mut Turns)
         requires { CanRetract undo self.old }
         ensures value { self.new ≡ retracted undo self.old }
         ensures not_back { turns.old ≤ turns.new }
-        ensures cost { turns.new ≤ turns.old + digits (length self.old.beyond)
-            + (length self.new.beyond - length self.old.beyond)
-            * (digits (length self.new.beyond) + 1) }
+        ensures cost { turns.new ≤ turns.old + digits (length self.old.beyond) }
     {
         match undo {
             FilterUndo::Beyond { tsn, room } => {

@@ -1,4 +1,5 @@
-use Rattle.sctp_receiver.proofs.Names.{◌-◌, length, ap, ◌∙◌, arith, insert_before, comes_before, comes_before_from, following_tsn, after_one, tsns_of}
+use Rattle.sctp_receiver.proofs.Names.{ℕ, zero, suc, ◌+◌, ◌-◌, ◌≤◌, length, ap, ◌∙◌, arith, insert_before, distance, comes_before, comes_before_from}
+use Rattle.sctp_receiver.proofs.Names.{following_tsn, after_one, digits, tsns_of}
 use Rattle.sctp_receiver.proofs.FilterCalls.{lies-beyond, next-is, put-beyond}
 use Rattle.sctp_receiver.proofs.RunBlocks.{run-count}
 use Rattle.sctp_receiver.proofs.TsnRuns.{fewer-runs, runs-rise}
@@ -8,7 +9,8 @@ use Rattle.sctp_receiver.proofs.receiver.tsn_filter.TsnFilter.accept.Goals as go
 pub pass-self-inside-requires-clause-after : goal.pass-self-inside-requires-clause-after
 pass-self-inside-requires-clause-after c =
     let one = after_one c.self.inside.cumulative_tsn c.self.invariant.in_range in
-    rw (c.if-tsn-from.true) (comes_before_from c.self.inside.cumulative_tsn (following_tsn c.self.inside.cumulative_tsn) (omega (arith, one)) (omega (arith, one)))
+    let from = c.self.inside.cumulative_tsn in
+    rw (c.if-tsn-from.true) (comes_before_from from (following_tsn from) (omega (arith, one)) (omega (arith, one)))
 
 pub returns-then-tsn-from-clause-ok : goal.returns-then-tsn-from-clause-ok
 returns-then-tsn-from-clause-ok c =
@@ -17,6 +19,20 @@ returns-then-tsn-from-clause-ok c =
     let p = c.pass-self-inside in
     rw (← c.self.view_is) (next-is f.cumulative_tsn c.args.tsn p.result f.room f.room (tsns_of f.runs.items) (tsns_of p.new.runs.items) f.duplicates.items
     i.in_range c.if-tsn-from.true (runs-rise f.cumulative_tsn 0 f.runs.items i.in_range i.runs) p.ensures.moved)
+
+-- at most two turns, and one where no TSN is beyond
+few-turns : (n was now left : ℕ) → now + left ≤ was + n + 1 → now ≤ was + 2 → now ≤ was + digits n + 1
+few-turns zero was now left all two = omega (arith, all)
+few-turns (suc n) was now left all two = let one = few-digits 1 (suc n) 1 (omega arith) (omega arith) in omega (arith, two, one)
+
+pub returns-then-tsn-from-clause-cost : goal.returns-then-tsn-from-clause-cost
+returns-then-tsn-from-clause-cost c =
+    let f = c.self.inside in
+    let p = c.pass-self-inside in
+    let one = after_one f.cumulative_tsn c.self.invariant.in_range in
+    let same = ap (distance f.cumulative_tsn) c.if-tsn-from.true in
+    rw (← c.self.view_is) (few-turns (length (tsns_of f.runs.items)) c.args.turns.now p.new.turns (length (tsns_of p.new.runs.items)) p.ensures.cost
+    (p.ensures.next (omega (arith, one, same))))
 
 pub returns-then-tsn-from-clause-runs : goal.returns-then-tsn-from-clause-runs
 returns-then-tsn-from-clause-runs c =

@@ -1,6 +1,7 @@
 use Rattle.sctp_receiver.proofs.Names.{◌≡◌, ◌+◌, ◌<◌, ◌≤◌, Some, length, drop, refl, ap, sym, subst, ◌∙◌, arith, rules, slice_get, distance, before_is, AreRuns}
-use Rattle.sctp_receiver.proofs.Names.{tsns_of, later}
-use Rattle.sctp_receiver.proofs.RunMoves.{IsLater, later-is, over-first, rest-runs, left-runs, fewer-tsns, stands-off, seen-from, no-move, moved_to}
+use Rattle.sctp_receiver.proofs.Names.{ℕ, tsns_of, later, inl, inr, cases_lt}
+use Rattle.sctp_receiver.proofs.RunMoves.{IsLater, later-is, later-second, begins-behind, over-first, rest-runs, left-runs, fewer-tsns, stands-off}
+use Rattle.sctp_receiver.proofs.RunMoves.{seen-from, no-move, moved_to}
 use Rattle.sctp_receiver.proofs.TsnRuns.{read-run}
 use Rattle.sctp_receiver.proofs.receiver.tsn_filter.runs.pass.Goals as goal
 
@@ -16,7 +17,13 @@ loop-runs-init c =
       capacity = refl;
       not_back = omega arith;
       cost = omega arith;
+      start = λ le. refl;
+      one = λ le. omega arith;
+      over = λ le lt. absurd (none c.args.turns.now lt);
     }
+  where
+    none : (n : ℕ) → n < n → ⊥
+    none n lt = omega (arith, lt)
 
 off : (c : goal.Then-distance) → AreRuns c.args.base (distance c.args.base c.loop-runs.cumulative_tsn) c.loop-runs.runs.items
 off c =
@@ -57,6 +64,12 @@ loop-runs-preserved c =
     omega (arith, low, c.distance.ensures.value, c.distance-in-loop-runs.ensures.value) in
     let items : c.take_out.new.runs.items ≡ drop 1 rs = c.take_out.ensures.items in
     let few = fewer-tsns base cum rs r hb i.fits i.near i.runs at in
+    let was : distance base c.args.tsn ≤ 1 → c.loop-runs.turns ≤ c.args.turns.now = λ le. elim (cases_lt c.args.turns.now c.loop-runs.turns) [
+      | inl lt ↦
+          let apart = begins-behind base cum rs r hb i.fits i.near i.runs at (distance base cum) (i.over le lt) in
+          omega (arith, apart, first)
+      | inr ge ↦ ge
+    ] in
     let count = ap (λ us. length (tsns_of us)) items in
     let short = ap length items in
     record {
@@ -69,4 +82,16 @@ loop-runs-preserved c =
       capacity = c.take_out.ensures.capacity ∙ i.capacity;
       not_back = omega (arith, i.not_back, c.tick.ensures);
       cost = omega (arith, i.cost, few, count, c.tick.ensures);
+      start = λ le. omega (arith, le, i.not_back, c.tick.ensures);
+      one = λ le. let h = was le in omega (arith, h, c.tick.ensures);
+      over = λ le lt.
+          let same = ap (distance base) (i.start (was le)) in
+          let apart = parts.0.apart in
+          let order = parts.0.order in
+          let is : c.later-cumulative_tsn.result ≡ r.last = sym next ∙ later-second base cum r.last (omega (arith, le, same, apart, order)) in
+          subst (λ us. AreRuns base (distance base c.later-cumulative_tsn.result) us) (sym items)
+          (subst (λ u. AreRuns base (distance base u) (drop 1 rs)) (sym is) parts.1);
     }
+
+pub returns-then-distance-clause-next : goal.returns-then-distance-clause-next
+returns-then-distance-clause-next c = λ le. let h = c.loop-runs.invariant.one le in omega (arith, h, c.tick.ensures)

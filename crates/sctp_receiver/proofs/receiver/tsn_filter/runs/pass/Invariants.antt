@@ -12,6 +12,9 @@ invariant-loop-runs l = record {
   capacity : deque_capacity l.runs ≡ deque_capacity l.initial.runs;
   not_back : l.initial.turns ≤ l.turns;
   cost : l.turns + length (tsns_of l.runs.items) ≤ l.initial.turns + length (tsns_of l.initial.runs.items);
+  start : l.turns ≤ l.initial.turns → l.cumulative_tsn ≡ l.tsn;
+  one : distance l.base l.tsn ≤ 1 → l.turns ≤ l.initial.turns + 1;
+  over : distance l.base l.tsn ≤ 1 → l.initial.turns < l.turns → AreRuns l.base (distance l.base l.cumulative_tsn) l.runs.items;
 }
 
 abbrev pub decreases-loop-runs : goal.decreases-loop-runs
