@@ -42,8 +42,7 @@ CALLERS = {
                                               "sctp_c/receiver sctpr_receiver_held_bytes", "sctp_delivery/room is_room_left",
                                               "sctp_association/association held_bytes"},
     "sctp_c::sctpr_sender_open": {"sctp_c/callers first_chunk"},
-    "crc32c::Crc::update": {"bench/packet sum", "crc32c/lib crc32c", "sctp_packets/checksum checksum", "sctp_show/checksum checksum",
-                            "packet_tests/sum_tests has_its_sum", "packet_tests/sum_tests in_two"},
+    "crc32c::Crc::update": {"bench/packet sum", "crc32c/lib crc32c", "sctp_packets/checksum checksum", "sctp_show/checksum checksum"},
 }
 TRAITS = {
     "sctp_chunks::ChunkHeartbeat::value_length": "sctp_chunks/src/chunk.rt",

@@ -63,7 +63,10 @@ fn field_of(raw: &[u8]) -> Answer {
 }
 
 fn partial<C: Checksum>(alloc: Global, raw: &[u8], checksum: &C) -> Result<PartialDecode, Error> {
-    PartialDecode::unmarshal(alloc, &Bytes::copy_from_slice(alloc, raw)?, checksum)
+    let raw = Bytes::copy_from_slice(alloc, raw)?;
+    let read = PartialDecode::unmarshal(alloc, &raw, checksum);
+    drop(raw);
+    read
 }
 
 fn finished<C: Checksum>(alloc: Global, raw: &[u8], checksum: &C) -> Result<Packet, Error> {
@@ -71,22 +74,29 @@ fn finished<C: Checksum>(alloc: Global, raw: &[u8], checksum: &C) -> Result<Pack
 }
 
 fn whole<C: Checksum>(alloc: Global, raw: &[u8], checksum: &C) -> Result<Packet, Error> {
-    Packet::unmarshal(alloc, &Bytes::copy_from_slice(alloc, raw)?, checksum)
+    let raw = Bytes::copy_from_slice(alloc, raw)?;
+    let read = Packet::unmarshal(alloc, &raw, checksum);
+    drop(raw);
+    read
 }
 
 // What the first chunk's header tells.
 fn told(alloc: Global, raw: &[u8]) -> Result<(ChunkType, Option<u32>), Error> {
     let decode = partial(alloc, raw, &Crc32c)?;
-    Ok((decode.first_chunk_type, decode.initiate_tag))
+    let told = (decode.first_chunk_type, decode.initiate_tag);
+    drop(decode);
+    Ok(told)
 }
 
 // Whether the packet is an allowed one, prints so, and is written as these bytes.
 fn is_recorded(alloc: Global, read: Result<Packet, Error>, raw: &[u8], printed: &str) -> bool {
     match read {
         Ok(packet) => {
-            packet.check_packet().is_ok()
+            let well = packet.check_packet().is_ok()
                 && is_printed(alloc, &packet, printed)
-                && is_encoding(packet.marshal(alloc, &Crc32c), raw)
+                && is_encoding(packet.marshal(alloc, &Crc32c), raw);
+            drop(packet);
+            well
         }
         Err(_) => false,
     }
@@ -95,7 +105,11 @@ fn is_recorded(alloc: Global, read: Result<Packet, Error>, raw: &[u8], printed: 
 // Whether the next chunk is read, where there is one, and written, where it fits.
 fn is_put(alloc: Global, chunks: &mut PacketReader, writer: &mut PacketWriter) -> bool {
     match chunks.next(alloc) {
-        Ok(Some(chunk)) => writer.put(&chunk).is_ok(),
+        Ok(Some(chunk)) => {
+            let is_written = writer.put(&chunk).is_ok();
+            drop(chunk);
+            is_written
+        }
         Ok(None) => true,
         Err(_) => false,
     }
@@ -121,6 +135,7 @@ fn is_rewritten(alloc: Global, raw: &Bytes, writer: &mut PacketWriter, due: (usi
         Ok((header, mut chunks)) => {
             writer.begin(header);
             let well = are_put(alloc, &mut chunks, writer, raw.len());
+            drop(chunks);
             writer.seal(&Crc32c);
             let written = writer.bytes();
             well && written.len() == due.0 && (written == raw.as_slice()) == due.1
@@ -132,7 +147,13 @@ fn is_rewritten(alloc: Global, raw: &Bytes, writer: &mut PacketWriter, due: (usi
 // Whether that is so of a writer of so many bytes.
 fn rewrites(alloc: Global, raw: &'static [u8], limit: usize, due: (usize, bool)) -> bool {
     match PacketWriter::new(alloc, limit) {
-        Ok(mut writer) => is_rewritten(alloc, &Bytes::from_static(raw), &mut writer, due),
+        Ok(mut writer) => {
+            let raw = Bytes::from_static(raw);
+            let well = is_rewritten(alloc, &raw, &mut writer, due);
+            drop(raw);
+            drop(writer);
+            well
+        }
         Err(_) => false,
     }
 }
@@ -191,7 +212,11 @@ fn are_fronts_refused(alloc: Global, raw: &[u8]) -> bool {
 fn is_begun(alloc: Global) -> bool {
     let front = &VECTORS[0].0[..98];
     match partial(alloc, front, &field_of(front)) {
-        Ok(decode) => decode.first_chunk_type == CT_INIT,
+        Ok(decode) => {
+            let typ = decode.first_chunk_type;
+            drop(decode);
+            typ == CT_INIT
+        }
         Err(_) => false,
     }
 }
@@ -233,12 +258,27 @@ fn tells(decode: &PartialDecode, row: (&[u8], ChunkType, Option<u32>, Option<&[u
         && decode.cookie.as_ref().map(|c| c.as_slice()) == cookie
 }
 
+fn tells_of(
+    read: Result<PartialDecode, Error>,
+    row: (&[u8], ChunkType, Option<u32>, Option<&[u8]>),
+) -> bool {
+    match read {
+        Ok(decode) => {
+            let well = tells(&decode, row);
+            drop(decode);
+            well
+        }
+        Err(_) => false,
+    }
+}
+
 fn is_told(alloc: Global, row: (&[u8], ChunkType, Option<u32>, Option<&[u8]>)) -> bool {
-    let Ok(raw) = packet_bytes(alloc, row.0) else {
-        return false;
-    };
-    match PartialDecode::unmarshal(alloc, &raw, &ZERO) {
-        Ok(decode) => tells(&decode, row),
+    match packet_bytes(alloc, row.0) {
+        Ok(raw) => {
+            let well = tells_of(PartialDecode::unmarshal(alloc, &raw, &ZERO), row);
+            drop(raw);
+            well
+        }
         Err(_) => false,
     }
 }
@@ -257,7 +297,9 @@ const REFUSED: [(&[u8], Error); 5] = [
 // How these chunks are refused, by PartialDecode or its finish.
 fn refusal_in_two(alloc: Global, chunks: &[u8]) -> Result<Option<Error>, Error> {
     let raw = packet_bytes(alloc, chunks)?;
-    match PartialDecode::unmarshal(alloc, &raw, &ZERO) {
+    let read = PartialDecode::unmarshal(alloc, &raw, &ZERO);
+    drop(raw);
+    match read {
         Ok(decode) => Ok(decode.finish(alloc).err()),
         Err(e) => Ok(Some(e)),
     }
@@ -332,7 +374,9 @@ fn refused_by_rules(
 ) -> Result<Option<Error>, Error> {
     let mut packet = read_chunks(alloc, chunks)?;
     packet.common_header = header;
-    Ok(packet.check_packet().err())
+    let refused = packet.check_packet().err();
+    drop(packet);
+    Ok(refused)
 }
 
 fn rules_for_all_packets(alloc: Global, log: &mut Vec<u8>) {
@@ -357,7 +401,11 @@ fn printed(alloc: Global, chunks: &[u8]) -> Result<String, Error> {
 
 fn printed_packet(alloc: Global) -> bool {
     match printed(alloc, b"\x0b\0\0\x04\x08\0\0\x04") {
-        Ok(text) => text.as_str() == PRINTED,
+        Ok(text) => {
+            let same = text.as_str() == PRINTED;
+            drop(text);
+            same
+        }
         Err(_) => false,
     }
 }

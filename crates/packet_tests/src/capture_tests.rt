@@ -151,24 +151,52 @@ const DATAGRAMS: [(&str, Want); 38] = [
 /// Whether the packet is written as these bytes.
 fn is_written_as(alloc: Global, packet: &Packet, bytes: &Bytes) -> bool {
     match packet.marshal(alloc, &Crc32c) {
-        Ok(written) => written.as_slice() == bytes.as_slice(),
+        Ok(written) => {
+            let same = written.as_slice() == bytes.as_slice();
+            drop(written);
+            same
+        }
         Err(_) => false,
+    }
+}
+
+/// Whether that becomes of a packet, read from these bytes, which is wanted.
+fn is_kept(alloc: Global, packet: &Packet, bytes: &Bytes, want: Want) -> bool {
+    match want {
+        Same => is_written_as(alloc, packet, bytes),
+        Otherwise(_) => !is_written_as(alloc, packet, bytes),
+        Refused(_) => false,
+    }
+}
+
+/// Whether that becomes of these bytes which is wanted.
+fn comes_out(alloc: Global, bytes: &Bytes, want: Want) -> bool {
+    match Packet::unmarshal(alloc, bytes, &Crc32c) {
+        Ok(packet) => {
+            let well = is_kept(alloc, &packet, bytes, want);
+            drop(packet);
+            well
+        }
+        Err(e) => matches!(want, Refused(wanted) if e == wanted),
+    }
+}
+
+fn bytes_of(alloc: Global, text: &str) -> Option<Bytes> {
+    match hex::decode(alloc, text) {
+        Ok(bytes) => Bytes::from_vec(bytes).ok(),
+        Err(_) => None,
     }
 }
 
 /// Whether that becomes of the datagram which is wanted.
 fn is_as_wanted(alloc: Global, text: &str, want: Want) -> bool {
-    let Ok(bytes) = hex::decode(alloc, text) else {
-        return false;
-    };
-    let Ok(bytes) = Bytes::from_vec(bytes) else {
-        return false;
-    };
-    match (Packet::unmarshal(alloc, &bytes, &Crc32c), want) {
-        (Ok(packet), Same) => is_written_as(alloc, &packet, &bytes),
-        (Ok(packet), Otherwise(_)) => !is_written_as(alloc, &packet, &bytes),
-        (Err(e), Refused(wanted)) => e == wanted,
-        _ => false,
+    match bytes_of(alloc, text) {
+        Some(bytes) => {
+            let well = comes_out(alloc, &bytes, want);
+            drop(bytes);
+            well
+        }
+        None => false,
     }
 }
 

@@ -32,7 +32,11 @@ fn joined(alloc: Global, packet: &Packet) -> Result<String, Error> {
 /// Whether the packet's chunks print so.
 pub fn is_printed(alloc: Global, packet: &Packet, expected: &str) -> bool {
     match joined(alloc, packet) {
-        Ok(text) => text.as_str() == expected,
+        Ok(text) => {
+            let same = text.as_str() == expected;
+            drop(text);
+            same
+        }
         Err(_) => false,
     }
 }
@@ -40,7 +44,11 @@ pub fn is_printed(alloc: Global, packet: &Packet, expected: &str) -> bool {
 // Whether the packet's chunks are written so, behind the common header.
 fn is_written_as(alloc: Global, packet: &Packet, want: &[u8]) -> bool {
     match packet.marshal(alloc, &ZERO) {
-        Ok(written) => written.as_slice().get(12..) == Some(want),
+        Ok(written) => {
+            let same = written.as_slice().get(12..) == Some(want);
+            drop(written);
+            same
+        }
         Err(_) => false,
     }
 }
@@ -49,7 +57,10 @@ fn is_written_as(alloc: Global, packet: &Packet, want: &[u8]) -> bool {
 fn is_read_so(alloc: Global, chunks: &[u8], printed: &str, written: &[u8]) -> bool {
     match read_chunks(alloc, chunks) {
         Ok(packet) => {
-            is_printed(alloc, &packet, printed) && is_written_as(alloc, &packet, written)
+            let well = is_printed(alloc, &packet, printed)
+                && is_written_as(alloc, &packet, written);
+            drop(packet);
+            well
         }
         Err(_) => false,
     }
@@ -229,8 +240,12 @@ fn numbers_of_kinds(alloc: Global, log: &mut Vec<u8>) {
 // Whether the packet of this chunk is written; nothing where it is neither written nor refused for its length.
 fn is_written(alloc: Global, chunk: ChunkKind) -> Result<Option<bool>, Error> {
     let packet = packet_of(alloc, chunk)?;
-    let (answer, buf) = written_behind(alloc, &packet)?;
-    Ok(outcome(answer, buf.as_slice()))
+    let written = written_behind(alloc, &packet);
+    drop(packet);
+    let (answer, buf) = written?;
+    let outcome = outcome(answer, buf.as_slice());
+    drop(buf);
+    Ok(outcome)
 }
 
 fn outcome(answer: Result<usize, Error>, buf: &[u8]) -> Option<bool> {
@@ -338,10 +353,12 @@ fn length_of(alloc: Global, length: usize) -> Result<Result<usize, Error>, Error
 fn is_cause(alloc: Global, raw: &Bytes) -> bool {
     match ErrorCause::unmarshal(raw) {
         Ok(small) => {
-            small.length() == 5
+            let well = small.length() == 5
                 && small.error_cause_code() == USER_INITIATED_ABORT
                 && small.raw.as_slice() == [7].as_slice()
-                && is_encoding(small.marshal(alloc), raw.as_slice())
+                && is_encoding(small.marshal(alloc), raw.as_slice());
+            drop(small);
+            well
         }
         Err(_) => false,
     }
@@ -370,7 +387,11 @@ fn parts_print(alloc: Global) -> bool {
         sequence: 2,
     };
     match format!(in alloc; "{header}: {pair}: {}", Error::ErrShortBuffer) {
-        Ok(text) => text.as_str() == "SACK: 1, 2: ErrShortBuffer",
+        Ok(text) => {
+            let same = text.as_str() == "SACK: 1, 2: ErrShortBuffer";
+            drop(text);
+            same
+        }
         Err(_) => false,
     }
 }
@@ -384,11 +405,20 @@ fn parts_alone(alloc: Global) -> bool {
         && parts_print(alloc)
 }
 
+fn refusal_of_ack(alloc: Global, ack: &ChunkHeartbeatAck) -> Result<Option<Error>, Error> {
+    let mut buf = BytesMut::copy_from_slice(alloc, b"abc")?;
+    let refused = ack.marshal_to(&mut buf).err();
+    let is_kept = buf.as_slice() == b"abc".as_slice();
+    drop(buf);
+    Ok(if is_kept { refused } else { None })
+}
+
 // How a HEARTBEAT-ACK of these is refused; nothing also where the buffer was not left as it was.
 fn heartbeat_ack(alloc: Global, params: Vec<ParamKind>) -> Result<Option<Error>, Error> {
-    let mut buf = BytesMut::copy_from_slice(alloc, b"abc")?;
-    let refused = ChunkHeartbeatAck { params }.marshal_to(&mut buf).err();
-    Ok(refused.filter(|_| buf.as_slice() == b"abc".as_slice()))
+    let ack = ChunkHeartbeatAck { params };
+    let refused = refusal_of_ack(alloc, &ack);
+    drop(ack);
+    refused
 }
 
 fn info(alloc: Global, length: usize) -> Result<ParamKind, Error> {
@@ -449,7 +479,9 @@ fn init(alloc: Global) -> ChunkInit {
 fn prints_extensions(alloc: Global, chunk: &ChunkInit) -> Result<bool, Error> {
     let printed = format!(in alloc; "{chunk}")?;
     let end = "initial_tsn: 0Param 0:\n Supported Extensions RECONFIG FORWARD-TSN";
-    Ok(printed.as_str().ends_with(end))
+    let well = printed.as_str().ends_with(end);
+    drop(printed);
+    Ok(well)
 }
 
 fn has_extensions(alloc: Global, chunk: &mut ChunkInit) -> bool {
@@ -479,7 +511,9 @@ const INIT_REFUSED: [Option<Error>; 4] = [
 
 fn inits_checked(alloc: Global) -> bool {
     let mut chunk = init(alloc);
-    has_extensions(alloc, &mut chunk) && refusals_of_init(&mut chunk) == INIT_REFUSED
+    let well = has_extensions(alloc, &mut chunk) && refusals_of_init(&mut chunk) == INIT_REFUSED;
+    drop(chunk);
+    well
 }
 
 // How the chunk is checked, and how it is refused to be written.
@@ -497,7 +531,10 @@ fn of_two_infos(alloc: Global) -> Result<ChunkReconfig, Error> {
 }
 
 fn clone_written(alloc: Global, chunk: &ChunkReconfig) -> Result<Bytes, Error> {
-    chunk.try_clone(alloc)?.marshal(alloc)
+    let copy = chunk.try_clone(alloc)?;
+    let written = copy.marshal(alloc);
+    drop(copy);
+    written
 }
 
 // The first parameter is padded where a second one follows.
@@ -514,12 +551,18 @@ fn empty_is_refused(alloc: Global) -> bool {
         param_b: None,
     };
     let expected = Some(Error::ErrChunkReconfigInvalidParamA);
-    refusals_of(alloc, &chunk) == (expected, expected)
+    let refused = refusals_of(alloc, &chunk);
+    drop(chunk);
+    refused == (expected, expected)
 }
 
 fn reconfigs(alloc: Global) -> bool {
     match of_two_infos(alloc) {
-        Ok(chunk) => is_padded(alloc, &chunk) && empty_is_refused(alloc),
+        Ok(chunk) => {
+            let well = is_padded(alloc, &chunk);
+            drop(chunk);
+            well && empty_is_refused(alloc)
+        }
         Err(_) => false,
     }
 }

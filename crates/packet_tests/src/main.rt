@@ -30,7 +30,7 @@ fn main(rt: HostRuntime) -> ExitCode {
     kind_tests::all(alloc, &mut log);
     bundle_tests::all(alloc, &mut log);
     capture_tests::recorded_datagrams_are_written_back(alloc, &mut log);
-    sum_tests::all(&mut log);
+    sum_tests::known_sums(&mut log);
     cookie_tests::all(alloc, &mut log);
     dcep_tests::all(alloc, &mut log);
     let holds = log.is_empty();

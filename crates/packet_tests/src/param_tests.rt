@@ -58,7 +58,10 @@ fn bytes(alloc: Global, raw: &[u8]) -> Result<Bytes, Error> {
 }
 
 fn read(alloc: Global, raw: &[u8]) -> Result<ParamKind, Error> {
-    build_param(alloc, &bytes(alloc, raw)?)
+    let raw = bytes(alloc, raw)?;
+    let param = build_param(alloc, &raw);
+    drop(raw);
+    param
 }
 
 fn filled(alloc: Global, length: usize) -> Result<Bytes, Error> {
@@ -78,7 +81,11 @@ fn repeated<T: Copy>(alloc: Global, item: T, count: usize) -> Result<Vec<T>, Err
 // Whether the item prints so.
 fn prints<T: Display>(alloc: Global, item: &T, want: &str) -> bool {
     match format!(in alloc; "{item}") {
-        Ok(text) => text.as_str() == want,
+        Ok(text) => {
+            let same = text.as_str() == want;
+            drop(text);
+            same
+        }
         Err(_) => false,
     }
 }
@@ -102,7 +109,11 @@ fn has_its_header<P: Param>(param: &P) -> bool {
 
 fn is_cloned<P: Param + PartialEq + Drop>(alloc: Global, param: &P) -> bool {
     match param.try_clone(alloc) {
-        Ok(copy) => copy == *param,
+        Ok(copy) => {
+            let same = copy == *param;
+            drop(copy);
+            same
+        }
         Err(_) => false,
     }
 }
@@ -111,9 +122,11 @@ fn is_cloned<P: Param + PartialEq + Drop>(alloc: Global, param: &P) -> bool {
 fn is_read<P: Param + PartialEq + Drop>(alloc: Global, longer: &Bytes, raw: &[u8]) -> bool {
     match P::unmarshal(alloc, longer) {
         Ok(param) => {
-            is_encoding(param.marshal(alloc), raw)
+            let well = is_encoding(param.marshal(alloc), raw)
                 && has_its_header(&param)
-                && is_cloned(alloc, &param)
+                && is_cloned(alloc, &param);
+            drop(param);
+            well
         }
         Err(_) => false,
     }
@@ -122,7 +135,11 @@ fn is_read<P: Param + PartialEq + Drop>(alloc: Global, longer: &Bytes, raw: &[u8
 // Whether these bytes are refused as too short for a parameter of this kind.
 fn is_too_short<P: Param + Drop>(alloc: Global, raw: &[u8]) -> bool {
     match bytes(alloc, raw) {
-        Ok(front) => P::unmarshal(alloc, &front).err() == Some(Error::ErrParamHeaderTooShort),
+        Ok(front) => {
+            let refused = P::unmarshal(alloc, &front).err();
+            drop(front);
+            refused == Some(Error::ErrParamHeaderTooShort)
+        }
         Err(_) => false,
     }
 }
@@ -139,7 +156,11 @@ fn refuses_fronts<P: Param + Drop>(alloc: Global, raw: &[u8]) -> bool {
 // Whether a parameter of this kind is read from these bytes with bytes behind it, written the same, and read from no front of them.
 fn is_kept<P: Param + PartialEq + Drop>(alloc: Global, raw: &[u8]) -> bool {
     match longer(alloc, raw) {
-        Ok(longer) => is_read::<P>(alloc, &longer, raw) && refuses_fronts::<P>(alloc, raw),
+        Ok(longer) => {
+            let well = is_read::<P>(alloc, &longer, raw);
+            drop(longer);
+            well && refuses_fronts::<P>(alloc, raw)
+        }
         Err(_) => false,
     }
 }
@@ -175,7 +196,10 @@ const KINDS: [&[u8]; 11] = [
 
 // How these bytes are refused.
 fn refusal(alloc: Global, raw: &[u8]) -> Result<Option<Error>, Error> {
-    Ok(build_param(alloc, &bytes(alloc, raw)?).err())
+    let raw = bytes(alloc, raw)?;
+    let refused = build_param(alloc, &raw).err();
+    drop(raw);
+    Ok(refused)
 }
 
 // Each row: a parameter, how it prints, its fields, and how it is written where that differs.
@@ -278,7 +302,11 @@ const READ: [(&[u8], &str, &str, Option<&[u8]>); 15] = [
 // Whether the parameter has these fields.
 fn has_fields(alloc: Global, param: &ParamKind, want: &str) -> bool {
     match format!(in alloc; "{param:?}") {
-        Ok(text) => text.as_str() == want,
+        Ok(text) => {
+            let same = text.as_str() == want;
+            drop(text);
+            same
+        }
         Err(_) => false,
     }
 }
@@ -287,9 +315,11 @@ fn has_fields(alloc: Global, param: &ParamKind, want: &str) -> bool {
 fn is_read_so(alloc: Global, raw: &[u8], printed: &str, fields: &str, written: &[u8]) -> bool {
     match read(alloc, raw) {
         Ok(param) => {
-            prints(alloc, &param, printed)
+            let well = prints(alloc, &param, printed)
                 && has_fields(alloc, &param, fields)
-                && is_encoding(param.marshal(alloc), written)
+                && is_encoding(param.marshal(alloc), written);
+            drop(param);
+            well
         }
         Err(_) => false,
     }
@@ -308,7 +338,11 @@ fn kinds(alloc: Global, log: &mut Vec<u8>) {
 
 fn is_cookie(cookie: Result<ParamStateCookie, Error>, want: &[u8]) -> bool {
     match cookie {
-        Ok(param) => param.cookie.as_slice() == want,
+        Ok(param) => {
+            let same = param.cookie.as_slice() == want;
+            drop(param);
+            same
+        }
         Err(_) => false,
     }
 }
@@ -351,7 +385,10 @@ const REFUSED: [(&[u8], Error); 8] = [
 
 // How these bytes are refused as a chunk list.
 fn refusal_of_list(alloc: Global, raw: &[u8]) -> Result<Option<Error>, Error> {
-    Ok(ParamChunkList::unmarshal(alloc, &bytes(alloc, raw)?).err())
+    let raw = bytes(alloc, raw)?;
+    let refused = ParamChunkList::unmarshal(alloc, &raw).err();
+    drop(raw);
+    Ok(refused)
 }
 
 fn refusals(alloc: Global, log: &mut Vec<u8>) {
@@ -373,7 +410,10 @@ const KEPT: [u16; 10] = [
 
 // The type of the parameter that the bytes begin with.
 fn type_of(alloc: Global, raw: &[u8]) -> Result<ParamType, Error> {
-    Ok(read(alloc, raw)?.param_type())
+    let param = read(alloc, raw)?;
+    let typ = param.param_type();
+    drop(param);
+    Ok(typ)
 }
 
 // The type is looked at before the length.
@@ -476,9 +516,11 @@ fn is_written(alloc: Global, param: &ParamKind, length: u16) -> bool {
     let [high, low] = u16::to_be_bytes(length);
     match written_behind(alloc, param) {
         Ok((answer, buf)) => {
-            answer == Ok(3 + length as usize)
+            let well = answer == Ok(3 + length as usize)
                 && buf.as_slice().get(5..7) == Some([high, low].as_slice())
-                && buf.as_slice().starts_with(b"abc")
+                && buf.as_slice().starts_with(b"abc");
+            drop(buf);
+            well
         }
         Err(_) => false,
     }
@@ -488,20 +530,33 @@ fn is_written(alloc: Global, param: &ParamKind, length: u16) -> bool {
 fn is_too_long(alloc: Global, param: &ParamKind) -> bool {
     match written_behind(alloc, param) {
         Ok((answer, buf)) => {
-            answer == Err(Error::ErrLengthTooLarge)
+            let well = answer == Err(Error::ErrLengthTooLarge)
                 && buf.as_slice() == b"abc".as_slice()
-                && param.header().err() == Some(Error::ErrLengthTooLarge)
+                && param.header().err() == Some(Error::ErrLengthTooLarge);
+            drop(buf);
+            well
         }
         Err(_) => false,
     }
 }
 
+// Whether the parameter is written with this length, or is refused as too long where none is due.
+fn goes(alloc: Global, param: &ParamKind, length: Option<u16>) -> bool {
+    match length {
+        Some(length) => is_written(alloc, param, length),
+        None => is_too_long(alloc, param),
+    }
+}
+
 // Whether so many elements are written with this length, or are refused as too many.
 fn is_bounded(alloc: Global, typ: ParamType, count: usize, length: Option<u16>) -> bool {
-    match (param_of(alloc, typ, count), length) {
-        (Ok(param), Some(length)) => is_written(alloc, &param, length),
-        (Ok(param), None) => is_too_long(alloc, &param),
-        _ => false,
+    match param_of(alloc, typ, count) {
+        Ok(param) => {
+            let well = goes(alloc, &param, length);
+            drop(param);
+            well
+        }
+        Err(_) => false,
     }
 }
 
@@ -530,9 +585,11 @@ fn one_header_fits(alloc: Global) -> bool {
     };
     match BytesMut::copy_from_slice(alloc, b"a") {
         Ok(mut buf) => {
-            ADAPTATION.marshal_to(&mut buf) == Ok(5)
+            let well = ADAPTATION.marshal_to(&mut buf) == Ok(5)
                 && long.marshal_to(&mut buf) == Err(Error::ErrLengthTooLarge)
-                && buf.as_slice() == b"a\xc0\x06\x00\x06".as_slice()
+                && buf.as_slice() == b"a\xc0\x06\x00\x06".as_slice();
+            drop(buf);
+            well
         }
         Err(_) => false,
     }

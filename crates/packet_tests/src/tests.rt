@@ -55,18 +55,28 @@ pub fn packet_bytes(alloc: Global, chunks: &[u8]) -> Result<Bytes, Error> {
 
 /// Reads a packet of these chunks.
 pub fn read_chunks(alloc: Global, chunks: &[u8]) -> Result<Packet, Error> {
-    Packet::unmarshal(alloc, &packet_bytes(alloc, chunks)?, &ZERO)
+    let raw = packet_bytes(alloc, chunks)?;
+    let read = Packet::unmarshal(alloc, &raw, &ZERO);
+    drop(raw);
+    read
 }
 
 /// How a packet of these chunks is refused.
 pub fn refusal(alloc: Global, chunks: &[u8]) -> Result<Option<Error>, Error> {
-    Ok(Packet::unmarshal(alloc, &packet_bytes(alloc, chunks)?, &ZERO).err())
+    let raw = packet_bytes(alloc, chunks)?;
+    let refused = Packet::unmarshal(alloc, &raw, &ZERO).err();
+    drop(raw);
+    Ok(refused)
 }
 
 /// Whether these bytes are written.
 pub fn is_encoding(written: Result<Bytes, Error>, want: &[u8]) -> bool {
     match written {
-        Ok(written) => written.as_slice() == want,
+        Ok(written) => {
+            let same = written.as_slice() == want;
+            drop(written);
+            same
+        }
         Err(_) => false,
     }
 }
@@ -146,7 +156,9 @@ const BARE: [u8; 12] = [0x13, 0x88, 0x13, 0x88, 0, 0, 0, 0, 0x06, 0xa9, 0, 0xe1]
 fn refusals(alloc: Global, raw: &[u8]) -> Result<(Option<Error>, Option<Error>), Error> {
     let raw = Bytes::copy_from_slice(alloc, raw)?;
     let whole = Packet::unmarshal(alloc, &raw, &ZERO).err();
-    Ok((whole, PartialDecode::unmarshal(alloc, &raw, &Crc32c).err()))
+    let parted = PartialDecode::unmarshal(alloc, &raw, &Crc32c).err();
+    drop(raw);
+    Ok((whole, parted))
 }
 
 // Whether the bytes of `BARE` are read under CRC-32C as this header without chunks, and written so.
@@ -158,9 +170,11 @@ fn is_bare(alloc: Global, raw: &Bytes) -> bool {
     };
     match Packet::unmarshal(alloc, raw, &Crc32c) {
         Ok(packet) => {
-            packet.common_header == expected
+            let well = packet.common_header == expected
                 && packet.chunks.is_empty()
-                && is_encoding(packet.marshal(alloc, &Crc32c), &BARE)
+                && is_encoding(packet.marshal(alloc, &Crc32c), &BARE);
+            drop(packet);
+            well
         }
         Err(_) => false,
     }
@@ -202,7 +216,11 @@ fn is_whole(c: &ChunkPayloadData) -> bool {
 
 fn whole_is_read(alloc: Global) -> bool {
     match read_chunks(alloc, &WHOLE) {
-        Ok(packet) => only_data(&packet).is_some_and(|c| is_whole(c)),
+        Ok(packet) => {
+            let well = only_data(&packet).is_some_and(|c| is_whole(c));
+            drop(packet);
+            well
+        }
         Err(_) => false,
     }
 }
@@ -218,7 +236,9 @@ fn fragment(flags: u8) -> [u8; 20] {
 // TSN, and whether the fragment is the first and the last one.
 fn ends(alloc: Global, chunk: &[u8]) -> Result<Option<(u32, bool, bool)>, Error> {
     let packet = read_chunks(alloc, chunk)?;
-    Ok(only_data(&packet).map(|c| (c.tsn, c.beginning_fragment, c.ending_fragment)))
+    let ends = only_data(&packet).map(|c| (c.tsn, c.beginning_fragment, c.ending_fragment));
+    drop(packet);
+    Ok(ends)
 }
 
 fn messages_and_fragments(alloc: Global) -> bool {
@@ -251,14 +271,22 @@ fn with_another(alloc: Global, written: &[u8]) -> Result<Bytes, Error> {
 
 fn both_are_read(alloc: Global, written: &[u8]) -> bool {
     match with_another(alloc, written) {
-        Ok(bytes) => has_both(Packet::unmarshal(alloc, &bytes, &ZERO)),
+        Ok(bytes) => {
+            let read = Packet::unmarshal(alloc, &bytes, &ZERO);
+            drop(bytes);
+            has_both(read)
+        }
         Err(_) => false,
     }
 }
 
 fn has_both(packet: Result<Packet, Error>) -> bool {
     match packet {
-        Ok(packet) => lengths(&packet) == Some((65_519, true)),
+        Ok(packet) => {
+            let found = lengths(&packet);
+            drop(packet);
+            found == Some((65_519, true))
+        }
         Err(_) => false,
     }
 }
@@ -266,8 +294,10 @@ fn has_both(packet: Result<Packet, Error>) -> bool {
 fn longest_is_kept(alloc: Global, packet: &Packet) -> bool {
     match written_behind(alloc, packet) {
         Ok((answer, buf)) => {
-            is_longest(&answer, &buf)
-                && both_are_read(alloc, buf.as_slice().get(3..).unwrap_or(&[]))
+            let well = is_longest(&answer, &buf)
+                && both_are_read(alloc, buf.as_slice().get(3..).unwrap_or(&[]));
+            drop(buf);
+            well
         }
         Err(_) => false,
     }
@@ -276,7 +306,11 @@ fn longest_is_kept(alloc: Global, packet: &Packet) -> bool {
 // It is read also where another chunk follows it.
 fn longest_chunk(alloc: Global) -> bool {
     match long(alloc, 65_519) {
-        Ok(packet) => longest_is_kept(alloc, &packet),
+        Ok(packet) => {
+            let well = longest_is_kept(alloc, &packet);
+            drop(packet);
+            well
+        }
         Err(_) => false,
     }
 }
@@ -294,16 +328,24 @@ fn counted_bytes(alloc: Global, counted: Counted) -> Result<Bytes, Error> {
     long(alloc, 1)?.marshal(alloc, &counted)
 }
 
+fn is_packet(read: Result<Packet, Error>) -> bool {
+    let well = read.is_ok();
+    drop(read);
+    well
+}
+
 // Whether writing a packet asks the checksum once, and reading it once more.
 fn is_asked_twice(alloc: Global, calls: &Cell<u32>) -> bool {
     let counted = Counted { calls };
     let front = b"\x13\x88\x13\x88\0\0\0\x01\x04\x03\x02\x01";
     match counted_bytes(alloc, counted) {
         Ok(raw) => {
-            calls.get() == 1
+            let well = calls.get() == 1
                 && raw.as_slice().starts_with(front)
-                && Packet::unmarshal(alloc, &raw, &counted).is_ok()
-                && calls.get() == 2
+                && is_packet(Packet::unmarshal(alloc, &raw, &counted))
+                && calls.get() == 2;
+            drop(raw);
+            well
         }
         Err(_) => false,
     }
@@ -317,7 +359,11 @@ const WHOLE_HEADER: ChunkHeader = ChunkHeader {
 
 fn clone_is_whole(chunk: &ChunkPayloadData) -> bool {
     match chunk.try_clone() {
-        Ok(copy) => is_whole(&copy),
+        Ok(copy) => {
+            let well = is_whole(&copy);
+            drop(copy);
+            well
+        }
         Err(_) => false,
     }
 }
@@ -325,9 +371,11 @@ fn clone_is_whole(chunk: &ChunkPayloadData) -> bool {
 fn is_read_alone(alloc: Global, raw: &Bytes) -> bool {
     match ChunkPayloadData::unmarshal(alloc, raw) {
         Ok(chunk) => {
-            chunk.header() == Ok(WHOLE_HEADER)
+            let well = chunk.header() == Ok(WHOLE_HEADER)
                 && is_encoding(chunk.marshal(alloc), &WHOLE[..19])
-                && clone_is_whole(&chunk)
+                && clone_is_whole(&chunk);
+            drop(chunk);
+            well
         }
         Err(_) => false,
     }
@@ -335,7 +383,12 @@ fn is_read_alone(alloc: Global, raw: &Bytes) -> bool {
 
 fn chunk_alone(alloc: Global) -> bool {
     match Bytes::copy_from_slice(alloc, &WHOLE) {
-        Ok(raw) => ChunkHeader::unmarshal(&raw) == Ok(WHOLE_HEADER) && is_read_alone(alloc, &raw),
+        Ok(raw) => {
+            let well = ChunkHeader::unmarshal(&raw) == Ok(WHOLE_HEADER)
+                && is_read_alone(alloc, &raw);
+            drop(raw);
+            well
+        }
         Err(_) => false,
     }
 }
