@@ -3,15 +3,17 @@ use Rattle.sctp_delivery.proofs.Names.{◌≡◌, ℕ, zero, suc, ◌+◌, ◌<�
 use Rattle.sctp_delivery.proofs.Names.{◌∙◌, arith, All, Contains, slice_index_or, filter, list_all, list_any, AllPass-from_list_all, and, both, negated}
 use Rattle.sctp_delivery.proofs.Names.{◌≤◌, None, Released, SenderCall, SenderFollows, distance, completes, fails, following_tsn, same-is, ◌==◌}
 use Rattle.sctp_delivery.proofs.Names.{not_both, list_any-append, ChunkPayloadData, Message, has_tsn, is_complete, is_one_message, is_on}
-use Rattle.sctp_delivery.proofs.Names.{data_of, data_chunk, StandAt, fragments_of_all, are_apart, AreMade, AreMessages, Session, Write, Limits, Transmission}
-use Rattle.sctp_delivery.proofs.Names.{Sack, NoneIsReadTwice, IsAccounted, bytes_written, held_by_sender, total_bytes, with_inflight, sum_by, ◌||◌, ap₂}
+use Rattle.sctp_delivery.proofs.Names.{data_of, data_chunk, StandAt, fragments_of_all, are_apart, AreMade, AreMessages, Session, Write, Limits, Transmission, Modes, Stand, at_first, modes_from, AllPairs}
+use Rattle.std.proofs.Common.{◌≢◌}
+use Rattle.sctp_delivery.proofs.Names.{Sack, IsAccounted, bytes_written, held_by_sender, total_bytes, with_inflight, sum_by, ◌||◌, ap₂}
 use Rattle.sctp_sender.specs.declared.sender.Reported.{Reported}
 use Rattle.sctp_sender.specs.declared.sender.flight.kept.TakenBack.{TakenBack}
 use Rattle.sctp_sender.specs.Keeping.{bytes_back}
 use Rattle.sctp_sender.specs.Sender.{take_back_refusal}
 use Rattle.sctp_sender.specs.Totals.{bytes_in}
 use Rattle.sctp_delivery.specs.EveryCall.{AfterEachAny, AnyCall, AreSingle, AreSingleWhereSteady, AreSingleWritesOfTheirOwn, AreWritesWhereSingle, RunsAny}
-use Rattle.sctp_delivery.specs.EveryCall.{SenderDoes, takes_back, AreToldApart, is_single, is_steady, single_messages, tsns_given_any, was_dropped}
+use Rattle.sctp_delivery.specs.EveryCall.{makes, of_receiving, of_sending, renews, SenderDoes, takes_back, AreToldApart, is_single, is_steady, single_messages, tsns_given_any, was_dropped}
+use Rattle.sctp_delivery.specs.EveryOrder.{AreSingleReadAsWritten, AreSingleReadInOrder, breaks, goes_on, is_unbroken, opens_incoming, plain_calls}
 use Rattle.sctp_delivery.specs.Messages.{AreParts, AreSame}
 use Rattle.sctp_delivery.specs.Returns.{NoneIsRefusedSo, after_return, at_start_with}
 use Rattle.sctp_delivery.specs.SenderCalls.{TakesBackAndSack, takes_sack}
@@ -19,18 +21,26 @@ use Rattle.sctp_delivery.proofs.Begun.{AreOnce}
 use Rattle.sctp_delivery.proofs.Calls.{contains-forgotten, forget, forgotten}
 use Rattle.sctp_delivery.proofs.Cases.{at-if}
 use Rattle.sctp_delivery.proofs.Delivered.{HoldsOn, next_tsn, sender-step-on, AreInner, EachSent, IsReadOf, inner-of, each-sent-on, found-sent-on, single-is, single-on}
+use Rattle.sctp_delivery.specs.Modes.{was_written_ordered}
+use Rattle.sctp_delivery.specs.Order.{is_ordered_on, places_where}
 use Rattle.sctp_delivery.proofs.EveryRuns as runs
 use Rattle.sctp_delivery.proofs.EveryShadows.{every, HasBeside, IsPlayed, has-beside, played-accounted}
 use Rattle.sctp_delivery.proofs.Every.{Every, every-of-all}
 use Rattle.sctp_delivery.proofs.OnceWritten.{EachRead, apart, places, stand}
+use Rattle.sctp_delivery.proofs.ModeSessions.{starts-ordered}
 use Rattle.sctp_delivery.proofs.OrderedEntries.{AreIndexedOn}
+use Rattle.sctp_delivery.proofs.OrderedMessages.{is_in_order}
 use Rattle.sctp_delivery.proofs.PlainHolds.{held-like}
 use Rattle.sctp_delivery.proofs.PlainReturns.{back-fits, back-more}
 use Rattle.sctp_delivery.proofs.PlainSessions.{small-next}
 use Rattle.sctp_delivery.proofs.OneRead.{no-way}
 use Rattle.sctp_delivery.proofs.Stands.{one-given}
 use Rattle.sctp_delivery.proofs.Senders.{AreSentOn, IsHeldOn}
-use Rattle.sctp_delivery.proofs.Sent.{Entry, IsLine, Numbered, fragment, part-line, same-tsn}
+use Rattle.sctp_delivery.proofs.Sent.{Entry, IsLine, Numbered, WasSent, fragment, part-line, same-tsn}
+use Rattle.sctp_delivery.proofs.SpreadEntries.{begun_to, is_at, to-up}
+use Rattle.sctp_delivery.proofs.TsnPlaces.{base}
+use Rattle.sctp_delivery.proofs.UnwrappedHolds.{AreInTurn, Fits, Where as Turns, turn-more}
+use Rattle.sctp_delivery.proofs.UnwrappedLaw.{in-order-of, starts}
 use Rattle.sctp_delivery.proofs.Sessions as sessions
 use Rattle.sctp_delivery.proofs.Sessions.{neither}
 
@@ -133,14 +143,8 @@ module _ (on : ℕ → Bool) (first : ℕ) (s : Session) (ns : List Numbered) (s
       (λ e. (all zero m (omega arith) e, singles ms (λ k d lt. all (suc k) d (omega (arith, lt)))))
       (λ e. singles ms (λ k d lt. all (suc k) d (omega (arith, lt))))
 
-  pub own-single : NoneIsReadTwice s → AreSingleWritesOfTheirOwn s
-  own-single apart' =
-      let ms = single_messages s.receiving.read in
-      let e = singles s.receiving.read (λ k m lt. read-single k m lt) in (
-        places ns sent once ms e,
-        subst (λ ws. StandAt ws ms (places ns sent once ms e)) writes (stand ns sent once ms e),
-        apart ns sent once ms e (some-apart (λ m. is_single m.fragments) s.receiving.read apart'),
-      )
+  pub each-single : EachRead ns sent once (single_messages s.receiving.read)
+  each-single = singles s.receiving.read (λ k m lt. read-single k m lt)
 
 -- where ordered messages are told apart by their numbers, none is read with another one
 apart-single : (s : Session) → AreMessages s → AreMade s → AreToldApart s → AreSingle s
@@ -178,49 +182,146 @@ told-apart reported size tsn max most limits cs s r =
 
 -- ## Each session
 
+-- on a stream that goes on numbers do
+pub steady-there : (opened : Bool) (cs : List AnyCall) (q : ℕ) → goes_on opened q cs ≡ true → is_steady cs q ≡ true
+steady-there opened cs q e = ap not (none opened cs e)
+  where
+    renewed : (o : Bool) (c : AnyCall) → breaks o q c ≡ false → renews q c ≡ false
+    renewed o (makes call) h = refl
+    renewed o (of_sending call) h = h
+    renewed o (of_receiving call) h = refl
+
+    none : (o : Bool) (ks : List AnyCall) → goes_on o q ks ≡ true → list_any (renews q) ks ≡ false
+    none o [] h = refl
+    none o (c ∷ ks) h =
+        let b = both (not (breaks o q c)) (goes_on (o || opens_incoming q c) q ks) h in
+        ap₂ (λ x y. x || y) (renewed o c (negated (breaks o q c) b.0)) (none (o || opens_incoming q c) ks b.1)
+
 module _ (reported : Reported) (first size max most : ℕ) (limits : Option Limits) (cs : List AnyCall) (s : Session)
     (r : RunsAny (at_start_with reported first size max most limits) cs s) (small : first < 2 ^ 32) (some : 0 < size)
     (few : tsns_given_any (at_start_with reported first size max most limits) cs s r < 2 ^ 31) (short : bytes_written s < 2 ^ 64) where
   abbrev n : ℕ
   n = tsns_given_any (at_start_with reported first size max most limits) cs s r
 
-  beside : HasBeside (is_steady cs) (was_dropped cs) first s n
-  beside =
-      has-beside (is_steady cs) (was_dropped cs) first reported size max most limits cs s r small some few short (λ t e. e) (λ q e. ap not e)
+  -- the modes that the calls say
+  abbrev modes : Modes
+  modes = modes_from at_first (plain_calls cs)
 
-  i : IsPlayed (is_steady cs) (was_dropped cs) first beside.2.other n
-  i = beside.2.plays few
+  beside : HasBeside (is_steady cs) (was_dropped cs) (is_unbroken cs) (steady-there false cs) first s n modes
+  beside =
+      has-beside (is_steady cs) (was_dropped cs) (is_unbroken cs) (steady-there false cs) first reported size max most limits cs s r small some few short
+      (λ t e. e) (λ q e. ap not e) (λ q e. e)
+
+  i : IsPlayed (is_steady cs) (was_dropped cs) (is_unbroken cs) (steady-there false cs) first beside.1.other n modes
+  i = beside.1.plays few
 
   on-each : sessions.AreOn s
   on-each = sessions.read-on-so first most limits (runs.receiver_calls cs) s (runs.receiver-runs cs (at_start_with reported first size max most limits) s r)
 
   made : AreSentOn (is_steady cs) i.sent s.made
-  made = subst (AreSentOn (is_steady cs) i.sent) beside.2.shadow.made i.holds.made
+  made = subst (AreSentOn (is_steady cs) i.sent) beside.1.shadow.made i.spread.holds.made
 
   writes : forgotten i.numbered ≡ s.written
-  writes = i.holds.writes ∙ beside.2.shadow.written
+  writes = i.spread.holds.writes ∙ beside.1.shadow.written
 
   pub are-writes : AreWritesWhereSingle s
-  are-writes = writes-single (is_steady cs) first s i.numbered i.sent (let a = i.few in omega (arith, a, few)) i.holds.held.stands.queued.line
-      i.holds.held.stands.queued.indexed i.holds.held.stands.begun'.once made writes on-each
+  are-writes = writes-single (is_steady cs) first s i.numbered i.sent (let a = i.spread.long in omega (arith, a, few)) i.spread.holds.held.stands.queued.line
+      i.spread.holds.held.stands.queued.indexed i.spread.holds.held.stands.begun'.once made writes on-each
       (runs.messages reported first size max most limits cs s r) (runs.made reported first size max most limits cs s r)
 
   pub are-single : AreSingleWhereSteady cs s
-  are-single k m lt = single-steady (is_steady cs) first s i.numbered i.sent (let a = i.few in omega (arith, a, few)) i.holds.held.stands.queued.line
-      i.holds.held.stands.queued.indexed i.holds.held.stands.begun'.once made writes on-each
+  are-single k m lt = single-steady (is_steady cs) first s i.numbered i.sent (let a = i.spread.long in omega (arith, a, few)) i.spread.holds.held.stands.queued.line
+      i.spread.holds.held.stands.queued.indexed i.spread.holds.held.stands.begun'.once made writes on-each
       (runs.messages reported first size max most limits cs s r) (runs.made reported first size max most limits cs s r) k m lt
 
-  pub of-their-own : AreSingleWritesOfTheirOwn s
-  of-their-own = own-single (is_steady cs) first s i.numbered i.sent (let a = i.few in omega (arith, a, few)) i.holds.held.stands.queued.line
-      i.holds.held.stands.queued.indexed i.holds.held.stands.begun'.once made writes on-each
+  -- ## Places
+
+  abbrev once : AreOnce i.sent
+  once = i.spread.holds.held.stands.begun'.once
+
+  abbrev singles-read : List Message
+  singles-read = single_messages s.receiving.read
+
+  each-is : EachRead i.numbered i.sent once singles-read
+  each-is = each-single (is_steady cs) first s i.numbered i.sent (let a = i.spread.long in omega (arith, a, few)) i.spread.holds.held.stands.queued.line
+      i.spread.holds.held.stands.queued.indexed once made writes on-each
       (runs.messages reported first size max most limits cs s r) (runs.made reported first size max most limits cs s r)
-      (runs.none-read-twice reported first size max most limits cs s r small few)
+
+  abbrev own-places : List ℕ
+  own-places = places i.numbered i.sent once singles-read each-is
+
+  own-stand : StandAt s.written singles-read own-places
+  own-stand = subst (λ ws. StandAt ws singles-read own-places) writes (stand i.numbered i.sent once singles-read each-is)
+
+  own-apart : AllPairs (λ p q. p ≢ q) own-places
+  own-apart =
+      apart i.numbered i.sent once singles-read each-is
+      (some-apart (λ m. is_single m.fragments) s.receiving.read (runs.none-read-twice reported first size max most limits cs s r small few))
+
+  pub of-their-own : AreSingleWritesOfTheirOwn s
+  of-their-own = (own-places, own-stand, own-apart)
+
+  -- ## Order
+
+  -- on a stream that goes on the places of such messages rise that begin ordered
+  module _ (st : ℕ) (c : is_unbroken cs st ≡ true) where
+    abbrev InTurn : ℕ → List Message → Type 0
+    InTurn = AreInTurn (base first) st n (λ k. begun_to st k i.sent) (λ k. is_at st k i.sent) (λ x. WasSent i.sent (data_of x))
+
+    abbrev Fit : ℕ → List ChunkPayloadData → Type 0
+    Fit = Fits (base first) st n (λ k. begun_to st k i.sent) (λ k. is_at st k i.sent) (λ x. WasSent i.sent (data_of x))
+
+    those-turn : (p : Message → Bool) (k : ℕ) (ms : List Message) → InTurn k ms → InTurn k (filter p ms)
+    those-turn p k [] t = tt
+    those-turn p k (m ∷ ms) t =
+        let b = by (is_in_order st m) t (λ j u. those-turn p j ms u) in
+        at-if (InTurn k) (p m) (λ _. b.0) (λ _. b.1)
+      where
+        by : (b : Bool) → Turns b ((j : ℕ) × (j < k) × Fit j m.fragments × InTurn j ms) (InTurn k ms) → ((j : ℕ) → InTurn j ms → InTurn j (filter p ms))
+            → Turns b ((j : ℕ) × (j < k) × Fit j m.fragments × InTurn j (filter p ms)) (InTurn k (filter p ms)) × InTurn k (filter p ms)
+        by true h ih =
+            let rest = ih h.0 h.3 in
+            let lt = h.1 in (
+              (h.0, h.1, h.2, rest),
+              turn-more (base first) st n (λ k. begun_to st k i.sent) (λ k. is_at st k i.sent) (λ x. WasSent i.sent (data_of x)) few
+                  (λ j k le. to-up st j k i.sent le) h.0 k (filter p ms) (omega (arith, lt)) rest,
+            )
+        by false h ih = (ih k h, ih k h)
+
+    rising : (T : Message → ℕ → Bool)
+        → ((m : Message) (x : IsReadOf i.numbered i.sent m) → T m x.written.0 ≡ true → (x.chunk.unordered ≡ false) × (is_in_order st m ≡ true))
+        → AllPairs (λ p q. p < q) (places_where T singles-read own-places)
+    rising T starts' =
+        let d = (i.answered st c).0 in
+        in-order-of st first n i.numbered i.sent few i.spread.long i.spread.holds.held.stands.queued.line once
+        i.spread.holds.held.stands.queued.ranked.rising i.spread.holds.placed T starts' d.k singles-read each-is
+        (those-turn (λ m. is_single m.fragments) d.k s.receiving.read
+        (subst (λ (y : Stand). InTurn d.k y.read) beside.1.shadow.receiving d.turns))
+
+  pub in-order : AreSingleReadInOrder cs s
+  in-order = (
+    own-places,
+    own-stand,
+    own-apart,
+    λ st c. rising st c (λ m p. is_ordered_on st m) (λ m x f. let b = starts st m x.chunk x.others x.fragments f in (b.1, b.2)),
+  )
+
+  pub as-written : AreSingleReadAsWritten cs s
+  as-written = (
+    own-places,
+    own-stand,
+    own-apart,
+    λ st c. rising st c (was_written_ordered modes.of_writes st)
+        (starts-ordered modes beside.1.other i.numbered i.sent i.said i.spread.holds.placed st),
+  )
+
+  -- ## Chunks
 
   -- a DATA chunk that was made is a part of a write, and the only one with its TSN
   pub parts : AreParts s
   parts d c =
       let x = found-sent-on (is_steady cs) i.sent s.made d made c in
-      let f = (part-line i.numbered first i.sent (fragment d x.0 x.1 ∷ x.2) x.3 i.holds.held.stands.queued.line).0 in (
+      let f = (part-line i.numbered first i.sent (fragment d x.0 x.1 ∷ x.2) x.3 i.spread.holds.held.stands.queued.line).0 in (
         forget x.0,
         subst (λ ws. Contains ws (forget x.0)) writes (contains-forgotten i.numbered x.0 f.written),
         record { stream = f.stream; payload_type = f.payload; bytes = (f.part.0, x.1, f.part.1) },
@@ -228,33 +329,34 @@ module _ (reported : Reported) (first size max most : ℕ) (limits : Option Limi
 
   pub same : AreSame s
   same d e c k is =
-      same-tsn i.numbered first i.sent (let a = i.few in omega (arith, a, few)) i.holds.held.stands.queued.line d e
+      same-tsn i.numbered first i.sent (let a = i.spread.long in omega (arith, a, few)) i.spread.holds.held.stands.queued.line d e
       (found-sent-on (is_steady cs) i.sent s.made d made c) (found-sent-on (is_steady cs) i.sent s.made e made k) is
 
   -- what comes back is not refused
   pub none-refused-back : NoneIsRefusedSo s
   none-refused-back =
-      let x = beside.2.shadow in
+      let x = beside.1.shadow in
       let t = s.sending.sender in
       let all = beside-accounted in
-      let held : held_by_sender beside.2.other.sending.sender ≡ total_bytes (with_inflight t.flight.queue x.chunks) = ap held_by_sender x.sender in
-      let before : bytes_written beside.2.other ≡ bytes_written s = ap (λ ws. sum_by (λ (y : Write). length y.bytes) ws) x.written in
+      let held : held_by_sender beside.1.other.sending.sender ≡ total_bytes (with_inflight t.flight.queue x.chunks) = ap held_by_sender x.sender in
+      let before : bytes_written beside.1.other ≡ bytes_written s = ap (λ ws. sum_by (λ (y : Write). length y.bytes) ws) x.written in
       let refused = runs.none-refused reported first size max most limits cs s r small few in
       λ k d lt. back-fits (slice_index_or s.sacks k d) t x.chunks x.like (omega (arith, all, held, before, short)) (refused k d lt)
     where
-      beside-accounted : IsAccounted beside.2.other
-      beside-accounted = played-accounted (is_steady cs) (was_dropped cs) first beside.2.other n i
+      beside-accounted : IsAccounted beside.1.other
+      beside-accounted =
+          played-accounted (is_steady cs) (was_dropped cs) (is_unbroken cs) (steady-there false cs) first beside.1.other n modes i
 
   -- the sender holds what got TSNs, too; so a call of it gives out one at most
   holds : HoldsOn (is_steady cs) first s i.numbered i.sent
   holds =
-      let x = beside.2.shadow in
+      let x = beside.1.shadow in
       record {
         held = held-like (is_steady cs) first s.sending.sender x.streams x.chunks i.numbered i.sent x.alike x.like
-            (subst (λ u. IsHeldOn (is_steady cs) i.numbered first u i.sent) x.sender i.holds.held);
+            (subst (λ u. IsHeldOn (is_steady cs) i.numbered first u i.sent) x.sender i.spread.holds.held);
         made = made;
         writes = writes;
-        placed = i.holds.placed;
+        placed = i.spread.holds.placed;
       }
 
   pub given-once : (call : SenderCall) (t : Session) → SenderFollows call s t → distance (next_tsn s) (next_tsn t) ≤ 1
@@ -265,7 +367,7 @@ module _ (reported : Reported) (first size max most : ℕ) (limits : Option Limi
 
   -- no way from the TSN that is next to itself
   pub same-way : distance (next_tsn s) (next_tsn s) ≡ 0
-  same-way = no-way (next_tsn s) (small-next first (every (is_steady cs) (was_dropped cs) first) s.sending.sender s n beside.0 beside.1 few beside.2)
+  same-way = no-way (next_tsn s) (small-next first (every (is_steady cs) (was_dropped cs) (is_unbroken cs) (steady-there false cs) first) s.sending.sender s n beside.0 modes few beside.1)
 
   -- what `acked` makes of the sender is two calls
   pub two-calls : (sack : Sack) (back : List TakenBack) (gone : List Released) (new : Transmission) → Contains s.sacks sack
@@ -273,7 +375,7 @@ module _ (reported : Reported) (first size max most : ℕ) (limits : Option Limi
       → SenderDoes (takes_back sack back) s (after_return sack back s)
       × (t : Session) × SenderFollows (takes_sack sack gone) (after_return sack back s) t × (t.sending.sender ≡ new)
   two-calls sack back gone new handed x =
-      let h = beside.2.shadow in
+      let h = beside.1.shadow in
       let t = s.sending.sender in
       let more = back-more sack t h.chunks h.like in
       let same = ap bytes_back x.returned in

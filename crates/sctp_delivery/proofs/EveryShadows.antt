@@ -2,6 +2,7 @@
 use Rattle.sctp_delivery.proofs.Names.{◌≡◌, ℕ, ◌+◌, ◌<◌, ◌≤◌, ◌^◌, Bool, true, false, not, List, [], ◌∷◌, ◌++◌, length, map, Option, refl, ap, sym, subst}
 use Rattle.sctp_delivery.proofs.Names.{◌∙◌, arith, distance, not_both, or-left, or-right, filter, change_where, Limits, Modes, OutboundStream}
 use Rattle.sctp_delivery.proofs.Names.{Call, Follows, Session, bytes_written, of_receiver, of_sender, at_first, has_number, Transmission}
+use Rattle.sctp_delivery.proofs.Names.{◌||◌, Mode, both, inl, inr, is_open, modes_from, negated, or-split}
 use Rattle.sctp_delivery.proofs.Names.{IsAccounted, Contains, at_start, list_any, same-yes, sum_by, Write, data_chunk, forward_tsn, data_of, if◌then◌else◌}
 use Rattle.sctp_receiver.specs.ReceiverRuns as receiver_runs
 use Rattle.sctp_sender.specs.declared.sender.Reported.{Reported}
@@ -12,18 +13,25 @@ use Rattle.sctp_sender.specs.Settings.{reset_on}
 use Rattle.sctp_sender.specs.SenderRuns as sender_runs
 use Rattle.sctp_sender.proofs.Accounts as accounts
 use Rattle.sctp_stream.specs.Numbers.{swapped_out}
-use Rattle.sctp_stream.proofs.Removals.{rotated-map}
-use Rattle.std.specs.List.{slice_rotate_right}
+use Rattle.sctp_stream.proofs.Removals.{out-each, rotated-map}
+use Rattle.sctp_receiver.specs.Inbound.{numbers_of}
+use Rattle.sctp_receiver.proofs.StreamCosts.{are_apart}
+use Rattle.sctp_receiver.proofs.Closed.{stays-apart}
+use Rattle.std.specs.List.{AllByRecursion, slice_rotate_right}
 use Rattle.sctp_delivery.specs.EveryCall.{AnyCall, FollowsAny, IsMadeChunk, IsReceiverTaken, ReceiverDoes, ReceiverOther, RunsAny, SenderDoes, SenderOther}
 use Rattle.sctp_delivery.specs.EveryCall.{as_receiver_run, closes, closes_incoming, discards, drops, makes, of_receiving, of_sending, passes_over, renews}
 use Rattle.sctp_delivery.specs.EveryCall.{resets, resets_incoming, takes_back, tsns_given_any}
+use Rattle.sctp_delivery.specs.EveryOrder.{breaks, goes_on, is_unbroken, opens_incoming, plain_calls}
+use Rattle.sctp_delivery.specs.ReceiverCalls as incoming
 use Rattle.sctp_delivery.specs.Returns.{at_start_with}
 use Rattle.sctp_delivery.specs.SenderCalls as outgoing
 use Rattle.sctp_delivery.proofs.Calls.{numbered_after}
 use Rattle.sctp_delivery.proofs.Cases.{at-test}
-use Rattle.sctp_delivery.proofs.Delivered as delivered
-use Rattle.sctp_delivery.proofs.Delivered.{HoldsOn, next_tsn, sender-step-on, beside-on}
+use Rattle.sctp_delivery.proofs.Delivered.{next_tsn}
 use Rattle.sctp_delivery.proofs.EveryRuns as runs
+use Rattle.sctp_delivery.proofs.EveryTurns.{open-after, open-after-other, opens-it, other-answered}
+use Rattle.sctp_delivery.proofs.FilledQueues.{IsFilled}
+use Rattle.sctp_delivery.proofs.ModeSessions.{AreInModes, IsAsSaid, IsInModes, IsModed, changed-in, said-after, said-first}
 use Rattle.sctp_delivery.proofs.Numbers.{all-open, apart-changed, apart-closed, number-elsewhere, number_of, numbers-closed, sized-changed, sized-closed}
 use Rattle.sctp_delivery.proofs.Numbers.{there-changed, there-closed}
 use Rattle.sctp_delivery.proofs.PlainCalls.{sender-goes}
@@ -31,12 +39,14 @@ use Rattle.sctp_delivery.proofs.PlainRuns.{returns-goes, unmoved}
 use Rattle.sctp_delivery.proofs.PlainSessions.{Goes, IsThere, Others, gone_by, modes_by, receives-too}
 use Rattle.sctp_delivery.proofs.PlainStreams.{AreAlike, bare, both-changed}
 use Rattle.sctp_delivery.proofs.Every.{Every}
+use Rattle.sctp_delivery.proofs.QueueChunks.{AllWait}
 use Rattle.sctp_delivery.proofs.SackLaws as sacks
-use Rattle.sctp_delivery.proofs.SackLaws.{IsInStepBut}
 use Rattle.sctp_delivery.proofs.Senders.{IsHeldOn, renumbered}
 use Rattle.sctp_delivery.proofs.Sent.{Entry, Numbered}
 use Rattle.sctp_delivery.proofs.Sessions.{IsCounted, sender-counts}
+use Rattle.sctp_delivery.proofs.SpreadCalls.{IsSpreadOn, beside-spreads, receiver-spreads-on, sender-spreads-on, spread-first-on}
 use Rattle.sctp_delivery.proofs.TsnPlaces.{base}
+use Rattle.sctp_delivery.proofs.UnwrappedSessions.{IsAnswered, answered-first, receiver-answered-on, sender-answered-on}
 
 -- ## What a sender does by its calls, and one more
 
@@ -96,16 +106,82 @@ both-closed s ls ms e = out ls ∙ ap (swapped_out (has_number s)) e ∙ sym (ou
         ≡ (if b then slice_rotate_right (without (map bare ks)) 1 else bare l ∷ swapped_out (has_number s) (map bare ks))) (has_number s l)
         (λ _. rotated-map bare (without ks) ∙ ap (λ xs. slice_rotate_right xs 1) (left ks)) (λ _. ap (λ xs. bare l ∷ xs) (out ks))
 
+-- the streams that are left are in the same modes
+left-in-modes : (f : ℕ → Mode) (s : ℕ) (ls : List OutboundStream) → AreInModes f ls → AreInModes f (swapped_out (has_number s) ls)
+left-in-modes f s ls h = from (swapped_out (has_number s) ls) (out-each (has_number s) (IsInModes f) ls (to ls h))
+  where
+    to : (ks : List OutboundStream) → AreInModes f ks → AllByRecursion (IsInModes f) ks
+    to [] k = tt
+    to (l ∷ ks) k = (k.0, to ks k.1)
+
+    from : (ks : List OutboundStream) → AllByRecursion (IsInModes f) ks → AreInModes f ks
+    from [] k = tt
+    from (l ∷ ks) k = (k.0, from ks k.1)
+
+-- where the sender stays as it is, it is as the calls say still
+said-beside : (d e : Session) (m : Modes) (ns : List Numbered) (sent : List Entry) → e.sending ≡ d.sending → IsAsSaid m d ns sent → IsAsSaid m e ns sent
+said-beside d e m ns sent same h = record {
+  sender = subst (λ (l : sender_runs.Ledger). IsModed m l.sender) (sym same) h.sender;
+  kinds = h.kinds;
+  count = h.count;
+  filled = subst (λ (l : sender_runs.Ledger). AllWait IsFilled l.sender.flight.queue.pending) (sym same) h.filled;
+}
+
+-- # What is so of the receiver's streams
+
+-- each has a number of its own; and of these streams those are open of which that is said
+record IsReady (calm opened : ℕ → Bool) (s : Session) : Type 0 where
+  apart : are_apart (numbers_of s.receiving.receiver.streams) ≡ true
+  open' : (st : ℕ) → calm st ≡ true → opened st ≡ true → is_open st s.receiving.receiver ≡ true
+
+ready-first : (calm : ℕ → Bool) (reported : Reported) (first size max most : ℕ) (limits : Option Limits)
+    → IsReady calm (λ q. false) (at_start_with reported first size max most limits)
+ready-first calm reported first size max most limits = record { apart = refl; open' = λ st c o. absurd (not_both o) }
+
+-- the receiver stays as it is
+ready-still : (calm opened : ℕ → Bool) (s v : Session) → v.receiving ≡ s.receiving → IsReady calm opened s → IsReady calm (λ q. opened q || false) v
+ready-still calm opened s v same h = record {
+  apart = subst (λ (y : receiver_runs.Stand). are_apart (numbers_of y.receiver.streams) ≡ true) (sym same) h.apart;
+  open' = λ st c o. subst (λ (y : receiver_runs.Stand). is_open st y.receiver ≡ true) (sym same)
+      (h.open' st c (elim (or-split (opened st) false o) [ inl e ↦ e | inr e ↦ absurd (not_both e) ]));
+}
+
+ready-after : (calm opened : ℕ → Bool) (c : AnyCall) (s v : Session) → FollowsAny c s v → ((st : ℕ) → calm st ≡ true → breaks (opened st) st c ≡ false)
+    → IsReady calm opened s → IsReady calm (λ q. opened q || opens_incoming q c) v
+ready-after calm opened (makes (of_sender call)) s v f whole h = ready-still calm opened s v (ap (λ (y : Session). y.receiving) f.after) h
+ready-after calm opened (of_sending call) s v f whole h = ready-still calm opened s v (ap (λ (y : Session). y.receiving) f.after) h
+ready-after calm opened (makes (of_receiver call)) s v f whole h = record {
+  apart = stays-apart (incoming.as_run call) s.receiving.receiver v.receiving.receiver f.step.receiver h.apart;
+  open' = λ st c o. elim (or-split (opened st) (opens_incoming st (makes (of_receiver call))) o) [
+    | inl e ↦ open-after st s v (h.open' st c e) call f
+    | inr e ↦ opens-it st s v call f e
+  ];
+}
+ready-after calm opened (of_receiving call) s v f whole h = record {
+  apart = stays-apart (as_receiver_run call) s.receiving.receiver v.receiving.receiver f.step.receiver h.apart;
+  open' = λ st c o. elim (or-split (opened st) false o) [
+    | inl e ↦ open-after-other st s v (h.open' st c e) (opened st) h.apart call f (whole st c)
+    | inr e ↦ absurd (not_both e)
+  ];
+}
+
+modes-on : (c : AnyCall) (cs : List AnyCall) (m : Modes) → modes_from (modes_from m (plain_calls (c ∷ []))) (plain_calls cs) ≡ modes_from m (plain_calls (c ∷ cs))
+modes-on (makes (of_sender call)) cs m = refl
+modes-on (makes (of_receiver call)) cs m = refl
+modes-on (of_sending call) cs m = refl
+modes-on (of_receiving call) cs m = refl
+
 -- # The session beside it
 
-module _ (on dropped : ℕ → Bool) (first : ℕ) where
-  -- what stays true of it after n TSNs were given out: numbers go on on these streams
-  pub record IsPlayed (d : Session) (n : ℕ) : Type 0 where
-    pub step : IsInStepBut dropped (base first) n d
+-- numbers go on on some streams; on some of these the receiver goes on, too
+module _ (on dropped calm : ℕ → Bool) (sub : (st : ℕ) → calm st ≡ true → on st ≡ true) (first : ℕ) where
+  -- what stays true of it after n TSNs were given out
+  pub record IsPlayed (d : Session) (n : ℕ) (m : Modes) : Type 0 where
     pub numbered : List Numbered
     pub sent : List Entry
-    pub holds : HoldsOn on first d numbered sent
-    pub few : length sent ≤ n
+    pub spread : IsSpreadOn on dropped first n d numbered sent
+    pub said : IsAsSaid m d numbered sent
+    pub answered : (st : ℕ) → calm st ≡ true → IsAnswered st first n sent spread.step.numbered.acked d
     pub counted : IsCounted d
     pub size : ℕ
     pub max : ℕ
@@ -113,17 +189,18 @@ module _ (on dropped : ℕ → Bool) (first : ℕ) where
     pub ran : sender_runs.RunsTo (sender_runs.at_start first size max) calls d.sending
 
   abbrev PlaysSo : Session → ℕ → List ℕ → Modes → Type 0
-  PlaysSo d n gone m = n < 2 ^ 31 → IsPlayed d n
+  PlaysSo d n gone m = n < 2 ^ 31 → IsPlayed d n m
 
   -- where its sender stays as it is
-  beside-played : (d e : Session) (n : ℕ) → e.sending ≡ d.sending → e.made ≡ d.made → e.written ≡ d.written → IsInStepBut dropped (base first) n e
-      → IsPlayed d n → IsPlayed e n
-  beside-played d e n same made written step p = record {
-    step = step;
+  beside-played : (d e : Session) (n : ℕ) (m : Modes) → (same : e.sending ≡ d.sending) → (made : e.made ≡ d.made) → (written : e.written ≡ d.written)
+      → (p : IsPlayed d n m) → (spread : IsSpreadOn on dropped first n e p.numbered p.sent)
+      → ((st : ℕ) → calm st ≡ true → IsAnswered st first n p.sent spread.step.numbered.acked e) → IsPlayed e n m
+  beside-played d e n m same made written p spread answered = record {
     numbered = p.numbered;
     sent = p.sent;
-    holds = beside-on on first d e p.numbered p.sent same made written p.holds;
-    few = p.few;
+    spread = spread;
+    said = said-beside d e m p.numbered p.sent same p.said;
+    answered = answered;
     counted = record {
       written = ap (λ ws. sum_by (λ (w : Write). length w.bytes) ws) written ∙ p.counted.written
           ∙ sym (ap (λ (l : sender_runs.Ledger). l.written) same);
@@ -139,15 +216,13 @@ module _ (on dropped : ℕ → Bool) (first : ℕ) where
       → PlaysSo e (n + distance (next_tsn d) (next_tsn e)) (gone ++ gone_by c d) (modes_by c m)
   onward d e n gone m p (of_sender call) f few =
       let i = p (omega (arith, few)) in
-      let x = sender-step-on on first call d e i.numbered i.sent f i.holds in
-      let a = x.few in
-      let b = i.few in
+      let x = sender-spreads-on on dropped first n call d e i.numbered i.sent i.spread few f in
       record {
-        step = sacks.sender-step-but dropped (base first) n d e call few f i.step;
         numbered = numbered_after call i.numbered;
         sent = x.more;
-        holds = x.holds;
-        few = omega (arith, a, b);
+        spread = x.spread;
+        said = said-after call d e m i.numbered i.sent x.more f x.grown i.spread.holds.held.sized i.said;
+        answered = λ st c. sender-answered-on st first on dropped n call d e i.numbered i.sent i.spread few f x (i.answered st c);
         counted = sender-counts call d e f i.counted;
         size = i.size;
         max = i.max;
@@ -157,13 +232,14 @@ module _ (on dropped : ℕ → Bool) (first : ℕ) where
   onward d e n gone m p (of_receiver call) f few =
       let small : n < 2 ^ 31 = omega (arith, few) in
       let i = p small in
-      let none = sacks.no-move (base first) n d e (ap (λ (s : Session). s.sending) f.after) i.step.numbered in
-      subst (IsPlayed e) {x = n} {y = n + distance (next_tsn d) (next_tsn e)} (omega (arith, none))
-      (beside-played d e n (ap (λ (s : Session). s.sending) f.after) (ap (λ (s : Session). s.made) f.after) (ap (λ (s : Session). s.written) f.after)
-      (sacks.receiver-step-but dropped (base first) n call d e small f i.step) i)
+      let none = sacks.no-move (base first) n d e (ap (λ (s : Session). s.sending) f.after) i.spread.step.numbered in
+      let spread = receiver-spreads-on on dropped first n call d e i.numbered i.sent small f i.spread in
+      subst (λ k. IsPlayed e k m) {x = n} {y = n + distance (next_tsn d) (next_tsn e)} (omega (arith, none))
+      (beside-played d e n m (ap (λ (s : Session). s.sending) f.after) (ap (λ (s : Session). s.made) f.after) (ap (λ (s : Session). s.written) f.after)
+      i spread (λ st c. receiver-answered-on st first on dropped (sub st c) n call d e i.numbered i.sent i.spread small f spread (i.answered st c)))
 
-  pub played-accounted : (d : Session) (n : ℕ) → IsPlayed d n → IsAccounted d
-  played-accounted d n i =
+  pub played-accounted : (d : Session) (n : ℕ) (m : Modes) → IsPlayed d n m → IsAccounted d
+  played-accounted d n m i =
       let law = accounts.accounted first i.size i.max Drop i.calls d.sending i.ran in
       let w = i.counted.written in
       let b = i.counted.back in
@@ -172,35 +248,47 @@ module _ (on dropped : ℕ → Bool) (first : ℕ) where
   abbrev pub every : Others first
   every = record {
     dropped = dropped;
-    Plays = λ d n gone m. n < 2 ^ 31 → IsPlayed d n;
+    Plays = λ d n gone m. n < 2 ^ 31 → IsPlayed d n m;
     onward = onward;
-    step = λ d n gone m few p. (p few).step;
-    accounted = λ d n gone m few p. played-accounted d n (p few);
+    step = λ d n gone m few p. (p few).spread.step;
+    accounted = λ d n gone m few p. played-accounted d n m (p few);
   }
 
   -- ## The calls that most sessions do not have
 
   -- the sender has other streams
-  with-streams : (d : Session) (n : ℕ) (ls : List OutboundStream) (c : sender_runs.Call)
-      → sender_runs.Follows c d.sending (record d.sending { sender = with_streams ls d.sending.sender }) → (i : IsPlayed d n)
-      → IsHeldOn on i.numbered first (with_streams ls d.sending.sender) i.sent → IsPlayed (with_sender (with_streams ls d.sending.sender) d) n
-  with-streams d n ls c f i h = record {
-    step =
-        let s = i.step in
-        record {
-          numbered = s.numbered;
-          made = s.made;
-          arrived = s.arrived;
-          sacks = s.sacks;
-          settled = s.settled;
-          valid = s.valid;
-          taken = s.taken;
-          order = s.order;
-        };
+  with-streams : (d : Session) (n : ℕ) (m : Modes) (ls : List OutboundStream) (c : sender_runs.Call)
+      → sender_runs.Follows c d.sending (record d.sending { sender = with_streams ls d.sending.sender }) → (i : IsPlayed d n m)
+      → IsHeldOn on i.numbered first (with_streams ls d.sending.sender) i.sent → AreInModes m.of_streams ls
+      → IsPlayed (with_sender (with_streams ls d.sending.sender) d) n m
+  with-streams d n m ls c f i h modes = record {
     numbered = i.numbered;
     sent = i.sent;
-    holds = record { held = h; made = i.holds.made; writes = i.holds.writes; placed = i.holds.placed };
-    few = i.few;
+    spread = record {
+      holds = record { held = h; made = i.spread.holds.made; writes = i.spread.holds.writes; placed = i.spread.holds.placed };
+      step =
+          let s = i.spread.step in
+          record {
+            numbered = s.numbered;
+            made = s.made;
+            arrived = s.arrived;
+            sacks = s.sacks;
+            settled = s.settled;
+            valid = s.valid;
+            taken = s.taken;
+            order = s.order;
+          };
+      long = i.spread.long;
+      near = i.spread.near;
+      names = i.spread.names;
+    };
+    said = record {
+      sender = record { streams = modes; queue = i.said.sender.queue };
+      kinds = i.said.kinds;
+      count = i.said.count;
+      filled = i.said.filled;
+    };
+    answered = i.answered;
     counted = record { written = i.counted.written; back = i.counted.back };
     size = i.size;
     max = i.max;
@@ -214,7 +302,7 @@ module _ (on dropped : ℕ → Bool) (first : ℕ) where
 
     -- so has the one beside it
     restreams : (call : SenderOther) → SenderDoes call s v → (us ls : List OutboundStream) → v.sending.sender ≡ with_streams us s.sending.sender
-        → AreAlike us ls → (n < 2 ^ 31 → IsPlayed (with_sender (with_streams ls g.other.sending.sender) g.other) n)
+        → AreAlike us ls → (n < 2 ^ 31 → IsPlayed (with_sender (with_streams ls g.other.sending.sender) g.other) n m)
         → Goes first every v.sending.sender v n gone m
     restreams call f us ls e alike p = subst (λ (t : Transmission). Goes first every t v n gone m) (sym e) (record {
       other = with_sender (with_streams ls d.sending.sender) d;
@@ -249,9 +337,10 @@ module _ (on dropped : ℕ → Bool) (first : ℕ) where
         ∙ ap (λ (t : Transmission). map bare (swapped_out (has_number st) t.streams)) (sym g.shadow.sender))
         (λ few.
         let i = g.plays few in
-        with-streams d n (swapped_out (has_number st) d.sending.sender.streams) (sender_runs.closes st)
+        with-streams d n m (swapped_out (has_number st) d.sending.sender.streams) (sender_runs.closes st)
         (record { sender = refl; written = omega arith; released = omega arith; taken_back = omega arith }) i
-        (closes-held on first st (off st (same-yes st)) i.numbered d.sending.sender i.sent i.holds.held))
+        (closes-held on first st (off st (same-yes st)) i.numbered d.sending.sender i.sent i.spread.holds.held)
+        (left-in-modes m.of_streams st d.sending.sender.streams i.said.sender.streams))
     other-goes (resets st) off f =
         let ls = g.shadow.streams in
         restreams (resets st) f (change_where (has_number st) from_first s.sending.sender.streams)
@@ -260,9 +349,11 @@ module _ (on dropped : ℕ → Bool) (first : ℕ) where
         ∙ ap (λ (t : Transmission). map bare (change_where (has_number st) from_first t.streams)) (sym g.shadow.sender))
         (λ few.
         let i = g.plays few in
-        with-streams d n (change_where (has_number st) from_first d.sending.sender.streams) (sender_runs.resets st)
+        with-streams d n m (change_where (has_number st) from_first d.sending.sender.streams) (sender_runs.resets st)
         (record { sender = refl; written = omega arith; released = omega arith; taken_back = omega arith }) i
-        (resets-held on first st (off st (same-yes st)) i.numbered d.sending.sender i.sent i.holds.held))
+        (resets-held on first st (off st (same-yes st)) i.numbered d.sending.sender i.sent i.spread.holds.held)
+        (changed-in m.of_streams (has_number st) from_first (record { number = λ l. refl; unordered = λ l. refl; reliability = λ l. refl; value = λ l. refl })
+        d.sending.sender.streams i.said.sender.streams))
 
     -- what is handed to the receiver of the one is handed to that of the other
     handed-too : (call : ReceiverOther) → IsMadeChunk call s → IsMadeChunk call g.other
@@ -271,9 +362,11 @@ module _ (on dropped : ℕ → Bool) (first : ℕ) where
     handed-too (resets_incoming st last) h = tt
     handed-too (passes_over c) h = subst (λ ms. Contains ms (forward_tsn c)) (sym g.shadow.made) h
 
-    other-receives : (call : ReceiverOther) → ((t : ℕ) → drops t (of_receiving call) ≡ true → dropped t ≡ true) → ReceiverDoes call s v
+    other-receives : (opened : ℕ → Bool) → IsReady calm opened s → (call : ReceiverOther)
+        → ((t : ℕ) → drops t (of_receiving call) ≡ true → dropped t ≡ true)
+        → ((st : ℕ) → calm st ≡ true → breaks (opened st) st (of_receiving call) ≡ false) → ReceiverDoes call s v
         → Goes first every v.sending.sender v n gone m
-    other-receives call so f =
+    other-receives opened ready call so whole f =
         let x = g.shadow in
         let e : Session = record d { receiving = v.receiving } in
         let f' : ReceiverDoes call d e = record {
@@ -297,58 +390,73 @@ module _ (on dropped : ℕ → Bool) (first : ℕ) where
           };
           plays = λ few.
               let i = g.plays few in
-              beside-played d e n refl refl refl (runs.receiver-other dropped (base first) n few d e i.step call so f') i;
+              let spread = beside-spreads on dropped first n d e i.numbered i.sent few refl refl refl
+              (runs.receiver-other dropped (base first) n few d e i.spread.step call so f') i.spread in
+              beside-played d e n m refl refl refl i spread
+              (λ st c. other-answered st first on dropped (sub st c) n d i.numbered i.sent i.spread few e (opened st)
+              (λ o. subst (λ (y : receiver_runs.Stand). is_open st y.receiver ≡ true) (sym x.receiving) (ready.open' st c o))
+              (subst (λ (y : receiver_runs.Stand). are_apart (numbers_of y.receiver.streams) ≡ true) (sym x.receiving) ready.apart) call f' (whole st c) spread
+              (i.answered st c));
         })
 
   -- ## Every call
 
   -- there is such a session
-  abbrev pub HasBeside : Session → ℕ → Type 0
-  HasBeside s n = (gone : List ℕ) × (m : Modes) × Goes first every s.sending.sender s n gone m
+  abbrev pub HasBeside : Session → ℕ → Modes → Type 0
+  HasBeside s n m = (gone : List ℕ) × Goes first every s.sending.sender s n gone m
 
-  one-any : (c : AnyCall) (s v : Session) (n : ℕ) → FollowsAny c s v → n + distance (next_tsn s) (next_tsn v) < 2 ^ 31 → bytes_written v < 2 ^ 64
-      → ((t : ℕ) → drops t c ≡ true → dropped t ≡ true) → ((r : ℕ) → renews r c ≡ true → on r ≡ false) → HasBeside s n
-      → HasBeside v (n + distance (next_tsn s) (next_tsn v))
-  one-any (makes (of_sender call)) s v n f few short so off h =
-      (_, _, sender-goes first every s v n h.0 h.1 (omega (arith, few)) h.2 call short few f)
-  one-any (makes (of_receiver call)) s v n f few short so off h = (
+  one-any : (opened : ℕ → Bool) (c : AnyCall) (s v : Session) (n : ℕ) (m : Modes) → FollowsAny c s v → n + distance (next_tsn s) (next_tsn v) < 2 ^ 31
+      → bytes_written v < 2 ^ 64 → ((t : ℕ) → drops t c ≡ true → dropped t ≡ true) → ((r : ℕ) → renews r c ≡ true → on r ≡ false)
+      → ((st : ℕ) → calm st ≡ true → breaks (opened st) st c ≡ false) → IsReady calm opened s → HasBeside s n m
+      → HasBeside v (n + distance (next_tsn s) (next_tsn v)) (modes_from m (plain_calls (c ∷ [])))
+  one-any opened (makes (of_sender call)) s v n m f few short so off whole ready h =
+      (_, sender-goes first every s v n h.0 m (omega (arith, few)) h.1 call short few f)
+  one-any opened (makes (of_receiver call)) s v n m f few short so off whole ready h = (
     h.0 ++ [],
-    h.1,
-    unmoved first every s v n h.0 h.1 (ap (λ (y : Session). next_tsn y) f.after) few h.2
-        (receives-too first every call s v n h.0 h.1 (omega (arith, few)) h.2 f),
+    unmoved first every s v n h.0 m (ap (λ (y : Session). next_tsn y) f.after) few h.1
+        (receives-too first every call s v n h.0 m (omega (arith, few)) h.1 f),
   )
-  one-any (of_sending call) s v n f few short so off h =
-      (h.0 ++ [], h.1, unmoved first every s v n h.0 h.1 (runs.next-same call s v f) few h.2 (other-goes s v n h.0 h.1 h.2 call off f))
-  one-any (of_receiving call) s v n f few short so off h =
-      (h.0 ++ [], h.1, unmoved first every s v n h.0 h.1 (ap (λ (y : Session). next_tsn y) f.after) few h.2 (other-receives s v n h.0 h.1 h.2 call so f))
+  one-any opened (of_sending call) s v n m f few short so off whole ready h =
+      (h.0 ++ [], unmoved first every s v n h.0 m (runs.next-same call s v f) few h.1 (other-goes s v n h.0 m h.1 call off f))
+  one-any opened (of_receiving call) s v n m f few short so off whole ready h = (
+    h.0 ++ [],
+    unmoved first every s v n h.0 m (ap (λ (y : Session). next_tsn y) f.after) few h.1
+        (other-receives s v n h.0 m h.1 opened ready call so whole f),
+  )
 
-  all-any : (cs : List AnyCall) (s new : Session) (n : ℕ) (r : RunsAny s cs new) → n + tsns_given_any s cs new r < 2 ^ 31 → bytes_written new < 2 ^ 64
-      → ((t : ℕ) → list_any (drops t) cs ≡ true → dropped t ≡ true) → ((q : ℕ) → list_any (renews q) cs ≡ true → on q ≡ false) → HasBeside s n
-      → HasBeside new (n + tsns_given_any s cs new r)
-  all-any [] s new n r few short so off h =
-      subst (HasBeside new) {x = n} {y = n + 0} (omega arith) (subst (λ x. HasBeside x n) (sym r) h)
-  all-any (c ∷ cs) s new n r few short so off h =
+  all-any : (opened : ℕ → Bool) (cs : List AnyCall) (s new : Session) (n : ℕ) (m : Modes) (r : RunsAny s cs new) → n + tsns_given_any s cs new r < 2 ^ 31
+      → bytes_written new < 2 ^ 64 → ((t : ℕ) → list_any (drops t) cs ≡ true → dropped t ≡ true)
+      → ((q : ℕ) → list_any (renews q) cs ≡ true → on q ≡ false) → ((q : ℕ) → calm q ≡ true → goes_on (opened q) q cs ≡ true)
+      → IsReady calm opened s → HasBeside s n m → HasBeside new (n + tsns_given_any s cs new r) (modes_from m (plain_calls cs))
+  all-any opened [] s new n m r few short so off whole ready h =
+      subst (λ k. HasBeside new k m) {x = n} {y = n + 0} (omega arith) (subst (λ x. HasBeside x n m) (sym r) h)
+  all-any opened (c ∷ cs) s new n m r few short so off whole ready h =
       let d = distance (next_tsn s) (next_tsn r.0) in
       let rest = tsns_given_any r.0 cs new r.1.1 in
       let bytes = runs.grows cs r.0 new r.1.1 in
       let sum : (n + d) + rest ≡ n + (d + rest) = omega arith in
-      subst (HasBeside new) sum
-      (all-any cs r.0 new (n + d) r.1.1 (omega (arith, few)) short (λ t e. so t (or-right (drops t c) (list_any (drops t) cs) e))
-      (λ q e. off q (or-right (renews q c) (list_any (renews q) cs) e))
-      (one-any c s r.0 n r.1.0 (omega (arith, few)) (omega (arith, bytes, short)) (λ t e. so t (or-left (drops t c) (list_any (drops t) cs) e))
-      (λ q e. off q (or-left (renews q c) (list_any (renews q) cs) e)) h))
+      let one : (q : ℕ) → calm q ≡ true → (breaks (opened q) q c ≡ false) × (goes_on (opened q || opens_incoming q c) q cs ≡ true) = λ q e.
+      let b = both (not (breaks (opened q) q c)) (goes_on (opened q || opens_incoming q c) q cs) (whole q e) in
+      (negated (breaks (opened q) q c) b.0, b.1) in
+      subst (λ k. HasBeside new k (modes_from m (plain_calls (c ∷ cs)))) sum
+      (subst (HasBeside new ((n + d) + rest)) (modes-on c cs m)
+      (all-any (λ q. opened q || opens_incoming q c) cs r.0 new (n + d) (modes_from m (plain_calls (c ∷ []))) r.1.1 (omega (arith, few)) short
+      (λ t e. so t (or-right (drops t c) (list_any (drops t) cs) e)) (λ q e. off q (or-right (renews q c) (list_any (renews q) cs) e))
+      (λ q e. (one q e).1) (ready-after calm opened c s r.0 r.1.0 (λ q e. (one q e).0) ready)
+      (one-any opened c s r.0 n m r.1.0 (omega (arith, few)) (omega (arith, bytes, short)) (λ t e. so t (or-left (drops t c) (list_any (drops t) cs) e))
+      (λ q e. off q (or-left (renews q c) (list_any (renews q) cs) e)) (λ q e. (one q e).0) ready h)))
 
   begins : (reported : Reported) (size max most : ℕ) (limits : Option Limits) → first < 2 ^ 32 → 0 < size
-      → HasBeside (at_start_with reported first size max most limits) 0
+      → HasBeside (at_start_with reported first size max most limits) 0 at_first
   begins reported size max most limits small some = by reported
     where
-      p : IsPlayed (at_start first size max most limits) 0
+      p : IsPlayed (at_start first size max most limits) 0 at_first
       p = record {
-        step = sacks.begin-but dropped first size max most limits small;
         numbered = [];
         sent = [];
-        holds = record { held = delivered.held-first on first size max most limits small some; made = tt; writes = refl; placed = tt };
-        few = omega arith;
+        spread = spread-first-on on dropped first size max most limits small some;
+        said = said-first first size max most limits;
+        answered = λ st c. answered-first st first on dropped size max most limits small some;
         counted = record { written = refl; back = refl };
         size = size;
         max = max;
@@ -356,10 +464,9 @@ module _ (on dropped : ℕ → Bool) (first : ℕ) where
         ran = refl;
       }
 
-      by : (k : Reported) → HasBeside (at_start_with k first size max most limits) 0
+      by : (k : Reported) → HasBeside (at_start_with k first size max most limits) 0 at_first
       by Drop = (
         [],
-        at_first,
         record {
           other = at_start first size max most limits;
           shadow = record { streams = []; chunks = []; sender = refl; alike = refl; like = tt; receiving = refl; made = refl; written = refl; sacks = tt };
@@ -368,7 +475,6 @@ module _ (on dropped : ℕ → Bool) (first : ℕ) where
       )
       by Keep = (
         [],
-        at_first,
         record {
           other = at_start first size max most limits;
           shadow = record { streams = []; chunks = []; sender = refl; alike = refl; like = tt; receiving = refl; made = refl; written = refl; sacks = tt };
@@ -380,9 +486,10 @@ module _ (on dropped : ℕ → Bool) (first : ℕ) where
       → (r : RunsAny (at_start_with reported first size max most limits) cs s) → first < 2 ^ 32 → 0 < size
       → tsns_given_any (at_start_with reported first size max most limits) cs s r < 2 ^ 31 → bytes_written s < 2 ^ 64
       → ((t : ℕ) → list_any (drops t) cs ≡ true → dropped t ≡ true) → ((q : ℕ) → list_any (renews q) cs ≡ true → on q ≡ false)
-      → HasBeside s (tsns_given_any (at_start_with reported first size max most limits) cs s r)
-  has-beside reported size max most limits cs s r small some few short so off =
+      → ((q : ℕ) → calm q ≡ true → is_unbroken cs q ≡ true)
+      → HasBeside s (tsns_given_any (at_start_with reported first size max most limits) cs s r) (modes_from at_first (plain_calls cs))
+  has-beside reported size max most limits cs s r small some few short so off whole =
       let n = tsns_given_any (at_start_with reported first size max most limits) cs s r in
-      subst (HasBeside s) {x = 0 + n} {y = n} (omega arith)
-      (all-any cs (at_start_with reported first size max most limits) s 0 r (omega (arith, few)) short so off
-      (begins reported size max most limits small some))
+      subst (λ k. HasBeside s k (modes_from at_first (plain_calls cs))) {x = 0 + n} {y = n} (omega arith)
+      (all-any (λ q. false) cs (at_start_with reported first size max most limits) s 0 at_first r (omega (arith, few)) short so off whole
+      (ready-first calm reported first size max most limits) (begins reported size max most limits small some))

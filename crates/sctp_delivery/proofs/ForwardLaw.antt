@@ -8,11 +8,12 @@ use Rattle.sctp_delivery.proofs.Names.{is_name_too_far, is_named_too_far, lowest
 use Rattle.sctp_delivery.proofs.Names.{abandoned_in, WhileFewTsns, MayMake, is_due_named, reads_nothing_on, tsns_given, Session, at_start}
 use Rattle.sctp_util.specs.Serial.{distance16}
 use Rattle.sctp_delivery.specs.Refused.{NoneMadeIsRefused}
+use Rattle.sctp_delivery.proofs.Cases.{all_streams}
 use Rattle.sctp_delivery.proofs.KeptOrGone.{HeldWell, IsLate}
 use Rattle.sctp_delivery.proofs.KeptSessions.{HasKept, kept-in}
 use Rattle.sctp_delivery.proofs.NotRefused.{begun-low}
 use Rattle.sctp_delivery.proofs.GivenTsns.{IsPassable, passable-end, passable-skip}
-use Rattle.sctp_delivery.proofs.SackSteps.{known}
+use Rattle.sctp_delivery.proofs.SackSteps.{known, none_dropped}
 use Rattle.sctp_delivery.proofs.Sent.{Entry, WasSent}
 use Rattle.sctp_delivery.proofs.SpreadCalls.{IsSpread}
 use Rattle.sctp_delivery.proofs.SpreadEntries.{begun_to, is_at, to-all}
@@ -100,12 +101,12 @@ module _ (first n : ℕ) (few : n < 2 ^ 31) (gone : List ℕ) (s : Session) (h :
 
   steps : (st : ℕ) → AreSteps st sent a flight.queue.inflight.chunks
   steps st =
-      are-steps first n sent spread.long few st a flight.queue.inflight.chunks spread.step.numbered.total spread.step.numbered.run
+      are-steps all_streams first n sent spread.long few st refl a flight.queue.inflight.chunks spread.step.numbered.total spread.step.numbered.run
       spread.holds.held.stands.known
 
   on : (st : ℕ) → AreOn st sent a flight.queue.inflight.chunks
   on st =
-      are-on first n sent spread.long few st a flight.queue.inflight.chunks spread.step.numbered.total spread.step.numbered.run
+      are-on all_streams first n sent spread.long few st a flight.queue.inflight.chunks spread.step.numbered.total spread.step.numbered.run
       spread.holds.held.stands.known
 
   far : ahead flight t ≡ m - a
@@ -177,9 +178,9 @@ module _ (first n : ℕ) (few : n < 2 ^ 31) (gone : List ℕ) (s : Session) (h :
     near-name l there none =
         let b : Both (Some l) = subst Both there (d.due, (h.kept.kept st).holds) in
         let e = b.0 in
-        let up = sessions.grows st first n s h.numbered sent spread few in
+        let up = sessions.grows st first all_streams none_dropped refl n s h.numbered sent spread few in
         let low = begun-low st first n few s h.numbered sent spread d l.queue.held e Late b.1.current none in
-        let near = sessions.near st first n s h.numbered sent spread few in
+        let near = sessions.near st first all_streams none_dropped refl n s h.numbered sent spread few in
         let least = up a d.arrived.place d.arrived.least_is in
         let v = passable.given.within in
         let top = up m n v in

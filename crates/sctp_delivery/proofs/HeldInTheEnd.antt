@@ -4,7 +4,7 @@ use Rattle.sctp_delivery.proofs.Names.{ap, sym, subst, ◌∙◌, arith, All, �
 use Rattle.sctp_delivery.proofs.Names.{or-split, same-is, nat_le, fails, same-yes, not_both, tsn, ChunkPayloadData, ChunkSet, Data, data_of, is_complete}
 use Rattle.sctp_delivery.proofs.Names.{Reassembly, message_read, InboundStream, Limits, Reception, stream_of, fragments_read, is_one_message, held_weight}
 use Rattle.sctp_delivery.proofs.Names.{set_weight, has_tsn, reads_nothing, was_taken, Call, RunsTo, Session, at_start}
-use Rattle.sctp_delivery.proofs.Cases.{by-test}
+use Rattle.sctp_delivery.proofs.Cases.{all_streams, by-test}
 use Rattle.sctp_delivery.proofs.InTheEnd.{none-data, some-of, unread-of}
 use Rattle.sctp_delivery.proofs.UnwrappedHolds.{IsSome}
 use Rattle.sctp_delivery.proofs.Delivered.{EachSent}
@@ -18,6 +18,7 @@ use Rattle.sctp_delivery.proofs.MessagePlaces.{IsEntryAt, IsSpan, ends-own, entr
 use Rattle.sctp_delivery.proofs.OrderedEntries.{AreJoined}
 use Rattle.sctp_delivery.proofs.PassedMessages.{EndsMessage, is_gone}
 use Rattle.sctp_delivery.proofs.ReadOnce.{none-count, one}
+use Rattle.sctp_delivery.proofs.SackSteps.{none_dropped}
 use Rattle.sctp_delivery.proofs.Sent.{Entry, IsLine, IsPart, Numbered, WasSent, fragment, part-itself, part-length, same-parts, terminal}
 use Rattle.sctp_delivery.proofs.Sessions as made_in
 use Rattle.sctp_delivery.proofs.SpreadEntries.{begun_to, is_at, to-up}
@@ -138,7 +139,7 @@ module _ (first size max most : ℕ) (limits : Option Limits) (cs : List Call) (
             let most' = some-given F.chunks sets.1.1 some in
             let miss = misses-one ns first sent line joined n long few st sets.0 n (omega arith)
             (sent, part-itself sent, long, ends most') least F.chunks sets.1.1 some c in
-            let z = sessions.missed st first n s ns sent k.unwrapped.spread few n sets.0 F.chunks (omega arith) sets.1.1 miss in
+            let z = sessions.missed st first all_streams none_dropped refl n s ns sent k.unwrapped.spread few n sets.0 F.chunks (omega arith) sets.1.1 miss in
             elim (is-held z.0 z.1 z.2 (omega (arith, ge))) [
               | inl h ↦ not_both (sym z.4 ∙ h)
               | inr h ↦

@@ -3,11 +3,17 @@ use Rattle.sctp_delivery.proofs.Names.{common_steps, ◌≡◌, ℕ, zero, suc, 
 use Rattle.sctp_delivery.proofs.Names.{ap, sym, subst, ◌∙◌, arith, All, AllPairs, ◌==◌, ◌&&◌, if◌then◌else◌, slice_index_or, filter, list_all, cases_lt}
 use Rattle.sctp_delivery.proofs.Names.{nat_tests, same-is, same-yes, both, Message, SenderCall, Write, written_after, Call, RunsTo, Session, at_start}
 use Rattle.sctp_delivery.proofs.Names.{of_receiver, of_sender, StandAt, IsWrite, Modes, Sending, at_first, modes_after, modes_from, starting}
-use Rattle.sctp_delivery.proofs.Names.{AfterEachRunOfFewTsns}
+use Rattle.sctp_delivery.proofs.Names.{AfterEachRunOfFewTsns, not_both}
 use Rattle.std.specs.Prelude.{cond}
 use Rattle.sctp_delivery.specs.InOrder.{Are, AreAmong, AreReadInTurn, keeps_order, read_from, written_to}
 use Rattle.sctp_delivery.specs.Modes.{unknown, was_written_ordered}
 use Rattle.sctp_delivery.specs.Order.{places_where}
+use Rattle.sctp_delivery.specs.EveryCall.{AfterEachAnyOfFewBytes, AnyCall, RunsAny, is_single, is_steady, makes, of_receiving, of_sending, single_messages}
+use Rattle.sctp_delivery.specs.EveryOrder.{AreReadInTurnWhereUnbroken, is_ordered_throughout, is_unbroken, plain_calls}
+use Rattle.sctp_delivery.specs.Returns.{at_start_with}
+use Rattle.sctp_delivery.proofs.Cases.{at-test}
+use Rattle.sctp_delivery.proofs.Every.{Every, every-of, every-of-all}
+use Rattle.sctp_delivery.proofs.EveryMessages as messages
 use Rattle.sctp_delivery.proofs.ModeSessions.{read-as-written}
 
 -- ## The writes to an ordered stream
@@ -47,6 +53,20 @@ ordered-run st (of_sender call ∷ cs) old new m r e o =
     (subst (IsOrdered st (modes_after call m)) (sym (ap (λ (s : Session). s.written) r.1.0.after)) (after-call st call m old.written b.0 o))
 ordered-run st (of_receiver call ∷ cs) old new m r e o =
     ordered-run st cs r.0 new m r.1.1 e (subst (IsOrdered st m) (sym (ap (λ (s : Session). s.written) r.1.0.after)) o)
+
+ordered-any : (st : ℕ) (cs : List AnyCall) (old new : Session) (m : Modes) → RunsAny old cs new → list_all (keeps_order st) (plain_calls cs) ≡ true
+    → IsOrdered st m old.written → IsOrdered st (modes_from m (plain_calls cs)) new.written
+ordered-any st [] old new m r e o = subst (λ (s : Session). IsOrdered st m s.written) (sym r) o
+ordered-any st (makes (of_sender call) ∷ cs) old new m r e o =
+    let b = both (keeps_order st (of_sender call)) (list_all (keeps_order st) (plain_calls cs)) e in
+    ordered-any st cs r.0 new (modes_after call m) r.1.1 b.1
+    (subst (IsOrdered st (modes_after call m)) (sym (ap (λ (s : Session). s.written) r.1.0.after)) (after-call st call m old.written b.0 o))
+ordered-any st (makes (of_receiver call) ∷ cs) old new m r e o =
+    ordered-any st cs r.0 new m r.1.1 e (subst (IsOrdered st m) (sym (ap (λ (s : Session). s.written) r.1.0.after)) o)
+ordered-any st (of_sending call ∷ cs) old new m r e o =
+    ordered-any st cs r.0 new m r.1.1 e (subst (IsOrdered st m) (sym (ap (λ (s : Session). s.written) r.1.0.after)) o)
+ordered-any st (of_receiving call ∷ cs) old new m r e o =
+    ordered-any st cs r.0 new m r.1.1 e (subst (IsOrdered st m) (sym (ap (λ (s : Session). s.written) r.1.0.after)) o)
 
 -- ## Places that rise
 
@@ -140,6 +160,13 @@ module _ (st : ℕ) where
           let is : (v : Write) → IsWrite m (slice_index_or ws (p - 0) v) = λ v. subst (λ i. IsWrite m (slice_index_or ws i v)) same (s.0.1 v) in
           subst (λ u. AreFrom 0 ws (m ∷ fs) (if true && not u then p ∷ qs else qs)) (sym plain) ((here, (omega (arith, lt), is)), rest)
 
+  -- of messages at their places, where the places of those rise
+  among-places : (vs : List Sending) (ws : List Write) → AreOrderedOn st vs ws → (ms : List Message) (ps : List ℕ) → StandAt ws ms ps
+      → AllPairs (λ p q. p < q) (places_where (was_written_ordered vs st) ms ps) → AreAmong (filter (λ m. m.stream == st) ms) (on ws)
+  among-places vs ws o ms ps s h =
+      among 0 ws (filter (λ m. m.stream == st) ms) (places_where (was_written_ordered vs st) ms ps) (rise 0 _ (λ k d lt. omega arith) h)
+      (stand-on vs ws o ms ps s)
+
 -- ## As many
 
 fewer : (ms : List Message) (ws : List Write) → AreAmong ms ws → length ms ≤ length ws
@@ -165,6 +192,39 @@ in-turn tsn size max most limits cs s small some' r few =
     among-on st e =
         let law = read-as-written tsn size max most limits cs s small some' r few in
         let o = ordered-run st cs (at_start tsn size max most limits) s at_first r e (record { stream = refl; writes' = tt }) in
-        let vs = (modes_from at_first cs).of_writes in
-        among st 0 s.written (read_from st s) (places_where (was_written_ordered vs st) s.receiving.read law.0)
-        (rise 0 _ (λ k d lt. omega arith) (law.3 st)) (stand-on st vs s.written o.writes' s.receiving.read law.0 law.1)
+        among-places st (modes_from at_first cs).of_writes s.written o.writes' s.receiving.read law.0 law.1 (law.3 st)
+
+-- those on the stream, where each of these is single, are single
+same-on : (st : ℕ) (ms : List Message) → Every (λ (m : Message). (m.stream == st) ≡ true → is_single m.fragments ≡ true) ms
+    → filter (λ m. m.stream == st) (single_messages ms) ≡ filter (λ m. m.stream == st) ms
+same-on st [] h = refl
+same-on st (m ∷ ms) h = by (is_single m.fragments) refl (same-on st ms h.1)
+  where
+    on-it : List Message → List Message
+    on-it ks = filter (λ k. k.stream == st) ks
+
+    by : (b : Bool) → is_single m.fragments ≡ b → on-it (single_messages ms) ≡ on-it ms
+        → on-it (cond b (m ∷ single_messages ms) (single_messages ms)) ≡ on-it (m ∷ ms)
+    by true e ih = ap (λ ks. cond (m.stream == st) (m ∷ ks) ks) ih
+    by false e ih = at-test (λ c. on-it (single_messages ms) ≡ cond c (m ∷ on-it ms) (on-it ms)) (m.stream == st)
+        (λ f. absurd (not_both (sym e ∙ h.0 f)))
+        (λ f. ih)
+
+pub in-turn-any : AfterEachAnyOfFewBytes AreReadInTurnWhereUnbroken
+in-turn-any reported tsn size max most limits cs s r small some' few short =
+    record { among = among-on; all = λ st e le. are (read_from st s) (written_to st s) (among-on st e) le }
+  where
+    among-on : (st : ℕ) → is_ordered_throughout cs st ≡ true → AreAmong (read_from st s) (written_to st s)
+    among-on st e =
+        let b = both (is_unbroken cs st) (list_all (keeps_order st) (plain_calls cs)) e in
+        let law = messages.as-written reported tsn size max most limits cs s r small some' few short in
+        let o = ordered-any st cs (at_start_with reported tsn size max most limits) s at_first r b.1 (record { stream = refl; writes' = tt }) in
+        let single : Every (λ (m : Message). is_steady cs m.stream ≡ true → is_single m.fragments ≡ true) s.receiving.read =
+        every-of-all (λ m. is_steady cs m.stream ≡ true → is_single m.fragments ≡ true) s.receiving.read
+        (messages.are-single reported tsn size max most limits cs s r small some' few short) in
+        subst (λ ms. AreAmong ms (written_to st s))
+        (same-on st s.receiving.read
+        (every-of (λ (m : Message). is_steady cs m.stream ≡ true → is_single m.fragments ≡ true)
+        (λ (m : Message). (m.stream == st) ≡ true → is_single m.fragments ≡ true)
+        (λ m h f. h (ap (is_steady cs) (same-is m.stream st f) ∙ messages.steady-there false cs st b.0)) s.receiving.read single))
+        (among-places st (modes_from at_first (plain_calls cs)).of_writes s.written o.writes' (single_messages s.receiving.read) law.0 law.1 (law.3 st b.0))

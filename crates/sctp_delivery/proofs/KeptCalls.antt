@@ -10,7 +10,7 @@ use Rattle.sctp_delivery.proofs.Names.{is_ordered_on, has_tsn, is_on, ReceiverCa
 use Rattle.sctp_delivery.proofs.Names.{ChunkForwardTsnStream, ForwardTsn, is_complete, cannot_complete, names_closed, names_too_far, without_incomplete}
 use Rattle.sctp_delivery.proofs.Names.{is_pair_of, passes, was_taken, forward_tsn, nat_le, or-right}
 use Rattle.sctp_reassembly.specs.reassembly_queue.ReassemblyQueue.{after_ordered_skip, after_unordered_skip}
-use Rattle.sctp_delivery.proofs.Cases.{at-if, by-test}
+use Rattle.sctp_delivery.proofs.Cases.{all_streams, at-if, by-test}
 use Rattle.sctp_delivery.proofs.Every.{Every, every-joined, every-of, every-passing, one-of, every-contained, every-at, every-of-all}
 use Rattle.sctp_delivery.proofs.KeptSets.{IsTidy, IsUnordered, sets-those}
 use Rattle.sctp_delivery.proofs.UnwrappedReads.{leading-each, IsDue}
@@ -44,7 +44,7 @@ use Rattle.sctp_reassembly.specs.reassembly_queue.Skips.{after_incomplete_skip}
 use Rattle.sctp_delivery.proofs.Delivered.{EachSent}
 use Rattle.sctp_delivery.proofs.PassingCalls.{IsGone, resolved}
 use Rattle.sctp_delivery.proofs.PassedMessages.{AreCutGone, IsPassing}
-use Rattle.sctp_delivery.proofs.SackSteps.{known}
+use Rattle.sctp_delivery.proofs.SackSteps.{known, none_dropped}
 use Rattle.sctp_delivery.proofs.Sessions as made_in
 use Rattle.sctp_delivery.proofs.SpreadFlight.{IsMadeNaming}
 use Rattle.sctp_delivery.proofs.UnassembledGone.{gone-unassembled, was-unassembled}
@@ -119,7 +119,7 @@ module _ (first n : ℕ) (few : n < 2 ^ 31) (old new : Session) (ns : List Numbe
   answered = (i.answered st).0
 
   pub near : B n ≤ B a + 2 ^ 14
-  near = sessions.near st first n old ns sent i.spread few
+  near = sessions.near st first all_streams none_dropped refl n old ns sent i.spread few
 
   abbrev Late : Stand → ℕ → Type 0
   Late s = IsLate first sent st s.receiver.cumulative_tsn s.receiver.beyond
@@ -281,7 +281,7 @@ module _ (first n : ℕ) (few : n < 2 ^ 31) (old new : Session) (ns : List Numbe
     acc = f.step.receiver
 
     g : holds.IsStepOf p st n B E M c
-    g = sessions.step-of st first n old ns sent i.spread few c f.handed
+    g = sessions.step-of st first all_streams none_dropped refl n old ns sent i.spread few c f.handed
 
     fresh : come c.tsn r.cumulative_tsn r.beyond ≡ false
     fresh = fresh-new c.tsn said r f.accepted.1
@@ -360,7 +360,7 @@ module _ (first n : ℕ) (few : n < 2 ^ 31) (old new : Session) (ns : List Numbe
     -- one that did not come stands past it
     fresh-later : (c : ChunkPayloadData) (said : Bool) → ReceiverFollows (incoming.takes c (New said)) old new → Later c
     fresh-later c said f = fails (is_upto (base first) k.floor.floor c.tsn) (λ e.
-        let g = sessions.step-of st first n old ns sent i.spread few c f.handed in
+        let g = sessions.step-of st first all_streams none_dropped refl n old ns sent i.spread few c f.handed in
         let within = g.within in
         let is = upto-place p k.floor.floor (g.before + 1) c.tsn g.is (omega (arith, within, few)) in
         let test = sym is ∙ e in
@@ -421,7 +421,7 @@ module _ (first n : ℕ) (few : n < 2 ^ 31) (old new : Session) (ns : List Numbe
     Rises = holds.Rises p st n B E M
 
     accepted : (names_too_far g r ≡ false) × (names_closed g r ≡ false)
-    accepted = sessions.refused st first n old ns sent i.spread few g r f.accepted
+    accepted = sessions.refused st first all_streams none_dropped refl n old ns sent i.spread few g r f.accepted
 
     abbrev t : ℕ
     t = g.new_cumulative_tsn
@@ -429,12 +429,12 @@ module _ (first n : ℕ) (few : n < 2 ^ 31) (old new : Session) (ns : List Numbe
     -- what it names of the stream
     naming : IsNamingTo p st n B E M a m g.streams
     naming =
-        let x = every-contained (IsMadeNaming st p a sent) old.made (forward_tsn g) f.handed (i.spread.names st) in
+        let x = every-contained (IsMadeNaming st p a sent) old.made (forward_tsn g) f.handed (i.spread.names st refl) in
         let same : x.place ≡ m = same-place p x.place m (omega (arith, few)) (omega (arith, least, few)) (sym x.is ∙ pass.is) in
         subst (λ j. IsNamingTo p st n B E M a j g.streams) same x.tells
 
     missing : Misses p st n B E M few up m
-    missing j cs fits e = sessions.missed st first n old ns sent i.spread few m j cs least fits e
+    missing j cs fits e = sessions.missed st first all_streams none_dropped refl n old ns sent i.spread few m j cs least fits e
 
     at : (j y : ℕ) (cs : List ChunkPayloadData) → y ≤ n → Fits j cs → list_any (has_tsn (tsn p y)) cs ≡ true → B y ≡ j + 1
     at = at-in ns first sent line joined n i.spread.long few st

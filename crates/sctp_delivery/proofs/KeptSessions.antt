@@ -11,7 +11,7 @@ use Rattle.sctp_delivery.proofs.Names.{append-nil, distance, ReceiverCall}
 use Rattle.std.proofs.Common.{append_assoc}
 use Rattle.sctp_reassembly.specs.reassembly_queue.Counts.{set_chunks}
 use Rattle.sctp_receiver.specs.Inbound.{has_number}
-use Rattle.sctp_delivery.proofs.Cases.{at-if, at-test, by-test}
+use Rattle.sctp_delivery.proofs.Cases.{all_streams, at-if, at-test, by-test}
 use Rattle.sctp_delivery.proofs.Begun.{AreOnce, was_begun, begins}
 use Rattle.sctp_delivery.proofs.Delivered.{EachSent, IsReadOf, each-sent, follows, inner-of, message-is, next_tsn}
 use Rattle.sctp_delivery.proofs.Every.{Every, every-of, every-contained}
@@ -20,6 +20,7 @@ use Rattle.sctp_delivery.proofs.OnceWritten.{EachRead, places, apart, each-read,
 use Rattle.sctp_delivery.proofs.ReadOnce as read_once
 use Rattle.sctp_delivery.proofs.ReadOnce.{one}
 use Rattle.sctp_delivery.proofs.Senders.{AreSent}
+use Rattle.sctp_delivery.proofs.SackSteps.{none_dropped}
 use Rattle.sctp_delivery.proofs.Sent.{Entry, IsLine, IsPart, Numbered, contains-more, fragment, part-length, part-line, same-parts, same-tsn, terminal, WasSent}
 use Rattle.sctp_delivery.proofs.AbandonedMessages.{flight_of, gone-left}
 use Rattle.sctp_delivery.proofs.AllBegun.{begins_in}
@@ -536,11 +537,11 @@ sender-kept first n gone call old new ns sent few f k =
             i.spread.long x.spread.long few st i.spread.step.numbered.acked x.spread.step.numbered.acked old.receiving d (omega (arith, least, same))
             (calls.unarrived first n small old old ns sent i gone st) gone (gone ++ abandoned_by call old.sending.sender) old.made
             (made_after call old.sending.sender old.made) (gone-left gone (abandoned_by call old.sending.sender))
-            (λ t. made_in.more-made (passes t) call old.sending.sender old.made) (sessions.near st first n old ns sent i.spread small) (k.kept st));
+            (λ t. made_in.more-made (passes t) call old.sending.sender old.made) (sessions.near st first all_streams none_dropped refl n old ns sent i.spread small) (k.kept st));
         tight = λ st. tight-later st h.acked x.spread.step.numbered.acked x.more x.rises
             (tight-after st h.acked n sent x.more old.sending.sender call x.grown f.accepted x.spread.holds.held.stands.queued.indexed i.spread.long h.total
-            (are-steps first n sent i.spread.long small st h.acked cs h.total h.run known)
-            (are-on first n sent i.spread.long small st h.acked cs h.total h.run known) (k.tight st));
+            (are-steps all_streams first n sent i.spread.long small st refl h.acked cs h.total h.run known)
+            (are-on all_streams first n sent i.spread.long small st h.acked cs h.total h.run known) (k.tight st));
       },
     )
 

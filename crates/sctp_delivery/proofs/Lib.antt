@@ -40,9 +40,11 @@ pub mod ReadOnce
 pub mod OnceWritten
 pub mod Dropped
 pub mod EveryRuns
+pub mod EveryTurns
 pub mod EveryShadows
 pub mod EveryMessages
 pub mod EveryExamples
+pub mod ReopenedExamples
 pub mod StandsAny
 pub mod DiscardRuns
 pub mod DiscardExamples

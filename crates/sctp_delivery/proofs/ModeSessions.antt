@@ -52,16 +52,16 @@ abbrev pub AreInModes : (ℕ → Mode) → List OutboundStream → Type 0
 AreInModes f ls = Every (IsInModes f) ls
 
 -- a change of a stream by which its mode stays
-record KeepsMode (g : OutboundStream → OutboundStream) : Type 0 where
-  number : (l : OutboundStream) → (g l).stream_identifier ≡ l.stream_identifier
-  unordered : (l : OutboundStream) → (g l).unordered ≡ l.unordered
-  reliability : (l : OutboundStream) → (g l).reliability_type ≡ l.reliability_type
-  value : (l : OutboundStream) → (g l).reliability_value ≡ l.reliability_value
+pub record KeepsMode (g : OutboundStream → OutboundStream) : Type 0 where
+  pub number : (l : OutboundStream) → (g l).stream_identifier ≡ l.stream_identifier
+  pub unordered : (l : OutboundStream) → (g l).unordered ≡ l.unordered
+  pub reliability : (l : OutboundStream) → (g l).reliability_type ≡ l.reliability_type
+  pub value : (l : OutboundStream) → (g l).reliability_value ≡ l.reliability_value
 
 in-modes-kept : (f : ℕ → Mode) (g : OutboundStream → OutboundStream) → KeepsMode g → (l : OutboundStream) → IsInModes f l → IsInModes f (g l)
 in-modes-kept f g k l h = grind (arith, nat_tests)
 
-changed-in : (f : ℕ → Mode) (p : OutboundStream → Bool) (g : OutboundStream → OutboundStream) → KeepsMode g → (ls : List OutboundStream) → AreInModes f ls
+pub changed-in : (f : ℕ → Mode) (p : OutboundStream → Bool) (g : OutboundStream → OutboundStream) → KeepsMode g → (ls : List OutboundStream) → AreInModes f ls
     → AreInModes f (change_where p g ls)
 changed-in f p g k ls h = every-changed (IsInModes f) p g (λ l _ i. in-modes-kept f g k l i) ls h
 
@@ -452,7 +452,7 @@ said-of-few tsn size max most limits cs s small some r few =
 -- ## The law
 
 -- a message whose write is ordered begins with an ordered fragment
-starts-ordered : (m : Modes) (s : Session) (ns : List Numbered) (sent : List Entry) → IsAsSaid m s ns sent → AreNumbered ns → (st : ℕ) (o : Message)
+pub starts-ordered : (m : Modes) (s : Session) (ns : List Numbered) (sent : List Entry) → IsAsSaid m s ns sent → AreNumbered ns → (st : ℕ) (o : Message)
     (x : IsReadOf ns sent o) → was_written_ordered m.of_writes st o x.written.0 ≡ true → (x.chunk.unordered ≡ false) × (is_in_order st o ≡ true)
 starts-ordered m s ns sent said placed st o x h =
     let b = both (o.stream == st) (not (slice_index_or m.of_writes x.written.0 unknown).mode.unordered) h in

@@ -5,12 +5,13 @@ use Rattle.sctp_delivery.proofs.Names.{at_or_before, at_or_before16, or-left, or
 use Rattle.sctp_delivery.proofs.Names.{ChunkSet, data_of, has_tsn, is_complete, Reassembly, front_readable, is_readable, message_read, Reception, lowest_among}
 use Rattle.sctp_delivery.proofs.Names.{Session}
 use Rattle.sctp_util.specs.Serial.{distance16}
-use Rattle.sctp_delivery.proofs.Cases.{by-test}
+use Rattle.sctp_delivery.proofs.Cases.{all_streams, by-test}
 use Rattle.sctp_delivery.proofs.UnwrappedHolds.{IsCurrent, IsSome, IsWholeAt, whole-below, AreDue, Came, Fits, IsOf, at-in}
 use Rattle.sctp_delivery.proofs.Every.{Every}
 use Rattle.sctp_delivery.proofs.KeptOrGone as kept
 use Rattle.sctp_delivery.proofs.MessagePlaces.{misses-in}
 use Rattle.sctp_delivery.proofs.OrderedEntries.{begins_on, begun_on, one}
+use Rattle.sctp_delivery.proofs.SackSteps.{none_dropped}
 use Rattle.sctp_delivery.proofs.Sent.{Entry, Numbered, WasSent, fragment, terminal}
 use Rattle.sctp_delivery.proofs.SpreadCalls.{IsSpread}
 use Rattle.sctp_delivery.proofs.SpreadEntries.{at-here, at-more, begun_to, is_at, to-all, to-more}
@@ -84,7 +85,7 @@ module _ (st first n : ℕ) (few : n < 2 ^ 31) (s : Session) (ns : List Numbered
   Of = IsOf p st n B E M
 
   up : (j k : ℕ) → j ≤ k → B j ≤ B k
-  up = sessions.grows st first n s ns sent i few
+  up = sessions.grows st first all_streams none_dropped refl n s ns sent i few
 
   upto : (j m : ℕ) → j ≤ m → m ≤ n → at_or_before (tsn p j) (tsn p m) ≡ true
   upto j m le most =
@@ -117,7 +118,7 @@ module _ (st first n : ℕ) (few : n < 2 ^ 31) (s : Session) (ns : List Numbered
       place-in = kept.place-in ns first sent i.holds.held.stands.queued.line i.holds.held.stands.queued.joined n i.long few st
 
       pub same-index : c.index ≡ due.index
-      same-index = grind (arith, nat_tests, up i.step.numbered.acked d.arrived.place d.arrived.least_is, sessions.near st first n s ns sent i few)
+      same-index = grind (arith, nat_tests, up i.step.numbered.acked d.arrived.place d.arrived.least_is, sessions.near st first all_streams none_dropped refl n s ns sent i few)
 
       pub front-none : front_readable held.next_ssn held.ordered ≡ None
       front-none = grind (arith, nat_tests)
@@ -218,7 +219,7 @@ module _ (st first n : ℕ) (few : n < 2 ^ 31) (s : Session) (ns : List Numbered
                   let e = misses-in ns first sent i.holds.held.stands.queued.line i.holds.held.stands.queued.joined n i.long few st a.0 d.arrived.place w
                   (λ c o. let b = before' c o in omega (arith, b)) (λ c o e. let b = before' c o in omega (arith, b)) x.chunks a.1.1
                   (subst (Every IsSome) is c.some).0 open' in
-                  let z = sessions.missed st first n s ns sent i few d.arrived.place a.0 x.chunks w a.1.1 e in
+                  let z = sessions.missed st first all_streams none_dropped refl n s ns sent i few d.arrived.place a.0 x.chunks w a.1.1 e in
                   let f = in-front z.0 z.1 z.2 (omega (arith, same)) in
                   let head : f.0 ≡ x = front-same f.0 f.1 x xs (sym f.2 ∙ is) in
                   not_both (sym z.4 ∙ subst (λ (y : ChunkSet). list_any (has_tsn (tsn p z.0)) y.chunks ≡ true) head f.3)

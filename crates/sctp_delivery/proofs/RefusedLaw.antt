@@ -15,7 +15,7 @@ use Rattle.sctp_receiver.specs.declared.receiver.refusal.ReceiverRefusal.TheVari
 use Rattle.sctp_receiver.specs.Receiver.{message_of, stream_refusal}
 use Rattle.sctp_delivery.specs.ReceiverCalls as incoming
 use Rattle.sctp_delivery.specs.Refused.{NoneInFlightIsRefused, is_due_on, IsCopy, NoneIsRefusedWhereRead}
-use Rattle.sctp_delivery.proofs.Cases.{at-if, at-test, by-test}
+use Rattle.sctp_delivery.proofs.Cases.{all_streams, at-if, at-test, by-test}
 use Rattle.sctp_delivery.proofs.Delivered.{found-sent}
 use Rattle.sctp_delivery.proofs.EntryLengths.{unassembled-fits, set-fits, part-fits}
 use Rattle.sctp_delivery.proofs.Every.{Every, every-contained, every-of-all, one-of, every-found, every-changed, every-joined, every-mapped}
@@ -30,7 +30,7 @@ use Rattle.sctp_delivery.proofs.NotRefused.{begun-low, near-distance, same-index
 use Rattle.sctp_delivery.proofs.GivenTsns.{flight-given}
 use Rattle.sctp_delivery.proofs.ReadOnce.{one}
 use Rattle.sctp_delivery.proofs.SackLaws as sacks
-use Rattle.sctp_delivery.proofs.SackSteps.{known}
+use Rattle.sctp_delivery.proofs.SackSteps.{known, none_dropped}
 use Rattle.sctp_delivery.proofs.Sent.{Entry, WasSent, fragment, part-line}
 use Rattle.sctp_delivery.proofs.Sessions as made_in
 use Rattle.sctp_delivery.proofs.SpreadCalls.{IsSpread}
@@ -262,7 +262,7 @@ module _ (first n : ℕ) (few : n < 2 ^ 31) (gone : List ℕ) (s : Session) (h :
       windowed =
           let queued = spread.holds.held.stands.queued in
           let on : is_ordered_on st x ≡ true = and (x.stream_identifier == st) (not x.unordered) (same-yes x.stream_identifier) (ap not ordered) in
-          let entry = made-entry h.numbered first sent queued.line queued.indexed queued.joined st x was in
+          let entry = made-entry all_streams h.numbered first sent queued.line queued.indexed queued.joined st refl x was in
           let long = spread.long in
           let within = entry.within in
           let at = entry-at h.numbered first sent queued.line queued.joined n long few x was (entry.before + 1) (omega (arith, within, long)) entry.is in
@@ -271,8 +271,8 @@ module _ (first n : ℕ) (few : n < 2 ^ 31) (gone : List ℕ) (s : Session) (h :
           let past = c.late (entry.before + 1) (omega (arith, within, long))
           (inl (data_of x, at.0, at.1, on), ap (λ t. come t r.cumulative_tsn r.beyond) (sym entry.is) ∙ fresh) in
           let low = begun-low st first n few s h.numbered sent spread d held due Late c none in
-          let least = sessions.grows st first n s h.numbered sent spread few spread.step.numbered.acked d.arrived.place d.arrived.least_is in
-          let top = sessions.grows st first n s h.numbered sent spread few (entry.before + 1) n (omega (arith, within, long)) in
+          let least = sessions.grows st first all_streams none_dropped refl n s h.numbered sent spread few spread.step.numbered.acked d.arrived.place d.arrived.least_is in
+          let top = sessions.grows st first all_streams none_dropped refl n s h.numbered sent spread few (entry.before + 1) n (omega (arith, within, long)) in
           let from = due.from in
           record {
             index = number.0;
@@ -287,7 +287,7 @@ module _ (first n : ℕ) (few : n < 2 ^ 31) (gone : List ℕ) (s : Session) (h :
             };
             number = number.2;
             from = omega (arith, past, index, from, same-index st first n few s h.numbered sent spread d held due Late c none);
-            upto = omega (arith, index, top, sessions.near st first n s h.numbered sent spread few, least, low);
+            upto = omega (arith, index, top, sessions.near st first all_streams none_dropped refl n s h.numbered sent spread few, least, low);
           }
 
       -- its number is not too far
@@ -313,7 +313,7 @@ module _ (first n : ℕ) (few : n < 2 ^ 31) (gone : List ℕ) (s : Session) (h :
           let same : a.0 ≡ w.index = omega (arith, number, a.1.0.0, a.1.0.1, le) in
           let fits = subst (λ k. Fits p st n B E M k y.chunks) same a.1.1 in
           let queued = spread.holds.held.stands.queued in
-          let put = rises-put p st n B E M few (sessions.grows st first n s h.numbered sent spread few) w.index 0 x y.chunks w.of (omega arith)
+          let put = rises-put p st n B E M few (sessions.grows st first all_streams none_dropped refl n s h.numbered sent spread few) w.index 0 x y.chunks w.of (omega arith)
           v.0 fits in
           let all = set-fits st first n few h.numbered sent spread.long queued.line queued.joined max bound w.index
           (insert_before chunk_before x y.chunks)

@@ -2,8 +2,8 @@
 use Rattle.sctp_delivery.proofs.Names.{◌≡◌, ℕ, ◌+◌, ◌%◌, ◌^◌, ◌<◌, ◌≤◌, Bool, true, false, not, List, [], ◌∷◌, length, inl, inr, refl, ap, sym, subst, ◌∙◌}
 use Rattle.sctp_delivery.proofs.Names.{arith, ⊤, ◌==◌, ◌&&◌, if◌then◌else◌, nat_le, cases_lt, nat_tests, negated, same-is, same-yes, and, both, not_both, tsn}
 use Rattle.sctp_delivery.proofs.Names.{ChunkPayloadData, Data, data_of, is_ordered_on}
-use Rattle.sctp_delivery.proofs.Cases.{Where, all_streams, where-map}
-use Rattle.sctp_delivery.proofs.OrderedEntries.{AreIndexed, AreJoined, IsIndexed, IsLatest, IsNumberOf, begins-inner, begun_on, ends_on, latest-here, one}
+use Rattle.sctp_delivery.proofs.Cases.{Where, all_streams, where-is, where-map}
+use Rattle.sctp_delivery.proofs.OrderedEntries.{AreIndexedOn, AreJoined, IsIndexed, IsLatest, IsNumberOf, begins-inner, begun_on, ends_on, latest-here, one}
 use Rattle.sctp_delivery.proofs.OrderedEntries.{part-fewer, part-indexed}
 use Rattle.sctp_delivery.proofs.Sent.{Entry, IsLine, IsPart, Numbered, WasSent, fragment, part-itself, part-length, part-line, same-parts, tail-part, terminal}
 use Rattle.sctp_delivery.proofs.TsnPlaces.{base}
@@ -197,11 +197,11 @@ pub record IsEntry (st first : ℕ) (sent : List Entry) (c : ChunkPayloadData) :
   pub next : c.ending_fragment ≡ false → before + 1 < length sent
       → (is_at st (before + 1 + 1) sent ≡ is_ordered_on st c) × (begun_to st (before + 1 + 1) sent ≡ begun_to st (before + 1) sent)
 
-pub made-entry : (ws : List Numbered) (first : ℕ) (sent : List Entry) → IsLine ws first sent → AreIndexed sent → AreJoined sent → (st : ℕ)
-    (c : ChunkPayloadData) → WasSent sent (data_of c) → IsEntry st first sent c
-made-entry ws first sent line indexed joined st c (w, after, xs, part) =
+pub made-entry : (on : ℕ → Bool) (ws : List Numbered) (first : ℕ) (sent : List Entry) → IsLine ws first sent → AreIndexedOn on sent → AreJoined sent
+    → (st : ℕ) → on st ≡ true → (c : ChunkPayloadData) → WasSent sent (data_of c) → IsEntry st first sent c
+made-entry on ws first sent line indexed joined st o c (w, after, xs, part) =
     let l = part-line ws first sent (fragment (data_of c) w after ∷ xs) part line in
-    let i = part-indexed all_streams sent (fragment (data_of c) w after ∷ xs) part indexed in
+    let i = part-indexed on sent (fragment (data_of c) w after ∷ xs) part indexed in
     let number = l.0.number in
     let long : length (fragment (data_of c) w after ∷ xs) ≡ length xs + 1 = omega arith in
     let before = to-part st sent xs (tail-part sent xs (fragment (data_of c) w after) part) in
@@ -213,7 +213,8 @@ made-entry ws first sent line indexed joined st c (w, after, xs, part) =
       is = omega (arith, number);
       step =
           subst (λ m. IsStep st m (begun_to st (length xs + 1) sent) c) (sym before)
-          (subst (λ m. IsStep st (begun_on st xs) m c) (sym upto) (step-fragment st c w after xs (λ _. i.0)));
+          (subst (λ m. IsStep st (begun_on st xs) m c) (sym upto) (step-fragment st c w after xs
+          (λ same. where-is (on c.stream_identifier) (IsIndexed (data_of c) xs) (ap on same ∙ o) i.0)));
       inner = λ e. let none = ap one (begins-inner st (data_of c) e) in omega (arith, none, upto, before);
       on = ap (λ k. is_at st k sent) (sym long) ∙ at-part st sent (fragment (data_of c) w after ∷ xs) part;
       prior = λ e. at-before st sent (data_of c) w after xs joined part e;

@@ -7,11 +7,12 @@ use Rattle.sctp_delivery.proofs.Names.{past_number, IsRunFrom, Made, data_chunk,
 use Rattle.std.proofs.Common.{◌⊎◌}
 use Rattle.std.specs.List.{find}
 use Rattle.sctp_delivery.proofs.GivenTsns.{IsNumbered, IsPassable, lead, rest-run}
-use Rattle.sctp_delivery.proofs.InFlight.{AreKnown}
+use Rattle.sctp_delivery.proofs.Cases.{where-is}
+use Rattle.sctp_delivery.proofs.InFlight.{AreKnownOn}
 use Rattle.sctp_delivery.proofs.OrderedEntries.{IsLatest, begun_on}
 use Rattle.sctp_delivery.proofs.Queues.{IsOnceMore}
 use Rattle.sctp_delivery.proofs.Sent.{Entry, part-length, tail-part}
-use Rattle.sctp_delivery.proofs.SpreadEntries.{IsPlaced, IsStep, at-more, at-part, begun_to, is_at, to-more, to-part, to-up}
+use Rattle.sctp_delivery.proofs.SpreadEntries.{IsPlacedOn, IsStep, at-more, at-part, begun_to, is_at, to-more, to-part, to-up}
 use Rattle.sctp_delivery.proofs.TsnPlaces.{base}
 use Rattle.sctp_delivery.proofs.Sessions.{unnot}
 
@@ -20,16 +21,16 @@ abbrev pub AreSteps : ℕ → List Entry → ℕ → List ChunkPayloadData → T
 AreSteps st sent a [] = ⊤
 AreSteps st sent a (c ∷ cs) = IsStep st (begun_to st a sent) (begun_to st (a + 1) sent) c × AreSteps st sent (a + 1) cs
 
-pub are-steps : (first n : ℕ) (sent : List Entry) → length sent ≡ n → n < 2 ^ 31 → (st a : ℕ) (cs : List ChunkPayloadData) → a + length cs ≡ n
-    → IsRunFrom (tsn (base first) (a + 1)) cs → AreKnown first sent cs → AreSteps st sent a cs
-are-steps first n sent long few st a [] total run known = tt
-are-steps first n sent long few st a (c ∷ cs) total run known =
-    (here known.0.1, are-steps first n sent long few st (a + 1) cs (omega (arith, total)) r.1 known.1)
+pub are-steps : (on : ℕ → Bool) (first n : ℕ) (sent : List Entry) → length sent ≡ n → n < 2 ^ 31 → (st : ℕ) → on st ≡ true → (a : ℕ)
+    (cs : List ChunkPayloadData) → a + length cs ≡ n → IsRunFrom (tsn (base first) (a + 1)) cs → AreKnownOn on first sent cs → AreSteps st sent a cs
+are-steps on first n sent long few st o a [] total run known = tt
+are-steps on first n sent long few st o a (c ∷ cs) total run known =
+    (here known.0.1, are-steps on first n sent long few st o (a + 1) cs (omega (arith, total)) r.1 known.1)
   where
     r : (c.tsn ≡ tsn (base first) (a + 1)) × IsRunFrom (tsn (base first) (a + 1 + 1)) cs
     r = rest-run (base first) a c cs run
 
-    here : IsPlaced first sent c → IsStep st (begun_to st a sent) (begun_to st (a + 1) sent) c
+    here : IsPlacedOn on first sent c → IsStep st (begun_to st a sent) (begun_to st (a + 1) sent) c
     here i =
         let within = part-length sent (i.entry ∷ i.entries) i.part in
         let number = i.number in
@@ -40,21 +41,22 @@ are-steps first n sent long few st a (c ∷ cs) total run known =
         sym (to-part st sent i.entries (tail-part sent i.entries i.entry i.part)) ∙ ap (λ k. begun_to st k sent) same in
         let upto : begun_on st (i.entry ∷ i.entries) ≡ begun_to st (a + 1) sent =
         sym (to-part st sent (i.entry ∷ i.entries) i.part) ∙ ap (λ k. begun_to st k sent) next in
-        subst (λ m. IsStep st (begun_to st a sent) m c) upto (subst (λ m. IsStep st m (begun_on st (i.entry ∷ i.entries)) c) before (i.step st))
+        subst (λ m. IsStep st (begun_to st a sent) m c) upto (subst (λ m. IsStep st m (begun_on st (i.entry ∷ i.entries)) c) before
+        (where-is (on st) (IsStep st (begun_on st i.entries) (begun_on st (i.entry ∷ i.entries)) c) o (i.step st)))
 
 -- whether it is an ordered one of the stream
 abbrev pub AreOn : ℕ → List Entry → ℕ → List ChunkPayloadData → Type 0
 AreOn st sent a [] = ⊤
 AreOn st sent a (c ∷ cs) = (is_ordered_on st c ≡ is_at st (a + 1) sent) × AreOn st sent (a + 1) cs
 
-pub are-on : (first n : ℕ) (sent : List Entry) → length sent ≡ n → n < 2 ^ 31 → (st a : ℕ) (cs : List ChunkPayloadData) → a + length cs ≡ n
-    → IsRunFrom (tsn (base first) (a + 1)) cs → AreKnown first sent cs → AreOn st sent a cs
-are-on first n sent long few st a [] total run known = tt
-are-on first n sent long few st a (c ∷ cs) total run known =
+pub are-on : (on : ℕ → Bool) (first n : ℕ) (sent : List Entry) → length sent ≡ n → n < 2 ^ 31 → (st a : ℕ) (cs : List ChunkPayloadData)
+    → a + length cs ≡ n → IsRunFrom (tsn (base first) (a + 1)) cs → AreKnownOn on first sent cs → AreOn st sent a cs
+are-on on first n sent long few st a [] total run known = tt
+are-on on first n sent long few st a (c ∷ cs) total run known =
     let r = rest-run (base first) a c cs run in
-    (here known.0.1 r.0, are-on first n sent long few st (a + 1) cs (omega (arith, total)) r.1 known.1)
+    (here known.0.1 r.0, are-on on first n sent long few st (a + 1) cs (omega (arith, total)) r.1 known.1)
   where
-    here : IsPlaced first sent c → c.tsn ≡ tsn (base first) (a + 1) → is_ordered_on st c ≡ is_at st (a + 1) sent
+    here : IsPlacedOn on first sent c → c.tsn ≡ tsn (base first) (a + 1) → is_ordered_on st c ≡ is_at st (a + 1) sent
     here i given =
         let within = part-length sent (i.entry ∷ i.entries) i.part in
         let number = i.number in

@@ -17,7 +17,7 @@ use Rattle.sctp_delivery.proofs.UnwrappedArrived.{at-within}
 
 -- ## Entries
 
-step-few : (st : ℕ) (x : Entry) (xs : List Entry) → begun_on st (x ∷ xs) ≤ begun_on st xs + 1
+pub step-few : (st : ℕ) (x : Entry) (xs : List Entry) → begun_on st (x ∷ xs) ≤ begun_on st xs + 1
 step-few st terminal xs = omega arith
 step-few st (fragment d w after) xs = let h = one-most (begins_on st d) in omega (arith, h)
 

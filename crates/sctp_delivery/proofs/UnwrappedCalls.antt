@@ -7,7 +7,7 @@ use Rattle.sctp_delivery.proofs.Names.{ChunkForwardTsnStream, ChunkSet, ForwardT
 use Rattle.sctp_delivery.proofs.Names.{held_after_unordered_skip, message_read, cannot_complete, misses, InboundStream, new_stream, number, skipped_each}
 use Rattle.sctp_delivery.proofs.Names.{ssns_of, stream_forwarded, stream_read, unassembled_forwarded, with_queue, Accepts, Reception, filter_of}
 use Rattle.sctp_delivery.proofs.Names.{follow_forward_tsn, is_open, is_stale, message_on, stream_of, Message, Stand, after_forward_tsn, incomplete_forwarded}
-use Rattle.sctp_delivery.proofs.Names.{is_ahead, names_closed, names_too_far, without_incomplete, is_name_too_far, is_named_too_far, is_ssn_too_far}
+use Rattle.sctp_delivery.proofs.Names.{is_ahead, names_too_far, with_filter, with_tsn, without_incomplete, is_name_too_far, is_named_too_far, is_ssn_too_far}
 use Rattle.sctp_delivery.proofs.Names.{is_too_far_on, has_come, is_pair_of, is_ordered_on, found-passes}
 use Rattle.std.specs.Prelude.{is_some}
 use Rattle.sctp_receiver.specs.Inbound.{has_number}
@@ -144,11 +144,10 @@ module _ (p st n : ℕ) (B : ℕ → ℕ) (E : ℕ → Bool) (M : ChunkPayloadDa
           (ap (λ b. not b && is_ssn_too_far c.stream_sequence_number q) (sym kind) ∙ close)
 
     module _ (a : ℕ) (near : B n ≤ B a + 2 ^ 14) where
-      -- a chunk with a new TSN, that is not too far past the lowest number
-      module _ (c : ChunkPayloadData) (answered : Bool) (old new : Stand) (d : AreDue a old) (g : IsStepOf c)
-          (acc : Accepts c answered old.receiver new.receiver)
-          (read : new.read ≡ old.read) (fresh : has_come c.tsn (filter_of old.receiver) ≡ false)
-          (close : is_too_far_on c (stream_of c.stream_identifier old.receiver) ≡ false) where
+      -- a chunk with a new TSN comes
+      module _ (c : ChunkPayloadData) (old new : Stand) (d : AreDue a old) (g : IsStepOf c) (kept : Reception)
+          (after : new.receiver ≡ with_filter (with_tsn c.tsn (filter_of old.receiver)) kept) (read : new.read ≡ old.read)
+          (fresh : has_come c.tsn (filter_of old.receiver) ≡ false) where
         abbrev Old : ℕ → Type 0
         Old = Came old.receiver.cumulative_tsn old.receiver.beyond
 
@@ -172,7 +171,7 @@ module _ (p st n : ℕ) (B : ℕ → ℕ) (E : ℕ → Bool) (M : ChunkPayloadDa
         back y le h =
             let k = advance-back p st n B E M few up (d.reach + B (g.before + 1)) d.arrived.place old.receiver.cumulative_tsn
             (insert_before comes_before c.tsn old.receiver.beyond) (inserted (d.reach + B (g.before + 1)) (omega arith) (inr (omega arith))) y le
-            (subst (λ (r : Reception). come (tsn p y) r.cumulative_tsn r.beyond ≡ true) acc.after h.1) in
+            (subst (λ (r : Reception). come (tsn p y) r.cumulative_tsn r.beyond ≡ true) after h.1) in
             elim (or-split (at_or_before (tsn p y) old.receiver.cumulative_tsn)
             (list_any (λ t. t == tsn p y) (insert_before comes_before c.tsn old.receiver.beyond)) k) [
               | inl z ↦ inl (h.0, or-left (at_or_before (tsn p y) old.receiver.cumulative_tsn) (list_any (λ t. t == tsn p y) old.receiver.beyond) z)
@@ -195,17 +194,37 @@ module _ (p st n : ℕ) (B : ℕ → ℕ) (E : ℕ → Bool) (M : ChunkPayloadDa
           turns = subst (AreInTurn d.k) (sym read) d.turns;
           most = most;
           arrived =
-              subst (λ (r : Reception). Covers more d.arrived.place r.cumulative_tsn r.beyond) (sym acc.after)
+              subst (λ (r : Reception). Covers more d.arrived.place r.cumulative_tsn r.beyond) (sym after)
               (advanced p st n B E M few up more d.arrived.place old.receiver.cumulative_tsn (insert_before comes_before c.tsn old.receiver.beyond)
               (inserted more le so));
         }
 
+        -- one that is no ordered one of the stream, where on the stream is due what was
+        pub other-due : is_ordered_on st c ≡ false → DueOn Old d.k d.reach (stream_of st new.receiver) → AreDue d.arrived.place new
+        other-due e due = build d.reach (omega arith) d.most
+            (on-of p st n B E M few up Old (Came new.receiver.cumulative_tsn new.receiver.beyond) less d.k d.reach (stream_of st new.receiver) due)
+            (inl (let x = g.other e in omega (arith, x)))
+          where
+            less : (y : ℕ) → y ≤ n → Came new.receiver.cumulative_tsn new.receiver.beyond y → Old y
+            less y le h = elim (back y le h) [ inl z ↦ z | inr z ↦ absurd (not_both (sym (ap E z.0 ∙ g.on ∙ e) ∙ z.1)) ]
+
+      -- that is not too far past the lowest number
+      module _ (c : ChunkPayloadData) (answered : Bool) (old new : Stand) (d : AreDue a old) (g : IsStepOf c)
+          (acc : Accepts c answered old.receiver new.receiver)
+          (read : new.read ≡ old.read) (fresh : has_come c.tsn (filter_of old.receiver) ≡ false)
+          (close : is_too_far_on c (stream_of c.stream_identifier old.receiver) ≡ false) where
+        abbrev Was : ℕ → Type 0
+        Was = Came old.receiver.cumulative_tsn old.receiver.beyond
+
+        abbrev with_chunk : Reception
+        with_chunk = record old.receiver { streams = change_where (has_number c.stream_identifier) (with_queue acc.queue) old.receiver.streams }
+
         -- what is due on the stream, where it is that of the chunk
         is-due : (C : ℕ → Type 0) (k reach : ℕ) → (is_on st c ≡ false → DueOn C k reach (stream_of st old.receiver))
-            → (is_on st c ≡ true → IsDue p n B Fits Old d.k d.reach acc.stream.queue.held → IsDue p n B Fits C k reach acc.queue.held)
+            → (is_on st c ≡ true → IsDue p n B Fits Was d.k d.reach acc.stream.queue.held → IsDue p n B Fits C k reach acc.queue.held)
             → DueOn C k reach (stream_of st new.receiver)
         is-due C k reach off on = accepted-on c answered old.receiver new.receiver acc st (DueOn C k reach) off
-            (λ e there. on e (subst (DueOn Old d.k d.reach) there d.due))
+            (λ e there. on e (subst (DueOn Was d.k d.reach) there d.due))
 
         ordered : is_ordered_on st c ≡ true → AreDue d.arrived.place new
         ordered e = elim (cases_lt d.reach (i + 1)) [
@@ -225,8 +244,8 @@ module _ (p st n : ℕ) (B : ℕ → ℕ) (E : ℕ → Bool) (M : ChunkPayloadDa
             kind : c.unordered ≡ false
             kind = negated c.unordered on.1
 
-            dd : IsDue p n B Fits Old d.k d.reach acc.stream.queue.held
-            dd = subst (DueOn Old d.k d.reach) (subst (λ s. stream_of s old.receiver ≡ Some acc.stream) (same-is c.stream_identifier st on.0) acc.found) d.due
+            dd : IsDue p n B Fits Was d.k d.reach acc.stream.queue.held
+            dd = subst (DueOn Was d.k d.reach) (subst (λ s. stream_of s old.receiver ≡ Some acc.stream) (same-is c.stream_identifier st on.0) acc.found) d.due
 
             top : B (g.before + 1) ≤ B n
             top = up (g.before + 1) n g.within
@@ -241,26 +260,22 @@ module _ (p st n : ℕ) (B : ℕ → ℕ) (E : ℕ → Bool) (M : ChunkPayloadDa
             put more le lt far most =
                 let b = o.1 in
                 let at : has_tsn (tsn p (g.before + 1)) c ≡ true = eq-eqb c.tsn (tsn p (g.before + 1)) g.is in
-                let x = push-ordered p n B Fits Old (at-in p st n B E M few up) d.k d.reach more i (g.before + 1) c answered acc.stream.queue acc.queue dd kind
+                let x = push-ordered p n B Fits Was (at-in p st n B E M few up) d.k d.reach more i (g.before + 1) c answered acc.stream.queue acc.queue dd kind
                 (of, omega arith, tt)
                 (λ cs none r. rises-put p st n B E M few up i 0 c cs of (omega arith) none r) o.2 at o.1 wide.0 wide.1 le lt far acc.pushed in
-                build more le most (is-due (Came new.receiver.cumulative_tsn new.receiver.beyond) d.k more (λ no. absurd (not_both (sym no ∙ on.0)))
+                build c old new d g with_chunk acc.after read fresh more le most (is-due (Came new.receiver.cumulative_tsn new.receiver.beyond) d.k more (λ no. absurd (not_both (sym no ∙ on.0)))
                 (λ yes held.
-                recame p n B Fits Old (Came new.receiver.cumulative_tsn new.receiver.beyond) d.k more acc.queue.held x.0 (λ y m h. elim (back y m h) [
+                recame p n B Fits Was (Came new.receiver.cumulative_tsn new.receiver.beyond) d.k more acc.queue.held x.0
+                (λ y m h. elim (back c old new d g with_chunk acc.after read fresh y m h) [
                   | inl z ↦ inl z
-                  | inr z ↦ inr (subst (IsKeptAt p n B Fits Old x.0.index acc.queue.held.ordered) (sym z.0) x.1)
+                  | inr z ↦ inr (subst (IsKeptAt p n B Fits Was x.0.index acc.queue.held.ordered) (sym z.0) x.1)
                 ]))) (inr (omega (arith, b, lt)))
 
         other : is_ordered_on st c ≡ false → AreDue d.arrived.place new
-        other e = build d.reach (omega arith) d.most
-            (on-of p st n B E M few up Old (Came new.receiver.cumulative_tsn new.receiver.beyond) less d.k d.reach (stream_of st new.receiver)
-            (is-due Old d.k d.reach (λ no. d.due) (λ on held.
-            push-unordered p n B Fits Old (at-in p st n B E M few up) d.k d.reach c answered acc.stream.queue acc.queue
-            (unnot c.unordered (ap (λ b. b && not c.unordered) (sym on) ∙ e)) acc.pushed held)))
-            (inl (let x = g.other e in omega (arith, x)))
-          where
-            less : (y : ℕ) → y ≤ n → Came new.receiver.cumulative_tsn new.receiver.beyond y → Old y
-            less y le h = elim (back y le h) [ inl z ↦ z | inr z ↦ absurd (not_both (sym (ap E z.0 ∙ g.on ∙ e) ∙ z.1)) ]
+        other e = other-due c old new d g with_chunk acc.after read fresh e
+            (is-due Was d.k d.reach (λ no. d.due) (λ on held.
+            push-unordered p n B Fits Was (at-in p st n B E M few up) d.k d.reach c answered acc.stream.queue acc.queue
+            (unnot c.unordered (ap (λ b. b && not c.unordered) (sym on) ∙ e)) acc.pushed held))
 
         pub taken-due : AreDue d.arrived.place new
         taken-due = by-test (is_ordered_on st c) ordered other
@@ -461,7 +476,9 @@ module _ (p st n : ℕ) (B : ℕ → ℕ) (E : ℕ → Bool) (M : ChunkPayloadDa
 
     module _ (a : ℕ) (near : B n ≤ B a + 2 ^ 14) (f : ForwardTsn) (m : ℕ) (old new : Stand) (d : AreDue a old) (le : m ≤ n)
         (is : f.new_cumulative_tsn ≡ tsn p m) (after : new.receiver ≡ after_forward_tsn f old.receiver) (read : new.read ≡ old.read)
-        (naming : IsNamingTo a m f.streams) (answered : names_too_far f old.receiver ≡ false) (shut : names_closed f old.receiver ≡ false)
+        (naming : IsNamingTo a m f.streams) (answered : names_too_far f old.receiver ≡ false)
+        (open' : d.arrived.place < m → (j : ℕ) → filter (is_pair_of st) f.streams ≡ record { identifier = st; sequence = j } ∷ []
+        → is_open st old.receiver ≡ true)
         (missing : Misses m) where
       abbrev t : ℕ
       t = f.new_cumulative_tsn
@@ -560,9 +577,7 @@ module _ (p st n : ℕ) (B : ℕ → ℕ) (E : ℕ → Bool) (M : ChunkPayloadDa
 
           by : (o : Option InboundStream) → stream_of st old.receiver ≡ o → AreDue d.arrived.place new
           by None g =
-              let open' = none-among a f m old d le is (λ x. not (is_open x.identifier old.receiver)) shut lt
-              (record { identifier = st; sequence = j % 2 ^ 16 }) only in
-              absurd (not_both (sym open' ∙ ap (λ o. not (is_some o)) g))
+              absurd (not_both (sym (ap is_some g) ∙ open' lt (j % 2 ^ 16) only))
           by (Some l) g =
               let held = subst (DueOn Prior d.k d.reach) g d.due in
               let w = name-within a f m old d le is near lt j last in

@@ -1,30 +1,32 @@
--- In each session in which every FORWARD-TSN names a stream, the indexes of the ordered messages that are read on it rise.
+-- In each session the indexes of the ordered messages that are read on a stream rise, where its numbers go on and each FORWARD-TSN names it.
 use Rattle.sctp_delivery.proofs.Names.{◌≡◌, ℕ, ◌+◌, ◌-◌, ◌^◌, ◌<◌, ◌≤◌, Bool, true, false, List, [], ◌∷◌, length, Option, Some, None, inl, inr, refl, ap, sym}
 use Rattle.sctp_delivery.proofs.Names.{subst, ◌∙◌, arith, Contains, IfSome, find, if◌then◌else◌, ◌⊎◌, list_any, none-some, distance, not_both, tsn}
 use Rattle.sctp_delivery.proofs.Names.{ChunkPayloadData, ChunkSet, data_of, Sack, expiring, expiring_tail, message_of, Reassembly, New, InboundStream, Limits}
 use Rattle.sctp_delivery.proofs.Names.{NamedSsnTooFar, NamedStreamUnknown, Reception, forward_refusal, stream_of, Message, Stand, names_closed, names_too_far}
 use Rattle.sctp_delivery.proofs.Names.{skip_refusal, after_sack, is_outdated, message_to_abandon, take_sack, late_order, worn_order, Transmission, after_expire}
 use Rattle.sctp_delivery.proofs.Names.{OutboundStream, ReceiverCall, reports_after, SenderCall, data_chunk, forward_tsn, ReceiverFollows, SenderFollows}
-use Rattle.sctp_delivery.proofs.Names.{Session, at_start, misses, has_tsn, cases_lt}
+use Rattle.sctp_delivery.proofs.Names.{Session, at_start, misses, has_tsn, cases_lt, Ledger, ForwardTsn, after_forward_tsn, filter, is_open, is_pair_of, not}
 use Rattle.std.specs.Prelude.{is_some}
 use Rattle.sctp_receiver.specs.Inbound.{has_number}
 use Rattle.sctp_sender.specs.Sender.{stream_of as sender_stream}
 use Rattle.sctp_delivery.specs.ReceiverCalls as incoming
 use Rattle.sctp_delivery.specs.SenderCalls as outgoing
-use Rattle.sctp_delivery.proofs.Cases.{by-test}
-use Rattle.sctp_delivery.proofs.Delivered.{found-sent, next_tsn}
+use Rattle.sctp_delivery.proofs.Cases.{all_streams, by-test}
+use Rattle.sctp_delivery.proofs.Delivered.{found-sent-on, next_tsn}
 use Rattle.sctp_delivery.proofs.UnwrappedArrived.{Rising, between, missing}
 use Rattle.sctp_delivery.proofs.Every.{Every, every-contained, every-of}
 use Rattle.sctp_delivery.proofs.GivenTsns.{raises-abandoned, raises-each}
 use Rattle.sctp_delivery.proofs.Queues.{IsOnceMore}
 use Rattle.sctp_delivery.proofs.SackSteps.{flight_of, written-open}
+use Rattle.sctp_delivery.proofs.SackSteps.{none_dropped}
 use Rattle.sctp_delivery.proofs.Sent.{Entry, Numbered, WasSent, sent-more}
-use Rattle.sctp_delivery.proofs.SpreadCalls.{IsSpread, Spreads, receiver-spreads, spread-first}
+use Rattle.sctp_delivery.proofs.Sessions.{unnot}
+use Rattle.sctp_delivery.proofs.SpreadCalls.{IsSpread, IsSpreadOn, Spreads, SpreadsOn, receiver-spreads, spread-first-on}
 use Rattle.sctp_delivery.proofs.SpreadEntries.{IsEntry, at-more, begun_to, is_at, made-entry, to-all, to-more, to-up}
 use Rattle.sctp_delivery.proofs.SpreadFlight.{IsMadeNaming}
 use Rattle.sctp_delivery.proofs.TakenCalls.{fresh-new}
 use Rattle.sctp_delivery.proofs.TsnPlaces.{base, same-place}
-use Rattle.sctp_delivery.proofs.UnwrappedCalls.{followed-due, opened-due, quiet, read-on-due, taken-due}
+use Rattle.sctp_delivery.proofs.UnwrappedCalls.{followed-due, none-among, opened-due, quiet, read-on-due, taken-due}
 use Rattle.sctp_delivery.proofs.UnwrappedHolds.{AreDue, AreInTurn, Came, DueOn, Fits, IsBeyond, IsOf, IsStepOf, Rises, Where, none-past}
 use Rattle.sctp_delivery.proofs.UnwrappedReads.{AreSets, IsDue}
 use Rattle.sctp_delivery.proofs.OrderedMessages.{is_in_order, not-far}
@@ -45,7 +47,7 @@ module _ (p st n m : ℕ) (B C : ℕ → ℕ) (E F : ℕ → Bool) (M N : ChunkP
         inner = λ f. same o.before (omega arith) ∙ o.inner f;
       }
 
-  rises-more : (i low : ℕ) (cs : List ChunkPayloadData) → Rises p st n B E M i low cs → Rises p st m C F N i low cs
+  pub rises-more : (i low : ℕ) (cs : List ChunkPayloadData) → Rises p st n B E M i low cs → Rises p st m C F N i low cs
   rises-more i low [] r = tt
   rises-more i low (c ∷ cs) r = (of-more i c r.0, r.1, rises-more i (r.0.before + 1) cs r.2)
 
@@ -196,16 +198,16 @@ module _ (st first : ℕ) where
   abbrev pub IsAnswered : ℕ → List Entry → ℕ → Session → Type 0
   IsAnswered n sent a s = (d : AreDue (base first) st n (to sent) (at sent) (Was sent) a s.receiving) × Every (IsUpTo d.arrived.place) s.sacks
 
-  upto-more : (a b : ℕ) (ks : List Sack) → a ≤ b → Every (IsUpTo a) ks → Every (IsUpTo b) ks
+  pub upto-more : (a b : ℕ) (ks : List Sack) → a ≤ b → Every (IsUpTo a) ks → Every (IsUpTo b) ks
   upto-more a b ks le h = every-of (IsUpTo a) (IsUpTo b) (λ k x. let y = x.2 in (x.0, x.1, omega (arith, y, le))) ks h
 
   -- ## A call of the sender
 
-  same-at : (n : ℕ) (sent more : List Entry) → length sent ≡ n → IsOnceMore sent more → (k : ℕ) → k ≤ n → at more k ≡ at sent k
+  pub same-at : (n : ℕ) (sent more : List Entry) → length sent ≡ n → IsOnceMore sent more → (k : ℕ) → k ≤ n → at more k ≡ at sent k
   same-at n sent more long (inl e) k le = ap (is_at st k) e
   same-at n sent more long (inr x) k le = ap (is_at st k) x.1 ∙ at-more st k x.0 sent (omega (arith, le, long))
 
-  was-more : (sent more : List Entry) → IsOnceMore sent more → (c : ChunkPayloadData) → Was sent c → Was more c
+  pub was-more : (sent more : List Entry) → IsOnceMore sent more → (c : ChunkPayloadData) → Was sent c → Was more c
   was-more sent more (inl e) c w = subst (λ xs. Was xs c) (sym e) w
   was-more sent more (inr x) c w = subst (λ xs. Was xs c) (sym x.1) (sent-more x.0 sent (data_of c) w)
 
@@ -213,10 +215,11 @@ module _ (st first : ℕ) where
   same-to n sent more long (inl e) k le = ap (begun_to st k) e
   same-to n sent more long (inr x) k le = ap (begun_to st k) x.1 ∙ to-more st k x.0 sent (omega (arith, le, long))
 
-  pub sender-answered : (n : ℕ) (call : SenderCall) (old new : Session) (ns : List Numbered) (sent : List Entry) (i : IsSpread first n old ns sent)
-      → (few : n + distance (next_tsn old) (next_tsn new) < 2 ^ 31) → (f : SenderFollows call old new) → (x : Spreads first n call old new ns sent i)
-      → IsAnswered n sent i.step.numbered.acked old → IsAnswered (n + distance (next_tsn old) (next_tsn new)) x.more x.spread.step.numbered.acked new
-  sender-answered n call old new ns sent i few f x t =
+  pub sender-answered-on : (on dropped : ℕ → Bool) (n : ℕ) (call : SenderCall) (old new : Session) (ns : List Numbered) (sent : List Entry)
+      (i : IsSpreadOn on dropped first n old ns sent) → (few : n + distance (next_tsn old) (next_tsn new) < 2 ^ 31) → (f : SenderFollows call old new)
+      → (x : SpreadsOn on dropped first n call old new ns sent i) → IsAnswered n sent i.step.numbered.acked old
+      → IsAnswered (n + distance (next_tsn old) (next_tsn new)) x.more x.spread.step.numbered.acked new
+  sender-answered-on on dropped n call old new ns sent i few f x t =
       let d = t.0 in
       let m = n + distance (next_tsn old) (next_tsn new) in
       let b = x.spread.step.numbered.acked in
@@ -237,9 +240,15 @@ module _ (st first : ℕ) where
         t.1,
       )
 
+  pub sender-answered : (n : ℕ) (call : SenderCall) (old new : Session) (ns : List Numbered) (sent : List Entry) (i : IsSpread first n old ns sent)
+      → (few : n + distance (next_tsn old) (next_tsn new) < 2 ^ 31) → (f : SenderFollows call old new) → (x : Spreads first n call old new ns sent i)
+      → IsAnswered n sent i.step.numbered.acked old → IsAnswered (n + distance (next_tsn old) (next_tsn new)) x.more x.spread.step.numbered.acked new
+  sender-answered n call old new ns sent i few f x t = sender-answered-on all_streams none_dropped n call old new ns sent i few f x t
+
   -- ## A call of the receiver
 
-  module _ (n : ℕ) (old : Session) (ns : List Numbered) (sent : List Entry) (i : IsSpread first n old ns sent) (few : n < 2 ^ 31) where
+  module _ (on dropped : ℕ → Bool) (o : on st ≡ true) (n : ℕ) (old : Session) (ns : List Numbered) (sent : List Entry)
+      (i : IsSpreadOn on dropped first n old ns sent) (few : n < 2 ^ 31) where
     abbrev pub acked : ℕ
     acked = i.step.numbered.acked
 
@@ -247,17 +256,17 @@ module _ (st first : ℕ) where
     grows j k le = to-up st j k sent le
 
     pub near : to sent n ≤ to sent acked + 2 ^ 14
-    near = let long = i.long in let all = to-all st n sent (omega (arith, long)) in let h = i.near st in omega (arith, all, h)
+    near = let long = i.long in let all = to-all st n sent (omega (arith, long)) in let h = i.near st o in omega (arith, all, h)
 
     -- a chunk that was made
     pub entry-of : (c : ChunkPayloadData) → Was sent c → IsEntry st first sent c
     entry-of c w =
         let q = i.holds.held.stands.queued in
-        made-entry ns first sent q.line q.indexed q.joined st c w
+        made-entry on ns first sent q.line q.indexed q.joined st o c w
 
     pub step-of : (c : ChunkPayloadData) → Contains old.made (data_chunk (data_of c)) → IsStepOf (base first) st n (to sent) (at sent) (Was sent) c
     step-of c in' =
-        let w = found-sent sent old.made (data_of c) i.holds.made in' in
+        let w = found-sent-on on sent old.made (data_of c) i.holds.made in' in
         let e = entry-of c w in
         record {
           before = e.before;
@@ -330,12 +339,24 @@ module _ (st first : ℕ) where
       abbrev Now : Type 0
       Now = AreDue (base first) st n (to sent) (at sent) (Was sent) d.arrived.place new.receiving
 
-      same-streams : new.receiving.read ≡ old.receiving.read → new.receiving.receiver.streams ≡ old.receiving.receiver.streams
+      pub same-streams : new.receiving.read ≡ old.receiving.read → new.receiving.receiver.streams ≡ old.receiving.receiver.streams
           → new.receiving.receiver.cumulative_tsn ≡ old.receiving.receiver.cumulative_tsn
           → new.receiving.receiver.beyond ≡ old.receiving.receiver.beyond → Now
       same-streams read streams cumulative beyond =
           quiet (base first) st n (to sent) (at sent) (Was sent) few grows acked old.receiving new.receiving d read
           (subst (λ ls. DueOn (base first) st n (to sent) (at sent) (Was sent) Old d.k d.reach (find (has_number st) ls)) (sym streams) d.due) cumulative beyond
+
+      -- a FORWARD-TSN that was made, where the stream is open if it names that
+      pub passed-due : (g : ForwardTsn) → Contains old.made (forward_tsn g) → new.receiving.receiver ≡ after_forward_tsn g old.receiving.receiver
+          → new.receiving.read ≡ old.receiving.read → names_too_far g old.receiving.receiver ≡ false
+          → ((m : ℕ) → g.new_cumulative_tsn ≡ tsn (base first) m → m ≤ n → d.arrived.place < m → (j : ℕ)
+          → filter (is_pair_of st) g.streams ≡ record { identifier = st; sequence = j } ∷ [] → is_open st old.receiving.receiver ≡ true) → Now
+      passed-due g in' after read near-names open' =
+          let x = every-contained (IsMadeNaming st (base first) acked sent) old.made (forward_tsn g) in' (i.names st o) in
+          followed-due (base first) st n (to sent) (at sent)
+          (Was sent) few grows acked near g x.place old.receiving new.receiving d (omega arith) x.is after read x.tells near-names
+          (λ lt j only. open' x.place x.is (omega arith) lt j only)
+          (λ j cs fits e. missed x.place j cs (omega arith) fits e)
 
       due-after : (call : ReceiverCall) → ReceiverFollows call old new → Now
       due-after (incoming.opens stream) f =
@@ -350,12 +371,11 @@ module _ (st first : ℕ) where
           (Was sent) few grows acked near c answered old.receiving new.receiving d (step-of c f.handed) f.step.receiver f.step.read
           fresh (not-far c old.receiving.receiver fresh f.accepted.0)
       due-after (incoming.follows g) f =
-          let x = every-contained (IsMadeNaming st (base first) acked sent) old.made (forward_tsn g) f.handed (i.names st) in
           let r = refused g old.receiving.receiver f.accepted in
-          followed-due (base first) st n (to sent) (at sent)
-          (Was sent) few grows acked near g x.place old.receiving new.receiving d (omega arith) x.is f.step.receiver
-          f.step.read x.tells r.0 r.1
-          (λ j cs fits e. missed x.place j cs (omega arith) fits e)
+          passed-due g f.handed f.step.receiver f.step.read r.0
+          (λ m is le lt j only. unnot (is_open st old.receiving.receiver)
+          (none-among (base first) st n (to sent) (at sent) (Was sent) few grows acked g m old.receiving d le is
+          (λ x. not (is_open x.identifier old.receiving.receiver)) r.1 lt (record { identifier = st; sequence = j }) only))
       due-after (incoming.reads stream) f =
           read-on-due (base first) st n (to sent) (at sent)
           (Was sent) few grows acked stream old.receiving new.receiving d (ap (λ (r : Reception). r.streams) f.step.receiver)
@@ -372,23 +392,41 @@ module _ (st first : ℕ) where
   answered-after place more old (incoming.makes_sack credit bytes) is le h = ((place, is, le), upto-more place more old.sacks le h)
   answered-after place more old call is le h = upto-more place more old.sacks le h
 
-  pub receiver-answered : (n : ℕ) (call : ReceiverCall) (old new : Session) (ns : List Numbered) (sent : List Entry) (i : IsSpread first n old ns sent)
+  -- what is due then, where the sender stays as it is and the SACKs say so much
+  pub answered-beside : (on dropped : ℕ → Bool) (n : ℕ) (old new : Session) (ns : List Numbered) (sent : List Entry)
+      (i : IsSpreadOn on dropped first n old ns sent) (few : n < 2 ^ 31) (spread : IsSpreadOn on dropped first n new ns sent)
+      → new.sending ≡ old.sending → (t : IsAnswered n sent i.step.numbered.acked old)
+      → (e : AreDue (base first) st n (to sent) (at sent) (Was sent) t.0.arrived.place new.receiving) → Every (IsUpTo e.arrived.place) new.sacks
+      → IsAnswered n sent spread.step.numbered.acked new
+  answered-beside on dropped n old new ns sent i few spread sending t e upto =
+      let a = i.step.numbered.acked in
+      let b = spread.step.numbered.acked in
+      let same : b ≡ a = same-place (base first) b a (omega (arith, spread.step.numbered.total, few)) (omega (arith, i.step.numbered.total, few))
+      (sym spread.step.numbered.acked_is ∙ ap (λ (l : Ledger). l.sender.flight.acked_tsn) sending ∙ i.step.numbered.acked_is) in
+      let up = e.arrived.least_is in
+      let from = t.0.arrived.least_is in (
+        are-more (base first) st n n (to sent) (to sent) (at sent) (at sent) (Was sent) (Was sent) few (omega arith) (λ k le. refl) (omega arith)
+            (λ k le. refl) (λ c w. w) t.0.arrived.place b new.receiving e
+            (omega (arith, same, up, from)),
+        upto,
+      )
+
+  pub receiver-answered-on : (on dropped : ℕ → Bool) → on st ≡ true → (n : ℕ) (call : ReceiverCall) (old new : Session) (ns : List Numbered)
+      (sent : List Entry) (i : IsSpreadOn on dropped first n old ns sent) → (few : n < 2 ^ 31) → (f : ReceiverFollows call old new)
+      → (spread : IsSpreadOn on dropped first n new ns sent) → IsAnswered n sent i.step.numbered.acked old
+      → IsAnswered n sent spread.step.numbered.acked new
+  receiver-answered-on on dropped o n call old new ns sent i few f spread t =
+      let d = t.0 in
+      let e = due-after on dropped o n old ns sent i few new d call f in
+      answered-beside on dropped n old new ns sent i few spread (ap (λ (s : Session). s.sending) f.after) t e
+      (subst (Every (IsUpTo e.arrived.place)) (sym (ap (λ (s : Session). s.sacks) f.after))
+      (answered-after d.arrived.place e.arrived.place old call d.arrived.is e.arrived.least_is t.1))
+
+  receiver-answered : (n : ℕ) (call : ReceiverCall) (old new : Session) (ns : List Numbered) (sent : List Entry) (i : IsSpread first n old ns sent)
       → (few : n < 2 ^ 31) → (f : ReceiverFollows call old new) → (spread : IsSpread first n new ns sent)
       → IsAnswered n sent i.step.numbered.acked old → IsAnswered n sent spread.step.numbered.acked new
   receiver-answered n call old new ns sent i few f spread t =
-      let d = t.0 in
-      let e = due-after n old ns sent i few new d call f in
-      let a = i.step.numbered.acked in
-      let b = spread.step.numbered.acked in
-      let same : b ≡ a = same-place (base first) b a (omega (arith, spread.step.numbered.total, few)) (omega (arith, few))
-      (sym spread.step.numbered.acked_is ∙ ap (λ (s : Session). s.sending.sender.flight.acked_tsn) f.after ∙ i.step.numbered.acked_is) in
-      let up = e.arrived.least_is in (
-        are-more (base first) st n n (to sent) (to sent) (at sent) (at sent) (Was sent) (Was sent) few (omega arith) (λ k le. refl) (omega arith)
-            (λ k le. refl) (λ c w. w) d.arrived.place b new.receiving e
-            (omega (arith, same, up)),
-        subst (Every (IsUpTo e.arrived.place)) (sym (ap (λ (s : Session). s.sacks) f.after))
-            (answered-after d.arrived.place e.arrived.place old call d.arrived.is up t.1),
-      )
+      receiver-answered-on all_streams none_dropped refl n call old new ns sent i few f spread t
 
 -- ## Every session
 
@@ -406,21 +444,32 @@ receiver-unwrapped first n call old new ns sent few f i =
       answered = λ st. receiver-answered st first n call old new ns sent i.spread few f spread (i.answered st);
     }
 
+pub answered-first : (st first : ℕ) (on dropped : ℕ → Bool) (size max most : ℕ) (limits : Option Limits) (small : first < 2 ^ 32) (some : 0 < size)
+    → IsAnswered st first 0 [] (spread-first-on on dropped first size max most limits small some).step.numbered.acked
+    (at_start first size max most limits)
+answered-first st first on dropped size max most limits small some = (
+  record {
+    k = 0;
+    reach = 0;
+    due = (refl, refl, λ y le h. absurd (let z : y ≡ 0 = omega (arith, le) in not_both h.0));
+    turns = tt;
+    most = omega arith;
+    arrived = record {
+      place = 0;
+      least_is = let total = (spread-first-on on dropped first size max most limits small some).step.numbered.total in omega (arith, total);
+      within = omega arith;
+      is = omega arith;
+      covered = omega arith;
+      each = tt;
+    };
+  },
+  tt,
+)
+
 pub unwrapped-first : (first size max most : ℕ) (limits : Option Limits) → first < 2 ^ 32 → 0 < size
     → IsUnwrapped first 0 (at_start first size max most limits) [] []
 unwrapped-first first size max most limits small some =
-    let start = spread-first first size max most limits small some in
     record {
-      spread = start;
-      answered = λ st. (
-        record {
-          k = 0;
-          reach = 0;
-          due = (refl, refl, λ y le h. absurd (let z : y ≡ 0 = omega (arith, le) in not_both h.0));
-          turns = tt;
-          most = omega arith;
-          arrived = record { place = 0; least_is = omega arith; within = omega arith; is = omega arith; covered = omega arith; each = tt };
-        },
-        tt,
-      );
+      spread = spread-first-on all_streams none_dropped first size max most limits small some;
+      answered = λ st. answered-first st first all_streams none_dropped size max most limits small some;
     }

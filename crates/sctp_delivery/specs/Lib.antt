@@ -22,4 +22,5 @@ pub mod Stand
 pub mod Delivering
 pub mod BothWays
 pub mod EveryCall
+pub mod EveryOrder
 pub mod StandAny

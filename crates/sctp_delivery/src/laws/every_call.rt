@@ -4,9 +4,10 @@
 //! Where the sender resets or closes a stream, and the receiver does not, two messages may have one number. Where one is sent right behind
 //! the other, and the receiver has not read the first one, it reads both as one message.
 //!
-//! Not said here: in which order messages are read, that each is read in the end, and that a chunk in flight is not refused.
+//! Not said here: that each message is read in the end, and that a chunk in flight is not refused.
 
 ghost use Rattle.sctp_delivery.specs.EveryCall.{AcknowledgedArrived, AfterEachAny, AfterEachAnyOfFewBytes, AfterEachAnyOfFewTsns, AreSingle, AreSingleWhereSteady, AreSingleWritesOfTheirOwn, AreToldApart, AreWritesWhereSingle, LeftArrived, ReleasedArrived, ReportWhatArrived};
+ghost use Rattle.sctp_delivery.specs.EveryOrder.{AreReadInTurnWhereUnbroken, AreSingleReadAsWritten, AreSingleReadInOrder};
 ghost use Rattle.sctp_delivery.specs.Messages.{AreParts, AreSame, NoneIsReadTwice};
 ghost use Rattle.sctp_delivery.specs.Returns.{IsAccountedSo, NoneIsRefusedSo};
 ghost use Rattle.sctp_delivery.specs.Rounds.{CanBeAnswered};
@@ -34,6 +35,15 @@ pub fn whatever_is_called_messages_are_writes()
     ensures part { AfterEachAnyOfFewBytes (λ calls s. AreParts s) }
     ensures same { AfterEachAnyOfFewBytes (λ calls s. AreSame s) }
     ensures back { AfterEachAnyOfFewBytes (λ calls s. NoneIsRefusedSo s) }
+{}
+
+/// With so few TSNs and bytes: on a stream that goes on, ordered messages are read in the order of their writes, and so is what was written
+/// while it was ordered, and each DCEP message. A stream goes on that neither host closes or resets, of which the receiver drops no ordered
+/// chunk, and passes over no name before it opens it.
+pub fn whatever_is_called_messages_are_read_in_order()
+    ensures order { AfterEachAnyOfFewBytes AreSingleReadInOrder }
+    ensures modes { AfterEachAnyOfFewBytes AreSingleReadAsWritten }
+    ensures turn { AfterEachAnyOfFewBytes AreReadInTurnWhereUnbroken }
 {}
 
 /// While the sender has given out fewer than 2^31 TSNs: the receiver can make a SACK at any time, and the sender refuses none of them.
