@@ -10,6 +10,7 @@ use Rattle.sctp_association.specs.Halves.{expires_t3, fragment_size, marked, rec
 use Rattle.sctp_association.specs.HostCalls.{ActsEach, EachAskActs, EachBegins, EachDatagramActs, EachOtherIsQuiet, EachPollActs, EachReadActs, EachSizeActs}
 use Rattle.sctp_association.specs.HostCalls.{EachTimeoutActs, Log, acts_of_read, asked_of, host_of, no_log, read_of, sent_of}
 use Rattle.sctp_association.specs.Hosts.{Host, asks, fragments_by, is_asking, reads_on}
+use Rattle.sctp_association.specs.OneLife.{EachDatagramBrings}
 use Rattle.sctp_association.specs.Reads.{AreReadOff, message_in}
 use Rattle.sctp_delivery.specs.SenderCalls.{SenderCall, SenderMakes, SenderMakesEach, Write, marks, opens, sets_size, written_after}
 use Rattle.sctp_receiver.specs.Receiver.{Reception, after_read, is_open, message_of, message_on, stream_of}
@@ -158,6 +159,10 @@ each-poll-acts is_sent a b l t peer =
 pub each-datagram-acts : EachDatagramActs
 each-datagram-acts datagram a b l peer handed came =
     (record { handed = handed; arrives = came; after = refl }, λ w plain. plain)
+
+pub each-datagram-brings : EachDatagramBrings
+each-datagram-brings datagram a b l peer handed came =
+    (record { handed = handed; arrives = came; after = refl }, λ w once. once, refl)
 
 pub each-other-is-quiet : EachOtherIsQuiet
 each-other-is-quiet a b l same peer = same-host a b l same.sender same.receiver

@@ -25,4 +25,7 @@ pub mod HostSteps
 pub mod Tsns
 pub mod Hosts
 pub mod HostCalls
+pub mod Rules
+pub mod PlainHosts
+pub mod OneLife
 pub mod Links

@@ -1,50 +1,116 @@
 -- Two associations go on from where moves led them, and change places.
-use Rattle.std.proofs.Common.{List, [], ◌∷◌, ◌++◌, map, refl, ap, subst, ◌∙◌}
+use Rattle.std.proofs.Common.{◌≡◌, List, [], ◌∷◌, ◌++◌, map, refl, ap, sym, subst, ◌∙◌, append_assoc}
+use Rattle.std.proofs.lemmas.List.{append-nil}
 use Rattle.std.specs.Prelude.{⊤}
-use Rattle.sctp_association.proofs.Hosts.{each-cut, each-delivers}
+use Rattle.sctp_association.proofs.Hosts.{each-cut}
+use Rattle.sctp_association.proofs.PlainHosts.{each-delivers}
+use Rattle.sctp_association.specs.Arrivals.{Arrival, Halves}
 use Rattle.sctp_association.specs.HostCalls.{ActsEach}
-use Rattle.sctp_association.specs.Hosts.{Act, ArePlainMoves, Host, Hosts, Move, MovesTo, Way, first_host, hosts, one_acts, other_acts}
-use Rattle.sctp_association.specs.Links.{AreInOrder, ArePlainActs, EachLinkDelivers, EachLinkGoesOn, EachLinkIsCut, EachLinkTurns, EachTwoBegin}
+use Rattle.sctp_association.specs.Hosts.{Act, AreMovesByRule, Delivers, Host, Hosts, IsPlain, Move, MovesTo, Way, first_host, hosts, one_acts, other_acts}
+use Rattle.sctp_association.specs.Links.{AreActsByRule, AreInOrder, AreLinked, EachLinkDelivers, EachLinkGoesOn, EachLinkIsCut, EachLinkTurns, EachTwoBegin}
 use Rattle.sctp_association.specs.Links.{IsReadAsWritten, Party, host_at}
-use Rattle.sctp_association.specs.Hosts.{Delivers}
+use Rattle.sctp_association.specs.OneLife.{Brought, EachOneLifeBegins, EachOneLifeGoesOn, EachOneLifeTurns, IsOneLife, brought_by, brought_each}
+use Rattle.sctp_association.specs.OneLife.{brought_to_one, brought_to_other}
 use Rattle.sctp_delivery.specs.SenderCalls.{Write}
 use Rattle.sctp_receiver.specs.ReceiverRuns.{Message}
 
 -- ## Moves one after another
 
-module _ (f b : Way) where
-  -- moves that are plain where what they come of is
-  record Plainly (Given : Type 0) (h : Hosts) (ms : List Move) (j : Hosts) : Type 0 where
+module _ (A B : Arrival → Halves → Type 0) where
+  -- moves that are as the rules say where what they come of is, and that bring these calls
+  record ByRule (Given : Type 0) (ones others : List Brought) (h : Hosts) (ms : List Move) (j : Hosts) : Type 0 where
     run : MovesTo h ms j
-    plain : Given → ArePlainMoves f b h ms j run
+    rule : Given → AreMovesByRule A B h ms j run
+    to-one : brought_to_one h ms j run ≡ ones
+    to-other : brought_to_other h ms j run ≡ others
 
   both-then : (ms ns : List Move) (h i j : Hosts) (r : MovesTo h ms i) (s : MovesTo i ns j)
-      → Plainly (ArePlainMoves f b h ms i r × ArePlainMoves f b i ns j s) h (ms ++ ns) j
+      → ByRule (AreMovesByRule A B h ms i r × AreMovesByRule A B i ns j s) (brought_to_one h ms i r ++ brought_to_one i ns j s)
+      (brought_to_other h ms i r ++ brought_to_other i ns j s) h (ms ++ ns) j
   both-then [] ns h i j r s =
-      subst (λ (k : Hosts). Plainly (⊤ × ArePlainMoves f b i ns j s) k ns j) r (record { run = s; plain = λ p. p.1 })
-  both-then (m ∷ ms) ns h i j r s =
-      let g = both-then ms ns r.0 i j r.1.1 s in record { run = (r.0, (r.1.0, g.run)); plain = λ p. (p.0.0, g.plain (p.0.1, p.1)) }
+      subst (λ (k : Hosts). ByRule (⊤ × AreMovesByRule A B i ns j s) (brought_to_one i ns j s) (brought_to_other i ns j s) k ns j) r
+      (record { run = s; rule = λ p. p.1; to-one = refl; to-other = refl })
+  both-then (one_acts act ∷ ms) ns h i j r s =
+      let g = both-then ms ns r.0 i j r.1.1 s in
+      let first = brought_by h.other.sent act h.one r.0.one r.1.0.0 in
+      record {
+        run = (r.0, (r.1.0, g.run));
+        rule = λ p. (p.0.0, g.rule (p.0.1, p.1));
+        to-one = ap (λ l. first ++ l) g.to-one ∙ sym (append_assoc first (brought_to_one r.0 ms i r.1.1) (brought_to_one i ns j s));
+        to-other = g.to-other;
+      }
+  both-then (other_acts act ∷ ms) ns h i j r s =
+      let g = both-then ms ns r.0 i j r.1.1 s in
+      let first = brought_by h.one.sent act h.other r.0.other r.1.0.0 in
+      record {
+        run = (r.0, (r.1.0, g.run));
+        rule = λ p. (p.0.0, g.rule (p.0.1, p.1));
+        to-one = g.to-one;
+        to-other = ap (λ l. first ++ l) g.to-other ∙ sym (append_assoc first (brought_to_other r.0 ms i r.1.1) (brought_to_other i ns j s));
+      }
 
   -- acts of the one
   one-moves : (acts : List Act) (x y z : Host) (done : ActsEach z.sent acts x y)
-      → Plainly (ArePlainActs b z.sent acts x y done) (hosts x z) (map one_acts acts) (hosts y z)
-  one-moves [] x y z done = record { run = ap (λ (k : Host). hosts k z) done; plain = λ p. tt }
+      → ByRule (AreActsByRule A z.sent acts x y done) (brought_each z.sent acts x y done) [] (hosts x z) (map one_acts acts) (hosts y z)
+  one-moves [] x y z done = record { run = ap (λ (k : Host). hosts k z) done; rule = λ p. tt; to-one = refl; to-other = refl }
   one-moves (act ∷ acts) x y z done =
       let g = one-moves acts done.0 y z done.1.1 in
-      record { run = (hosts done.0 z, ((done.1.0, refl), g.run)); plain = λ p. (p.0, g.plain p.1) }
+      record {
+        run = (hosts done.0 z, ((done.1.0, refl), g.run));
+        rule = λ p. (p.0, g.rule p.1);
+        to-one = ap (λ l. brought_by z.sent act x done.0 done.1.0 ++ l) g.to-one;
+        to-other = g.to-other;
+      }
+
+module _ (A B : Arrival → Halves → Type 0) (f b : Way) (acts : List Act) (x y z : Party) (link : AreLinked f b x z)
+    (done : ActsEach z.log.sent acts (host_at x) (host_at y)) where
+  abbrev start : Hosts
+  start = hosts (first_host f) (first_host b)
+
+  more : ByRule A B (AreActsByRule A z.log.sent acts (host_at x) (host_at y) done) (brought_each z.log.sent acts (host_at x) (host_at y) done) []
+      (hosts (host_at x) (host_at z)) (map one_acts acts) (hosts (host_at y) (host_at z))
+  more = one-moves A B acts (host_at x) (host_at y) (host_at z) done
+
+  all : ByRule A B
+      (AreMovesByRule A B start link.moves (hosts (host_at x) (host_at z)) link.run
+      × AreMovesByRule A B (hosts (host_at x) (host_at z)) (map one_acts acts) (hosts (host_at y) (host_at z)) more.run)
+      (brought_to_one start link.moves (hosts (host_at x) (host_at z)) link.run
+      ++ brought_to_one (hosts (host_at x) (host_at z)) (map one_acts acts) (hosts (host_at y) (host_at z)) more.run)
+      (brought_to_other start link.moves (hosts (host_at x) (host_at z)) link.run
+      ++ brought_to_other (hosts (host_at x) (host_at z)) (map one_acts acts) (hosts (host_at y) (host_at z)) more.run) start
+      (link.moves ++ map one_acts acts) (hosts (host_at y) (host_at z))
+  all = both-then A B link.moves (map one_acts acts) start (hosts (host_at x) (host_at z)) (hosts (host_at y) (host_at z)) link.run more.run
+
+  abbrev next : AreLinked f b y z
+  next = record { moves = link.moves ++ map one_acts acts; run = all.run }
 
 pub each-link-goes-on : EachLinkGoesOn
 each-link-goes-on f b acts x y z link done =
-    let more = one-moves f b acts (host_at x) (host_at y) (host_at z) done in
-    let all = both-then f b link.moves (map one_acts acts) (hosts (first_host f) (first_host b)) (hosts (host_at x) (host_at z)) (hosts (host_at y) (host_at z))
-    link.run more.run in
-    (record { moves = link.moves ++ map one_acts acts; run = all.run }, λ plain acted. all.plain (plain, more.plain acted))
+    let m = more (IsPlain b) (IsPlain f) f b acts x y z link done in
+    let a = all (IsPlain b) (IsPlain f) f b acts x y z link done in
+    (next (IsPlain b) (IsPlain f) f b acts x y z link done, λ plain acted. a.rule (plain, m.rule acted))
+
+pub each-one-life-goes-on : EachOneLifeGoesOn
+each-one-life-goes-on f b acts x y z link done =
+    let m = more (IsOneLife b) (IsOneLife f) f b acts x y z link done in
+    let a = all (IsOneLife b) (IsOneLife f) f b acts x y z link done in
+    let before = brought_to_one (hosts (first_host f) (first_host b)) link.moves (hosts (host_at x) (host_at z)) link.run in
+    let others = brought_to_other (hosts (first_host f) (first_host b)) link.moves (hosts (host_at x) (host_at z)) link.run in (
+      next (IsOneLife b) (IsOneLife f) f b acts x y z link done,
+      λ once acted. a.rule (once, m.rule acted),
+      a.to-one ∙ ap (λ l. before ++ l) m.to-one,
+      a.to-other ∙ ap (λ l. others ++ l) m.to-other ∙ append-nil others,
+    )
+
+abbrev begun : (f b : Way) (x z : Party) → host_at x ≡ first_host f → host_at z ≡ first_host b → AreLinked f b x z
+begun f b x z one other =
+    record { moves = []; run = ap (λ (h : Host). hosts h (host_at z)) one ∙ ap (λ (h : Host). hosts (first_host f) h) other }
 
 pub each-two-begin : EachTwoBegin
-each-two-begin f b x z one other = (
-  record { moves = []; run = ap (λ (h : Host). hosts h (host_at z)) one ∙ ap (λ (h : Host). hosts (first_host f) h) other },
-  tt,
-)
+each-two-begin f b x z one other = (begun f b x z one other, tt)
+
+pub each-one-life-begins : EachOneLifeBegins
+each-one-life-begins f b x z one other = (begun f b x z one other, tt, refl, refl)
 
 -- ## The two change places
 
@@ -55,18 +121,36 @@ turned-move (other_acts act) = one_acts act
 abbrev turned : Hosts → Hosts
 turned h = hosts h.other h.one
 
-module _ (f b : Way) where
-  turn-each : (ms : List Move) (h i : Hosts) (r : MovesTo h ms i) → Plainly b f (ArePlainMoves f b h ms i r) (turned h) (map turned-move ms) (turned i)
-  turn-each [] h i r = record { run = ap turned r; plain = λ p. tt }
+module _ (A B : Arrival → Halves → Type 0) where
+  turn-each : (ms : List Move) (h i : Hosts) (r : MovesTo h ms i)
+      → ByRule B A (AreMovesByRule A B h ms i r) (brought_to_other h ms i r) (brought_to_one h ms i r) (turned h) (map turned-move ms) (turned i)
+  turn-each [] h i r = record { run = ap turned r; rule = λ p. tt; to-one = refl; to-other = refl }
   turn-each (one_acts act ∷ ms) h i r =
-      let g = turn-each ms r.0 i r.1.1 in record { run = (turned r.0, (r.1.0, g.run)); plain = λ p. (p.0, g.plain p.1) }
+      let g = turn-each ms r.0 i r.1.1 in
+      record {
+        run = (turned r.0, (r.1.0, g.run));
+        rule = λ p. (p.0, g.rule p.1);
+        to-one = g.to-one;
+        to-other = ap (λ l. brought_by h.other.sent act h.one r.0.one r.1.0.0 ++ l) g.to-other;
+      }
   turn-each (other_acts act ∷ ms) h i r =
-      let g = turn-each ms r.0 i r.1.1 in record { run = (turned r.0, (r.1.0, g.run)); plain = λ p. (p.0, g.plain p.1) }
+      let g = turn-each ms r.0 i r.1.1 in
+      record {
+        run = (turned r.0, (r.1.0, g.run));
+        rule = λ p. (p.0, g.rule p.1);
+        to-one = ap (λ l. brought_by h.one.sent act h.other r.0.other r.1.0.0 ++ l) g.to-one;
+        to-other = g.to-other;
+      }
 
 pub each-link-turns : EachLinkTurns
 each-link-turns f b x z link =
-    let g = turn-each f b link.moves (hosts (first_host f) (first_host b)) (hosts (host_at x) (host_at z)) link.run in
-    (record { moves = map turned-move link.moves; run = g.run }, g.plain)
+    let g = turn-each (IsPlain b) (IsPlain f) link.moves (hosts (first_host f) (first_host b)) (hosts (host_at x) (host_at z)) link.run in
+    (record { moves = map turned-move link.moves; run = g.run }, g.rule)
+
+pub each-one-life-turns : EachOneLifeTurns
+each-one-life-turns f b x z link =
+    let g = turn-each (IsOneLife b) (IsOneLife f) link.moves (hosts (first_host f) (first_host b)) (hosts (host_at x) (host_at z)) link.run in
+    (record { moves = map turned-move link.moves; run = g.run }, g.rule, g.to-one, g.to-other)
 
 -- ## What holds
 

@@ -144,6 +144,40 @@ abbrev pub MovesTo : Hosts → List Move → Hosts → Type 0
 MovesTo old [] new = new ≡ old
 MovesTo old (m ∷ ms) new = (mid : Hosts) × (Moves m old mid × MovesTo mid ms new)
 
+-- ## What datagrams may bring
+
+-- each call that a datagram brings is as the rule says, by the halves that it finds
+abbrev pub AreByRule : (Rule : Arrival → Halves → Type 0) (datagram : List ℕ)
+    (calls : List Arrival) (old new : Halves)
+    → Steps (IsBrought datagram) Does calls old new → Type 0
+AreByRule Rule datagram [] old new run = ⊤
+AreByRule Rule datagram (a ∷ calls) old new run =
+    Rule a old × AreByRule Rule datagram calls run.0 new run.1.1
+
+abbrev pub IsActByRule : (Rule : Arrival → Halves → Type 0) (peer : List (List ℕ)) (act : Act)
+    (old new : Host) → Acts peer act old new → Type 0
+IsActByRule Rule peer (asks call) old new done = ⊤
+IsActByRule Rule peer (reads_on stream) old new done = ⊤
+IsActByRule Rule peer (polls is_sent datagram) old new done = ⊤
+IsActByRule Rule peer (handles datagram) old new done =
+    AreByRule Rule datagram done.arrives.calls (halves old.sender old.receiver)
+    (halves new.sender new.receiver) done.arrives.run
+
+-- a rule for what comes to the one, and one for what comes to the other
+abbrev pub IsMoveByRule : (One Other : Arrival → Halves → Type 0) (m : Move) (old new : Hosts)
+    → Moves m old new → Type 0
+IsMoveByRule One Other (one_acts act) old new done =
+    IsActByRule One old.other.sent act old.one new.one done.0
+IsMoveByRule One Other (other_acts act) old new done =
+    IsActByRule Other old.one.sent act old.other new.other done.0
+
+abbrev pub AreMovesByRule : (One Other : Arrival → Halves → Type 0) (old : Hosts)
+    (moves : List Move) (new : Hosts) → MovesTo old moves new → Type 0
+AreMovesByRule One Other old [] new run = ⊤
+AreMovesByRule One Other old (m ∷ ms) new run =
+    IsMoveByRule One Other m old run.0 run.1.0
+    × AreMovesByRule One Other run.0 ms new run.1.1
+
 -- ## What sessions have
 
 abbrev pub NamesOpen : ForwardTsn → Option Reception → Type 0
@@ -166,32 +200,18 @@ IsPlain w (renews tsn size max) h = ⊥
 -- each call that a datagram brings is plain
 abbrev pub ArePlain : (w : Way) (datagram : List ℕ) (calls : List Arrival) (old new : Halves)
     → Steps (IsBrought datagram) Does calls old new → Type 0
-ArePlain w datagram [] old new run = ⊤
-ArePlain w datagram (a ∷ calls) old new run =
-    IsPlain w a old × ArePlain w datagram calls run.0 new run.1.1
+ArePlain w datagram calls old new run = AreByRule (IsPlain w) datagram calls old new run
 
 -- the way is that on which the host receives
 abbrev pub IsPlainAct : (w : Way) (peer : List (List ℕ)) (act : Act) (old new : Host)
     → Acts peer act old new → Type 0
-IsPlainAct w peer (asks call) old new done = ⊤
-IsPlainAct w peer (reads_on stream) old new done = ⊤
-IsPlainAct w peer (polls is_sent datagram) old new done = ⊤
-IsPlainAct w peer (handles datagram) old new done =
-    ArePlain w datagram done.arrives.calls (halves old.sender old.receiver)
-    (halves new.sender new.receiver) done.arrives.run
+IsPlainAct w peer act old new done = IsActByRule (IsPlain w) peer act old new done
 
 -- forth is the way from the one to the other
-abbrev pub IsPlainMove : (forth back : Way) (m : Move) (old new : Hosts) → Moves m old new → Type 0
-IsPlainMove forth back (one_acts act) old new done =
-    IsPlainAct back old.other.sent act old.one new.one done.0
-IsPlainMove forth back (other_acts act) old new done =
-    IsPlainAct forth old.one.sent act old.other new.other done.0
-
 abbrev pub ArePlainMoves : (forth back : Way) (old : Hosts) (moves : List Move) (new : Hosts)
     → MovesTo old moves new → Type 0
-ArePlainMoves forth back old [] new run = ⊤
-ArePlainMoves forth back old (m ∷ ms) new run =
-    IsPlainMove forth back m old run.0 run.1.0 × ArePlainMoves forth back run.0 ms new run.1.1
+ArePlainMoves forth back old moves new run =
+    AreMovesByRule (IsPlain back) (IsPlain forth) old moves new run
 
 -- ## The law
 

@@ -14,6 +14,7 @@ pub mod HostCalls
 pub mod Hosts
 pub mod Links
 pub mod Once
+pub mod OneLife
 pub mod Packets
 pub mod Reached
 pub mod Reads

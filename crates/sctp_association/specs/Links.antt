@@ -1,8 +1,10 @@
 -- Two associations from `new` on, as a caller has them: what each of their calls makes of that, and what holds then.
 use Rattle.std.specs.Prelude.{◌≡◌, ◌≢◌, AllPairs, ⊤, ℕ, ◌<◌, ◌≤◌, List, [], ◌∷◌}
 use Rattle.sctp_association.specs.declared.association.Association.{Association}
+use Rattle.sctp_association.specs.Arrivals.{Arrival, Halves}
 use Rattle.sctp_association.specs.HostCalls.{ActsEach, Log, host_of}
-use Rattle.sctp_association.specs.Hosts.{Act, ArePlainMoves, Delivers, Host, IsFit, IsPlainAct, Move, MovesTo, Way, WroteFew, bytes_of, first_host, hosts}
+use Rattle.sctp_association.specs.Hosts.{Act, ArePlainMoves, Delivers, Host, IsActByRule, IsFit, IsPlain, Move, MovesTo, Way, WroteFew, bytes_of, first_host}
+use Rattle.sctp_association.specs.Hosts.{hosts}
 use Rattle.sctp_delivery.specs.Messages.{StandAt}
 use Rattle.sctp_delivery.specs.Order.{ordered_places}
 use Rattle.sctp_delivery.specs.SenderCalls.{Write}
@@ -43,11 +45,16 @@ EachTwoBegin =
     → host_at other ≡ first_host back
     → (link : AreLinked forth back one other) × IsPlainLink forth back one other link
 
+abbrev pub AreActsByRule : (Rule : Arrival → Halves → Type 0) (peer : List (List ℕ))
+    (acts : List Act) (old new : Host) → ActsEach peer acts old new → Type 0
+AreActsByRule Rule peer [] old new done = ⊤
+AreActsByRule Rule peer (act ∷ acts) old new done =
+    IsActByRule Rule peer act old done.0 done.1.0
+    × AreActsByRule Rule peer acts done.0 new done.1.1
+
 abbrev pub ArePlainActs : (w : Way) (peer : List (List ℕ)) (acts : List Act) (old new : Host)
     → ActsEach peer acts old new → Type 0
-ArePlainActs w peer [] old new done = ⊤
-ArePlainActs w peer (act ∷ acts) old new done =
-    IsPlainAct w peer act old done.0 done.1.0 × ArePlainActs w peer acts done.0 new done.1.1
+ArePlainActs w peer acts old new done = AreActsByRule (IsPlain w) peer acts old new done
 
 -- acts of the one: those that a clause of a call says (`HostCalls`)
 abbrev pub EachLinkGoesOn : Type 0

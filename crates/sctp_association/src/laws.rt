@@ -5,6 +5,7 @@ ghost use Rattle.sctp_association.specs.Held.{CostsLittle, HoldsFewChunks, Keeps
 ghost use Rattle.sctp_association.specs.HostCalls.{EachAskActs, EachBegins, EachDatagramActs, EachOtherIsQuiet, EachPollActs, EachReadActs, EachSizeActs, EachTimeoutActs};
 ghost use Rattle.sctp_association.specs.Hosts.{EachDelivers, EachIsCut};
 ghost use Rattle.sctp_association.specs.Links.{EachLinkDelivers, EachLinkGoesOn, EachLinkIsCut, EachLinkTurns, EachTwoBegin};
+ghost use Rattle.sctp_association.specs.OneLife.{EachDatagramBrings, EachDeliversAny, EachLinkDeliversAny, EachOneLifeBegins, EachOneLifeGoesOn, EachOneLifeTurns, EachPlainIsOneLife};
 ghost use Rattle.sctp_association.specs.Sessions.{EachIsSent};
 
 /// Whatever a peer sends, and whatever calls an association had, what it holds of the peer's messages is within its `Config`. By 400 a
@@ -35,7 +36,6 @@ pub fn what_comes_was_made()
     ensures sessions { EachComes }
 {}
 
-// Not said yet of associations that reset or close streams, or begin anew: sessions of sctp_delivery have no such calls.
 /// Two associations, from `new` on: whatever their applications call, and whichever datagrams of the peer come, late, again, in another order or
 /// never. What one reads the other wrote, on that stream, with that payload type and those bytes, no write twice, and ordered ones in order.
 /// In the end each other write was read. It holds while they write fewer than 2^31 - 1 fragments: no more than bytes.
@@ -44,6 +44,15 @@ pub fn what_is_read_was_written()
     ensures cut { EachIsCut }
     ensures linked { EachLinkDelivers }
     ensures few { EachLinkIsCut }
+{}
+
+/// Two associations as above, whatever datagrams bring: streams are reset or closed, TSNs come without their chunks, names of streams that are
+/// not open are passed over. Only each receiver begins once, with the peer's first TSN, and no sender anew. What is read on a stream that its
+/// sender did not begin again is what was written, no write twice. In which order, and that each write is read, is not said.
+pub fn whatever_is_reset_what_is_read_was_written()
+    ensures hosts { EachDeliversAny }
+    ensures linked { EachLinkDeliversAny }
+    ensures weaker { EachPlainIsOneLife }
 {}
 
 /// What the clauses of a call ensure of an association is what these acts of a `Host` do: of such acts `what_is_read_was_written` speaks, and
@@ -64,4 +73,12 @@ pub fn two_associations_go_on()
     ensures begun { EachTwoBegin }
     ensures acts { EachLinkGoesOn }
     ensures turned { EachLinkTurns }
+{}
+
+/// As `two_associations_go_on`, for `whatever_is_reset_what_is_read_was_written`: it says too what datagrams brought to each meanwhile.
+pub fn two_associations_of_one_life_go_on()
+    ensures begun { EachOneLifeBegins }
+    ensures acts { EachOneLifeGoesOn }
+    ensures turned { EachOneLifeTurns }
+    ensures handled { EachDatagramBrings }
 {}

@@ -1,0 +1,146 @@
+-- Two associations that begin once stand in two sessions of every call, whatever datagrams bring.
+use Rattle.std.proofs.Common.{◌≡◌, ℕ, Bool, true, false, List, [], ◌∷◌, Option, Some, None, refl, ap, sym, subst, ◌∙◌, inl, inr, arith}
+use Rattle.std.proofs.lemmas.Bool.Decides.{nat_tests}
+use Rattle.std.specs.Prelude.{◌⊎◌, ◌==◌, ◌||◌, Contains, not}
+use Rattle.std.specs.List.{list_any}
+use Rattle.sctp_association.proofs.Hosts.{Fits, Joined, each-joined, turned}
+use Rattle.sctp_association.proofs.Rules.{moves-both, moves-in}
+use Rattle.sctp_association.specs.Arrivals.{Arrival, Halves, begins, hears, receives, renews, restarts}
+use Rattle.sctp_association.specs.Hosts.{Host, IsPlain, NamesOpen, Way, first_host, hosts}
+use Rattle.sctp_association.specs.Links.{Party, host_at}
+use Rattle.sctp_association.specs.OneLife.{AreOfTheirOwn, AreSingleOnSteady, AreWritesOnSteady, Brought, Came, CamePastClosed, DeliversAny, EachDeliversAny}
+use Rattle.sctp_association.specs.OneLife.{EachPlainIsOneLife}
+use Rattle.sctp_association.specs.OneLife.{EachLinkDeliversAny, IsOneLife, IsReadAsWrittenAny, IsSteady, WasBrought, brought, brought_to_one}
+use Rattle.sctp_association.specs.OneLife.{brought_to_other, others_of}
+use Rattle.sctp_delivery.proofs.Every.{Every, all-of-every}
+use Rattle.sctp_delivery.proofs.EveryMessages as messages
+use Rattle.sctp_delivery.proofs.EveryRuns as every
+use Rattle.sctp_util.proofs.More.{not_both}
+use Rattle.sctp_delivery.specs.EveryCall.{AnyCall, closes, makes, of_receiving, of_sending, renews as renewed}
+use Rattle.sctp_delivery.specs.EveryCall.{resets, takes_back}
+use Rattle.sctp_delivery.specs.SenderCalls.{Write}
+use Rattle.sctp_delivery.specs.StandAny.{StandAny}
+use Rattle.sctp_receiver.specs.Receiver.{Reception}
+use Rattle.sctp_receiver.specs.ReceiverRuns as runs
+use Rattle.sctp_receiver.specs.ReceiverRuns.{Message}
+use Rattle.sctp_receiver.specs.Skips.{names_closed}
+use Rattle.sctp_data.specs.ForwardTsn.{ForwardTsn}
+
+-- ## What is brought may come
+
+-- `ones` came to the host of this sender and of this receiver, and `others` to the peer
+module _ (ones others : List Brought) where
+  names : (f : ForwardTsn) (h : Halves) (o : Option Reception) → h.receiver ≡ o → Contains ones (brought (receives (runs.forwards f)) h)
+      → NamesOpen f o ⊎ CamePastClosed ones f
+  names f h None is c = inl tt
+  names f h (Some r) is c = by (names_closed f r) refl
+    where
+      by : (b : Bool) → names_closed f r ≡ b → NamesOpen f (Some r) ⊎ CamePastClosed ones f
+      by true e = inr (h, c, λ named. not_both (sym (subst (NamesOpen f) is named) ∙ e))
+      by false e = inl e
+
+  fits : (w : Way) (a : Arrival) (h : Halves) → IsOneLife w a h → Contains ones (brought a h) → Fits (WasBrought ones others) (WasBrought others ones) w a h
+  fits w (receives (runs.discards tsn)) h p c = λ d same. (h, subst (λ n. Contains ones (brought (receives (runs.discards n)) h)) (sym same) c)
+  fits w (receives (runs.closes stream)) h p c = (h, c)
+  fits w (receives (runs.resets stream last)) h p c = (h, c)
+  fits w (receives (runs.forwards f)) h p c = names f h h.receiver refl c
+  fits w (receives _) h p c = tt
+  fits w (hears (restarts stream)) h p c = (h, c)
+  fits w (hears _) h p c = tt
+  fits w (begins tsn max limits) h p c = p
+  fits w (renews tsn size max) h p c = absurd p
+
+  -- where no datagram had the sender begin the stream again, no call of the session did
+  steady-calls : (cs : List AnyCall) (s : ℕ) → Every (WasBrought ones others) (others_of cs) → IsSteady ones s → list_any (renewed s) cs ≡ false
+  steady-calls [] s e n = refl
+  steady-calls (makes call ∷ cs) s e n = steady-calls cs s e n
+  steady-calls (of_sending (takes_back sack back) ∷ cs) s e n = steady-calls cs s e n
+  steady-calls (of_sending (closes stream) ∷ cs) s e n = absurd e.0
+  steady-calls (of_sending (resets stream) ∷ cs) s e n = by (stream == s) refl (steady-calls cs s e.1 n)
+    where
+      by : (b : Bool) → (stream == s) ≡ b → list_any (renewed s) cs ≡ false → (b || list_any (renewed s) cs) ≡ false
+      by true same rest =
+          let is : stream ≡ s = grind (arith, nat_tests, same) in absurd (n (subst (λ x. Came ones (hears (restarts x))) is e.0))
+      by false same rest = rest
+  steady-calls (of_receiving call ∷ cs) s e n = steady-calls cs s e.1 n
+
+  -- ## The law
+
+  delivers : (f b : Way) (x z : Host) → Joined (WasBrought ones others) (WasBrought others ones) f b x z → DeliversAny f ones others x z
+  delivers f b x z j =
+      let st = j.forth in
+      let single : AreSingleOnSteady ones st.session.receiving.read = λ k m lt n.
+      messages.are-single st.reported st.tsn st.size st.max st.most st.limits st.calls st.session st.run st.small st.some st.few st.short k m lt
+      (ap not (steady-calls st.calls _ j.goes.only n)) in
+      record {
+        stand = st;
+        sends = j.goes.sends;
+        receives = j.goes.receives;
+        written = j.goes.written;
+        read = j.goes.read;
+        others = all-of-every (WasBrought ones others) (others_of st.calls) j.goes.only;
+        bytes = every.accounted st.reported st.tsn st.size st.max st.most st.limits st.calls st.session st.run;
+        made = every.made st.reported st.tsn st.size st.max st.most st.limits st.calls st.session st.run;
+        whole = every.messages st.reported st.tsn st.size st.max st.most st.limits st.calls st.session st.run;
+        parts = messages.parts st.reported st.tsn st.size st.max st.most st.limits st.calls st.session st.run st.small st.some st.few st.short;
+        once = every.none-read-twice st.reported st.tsn st.size st.max st.most st.limits st.calls st.session st.run st.small st.few;
+        writes = messages.are-writes st.reported st.tsn st.size st.max st.most st.limits st.calls st.session st.run st.small st.some st.few st.short;
+        own = messages.of-their-own st.reported st.tsn st.size st.max st.most st.limits st.calls st.session st.run st.small st.some st.few st.short;
+        steady = subst (AreSingleOnSteady ones) j.goes.read single;
+        apart = messages.told-apart st.reported st.tsn st.size st.max st.most st.limits st.calls st.session st.run;
+      }
+
+pub each-delivers-any : EachDeliversAny
+each-delivers-any f b moves new run once fit other one-few other-few =
+    let first = hosts (first_host f) (first_host b) in
+    let ones = brought_to_one first moves new run in
+    let others = brought_to_other first moves new run in
+    let rule = moves-both (IsOneLife b) (λ a h. Contains ones (brought a h)) (Fits (WasBrought ones others) (WasBrought others ones) b) (fits ones others b)
+    (IsOneLife f) (λ a h. Contains others (brought a h)) (Fits (WasBrought others ones) (WasBrought ones others) f) (fits others ones f)
+    moves first new run once (moves-in ones others moves first new run (λ a c. c) (λ a c. c)) in
+    let j = each-joined (WasBrought ones others) (WasBrought others ones) f b moves new run rule fit other one-few other-few in (
+      delivers ones others f b new.one new.other j,
+      delivers others ones b f new.other new.one (turned (WasBrought ones others) (WasBrought others ones) f b new.one new.other j),
+    )
+
+-- ## Plain calls
+
+plain-once : (w : Way) (a : Arrival) (h : Halves) → IsPlain w a h → IsPlain w a h → IsOneLife w a h
+plain-once w (receives call) h p q = tt
+plain-once w (hears call) h p q = tt
+plain-once w (begins tsn max limits) h p q = p
+plain-once w (renews tsn size max) h p q = absurd p
+
+pub each-plain : EachPlainIsOneLife
+each-plain f b old moves new run plain =
+    moves-both (IsPlain b) (IsPlain b) (IsOneLife b) (plain-once b) (IsPlain f) (IsPlain f) (IsOneLife f) (plain-once f) moves old new run plain plain
+
+-- ## As a caller has them
+
+module _ (ones others : List Brought) (w : Way) (x z : Party) (d : DeliversAny w ones others (host_at x) (host_at z)) where
+  abbrev it : StandAny
+  it = d.stand
+
+  on-steady : AreWritesOnSteady ones x.log.written z.log.read
+  on-steady =
+      let steady : AreSingleOnSteady ones it.session.receiving.read = subst (AreSingleOnSteady ones) (sym d.read) d.steady in
+      let all : AreWritesOnSteady ones it.session.written it.session.receiving.read = λ k m lt n. d.writes k m lt (steady k m lt n) in
+      subst (λ (ws : List Write). AreWritesOnSteady ones ws z.log.read) d.written
+      (subst (λ (ms : List Message). AreWritesOnSteady ones it.session.written ms) d.read all)
+
+  of-their-own : AreOfTheirOwn x.log.written z.log.read
+  of-their-own =
+      subst (λ (ws : List Write). AreOfTheirOwn ws z.log.read) d.written
+      (subst (λ (ms : List Message). AreOfTheirOwn it.session.written ms) d.read d.own)
+
+  as-written : IsReadAsWrittenAny w ones others x z
+  as-written = record { delivers = d; writes = on-steady; own = of-their-own }
+
+pub each-link-delivers-any : EachLinkDeliversAny
+each-link-delivers-any f b x z link once fit other one-few other-few =
+    let first = hosts (first_host f) (first_host b) in
+    let last = hosts (host_at x) (host_at z) in
+    let ones = brought_to_one first link.moves last link.run in
+    let others = brought_to_other first link.moves last link.run in
+    let d = each-delivers-any f b link.moves last link.run once fit other one-few other-few in
+    (as-written ones others f x z d.0, as-written others ones b z x d.1)
