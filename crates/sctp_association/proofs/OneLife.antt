@@ -1,7 +1,7 @@
 -- Two associations that begin once stand in two sessions of every call, whatever datagrams bring.
 use Rattle.std.proofs.Common.{◌≡◌, ℕ, Bool, true, false, List, [], ◌∷◌, Option, Some, None, refl, ap, sym, subst, ◌∙◌, inl, inr, arith}
 use Rattle.std.proofs.lemmas.Bool.Decides.{nat_tests}
-use Rattle.std.specs.Prelude.{◌⊎◌, ◌==◌, ◌||◌, Contains, not}
+use Rattle.std.specs.Prelude.{◌⊎◌, ◌==◌, ◌||◌, ◌&&◌, Contains, not}
 use Rattle.std.specs.List.{list_any}
 use Rattle.sctp_association.proofs.Hosts.{Fits, Joined, each-joined, turned}
 use Rattle.sctp_association.proofs.Rules.{moves-both, moves-in}
@@ -10,14 +10,16 @@ use Rattle.sctp_association.specs.Hosts.{Host, IsPlain, NamesOpen, Way, first_ho
 use Rattle.sctp_association.specs.Links.{Party, host_at}
 use Rattle.sctp_association.specs.OneLife.{AreOfTheirOwn, AreSingleOnSteady, AreWritesOnSteady, Brought, Came, CamePastClosed, DeliversAny, EachDeliversAny}
 use Rattle.sctp_association.specs.OneLife.{EachPlainIsOneLife}
-use Rattle.sctp_association.specs.OneLife.{EachLinkDeliversAny, IsOneLife, IsReadAsWrittenAny, IsSteady, WasBrought, brought, brought_to_one}
-use Rattle.sctp_association.specs.OneLife.{brought_to_other, others_of}
+use Rattle.sctp_association.specs.OneLife.{EachLinkDeliversAny, IsOneLife, IsReadAsWrittenAny, IsSteady, IsUntouched, WasBrought, brought}
+use Rattle.sctp_association.specs.OneLife.{brought_to_one, brought_to_other, others_of}
 use Rattle.sctp_delivery.proofs.Every.{Every, all-of-every}
 use Rattle.sctp_delivery.proofs.EveryMessages as messages
 use Rattle.sctp_delivery.proofs.EveryRuns as every
+use Rattle.sctp_delivery.proofs.InOrder as in_order
 use Rattle.sctp_util.proofs.More.{not_both}
-use Rattle.sctp_delivery.specs.EveryCall.{AnyCall, closes, makes, of_receiving, of_sending, renews as renewed}
-use Rattle.sctp_delivery.specs.EveryCall.{resets, takes_back}
+use Rattle.sctp_delivery.specs.EveryCall.{AnyCall, closes, closes_incoming, discards, makes, of_receiving, of_sending, passes_over, renews as renewed}
+use Rattle.sctp_delivery.specs.EveryCall.{resets, resets_incoming, takes_back}
+use Rattle.sctp_delivery.specs.EveryOrder.{goes_on, is_unbroken, opens_incoming}
 use Rattle.sctp_delivery.specs.SenderCalls.{Write}
 use Rattle.sctp_delivery.specs.StandAny.{StandAny}
 use Rattle.sctp_receiver.specs.Receiver.{Reception}
@@ -64,6 +66,30 @@ module _ (ones others : List Brought) where
       by false same rest = rest
   steady-calls (of_receiving call ∷ cs) s e n = steady-calls cs s e.1 n
 
+  -- a call of another stream breaks none
+  elsewhere : (P : ℕ → Type 0) (stream s : ℕ) (b : Bool) → (stream == s) ≡ b → P stream → (P s → ⊥) → (rest : Bool) → rest ≡ true → (not b && rest) ≡ true
+  elsewhere P stream s true same p n rest on =
+      let is : stream ≡ s = grind (arith, nat_tests, same) in absurd (n (subst P is p))
+  elsewhere P stream s false same p n rest on = on
+
+  unbroken-calls : (cs : List AnyCall) (opened : Bool) (s : ℕ) → Every (WasBrought ones others) (others_of cs) → IsUntouched ones others s
+      → goes_on opened s cs ≡ true
+  unbroken-calls [] opened s e n = refl
+  unbroken-calls (makes call ∷ cs) opened s e n = unbroken-calls cs (opened || opens_incoming s (makes call)) s e n
+  unbroken-calls (of_sending (takes_back sack back) ∷ cs) opened s e n = unbroken-calls cs (opened || false) s e n
+  unbroken-calls (of_sending (closes stream) ∷ cs) opened s e n = absurd e.0
+  unbroken-calls (of_sending (resets stream) ∷ cs) opened s e n =
+      elsewhere (λ x. Came ones (hears (restarts x))) stream s (stream == s) refl e.0 n.begun (goes_on (opened || false) s cs)
+      (unbroken-calls cs (opened || false) s e.1 n)
+  unbroken-calls (of_receiving (discards c) ∷ cs) opened s e n = absurd (n.noted c.tsn e.0)
+  unbroken-calls (of_receiving (closes_incoming stream) ∷ cs) opened s e n =
+      elsewhere (λ x. Came others (receives (runs.closes x))) stream s (stream == s) refl e.0 n.closed (goes_on (opened || false) s cs)
+      (unbroken-calls cs (opened || false) s e.1 n)
+  unbroken-calls (of_receiving (resets_incoming stream last) ∷ cs) opened s e n =
+      elsewhere (λ x. Came others (receives (runs.resets x last))) stream s (stream == s) refl e.0 (n.reset last) (goes_on (opened || false) s cs)
+      (unbroken-calls cs (opened || false) s e.1 n)
+  unbroken-calls (of_receiving (passes_over f) ∷ cs) opened s e n = absurd (n.passed f e.0)
+
   -- ## The law
 
   delivers : (f b : Way) (x z : Host) → Joined (WasBrought ones others) (WasBrought others ones) f b x z → DeliversAny f ones others x z
@@ -88,6 +114,10 @@ module _ (ones others : List Brought) where
         own = messages.of-their-own st.reported st.tsn st.size st.max st.most st.limits st.calls st.session st.run st.small st.some st.few st.short;
         steady = subst (AreSingleOnSteady ones) j.goes.read single;
         apart = messages.told-apart st.reported st.tsn st.size st.max st.most st.limits st.calls st.session st.run;
+        unbroken = λ s n. unbroken-calls st.calls false s j.goes.only n;
+        order = messages.in-order st.reported st.tsn st.size st.max st.most st.limits st.calls st.session st.run st.small st.some st.few st.short;
+        modes = messages.as-written st.reported st.tsn st.size st.max st.most st.limits st.calls st.session st.run st.small st.some st.few st.short;
+        turn = in_order.in-turn-any st.reported st.tsn st.size st.max st.most st.limits st.calls st.session st.run st.small st.some st.few st.short;
       }
 
 pub each-delivers-any : EachDeliversAny

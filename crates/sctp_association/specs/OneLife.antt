@@ -14,6 +14,7 @@ use Rattle.sctp_data.specs.ForwardTsn.{ForwardTsn}
 use Rattle.sctp_delivery.specs.EveryCall.{AnyCall, AreSingle, AreSingleWritesOfTheirOwn, AreToldApart, AreWritesWhereSingle, closes, closes_incoming}
 use Rattle.sctp_delivery.specs.EveryCall.{discards, is_single, makes, of_receiving, of_sending, passes_over, resets, resets_incoming, single_messages}
 use Rattle.sctp_delivery.specs.EveryCall.{takes_back}
+use Rattle.sctp_delivery.specs.EveryOrder.{AreReadInTurnWhereUnbroken, AreSingleReadAsWritten, AreSingleReadInOrder, is_unbroken}
 use Rattle.sctp_delivery.specs.Messages.{AreParts, IsWrite, NoneIsReadTwice, StandAt}
 use Rattle.sctp_delivery.specs.Returns.{IsAccountedSo}
 use Rattle.sctp_delivery.specs.SenderCalls.{Write}
@@ -121,7 +122,15 @@ WasBrought to_sender to_receiver (of_receiving (passes_over f)) = CamePastClosed
 abbrev pub IsSteady : (to_sender : List Brought) (stream : ℕ) → Type 0
 IsSteady to_sender stream = Came to_sender (hears (restarts stream)) → ⊥
 
--- on such a stream, of the fragments of a message none but the first begins one
+-- nor had one a host close or reset the stream; and none came without its chunk, and none named a stream that was not open
+pub record IsUntouched (to_sender to_receiver : List Brought) (stream : ℕ) : Type 0 where
+  pub begun : IsSteady to_sender stream
+  pub closed : Came to_receiver (receives (runs.closes stream)) → ⊥
+  pub reset : (last : ℕ) → Came to_receiver (receives (runs.resets stream last)) → ⊥
+  pub noted : (tsn : ℕ) → Came to_receiver (receives (runs.discards tsn)) → ⊥
+  pub passed : (f : ForwardTsn) → CamePastClosed to_receiver f → ⊥
+
+-- on a steady stream, of the fragments of a message none but the first begins one
 abbrev pub AreSingleOnSteady : (to_sender : List Brought) → List Message → Type 0
 AreSingleOnSteady to_sender ms =
     All (λ m. IsSteady to_sender m.stream → is_single m.fragments ≡ true) ms
@@ -132,7 +141,8 @@ AreSingleOnSteady to_sender ms =
 -- read what the other read; each call of it that sessions of plain calls do not have was brought. So each byte is accounted for, and each message that
 -- is read is whole, of fragments that are parts of writes, none of which is read twice. A message of which no fragment but the first begins one
 -- is a write at a place of its own. Each is so on a stream that the sender did not begin again; and each on all, where of two ordered messages
--- of a stream that are sent one right behind the other the second has a number of its own
+-- of a stream that are sent one right behind the other the second has a number of its own. On an untouched stream ordered messages, and what was
+-- written while it was ordered, are read in the order of their writes
 pub record DeliversAny (w : Way) (to_sender to_receiver : List Brought) (a b : Host) : Type 0 where
   pub stand : StandAny
   pub sends : stand.session.sending.sender ≡ a.sender
@@ -149,6 +159,11 @@ pub record DeliversAny (w : Way) (to_sender to_receiver : List Brought) (a b : H
   pub own : AreSingleWritesOfTheirOwn stand.session
   pub steady : AreSingleOnSteady to_sender b.read
   pub apart : AreToldApart stand.session → AreSingle stand.session
+  pub unbroken : (stream : ℕ) → IsUntouched to_sender to_receiver stream
+      → is_unbroken stand.calls stream ≡ true
+  pub order : AreSingleReadInOrder stand.calls stand.session
+  pub modes : AreSingleReadAsWritten stand.calls stand.session
+  pub turn : AreReadInTurnWhereUnbroken stand.calls stand.session
 
 -- so it is both ways, whatever two associations do from `new` on, and whatever becomes of their datagrams
 abbrev pub EachDeliversAny : Type 0
