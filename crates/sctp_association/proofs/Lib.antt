@@ -29,3 +29,5 @@ pub mod Rules
 pub mod PlainHosts
 pub mod OneLife
 pub mod Links
+pub mod PairOrder
+pub mod Pairs

@@ -16,6 +16,7 @@ pub mod Links
 pub mod Once
 pub mod OneLife
 pub mod Packets
+pub mod Pairs
 pub mod Reached
 pub mod Reads
 pub mod Reports

@@ -12,6 +12,7 @@ mod inbound;
 pub mod laws;
 mod once;
 mod outbound;
+pub mod pair;
 mod stream_set;
 
 pub use association::{Association, Reason, Stats, Taken};

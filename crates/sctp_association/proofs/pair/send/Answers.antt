@@ -1,0 +1,13 @@
+use Rattle.std.proofs.Common.{ap, refl}
+use Rattle.std.proofs.lemmas.Result.{on_ok_weaker}
+use Rattle.sctp_association.specs.declared.association.Association.{Association}
+use Rattle.sctp_association.specs.Halves.{receiver_of}
+use Rattle.sctp_delivery.specs.SenderCalls.{writes}
+use Rattle.sctp_association.proofs.pair.send.Goals as goal
+
+pub returns-clause-acts : goal.returns-clause-acts
+returns-clause-acts c =
+    let same = ap (λ (a : Association). receiver_of a.inbound) c.write.ensures.rest in
+    on_ok_weaker c.write.result (λ asked l.
+    c.each_call_is_what_a_host_does.ensures.asked c.args.stream (writes c.args.stream c.args.ppi c.args.bytes.now) c.args.one.now c.write.new.self l refl
+    asked same) c.write.ensures.asks

@@ -1,0 +1,187 @@
+//! A caller of two associations: what it reads of the one is what it wrote to the other, in the same order.
+//!
+//! Each call says which moves it is (`specs/Hosts`), and what the caller's logs of the two have then, whatever became of both before. So a caller
+//! of its own puts such calls together as `deliver` does, and loses, keeps and repeats datagrams as its network does.
+
+ghost use Rattle.std.specs.Prelude.{◌≡◌, ◌⊎◌, ℕ, ◌<◌, All, IfOk, IfSome, OnErr, OnOk, length};
+ghost use Rattle.sctp_association.specs.HostCalls.{Leads, Log, acts_of_read, host_of, no_log, sent_of};
+ghost use Rattle.sctp_association.specs.Hosts.{MovesTo, hosts};
+ghost use Rattle.sctp_association.specs.Links.{party};
+ghost use Rattle.sctp_delivery.specs.SenderCalls.{writes, written_after};
+ghost use Rattle.sctp_association.specs.Pairs.{BeginLinked, Comes, Delivers, DeliversOne, Exchanges, Transfers, acts_of_write, answer_of, passes, way_between, write_of};
+
+use crate::association::Association;
+use crate::config::{Config, Secrets};
+use crate::fault::Fault;
+use crate::laws::{each_call_is_what_a_host_does, two_associations_go_on};
+use bytes::Bytes;
+use sctp_data::chunk::chunk_payload_data::PayloadProtocolIdentifier;
+use sctp_reassembly::Chunks;
+use std::alloc::Global;
+
+/// Two new associations, by their configs and secrets: they are linked, and the first one has asked for the association.
+pub fn begin(
+    alloc: Global,
+    config: Config,
+    secrets: Secrets,
+    peer_config: Config,
+    peer_secrets: Secrets,
+    now: u64,
+) -> Result<(Association, Association), Fault>
+    ensures { IfOk result (λ two. BeginLinked
+        (way_between secrets.first_tsn config peer_config)
+        (way_between peer_secrets.first_tsn peer_config config)
+        (party two.0 no_log) (party two.1 no_log)) }
+{
+    each_call_is_what_a_host_does();
+    two_associations_go_on();
+    let mut one = Association::new(alloc, config, secrets)?;
+    one.connect(now)?;
+    match Association::new(alloc, peer_config, peer_secrets) {
+        Ok(other) => Ok((one, other)),
+        Err(fault) => {
+            drop(one);
+            Err(fault)
+        }
+    }
+}
+
+/// Writes a message.
+pub fn send(
+    one: &mut Association,
+    stream: u16,
+    ppi: PayloadProtocolIdentifier,
+    bytes: &Bytes,
+) -> Result<(), Fault>
+    ensures acts { OnOk result ((l : Log) → Leads one.old l
+        (acts_of_write stream ppi bytes.now one.old)
+        one.new (write_of stream ppi bytes.now one.old l)) }
+    ensures err { OnErr result (one.new ≡ one.old) }
+{
+    each_call_is_what_a_host_does();
+    one.write(stream, ppi, bytes)
+}
+
+/// Reads the next message of a stream, if one is there.
+pub fn take(one: &mut Association, stream: u16, now: u64) -> Option<Chunks>
+    ensures { (l : Log) → Leads one.old l (acts_of_read stream one.old.inbound)
+        one.new (answer_of stream result l) }
+{
+    each_call_is_what_a_host_does();
+    match one.read(stream, now) {
+        Ok(message) => message,
+        // It is never refused.
+        Err(_) => None,
+    }
+}
+
+/// Hands a datagram over, so many times: one that the peer has written, however long ago. Refuses for memory, after some times.
+pub fn hand_over(
+    other: &mut Association,
+    datagram: &Bytes,
+    times: u16,
+    now: u64,
+) -> Result<(), Fault>
+    ensures ok { OnOk result (Comes datagram.now times other.old other.new) }
+    ensures err { OnErr result ((count : ℕ) × Comes datagram.now count other.old other.new) }
+{
+    each_call_is_what_a_host_does();
+    for _time in 0..times {
+        other.handle_datagram(datagram, now)?;
+    }
+    Ok(())
+}
+
+/// Passes the next datagram of the one to the other, so many times: 0 where it is lost. Answers whether there was one.
+pub fn pass(
+    alloc: Global,
+    one: &mut Association,
+    other: &mut Association,
+    times: u16,
+    now: u64,
+) -> Result<bool, Fault>
+    ensures moves { IfOk result (λ is_sent. (l m : Log) → MovesTo
+        (hosts (host_of one.old l) (host_of other.old m))
+        (passes is_sent times one.new.draft.bytes)
+        (hosts (host_of one.new (sent_of is_sent one.new l)) (host_of other.new m))) }
+    ensures err { OnErr result ((l m : Log)
+        → Exchanges one.old other.old one.new other.new l m) }
+{
+    each_call_is_what_a_host_does();
+    if !one.poll_transmit(now)? {
+        return Ok(false);
+    }
+    let copy = Bytes::copy_from_slice(alloc, one.datagram())?;
+    hand_over(other, &copy, times, now)?;
+    Ok(true)
+}
+
+/// Passes datagrams both ways, one each way in each of so many rounds. Whatever it answers, they did nothing else.
+pub fn exchange(
+    alloc: Global,
+    one: &mut Association,
+    other: &mut Association,
+    rounds: u16,
+    now: u64,
+) -> Result<(), Fault>
+    ensures { (l m : Log) → Exchanges one.old other.old one.new other.new l m }
+{
+    for _round in 0..rounds {
+        pass(alloc, one, other, 1, now)?;
+        pass(alloc, other, one, 1, now)?;
+    }
+    Ok(())
+}
+
+/// Writes a message to the one, passes datagrams both ways in so many rounds, and answers what is read of the other then. That is a message that
+/// was written to the stream, with its payload type and bytes, in order, and none that was read before, where datagrams are plain
+/// (`specs/Hosts`) and fewer than 2^31 - 1 bytes are written.
+pub fn deliver(
+    alloc: Global,
+    one: &mut Association,
+    other: &mut Association,
+    stream: u16,
+    ppi: PayloadProtocolIdentifier,
+    bytes: &Bytes,
+    rounds: u16,
+    now: u64,
+) -> Result<Option<Chunks>, Fault>
+    ensures ok { IfOk result (λ message. (l m : Log)
+        → DeliversOne stream ppi bytes.now message one.old other.old one.new other.new l m) }
+    // The message was written, or it was not; and nothing was read.
+    ensures err { OnErr result ((l m : Log)
+        → Delivers l.written m.read one.old other.old one.new other.new l m
+        ⊎ Delivers (written_after (writes stream ppi bytes.now) l.written) m.read
+        one.old other.old one.new other.new l m) }
+{
+    send(one, stream, ppi, bytes)?;
+    exchange(alloc, one, other, rounds, now)?;
+    Ok(take(other, stream, now))
+}
+
+/// Delivers messages one after another, each in so many rounds, and answers them: where nothing was written or read before, the same messages in
+/// the same order, if none is unordered. Answers None where one has not come after its rounds.
+/// Precondition: each has some bytes.
+pub fn transfer(
+    alloc: Global,
+    one: &mut Association,
+    other: &mut Association,
+    stream: u16,
+    ppi: PayloadProtocolIdentifier,
+    messages: &[Bytes],
+    rounds: u16,
+    now: u64,
+) -> Result<Option<Vec<Chunks>>, Fault>
+    requires { All (λ bytes. 0 < length bytes) messages.now }
+    ensures { IfOk result (λ read. IfSome read (λ read. (l m : Log) → Transfers stream ppi
+        messages.now read.items one.old other.old one.new other.new l m)) }
+{
+    let mut read = Vec::new(alloc);
+    for bytes in messages {
+        match deliver(alloc, one, other, stream, ppi, bytes, rounds, now)? {
+            Some(message) => read.push(message)?,
+            None => return Ok(None),
+        }
+    }
+    Ok(Some(read))
+}
