@@ -9,7 +9,7 @@ use Rattle.sctp_data.specs.declared.chunk.chunk_payload_data.ChunkPayloadData.{C
 use Rattle.sctp_data.specs.ForwardTsn.{ForwardTsn}
 use Rattle.sctp_receiver.proofs.Closed.{closed-apart}
 use Rattle.sctp_receiver.proofs.DataEach.{takes-keeps}
-use Rattle.sctp_receiver.proofs.Forwarded.{followed-numbers}
+use Rattle.sctp_receiver.proofs.Forwarded.{after-numbers}
 use Rattle.sctp_receiver.proofs.HeldBound.{few-chunks, few-duplicates, few-tsns, little}
 use Rattle.sctp_receiver.proofs.Inbounds.{stays-changed, stays-mapped}
 use Rattle.sctp_receiver.proofs.Receptions.{read-numbers}
@@ -19,7 +19,7 @@ use Rattle.sctp_receiver.specs.declared.receiver.inbound_streams.InboundStream.{
 use Rattle.sctp_receiver.specs.declared.receiver.limits.Limits.{Limits}
 use Rattle.sctp_receiver.specs.Inbound.{has_number, new_stream, number, numbers_of}
 use Rattle.sctp_receiver.specs.Limits.{chunk_cost, cost_of}
-use Rattle.sctp_receiver.specs.Receiver.{Reception, after_discard, after_forward, filter_of, follow_forward_tsn, is_stale, max_sack_entries, repeat_tsn}
+use Rattle.sctp_receiver.specs.Receiver.{Reception, after_discard, after_forward, filter_of, is_stale, max_sack_entries, repeat_tsn}
 use Rattle.sctp_receiver.specs.Receiver.{with_filter}
 use Rattle.sctp_receiver.specs.ReceiverRuns.{Call, Makes, RunsUnrefused, Stand, accepted_after, at_start, chunks_held}
 use Rattle.sctp_receiver.specs.ReceiverRuns.{opens, closes, takes, discards, reports, reports_within, reads, resets, forwards, forwards_by_names}
@@ -80,15 +80,8 @@ dropped-numbers tsn r = by (has_come tsn (filter_of r))
     by true = refl
     by false = refl
 
-forwarded-numbers : (f : ForwardTsn) (r : Reception) → numbers_of (after_forward f r).streams ≡ numbers_of r.streams
-forwarded-numbers f r = by (is_stale f r)
-  where
-    by : (b : Bool) → numbers_of (if b then r else follow_forward_tsn f r).streams ≡ numbers_of r.streams
-    by true = refl
-    by false = followed-numbers f r
-
 skipped-numbers : (f : ForwardTsn) (r : Reception) → numbers_of (after_forward_tsn f r).streams ≡ numbers_of r.streams
-skipped-numbers f r = by (is_stale f r) (forwarded-numbers f r)
+skipped-numbers f r = by (is_stale f r) (after-numbers f r)
   where
     by : (b : Bool) → numbers_of (after_forward f r).streams ≡ numbers_of r.streams
         → numbers_of (if b then r else without_incomplete f.new_cumulative_tsn (after_forward f r)).streams ≡ numbers_of r.streams
@@ -120,7 +113,7 @@ few-after n c old new usual made few = by c usual made
     by (reads s) usual made = same (ap numbers made ∙ read-numbers s old)
     by (resets s last) usual made = same (ap numbers made ∙ stays-changed number (stream_reset last) (λ l. refl) (has_number s) old.streams)
     by (forwards f) usual made = same (ap numbers made ∙ skipped-numbers f old)
-    by (forwards_by_names f) usual made = same (ap numbers made ∙ forwarded-numbers f old)
+    by (forwards_by_names f) usual made = same (ap numbers made ∙ after-numbers f old)
 
 few-run : (n : ℕ) (calls : List Call) (old new : Stand) → AreUsual n calls → RunsUnrefused old calls new → Few n old.receiver → Few n new.receiver
 few-run n [] old new usual e few = subst (λ (s : Stand). Few n s.receiver) (sym e) few
