@@ -17,9 +17,9 @@ use Rattle.sctp_delivery.proofs.Cases.{all_streams}
 use Rattle.sctp_delivery.proofs.Every.{Every, every-changed, every-inserted, every-joined, every-left, every-of, every-passing, every-taken}
 use Rattle.sctp_delivery.proofs.PassedMessages.{AreCutGone, EndsGone, is_gone}
 use Rattle.sctp_delivery.proofs.Calls.{sent_by, numbered_after}
-use Rattle.sctp_delivery.proofs.Delivered.{Holds}
+use Rattle.sctp_delivery.proofs.Delivered.{Holds, HoldsOn}
 use Rattle.sctp_delivery.proofs.Numbers.{number_of}
-use Rattle.sctp_delivery.proofs.Queues.{Abandons, IsEnded, Stands, abandoned, nowhere-none, IsOnceMore, started}
+use Rattle.sctp_delivery.proofs.Queues.{Abandons, IsEnded, Stands, StandsOn, abandoned, nowhere-none, IsOnceMore, started}
 use Rattle.sctp_delivery.proofs.SackSteps.{message-inflight, sack-next}
 use Rattle.sctp_delivery.proofs.Senders.{IsMoreBy}
 use Rattle.sctp_delivery.proofs.Sending.{Queued}
@@ -313,8 +313,8 @@ module _ (gone : List ℕ) where
 
 -- ## A call
 
-module _ (gone : List ℕ) (first : ℕ) (old new : Session) (ns : List Numbered) (sent more : List Entry) (i : Holds first old ns sent)
-    (once : IsOnceMore sent more) (h : AreBegunOrGone gone (length ns) sent (flight_of old).queue.pending) where
+module _ (on : ℕ → Bool) (gone : List ℕ) (first : ℕ) (old new : Session) (ns : List Numbered) (sent more : List Entry)
+    (i : HoldsOn on first old ns sent) (once : IsOnceMore sent more) (h : AreBegunOrGone gone (length ns) sent (flight_of old).queue.pending) where
   abbrev Begins : SenderCall → Type 0
   Begins call = AreBegunOrGone gone (length (numbered_after call ns)) more (flight_of new).queue.pending
 
@@ -334,8 +334,8 @@ module _ (gone : List ℕ) (first : ℕ) (old new : Session) (ns : List Numbered
       q : Pending
       q = rest_after c.beginning_fragment c.unordered p
 
-      stands : Stands ns first (λ s. number_of s old.sending.sender.streams) ready (flight_of old).next_tsn sent
-      stands = started all_streams ns first (λ s. number_of s old.sending.sender.streams) now (flight_of old).queue (flight_of old).next_tsn sent i.held.stands
+      stands : StandsOn on ns first (λ s. number_of s old.sending.sender.streams) ready (flight_of old).next_tsn sent
+      stands = started on ns first (λ s. number_of s old.sending.sender.streams) now (flight_of old).queue (flight_of old).next_tsn sent i.held.stands
 
       entry : Entry
       entry = fragment (data_of (as_sent (flight_of old).next_tsn now c)) g.0 g.1

@@ -3,7 +3,9 @@ use Rattle.sctp_delivery.proofs.Names.{◌≡◌, ℕ, zero, suc, ◌+◌, ◌<�
 use Rattle.sctp_delivery.proofs.Names.{◌∙◌, arith, All, Contains, slice_index_or, filter, list_all, list_any, AllPass-from_list_all, and, both, negated}
 use Rattle.sctp_delivery.proofs.Names.{◌≤◌, None, Released, SenderCall, SenderFollows, distance, completes, fails, following_tsn, same-is, ◌==◌}
 use Rattle.sctp_delivery.proofs.Names.{not_both, list_any-append, ChunkPayloadData, Message, has_tsn, is_complete, is_one_message, is_on}
-use Rattle.sctp_delivery.proofs.Names.{data_of, data_chunk, StandAt, fragments_of_all, are_apart, AreMade, AreMessages, Session, Write, Limits, Transmission, Modes, Stand, at_first, modes_from, AllPairs}
+use Rattle.sctp_delivery.proofs.Names.{data_of, data_chunk, StandAt, fragments_of_all, are_apart, AreMade, AreMessages, Session, Write, Limits, Transmission}
+use Rattle.sctp_delivery.proofs.Names.{Modes, Stand, Data, Pending, Unknown, nat_eq, or-split, ◌-◌, if◌then◌else◌, inl, inr, is_all_acknowledged, reads_nothing}
+use Rattle.sctp_delivery.proofs.Names.{at_first, modes_from, AllPairs}
 use Rattle.std.proofs.Common.{◌≢◌}
 use Rattle.sctp_delivery.proofs.Names.{Sack, IsAccounted, bytes_written, held_by_sender, total_bytes, with_inflight, sum_by, ◌||◌, ap₂}
 use Rattle.sctp_sender.specs.declared.sender.Reported.{Reported}
@@ -12,31 +14,44 @@ use Rattle.sctp_sender.specs.Keeping.{bytes_back}
 use Rattle.sctp_sender.specs.Sender.{take_back_refusal}
 use Rattle.sctp_sender.specs.Totals.{bytes_in}
 use Rattle.sctp_delivery.specs.EveryCall.{AfterEachAny, AnyCall, AreSingle, AreSingleWhereSteady, AreSingleWritesOfTheirOwn, AreWritesWhereSingle, RunsAny}
-use Rattle.sctp_delivery.specs.EveryCall.{makes, of_receiving, of_sending, renews, SenderDoes, takes_back, AreToldApart, is_single, is_steady, single_messages, tsns_given_any, was_dropped}
+use Rattle.sctp_delivery.specs.EveryCall.{makes, of_receiving, of_sending, renews, SenderDoes, takes_back, AreToldApart, is_single, is_steady, single_messages}
+use Rattle.sctp_delivery.specs.EveryCall.{tsns_given_any, was_dropped}
+use Rattle.sctp_receiver.specs.ReceiverRuns.{AreComplete, AreOfOneMessage}
+use Rattle.sctp_delivery.specs.EveryEnd.{IsLeftOn, IsOrderedReadInTheEnd, IsReadOn, IsSentReadInTheEnd, abandoned_any, is_unnamed}
 use Rattle.sctp_delivery.specs.EveryOrder.{AreSingleReadAsWritten, AreSingleReadInOrder, breaks, goes_on, is_unbroken, opens_incoming, plain_calls}
 use Rattle.sctp_delivery.specs.Messages.{AreParts, AreSame}
 use Rattle.sctp_delivery.specs.Returns.{NoneIsRefusedSo, after_return, at_start_with}
 use Rattle.sctp_delivery.specs.SenderCalls.{TakesBackAndSack, takes_sack}
-use Rattle.sctp_delivery.proofs.Begun.{AreOnce}
-use Rattle.sctp_delivery.proofs.Calls.{contains-forgotten, forget, forgotten}
+use Rattle.sctp_delivery.proofs.Begun.{AreOnce, begins, was_begun}
+use Rattle.sctp_delivery.proofs.Calls.{at-forgotten, contains-forgotten, forget, forgotten, length-forgotten}
 use Rattle.sctp_delivery.proofs.Cases.{at-if}
-use Rattle.sctp_delivery.proofs.Delivered.{HoldsOn, next_tsn, sender-step-on, AreInner, EachSent, IsReadOf, inner-of, each-sent-on, found-sent-on, single-is, single-on}
-use Rattle.sctp_delivery.specs.Modes.{was_written_ordered}
+use Rattle.sctp_delivery.proofs.Delivered.{HoldsOn, next_tsn, sender-step-on, AreInner, EachSent, IsReadOf, inner-of, each-sent-on, found-sent-on, single-is}
+use Rattle.sctp_delivery.proofs.Delivered.{single-on}
+use Rattle.sctp_delivery.specs.Complete.{is_exhausted}
+use Rattle.sctp_delivery.specs.Modes.{unknown, was_written_ordered}
 use Rattle.sctp_delivery.specs.Order.{is_ordered_on, places_where}
+use Rattle.sctp_delivery.proofs.EveryEnds.{all-up, was-read}
+use Rattle.sctp_delivery.proofs.EveryFronts.{HasRead}
 use Rattle.sctp_delivery.proofs.EveryRuns as runs
 use Rattle.sctp_delivery.proofs.EveryShadows.{every, HasBeside, IsPlayed, has-beside, played-accounted}
-use Rattle.sctp_delivery.proofs.Every.{Every, every-of-all}
+use Rattle.sctp_delivery.proofs.Every.{Every, every-contained, every-of-all}
 use Rattle.sctp_delivery.proofs.OnceWritten.{EachRead, apart, places, stand}
-use Rattle.sctp_delivery.proofs.ModeSessions.{starts-ordered}
+use Rattle.sctp_delivery.proofs.InTheEnd.{none-selected}
+use Rattle.sctp_delivery.proofs.KeptSessions.{IsIdle, begun-part, idle-of, same-write, slice-itself}
+use Rattle.sctp_delivery.proofs.ModeSessions.{kind-at, starts-ordered}
+use Rattle.sctp_delivery.proofs.Numbers.{number_of}
+use Rattle.sctp_delivery.proofs.AllBegun.{begins_in}
 use Rattle.sctp_delivery.proofs.OrderedEntries.{AreIndexedOn}
+use Rattle.sctp_delivery.proofs.OrderedPlaces.{place-at}
 use Rattle.sctp_delivery.proofs.OrderedMessages.{is_in_order}
 use Rattle.sctp_delivery.proofs.PlainHolds.{held-like}
 use Rattle.sctp_delivery.proofs.PlainReturns.{back-fits, back-more}
-use Rattle.sctp_delivery.proofs.PlainSessions.{small-next}
+use Rattle.sctp_delivery.proofs.Plain.{are-long}
+use Rattle.sctp_delivery.proofs.PlainSessions.{as_plain, kept_of, small-next}
 use Rattle.sctp_delivery.proofs.OneRead.{no-way}
 use Rattle.sctp_delivery.proofs.Stands.{one-given}
 use Rattle.sctp_delivery.proofs.Senders.{AreSentOn, IsHeldOn}
-use Rattle.sctp_delivery.proofs.Sent.{Entry, IsLine, Numbered, WasSent, fragment, part-line, same-tsn}
+use Rattle.sctp_delivery.proofs.Sent.{Entry, IsLine, IsPart, Numbered, WasSent, contains-more, fragment, part-line, same-tsn}
 use Rattle.sctp_delivery.proofs.SpreadEntries.{begun_to, is_at, to-up}
 use Rattle.sctp_delivery.proofs.TsnPlaces.{base}
 use Rattle.sctp_delivery.proofs.UnwrappedHolds.{AreInTurn, Fits, Where as Turns, turn-more}
@@ -207,22 +222,26 @@ module _ (reported : Reported) (first size max most : ℕ) (limits : Option Limi
   abbrev modes : Modes
   modes = modes_from at_first (plain_calls cs)
 
-  beside : HasBeside (is_steady cs) (was_dropped cs) (is_unbroken cs) (steady-there false cs) first s n modes
+  -- what was abandoned
+  abbrev pub gone : List ℕ
+  gone = abandoned_any (at_start_with reported first size max most limits) cs s r
+
+  beside : HasBeside (is_steady cs) (was_dropped cs) (is_unbroken cs) (steady-there false cs) first s n gone modes
   beside =
       has-beside (is_steady cs) (was_dropped cs) (is_unbroken cs) (steady-there false cs) first reported size max most limits cs s r small some few short
       (λ t e. e) (λ q e. ap not e) (λ q e. e)
 
-  i : IsPlayed (is_steady cs) (was_dropped cs) (is_unbroken cs) (steady-there false cs) first beside.1.other n modes
-  i = beside.1.plays few
+  i : IsPlayed (is_steady cs) (was_dropped cs) (is_unbroken cs) (steady-there false cs) first beside.other n gone modes
+  i = beside.plays few
 
   on-each : sessions.AreOn s
   on-each = sessions.read-on-so first most limits (runs.receiver_calls cs) s (runs.receiver-runs cs (at_start_with reported first size max most limits) s r)
 
   made : AreSentOn (is_steady cs) i.sent s.made
-  made = subst (AreSentOn (is_steady cs) i.sent) beside.1.shadow.made i.spread.holds.made
+  made = subst (AreSentOn (is_steady cs) i.sent) beside.shadow.made i.spread.holds.made
 
   writes : forgotten i.numbered ≡ s.written
-  writes = i.spread.holds.writes ∙ beside.1.shadow.written
+  writes = i.spread.holds.writes ∙ beside.shadow.written
 
   pub are-writes : AreWritesWhereSingle s
   are-writes = writes-single (is_steady cs) first s i.numbered i.sent (let a = i.spread.long in omega (arith, a, few)) i.spread.holds.held.stands.queued.line
@@ -230,7 +249,8 @@ module _ (reported : Reported) (first size max most : ℕ) (limits : Option Limi
       (runs.messages reported first size max most limits cs s r) (runs.made reported first size max most limits cs s r)
 
   pub are-single : AreSingleWhereSteady cs s
-  are-single k m lt = single-steady (is_steady cs) first s i.numbered i.sent (let a = i.spread.long in omega (arith, a, few)) i.spread.holds.held.stands.queued.line
+  are-single k m lt = single-steady (is_steady cs) first s i.numbered i.sent (let a = i.spread.long in omega (arith, a, few))
+      i.spread.holds.held.stands.queued.line
       i.spread.holds.held.stands.queued.indexed i.spread.holds.held.stands.begun'.once made writes on-each
       (runs.messages reported first size max most limits cs s r) (runs.made reported first size max most limits cs s r) k m lt
 
@@ -296,7 +316,7 @@ module _ (reported : Reported) (first size max most : ℕ) (limits : Option Limi
         in-order-of st first n i.numbered i.sent few i.spread.long i.spread.holds.held.stands.queued.line once
         i.spread.holds.held.stands.queued.ranked.rising i.spread.holds.placed T starts' d.k singles-read each-is
         (those-turn (λ m. is_single m.fragments) d.k s.receiving.read
-        (subst (λ (y : Stand). InTurn d.k y.read) beside.1.shadow.receiving d.turns))
+        (subst (λ (y : Stand). InTurn d.k y.read) beside.shadow.receiving d.turns))
 
   pub in-order : AreSingleReadInOrder cs s
   in-order = (
@@ -312,7 +332,7 @@ module _ (reported : Reported) (first size max most : ℕ) (limits : Option Limi
     own-stand,
     own-apart,
     λ st c. rising st c (was_written_ordered modes.of_writes st)
-        (starts-ordered modes beside.1.other i.numbered i.sent i.said i.spread.holds.placed st),
+        (starts-ordered modes beside.other i.numbered i.sent i.said i.spread.holds.placed st),
   )
 
   -- ## Chunks
@@ -332,25 +352,185 @@ module _ (reported : Reported) (first size max most : ℕ) (limits : Option Limi
       same-tsn i.numbered first i.sent (let a = i.spread.long in omega (arith, a, few)) i.spread.holds.held.stands.queued.line d e
       (found-sent-on (is_steady cs) i.sent s.made d made c) (found-sent-on (is_steady cs) i.sent s.made e made k) is
 
+  -- ## In the end
+
+  -- nothing waits, is in flight, or is to be read: on a stream that goes on, and that no FORWARD-TSN names, each ordered message was read
+  module _ (exhausted : is_exhausted s.sending.sender s.receiving.receiver ≡ true) (st : ℕ) (c : is_unbroken cs st ≡ true)
+      (unnamed : is_unnamed st s.made ≡ true) where
+    abbrev q : Session
+    q = beside.other
+
+    steady : is_steady cs st ≡ true
+    steady = steady-there false cs st c
+
+    idle : IsIdle s
+    idle = idle-of s (both (is_all_acknowledged s.sending.sender) (reads_nothing s.receiving.receiver) exhausted).0
+
+    bare : (o : Transmission → List ChunkPayloadData) → o q.sending.sender ≡ o (as_plain s.sending.sender beside.shadow.streams beside.shadow.chunks)
+    bare o = ap o beside.shadow.sender
+
+    none-left : (ds : List ChunkPayloadData) → length ds ≡ 0 → ds ≡ []
+    none-left [] e = refl
+    none-left (d ∷ ds) e = absurd (omega (arith, e))
+
+    all-messages : (j : ℕ) → j < begun_to st n i.sent → HasRead st first n i.sent j q.receiving.read
+    all-messages j lt =
+        let x = beside.shadow in
+        let up = i.up st c (subst (λ ms. is_unnamed st ms ≡ true) (sym x.made) unnamed) in
+        let all = all-up st first (is_steady cs) (was_dropped cs) steady n q i.numbered i.sent i.spread few (i.answered st c).0 up
+        (bare (λ u. u.flight.queue.inflight.chunks)
+        ∙ none-left x.chunks (sym (are-long (kept_of s.sending.sender.kept) s.sending.sender.flight.queue.inflight.chunks x.chunks x.like)
+        ∙ ap length idle.inflight))
+        (none-selected (is_steady cs) i.numbered first (λ r. number_of r q.sending.sender.streams) q.sending.sender.flight.queue.pending i.sent
+        i.spread.holds.held.stands.queued (bare (λ u. u.flight.queue.pending.ordered) ∙ idle.ordered)
+        (bare (λ u. u.flight.queue.pending.unordered) ∙ idle.unordered))
+        (ap (λ (y : Stand). reads_nothing y.receiver) x.receiving
+        ∙ (both (is_all_acknowledged s.sending.sender) (reads_nothing s.receiving.receiver) exhausted).1) in
+        up.read j (omega (arith, lt, all))
+
+    -- of which it has each fragment
+    read-part : (d : Data) (w : Numbered) (after : List ℕ) (xs : List Entry) → IsPart (fragment d w after ∷ xs) i.sent → d.stream_identifier ≡ st
+        → d.unordered ≡ false → IsReadOn st d s.receiving.read
+    read-part d w after xs part on' kind =
+        let x = beside.shadow in
+        subst (λ (y : Stand). IsReadOn st d y.read) x.receiving
+        (was-read st first (is_steady cs) (was_dropped cs) steady n q i.numbered i.sent i.spread few
+        (subst (λ y. AreComplete y × AreOfOneMessage y) (sym x.receiving) (runs.messages reported first size max most limits cs s r))
+        (subst (λ ms. All (λ m. All (λ k. Contains ms (data_chunk (data_of k))) m.fragments) q.receiving.read) (sym x.made)
+        (subst (λ (y : Stand). All (λ m. All (λ k. Contains s.made (data_chunk (data_of k))) m.fragments) y.read) (sym x.receiving)
+        (runs.made reported first size max most limits cs s r)))
+        d w after xs part on' kind all-messages)
+
+    -- ## Each write
+
+    module _ (k : ℕ) (left : IsLeftOn st gone cs s k) where
+      total : length s.written ≡ length i.numbered
+      total = sym (ap length writes) ∙ length-forgotten i.numbered
+
+      lt : k < length i.numbered
+      lt = let l = left.inside in omega (arith, l, total)
+
+      abbrev none_written : Numbered
+      none_written = record { stream = 0; payload_type = Unknown; bytes = []; place = 0 }
+
+      abbrev w : Numbered
+      w = slice_index_or i.numbered k none_written
+
+      at : w.place + k + 1 ≡ length i.numbered
+      at = place-at i.numbered k w i.spread.holds.placed lt (slice-itself i.numbered k w none_written lt)
+
+      begun : was_begun w.place i.sent ≡ true
+      begun =
+          let is : w.place ≡ length s.written - (k + 1) = omega (arith, at, total) in
+          let off = ap (λ m. list_any (nat_eq m) gone) is ∙ left.left in
+          elim (or-split (was_begun w.place i.sent) (begins_in w.place p) (i.begun w.place (omega (arith, at)) off)) [
+            | inl e ↦ e
+            | inr e ↦ elim (or-split (list_any (begins w.place) p.ordered) (list_any (begins w.place) p.unordered) e) [
+              | inl f ↦ absurd (not_both (sym (ap (list_any (begins w.place)) (bare (λ u. u.flight.queue.pending.ordered) ∙ idle.ordered)) ∙ f))
+              | inr f ↦ absurd (not_both (sym (ap (list_any (begins w.place)) (bare (λ u. u.flight.queue.pending.unordered) ∙ idle.unordered)) ∙ f))
+            ]
+          ]
+        where
+          p : Pending
+          p = q.sending.sender.flight.queue.pending
+
+      -- its first fragment
+      abbrev first_part : (d : Data) × (v : Numbered) × (after : List ℕ) × (xs : List Entry) × IsPart (fragment d v after ∷ xs) i.sent
+          × (d.beginning_fragment ≡ true) × (v.place ≡ w.place)
+      first_part = begun-part w.place i.sent begun
+
+      abbrev v : Numbered
+      v = first_part.1
+
+      written_at : Contains i.numbered v
+      written_at = (part-line i.numbered first i.sent (fragment first_part.0 v first_part.2 ∷ first_part.3) first_part.4
+          i.spread.holds.held.stands.queued.line).0.written
+
+      same-place' : (u : Numbered) (h : Contains i.numbered u) → u.place ≡ w.place → h.0 ≡ k
+      same-place' u h e = let a = place-at i.numbered h.0 u i.spread.holds.placed h.1 h.2 in omega (arith, a, e, at)
+
+      on-stream : first_part.0.stream_identifier ≡ st
+      on-stream =
+          let l = part-line i.numbered first i.sent (fragment first_part.0 v first_part.2 ∷ first_part.3) first_part.4 i.spread.holds.held.stands.queued.line in
+          let is : slice_index_or s.written written_at.0 (forget v) ≡ forget v =
+          ap (λ ws. slice_index_or ws written_at.0 (forget v)) (sym writes) ∙ at-forgotten i.numbered written_at.0 v (forget v) written_at.1 written_at.2 in
+          l.0.stream ∙ sym (ap (λ (y : Write). y.stream) is) ∙ ap (λ j. (slice_index_or s.written j (forget v)).stream) (same-place' v written_at first_part.6)
+          ∙ left.on (forget v)
+
+      ordered : first_part.0.unordered ≡ false
+      ordered =
+          sym (kind-at modes q i.numbered i.sent i.said i.spread.holds.placed first_part.0 v first_part.2 first_part.3 written_at first_part.4 unknown)
+          ∙ ap (λ j. (slice_index_or modes.of_writes j unknown).mode.unordered) (same-place' v written_at first_part.6) ∙ left.ordered
+
+      placed : Contains own-places k
+      placed =
+          let m = read-part first_part.0 v first_part.2 first_part.3 first_part.4 on-stream ordered in
+          let alone : is_single m.0.fragments ≡ true =
+          subst (λ (x : Message). is_steady cs x.stream ≡ true → is_single x.fragments ≡ true) m.1.2 (are-single m.1.0 m.0 m.1.1)
+          (ap (is_steady cs) m.2 ∙ steady) in
+          let x = place-of singles-read each-is m.0 (contains-those (λ y. is_single y.fragments) s.receiving.read m.0 alone m.1) in
+          let head : data_of x.0.chunk ≡ first_part.0 =
+          ap data_of (head-is x.0.chunk x.0.others (none-begin x.0.others (ap is_single (sym x.0.fragments) ∙ alone)) m.3
+          (subst (λ ys. Contains ys m.3) x.0.fragments m.4) (ap (λ (y : Data). y.beginning_fragment) m.5 ∙ first_part.5)) ∙ m.5 in
+          let same = same-write i.numbered first i.sent (let a = i.spread.long in omega (arith, a, few)) i.spread.holds.held.stands.queued.line
+          (data_of x.0.chunk) first_part.0 x.0.numbered v x.0.after first_part.2 x.0.entries first_part.3 x.0.part first_part.4
+          (ap (λ (y : Data). y.tsn) head) in
+          subst (Contains own-places) (same-place' x.0.numbered x.0.written (ap (λ (y : Numbered). y.place) same ∙ first_part.6)) x.1
+        where
+          -- one that begins is the first
+          head-is : (c : ChunkPayloadData) (ds : List ChunkPayloadData) → Every (λ (d : ChunkPayloadData). d.beginning_fragment ≡ false) ds
+              → (d : ChunkPayloadData) → Contains (c ∷ ds) d → d.beginning_fragment ≡ true → c ≡ d
+          head-is c ds e d (zero, lt, is) f = is
+          head-is c ds e d (suc j, lt, is) f =
+              absurd (not_both (sym (every-contained (λ y. y.beginning_fragment ≡ false) ds d (j, omega (arith, lt), is) e) ∙ f))
+
+          place-of : (ms : List Message) (e : EachRead i.numbered i.sent once ms) (m : Message) → Contains ms m
+              → (x : IsReadOf i.numbered i.sent m) × Contains (places i.numbered i.sent once ms e) x.written.0
+          place-of [] e m h = absurd (let lt = h.1 in omega (arith, lt))
+          place-of (y ∷ ys) e m (zero, lt, is) = subst
+              (λ (z : Message). (x : IsReadOf i.numbered i.sent z) × Contains (places i.numbered i.sent once (y ∷ ys) e) x.written.0) is
+              (e.0, (0, omega arith, refl))
+          place-of (y ∷ ys) e m (suc j, lt, is) =
+              let x = place-of ys e.1 m (j, omega (arith, lt), is) in
+              (x.0, contains-more e.0.written.0 (places i.numbered i.sent once ys e.1) x.0.written.0 x.1)
+
+          contains-those : (p : Message → Bool) (ms : List Message) (m : Message) → p m ≡ true → Contains ms m → Contains (filter p ms) m
+          contains-those p [] m e h = absurd (let lt = h.1 in omega (arith, lt))
+          contains-those p (y ∷ ys) m e (zero, lt, is) =
+              subst (λ b. Contains (if b then y ∷ filter p ys else filter p ys) m) (sym (ap p is ∙ e)) (0, omega arith, is)
+          contains-those p (y ∷ ys) m e (suc j, lt, is) =
+              let x = contains-those p ys m e (j, omega (arith, lt), is) in
+              at-if (λ z. Contains z m) (p y) (λ _. contains-more y (filter p ys) m x) (λ _. x)
+
+  -- what was made of such a stream was read
+  pub sent-read : IsSentReadInTheEnd cs s
+  sent-read exhausted st c unnamed d in' on' kind =
+      let w = found-sent-on (is_steady cs) i.sent s.made d made in' in
+      read-part exhausted st c unnamed d w.0 w.1 w.2 w.3 on' kind
+
+  -- and what was written on it
+  pub ordered-read : IsOrderedReadInTheEnd gone cs s
+  ordered-read exhausted = (own-places, own-stand, own-apart, λ st c unnamed k left. placed exhausted st c unnamed k left)
+
   -- what comes back is not refused
   pub none-refused-back : NoneIsRefusedSo s
   none-refused-back =
-      let x = beside.1.shadow in
+      let x = beside.shadow in
       let t = s.sending.sender in
       let all = beside-accounted in
-      let held : held_by_sender beside.1.other.sending.sender ≡ total_bytes (with_inflight t.flight.queue x.chunks) = ap held_by_sender x.sender in
-      let before : bytes_written beside.1.other ≡ bytes_written s = ap (λ ws. sum_by (λ (y : Write). length y.bytes) ws) x.written in
+      let held : held_by_sender beside.other.sending.sender ≡ total_bytes (with_inflight t.flight.queue x.chunks) = ap held_by_sender x.sender in
+      let before : bytes_written beside.other ≡ bytes_written s = ap (λ ws. sum_by (λ (y : Write). length y.bytes) ws) x.written in
       let refused = runs.none-refused reported first size max most limits cs s r small few in
       λ k d lt. back-fits (slice_index_or s.sacks k d) t x.chunks x.like (omega (arith, all, held, before, short)) (refused k d lt)
     where
-      beside-accounted : IsAccounted beside.1.other
+      beside-accounted : IsAccounted beside.other
       beside-accounted =
-          played-accounted (is_steady cs) (was_dropped cs) (is_unbroken cs) (steady-there false cs) first beside.1.other n modes i
+          played-accounted (is_steady cs) (was_dropped cs) (is_unbroken cs) (steady-there false cs) first beside.other n gone modes i
 
   -- the sender holds what got TSNs, too; so a call of it gives out one at most
   holds : HoldsOn (is_steady cs) first s i.numbered i.sent
   holds =
-      let x = beside.1.shadow in
+      let x = beside.shadow in
       record {
         held = held-like (is_steady cs) first s.sending.sender x.streams x.chunks i.numbered i.sent x.alike x.like
             (subst (λ u. IsHeldOn (is_steady cs) i.numbered first u i.sent) x.sender i.spread.holds.held);
@@ -367,7 +547,9 @@ module _ (reported : Reported) (first size max most : ℕ) (limits : Option Limi
 
   -- no way from the TSN that is next to itself
   pub same-way : distance (next_tsn s) (next_tsn s) ≡ 0
-  same-way = no-way (next_tsn s) (small-next first (every (is_steady cs) (was_dropped cs) (is_unbroken cs) (steady-there false cs) first) s.sending.sender s n beside.0 modes few beside.1)
+  same-way =
+      no-way (next_tsn s) (small-next first (every (is_steady cs) (was_dropped cs) (is_unbroken cs) (steady-there false cs) first) s.sending.sender s n gone
+      modes few beside)
 
   -- what `acked` makes of the sender is two calls
   pub two-calls : (sack : Sack) (back : List TakenBack) (gone : List Released) (new : Transmission) → Contains s.sacks sack
@@ -375,7 +557,7 @@ module _ (reported : Reported) (first size max most : ℕ) (limits : Option Limi
       → SenderDoes (takes_back sack back) s (after_return sack back s)
       × (t : Session) × SenderFollows (takes_sack sack gone) (after_return sack back s) t × (t.sending.sender ≡ new)
   two-calls sack back gone new handed x =
-      let h = beside.1.shadow in
+      let h = beside.shadow in
       let t = s.sending.sender in
       let more = back-more sack t h.chunks h.like in
       let same = ap bytes_back x.returned in

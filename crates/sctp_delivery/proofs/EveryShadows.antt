@@ -2,7 +2,8 @@
 use Rattle.sctp_delivery.proofs.Names.{◌≡◌, ℕ, ◌+◌, ◌<◌, ◌≤◌, ◌^◌, Bool, true, false, not, List, [], ◌∷◌, ◌++◌, length, map, Option, refl, ap, sym, subst}
 use Rattle.sctp_delivery.proofs.Names.{◌∙◌, arith, distance, not_both, or-left, or-right, filter, change_where, Limits, Modes, OutboundStream}
 use Rattle.sctp_delivery.proofs.Names.{Call, Follows, Session, bytes_written, of_receiver, of_sender, at_first, has_number, Transmission}
-use Rattle.sctp_delivery.proofs.Names.{◌||◌, Mode, both, inl, inr, is_open, modes_from, negated, or-split}
+use Rattle.sctp_delivery.proofs.Names.{abandoned_by, append-nil, append_assoc, SenderCall, Made, ForwardTsn, fails, is_pair_of, list_any_at, made_after}
+use Rattle.sctp_delivery.proofs.Names.{stream_of, ◌||◌, Mode, both, inl, inr, is_open, modes_from, negated, or-split}
 use Rattle.sctp_delivery.proofs.Names.{IsAccounted, Contains, at_start, list_any, same-yes, sum_by, Write, data_chunk, forward_tsn, data_of, if◌then◌else◌}
 use Rattle.sctp_receiver.specs.ReceiverRuns as receiver_runs
 use Rattle.sctp_sender.specs.declared.sender.Reported.{Reported}
@@ -21,17 +22,19 @@ use Rattle.std.specs.List.{AllByRecursion, slice_rotate_right}
 use Rattle.sctp_delivery.specs.EveryCall.{AnyCall, FollowsAny, IsMadeChunk, IsReceiverTaken, ReceiverDoes, ReceiverOther, RunsAny, SenderDoes, SenderOther}
 use Rattle.sctp_delivery.specs.EveryCall.{as_receiver_run, closes, closes_incoming, discards, drops, makes, of_receiving, of_sending, passes_over, renews}
 use Rattle.sctp_delivery.specs.EveryCall.{resets, resets_incoming, takes_back, tsns_given_any}
+use Rattle.sctp_delivery.specs.EveryEnd.{abandoned_any, is_naming, is_unnamed}
 use Rattle.sctp_delivery.specs.EveryOrder.{breaks, goes_on, is_unbroken, opens_incoming, plain_calls}
 use Rattle.sctp_delivery.specs.ReceiverCalls as incoming
 use Rattle.sctp_delivery.specs.Returns.{at_start_with}
 use Rattle.sctp_delivery.specs.SenderCalls as outgoing
+use Rattle.sctp_delivery.proofs.AbandonedMessages.{AreBegunOrGone, begun-later, gone-left, gone-right, stays-begun-or-gone}
 use Rattle.sctp_delivery.proofs.Calls.{numbered_after}
 use Rattle.sctp_delivery.proofs.Cases.{at-test}
 use Rattle.sctp_delivery.proofs.Delivered.{next_tsn}
+use Rattle.sctp_delivery.proofs.EveryFronts.{IsReadUp, other-up, receiver-up, sender-up}
 use Rattle.sctp_delivery.proofs.EveryRuns as runs
 use Rattle.sctp_delivery.proofs.EveryTurns.{open-after, open-after-other, opens-it, other-answered}
-use Rattle.sctp_delivery.proofs.FilledQueues.{IsFilled}
-use Rattle.sctp_delivery.proofs.ModeSessions.{AreInModes, IsAsSaid, IsInModes, IsModed, changed-in, said-after, said-first}
+use Rattle.sctp_delivery.proofs.ModeSessions.{AreInModes, IsAsSaid, IsInModes, changed-in, said-after, said-beside, said-first}
 use Rattle.sctp_delivery.proofs.Numbers.{all-open, apart-changed, apart-closed, number-elsewhere, number_of, numbers-closed, sized-changed, sized-closed}
 use Rattle.sctp_delivery.proofs.Numbers.{there-changed, there-closed}
 use Rattle.sctp_delivery.proofs.PlainCalls.{sender-goes}
@@ -39,11 +42,10 @@ use Rattle.sctp_delivery.proofs.PlainRuns.{returns-goes, unmoved}
 use Rattle.sctp_delivery.proofs.PlainSessions.{Goes, IsThere, Others, gone_by, modes_by, receives-too}
 use Rattle.sctp_delivery.proofs.PlainStreams.{AreAlike, bare, both-changed}
 use Rattle.sctp_delivery.proofs.Every.{Every}
-use Rattle.sctp_delivery.proofs.QueueChunks.{AllWait}
 use Rattle.sctp_delivery.proofs.SackLaws as sacks
 use Rattle.sctp_delivery.proofs.Senders.{IsHeldOn, renumbered}
 use Rattle.sctp_delivery.proofs.Sent.{Entry, Numbered}
-use Rattle.sctp_delivery.proofs.Sessions.{IsCounted, sender-counts}
+use Rattle.sctp_delivery.proofs.Sessions.{IsCounted, more-made, sender-counts}
 use Rattle.sctp_delivery.proofs.SpreadCalls.{IsSpreadOn, beside-spreads, receiver-spreads-on, sender-spreads-on, spread-first-on}
 use Rattle.sctp_delivery.proofs.TsnPlaces.{base}
 use Rattle.sctp_delivery.proofs.UnwrappedSessions.{IsAnswered, answered-first, receiver-answered-on, sender-answered-on}
@@ -118,14 +120,17 @@ left-in-modes f s ls h = from (swapped_out (has_number s) ls) (out-each (has_num
     from [] k = tt
     from (l ∷ ks) k = (k.0, from ks k.1)
 
--- where the sender stays as it is, it is as the calls say still
-said-beside : (d e : Session) (m : Modes) (ns : List Numbered) (sent : List Entry) → e.sending ≡ d.sending → IsAsSaid m d ns sent → IsAsSaid m e ns sent
-said-beside d e m ns sent same h = record {
-  sender = subst (λ (l : sender_runs.Ledger). IsModed m l.sender) (sym same) h.sender;
-  kinds = h.kinds;
-  count = h.count;
-  filled = subst (λ (l : sender_runs.Ledger). AllWait IsFilled l.sender.flight.queue.pending) (sym same) h.filled;
-}
+-- # FORWARD-TSNs that were made
+
+-- no name now, and none before
+unnamed-before : (st : ℕ) (call : SenderCall) (t : Transmission) (ms : List Made) → is_unnamed st (made_after call t ms) ≡ true → is_unnamed st ms ≡ true
+unnamed-before st call t ms e =
+    ap not (fails (list_any (is_naming st) ms) (λ h. not_both (sym (ap not (more-made (is_naming st) call t ms h)) ∙ e)))
+
+-- each of them names it not
+unnamed-of : (st : ℕ) (ms : List Made) (g : ForwardTsn) → is_unnamed st ms ≡ true → Contains ms (forward_tsn g) → list_any (is_pair_of st) g.streams ≡ false
+unnamed-of st ms g e c = fails (list_any (is_pair_of st) g.streams) (λ h.
+    not_both (sym (ap not (list_any_at (is_naming st) ms c.0 (forward_tsn g) c.1 (ap (is_naming st) c.2 ∙ h))) ∙ e))
 
 -- # What is so of the receiver's streams
 
@@ -165,23 +170,40 @@ ready-after calm opened (of_receiving call) s v f whole h = record {
   ];
 }
 
-modes-on : (c : AnyCall) (cs : List AnyCall) (m : Modes) → modes_from (modes_from m (plain_calls (c ∷ []))) (plain_calls cs) ≡ modes_from m (plain_calls (c ∷ cs))
+modes-on : (c : AnyCall) (cs : List AnyCall) (m : Modes) → modes_from (modes_from m (plain_calls (c ∷ []))) (plain_calls cs)
+    ≡ modes_from m (plain_calls (c ∷ cs))
 modes-on (makes (of_sender call)) cs m = refl
 modes-on (makes (of_receiver call)) cs m = refl
 modes-on (of_sending call) cs m = refl
 modes-on (of_receiving call) cs m = refl
+
+-- what the call abandons
+abbrev gone_any : AnyCall → Session → List ℕ
+gone_any (makes call) s = gone_by call s
+gone_any (of_sending call) s = []
+gone_any (of_receiving call) s = []
+
+gone-on : (c : AnyCall) (cs : List AnyCall) (s new : Session) (r : RunsAny s (c ∷ cs) new)
+    → gone_any c s ++ abandoned_any r.0 cs new r.1.1 ≡ abandoned_any s (c ∷ cs) new r
+gone-on (makes (of_sender call)) cs s new r = refl
+gone-on (makes (of_receiver call)) cs s new r = refl
+gone-on (of_sending call) cs s new r = refl
+gone-on (of_receiving call) cs s new r = refl
 
 -- # The session beside it
 
 -- numbers go on on some streams; on some of these the receiver goes on, too
 module _ (on dropped calm : ℕ → Bool) (sub : (st : ℕ) → calm st ≡ true → on st ≡ true) (first : ℕ) where
   -- what stays true of it after n TSNs were given out
-  pub record IsPlayed (d : Session) (n : ℕ) (m : Modes) : Type 0 where
+  pub record IsPlayed (d : Session) (n : ℕ) (gone : List ℕ) (m : Modes) : Type 0 where
     pub numbered : List Numbered
     pub sent : List Entry
     pub spread : IsSpreadOn on dropped first n d numbered sent
     pub said : IsAsSaid m d numbered sent
+    pub begun : AreBegunOrGone gone (length numbered) sent d.sending.sender.flight.queue.pending
     pub answered : (st : ℕ) → calm st ≡ true → IsAnswered st first n sent spread.step.numbered.acked d
+    pub up : (st : ℕ) → calm st ≡ true → is_unnamed st d.made ≡ true
+        → IsReadUp st first n sent (stream_of st d.receiving.receiver) d.receiving.read
     pub counted : IsCounted d
     pub size : ℕ
     pub max : ℕ
@@ -189,18 +211,22 @@ module _ (on dropped calm : ℕ → Bool) (sub : (st : ℕ) → calm st ≡ true
     pub ran : sender_runs.RunsTo (sender_runs.at_start first size max) calls d.sending
 
   abbrev PlaysSo : Session → ℕ → List ℕ → Modes → Type 0
-  PlaysSo d n gone m = n < 2 ^ 31 → IsPlayed d n m
+  PlaysSo d n gone m = n < 2 ^ 31 → IsPlayed d n gone m
 
   -- where its sender stays as it is
-  beside-played : (d e : Session) (n : ℕ) (m : Modes) → (same : e.sending ≡ d.sending) → (made : e.made ≡ d.made) → (written : e.written ≡ d.written)
-      → (p : IsPlayed d n m) → (spread : IsSpreadOn on dropped first n e p.numbered p.sent)
-      → ((st : ℕ) → calm st ≡ true → IsAnswered st first n p.sent spread.step.numbered.acked e) → IsPlayed e n m
-  beside-played d e n m same made written p spread answered = record {
+  beside-played : (d e : Session) (n : ℕ) (gone : List ℕ) (m : Modes) → (same : e.sending ≡ d.sending) → (made : e.made ≡ d.made)
+      → (written : e.written ≡ d.written) → (p : IsPlayed d n gone m) → (spread : IsSpreadOn on dropped first n e p.numbered p.sent)
+      → ((st : ℕ) → calm st ≡ true → IsAnswered st first n p.sent spread.step.numbered.acked e)
+      → ((st : ℕ) → calm st ≡ true → is_unnamed st d.made ≡ true
+      → IsReadUp st first n p.sent (stream_of st e.receiving.receiver) e.receiving.read) → IsPlayed e n gone m
+  beside-played d e n gone m same made written p spread answered up = record {
     numbered = p.numbered;
     sent = p.sent;
     spread = spread;
     said = said-beside d e m p.numbered p.sent same p.said;
+    begun = subst (λ (l : sender_runs.Ledger). AreBegunOrGone gone (length p.numbered) p.sent l.sender.flight.queue.pending) (sym same) p.begun;
     answered = answered;
+    up = λ st c none. up st c (subst (λ ms. is_unnamed st ms ≡ true) made none);
     counted = record {
       written = ap (λ ws. sum_by (λ (w : Write). length w.bytes) ws) written ∙ p.counted.written
           ∙ sym (ap (λ (l : sender_runs.Ledger). l.written) same);
@@ -222,7 +248,16 @@ module _ (on dropped calm : ℕ → Bool) (sub : (st : ℕ) → calm st ≡ true
         sent = x.more;
         spread = x.spread;
         said = said-after call d e m i.numbered i.sent x.more f x.grown i.spread.holds.held.sized i.said;
+        begun =
+            let answered = abandoned_by call d.sending.sender in
+            stays-begun-or-gone on (gone ++ answered) first d e i.numbered i.sent x.more i.spread.holds x.once
+            (begun-later gone (gone ++ answered) (gone-left gone answered) (length i.numbered) i.sent d.sending.sender.flight.queue.pending i.begun) call
+            (gone-right gone answered) f x.grown;
         answered = λ st c. sender-answered-on st first on dropped n call d e i.numbered i.sent i.spread few f x (i.answered st c);
+        up = λ st c none.
+            sender-up st first on dropped (sub st c) n call d e i.numbered i.sent i.spread few f x
+            (sender-answered-on st first on dropped n call d e i.numbered i.sent i.spread few f x (i.answered st c))
+            (i.up st c (unnamed-before st call d.sending.sender d.made (ap (is_unnamed st) (sym (ap (λ (s : Session). s.made) f.after)) ∙ none)));
         counted = sender-counts call d e f i.counted;
         size = i.size;
         max = i.max;
@@ -234,12 +269,15 @@ module _ (on dropped calm : ℕ → Bool) (sub : (st : ℕ) → calm st ≡ true
       let i = p small in
       let none = sacks.no-move (base first) n d e (ap (λ (s : Session). s.sending) f.after) i.spread.step.numbered in
       let spread = receiver-spreads-on on dropped first n call d e i.numbered i.sent small f i.spread in
-      subst (λ k. IsPlayed e k m) {x = n} {y = n + distance (next_tsn d) (next_tsn e)} (omega (arith, none))
-      (beside-played d e n m (ap (λ (s : Session). s.sending) f.after) (ap (λ (s : Session). s.made) f.after) (ap (λ (s : Session). s.written) f.after)
-      i spread (λ st c. receiver-answered-on st first on dropped (sub st c) n call d e i.numbered i.sent i.spread small f spread (i.answered st c)))
+      subst (λ k. IsPlayed e k (gone ++ []) m) {x = n} {y = n + distance (next_tsn d) (next_tsn e)} (omega (arith, none))
+      (subst (λ xs. IsPlayed e n xs m) (sym (append-nil gone))
+      (beside-played d e n gone m (ap (λ (s : Session). s.sending) f.after) (ap (λ (s : Session). s.made) f.after) (ap (λ (s : Session). s.written) f.after)
+      i spread (λ st c. receiver-answered-on st first on dropped (sub st c) n call d e i.numbered i.sent i.spread small f spread (i.answered st c))
+      (λ st c none. receiver-up st first on dropped (sub st c) n d i.numbered i.sent i.spread small e (i.answered st c).0 (i.up st c none) call f
+      (λ g h. unnamed-of st d.made g none h))))
 
-  pub played-accounted : (d : Session) (n : ℕ) (m : Modes) → IsPlayed d n m → IsAccounted d
-  played-accounted d n m i =
+  pub played-accounted : (d : Session) (n : ℕ) (gone : List ℕ) (m : Modes) → IsPlayed d n gone m → IsAccounted d
+  played-accounted d n gone m i =
       let law = accounts.accounted first i.size i.max Drop i.calls d.sending i.ran in
       let w = i.counted.written in
       let b = i.counted.back in
@@ -248,20 +286,20 @@ module _ (on dropped calm : ℕ → Bool) (sub : (st : ℕ) → calm st ≡ true
   abbrev pub every : Others first
   every = record {
     dropped = dropped;
-    Plays = λ d n gone m. n < 2 ^ 31 → IsPlayed d n m;
+    Plays = λ d n gone m. n < 2 ^ 31 → IsPlayed d n gone m;
     onward = onward;
     step = λ d n gone m few p. (p few).spread.step;
-    accounted = λ d n gone m few p. played-accounted d n m (p few);
+    accounted = λ d n gone m few p. played-accounted d n gone m (p few);
   }
 
   -- ## The calls that most sessions do not have
 
   -- the sender has other streams
-  with-streams : (d : Session) (n : ℕ) (m : Modes) (ls : List OutboundStream) (c : sender_runs.Call)
-      → sender_runs.Follows c d.sending (record d.sending { sender = with_streams ls d.sending.sender }) → (i : IsPlayed d n m)
+  with-streams : (d : Session) (n : ℕ) (gone : List ℕ) (m : Modes) (ls : List OutboundStream) (c : sender_runs.Call)
+      → sender_runs.Follows c d.sending (record d.sending { sender = with_streams ls d.sending.sender }) → (i : IsPlayed d n gone m)
       → IsHeldOn on i.numbered first (with_streams ls d.sending.sender) i.sent → AreInModes m.of_streams ls
-      → IsPlayed (with_sender (with_streams ls d.sending.sender) d) n m
-  with-streams d n m ls c f i h modes = record {
+      → IsPlayed (with_sender (with_streams ls d.sending.sender) d) n gone m
+  with-streams d n gone m ls c f i h modes = record {
     numbered = i.numbered;
     sent = i.sent;
     spread = record {
@@ -288,7 +326,9 @@ module _ (on dropped calm : ℕ → Bool) (sub : (st : ℕ) → calm st ≡ true
       count = i.said.count;
       filled = i.said.filled;
     };
+    begun = i.begun;
     answered = i.answered;
+    up = i.up;
     counted = record { written = i.counted.written; back = i.counted.back };
     size = i.size;
     max = i.max;
@@ -302,7 +342,7 @@ module _ (on dropped calm : ℕ → Bool) (sub : (st : ℕ) → calm st ≡ true
 
     -- so has the one beside it
     restreams : (call : SenderOther) → SenderDoes call s v → (us ls : List OutboundStream) → v.sending.sender ≡ with_streams us s.sending.sender
-        → AreAlike us ls → (n < 2 ^ 31 → IsPlayed (with_sender (with_streams ls g.other.sending.sender) g.other) n m)
+        → AreAlike us ls → (n < 2 ^ 31 → IsPlayed (with_sender (with_streams ls g.other.sending.sender) g.other) n gone m)
         → Goes first every v.sending.sender v n gone m
     restreams call f us ls e alike p = subst (λ (t : Transmission). Goes first every t v n gone m) (sym e) (record {
       other = with_sender (with_streams ls d.sending.sender) d;
@@ -337,7 +377,7 @@ module _ (on dropped calm : ℕ → Bool) (sub : (st : ℕ) → calm st ≡ true
         ∙ ap (λ (t : Transmission). map bare (swapped_out (has_number st) t.streams)) (sym g.shadow.sender))
         (λ few.
         let i = g.plays few in
-        with-streams d n m (swapped_out (has_number st) d.sending.sender.streams) (sender_runs.closes st)
+        with-streams d n gone m (swapped_out (has_number st) d.sending.sender.streams) (sender_runs.closes st)
         (record { sender = refl; written = omega arith; released = omega arith; taken_back = omega arith }) i
         (closes-held on first st (off st (same-yes st)) i.numbered d.sending.sender i.sent i.spread.holds.held)
         (left-in-modes m.of_streams st d.sending.sender.streams i.said.sender.streams))
@@ -349,7 +389,7 @@ module _ (on dropped calm : ℕ → Bool) (sub : (st : ℕ) → calm st ≡ true
         ∙ ap (λ (t : Transmission). map bare (change_where (has_number st) from_first t.streams)) (sym g.shadow.sender))
         (λ few.
         let i = g.plays few in
-        with-streams d n m (change_where (has_number st) from_first d.sending.sender.streams) (sender_runs.resets st)
+        with-streams d n gone m (change_where (has_number st) from_first d.sending.sender.streams) (sender_runs.resets st)
         (record { sender = refl; written = omega arith; released = omega arith; taken_back = omega arith }) i
         (resets-held on first st (off st (same-yes st)) i.numbered d.sending.sender i.sent i.spread.holds.held)
         (changed-in m.of_streams (has_number st) from_first (record { number = λ l. refl; unordered = λ l. refl; reliability = λ l. refl; value = λ l. refl })
@@ -392,45 +432,48 @@ module _ (on dropped calm : ℕ → Bool) (sub : (st : ℕ) → calm st ≡ true
               let i = g.plays few in
               let spread = beside-spreads on dropped first n d e i.numbered i.sent few refl refl refl
               (runs.receiver-other dropped (base first) n few d e i.spread.step call so f') i.spread in
-              beside-played d e n m refl refl refl i spread
+              beside-played d e n gone m refl refl refl i spread
               (λ st c. other-answered st first on dropped (sub st c) n d i.numbered i.sent i.spread few e (opened st)
               (λ o. subst (λ (y : receiver_runs.Stand). is_open st y.receiver ≡ true) (sym x.receiving) (ready.open' st c o))
               (subst (λ (y : receiver_runs.Stand). are_apart (numbers_of y.receiver.streams) ≡ true) (sym x.receiving) ready.apart) call f' (whole st c) spread
-              (i.answered st c));
+              (i.answered st c))
+              (λ st c none. other-up st first on dropped (sub st c) n d i.numbered i.sent i.spread few e (i.answered st c).0 (i.up st c none) (opened st)
+              (subst (λ (y : receiver_runs.Stand). are_apart (numbers_of y.receiver.streams) ≡ true) (sym x.receiving) ready.apart) call f' (whole st c)
+              (λ g h. unnamed-of st d.made g none h));
         })
 
   -- ## Every call
 
   -- there is such a session
-  abbrev pub HasBeside : Session → ℕ → Modes → Type 0
-  HasBeside s n m = (gone : List ℕ) × Goes first every s.sending.sender s n gone m
+  abbrev pub HasBeside : Session → ℕ → List ℕ → Modes → Type 0
+  HasBeside s n gone m = Goes first every s.sending.sender s n gone m
 
-  one-any : (opened : ℕ → Bool) (c : AnyCall) (s v : Session) (n : ℕ) (m : Modes) → FollowsAny c s v → n + distance (next_tsn s) (next_tsn v) < 2 ^ 31
+  one-any : (opened : ℕ → Bool) (c : AnyCall) (s v : Session) (n : ℕ) (gone : List ℕ) (m : Modes) → FollowsAny c s v
+      → n + distance (next_tsn s) (next_tsn v) < 2 ^ 31
       → bytes_written v < 2 ^ 64 → ((t : ℕ) → drops t c ≡ true → dropped t ≡ true) → ((r : ℕ) → renews r c ≡ true → on r ≡ false)
-      → ((st : ℕ) → calm st ≡ true → breaks (opened st) st c ≡ false) → IsReady calm opened s → HasBeside s n m
-      → HasBeside v (n + distance (next_tsn s) (next_tsn v)) (modes_from m (plain_calls (c ∷ [])))
-  one-any opened (makes (of_sender call)) s v n m f few short so off whole ready h =
-      (_, sender-goes first every s v n h.0 m (omega (arith, few)) h.1 call short few f)
-  one-any opened (makes (of_receiver call)) s v n m f few short so off whole ready h = (
-    h.0 ++ [],
-    unmoved first every s v n h.0 m (ap (λ (y : Session). next_tsn y) f.after) few h.1
-        (receives-too first every call s v n h.0 m (omega (arith, few)) h.1 f),
-  )
-  one-any opened (of_sending call) s v n m f few short so off whole ready h =
-      (h.0 ++ [], unmoved first every s v n h.0 m (runs.next-same call s v f) few h.1 (other-goes s v n h.0 m h.1 call off f))
-  one-any opened (of_receiving call) s v n m f few short so off whole ready h = (
-    h.0 ++ [],
-    unmoved first every s v n h.0 m (ap (λ (y : Session). next_tsn y) f.after) few h.1
-        (other-receives s v n h.0 m h.1 opened ready call so whole f),
-  )
+      → ((st : ℕ) → calm st ≡ true → breaks (opened st) st c ≡ false) → IsReady calm opened s → HasBeside s n gone m
+      → HasBeside v (n + distance (next_tsn s) (next_tsn v)) (gone ++ gone_any c s) (modes_from m (plain_calls (c ∷ [])))
+  one-any opened (makes (of_sender call)) s v n gone m f few short so off whole ready h =
+      sender-goes first every s v n gone m (omega (arith, few)) h call short few f
+  one-any opened (makes (of_receiver call)) s v n gone m f few short so off whole ready h =
+      unmoved first every s v n gone m (ap (λ (y : Session). next_tsn y) f.after) few h
+      (receives-too first every call s v n gone m (omega (arith, few)) h f)
+  one-any opened (of_sending call) s v n gone m f few short so off whole ready h =
+      unmoved first every s v n gone m (runs.next-same call s v f) few h (other-goes s v n gone m h call off f)
+  one-any opened (of_receiving call) s v n gone m f few short so off whole ready h =
+      unmoved first every s v n gone m (ap (λ (y : Session). next_tsn y) f.after) few h
+      (other-receives s v n gone m h opened ready call so whole f)
 
-  all-any : (opened : ℕ → Bool) (cs : List AnyCall) (s new : Session) (n : ℕ) (m : Modes) (r : RunsAny s cs new) → n + tsns_given_any s cs new r < 2 ^ 31
+  all-any : (opened : ℕ → Bool) (cs : List AnyCall) (s new : Session) (n : ℕ) (gone : List ℕ) (m : Modes) (r : RunsAny s cs new)
+      → n + tsns_given_any s cs new r < 2 ^ 31
       → bytes_written new < 2 ^ 64 → ((t : ℕ) → list_any (drops t) cs ≡ true → dropped t ≡ true)
       → ((q : ℕ) → list_any (renews q) cs ≡ true → on q ≡ false) → ((q : ℕ) → calm q ≡ true → goes_on (opened q) q cs ≡ true)
-      → IsReady calm opened s → HasBeside s n m → HasBeside new (n + tsns_given_any s cs new r) (modes_from m (plain_calls cs))
-  all-any opened [] s new n m r few short so off whole ready h =
-      subst (λ k. HasBeside new k m) {x = n} {y = n + 0} (omega arith) (subst (λ x. HasBeside x n m) (sym r) h)
-  all-any opened (c ∷ cs) s new n m r few short so off whole ready h =
+      → IsReady calm opened s → HasBeside s n gone m
+      → HasBeside new (n + tsns_given_any s cs new r) (gone ++ abandoned_any s cs new r) (modes_from m (plain_calls cs))
+  all-any opened [] s new n gone m r few short so off whole ready h =
+      subst (λ k. HasBeside new k (gone ++ []) m) {x = n} {y = n + 0} (omega arith)
+      (subst (λ xs. HasBeside new n xs m) (sym (append-nil gone)) (subst (λ x. HasBeside x n gone m) (sym r) h))
+  all-any opened (c ∷ cs) s new n gone m r few short so off whole ready h =
       let d = distance (next_tsn s) (next_tsn r.0) in
       let rest = tsns_given_any r.0 cs new r.1.1 in
       let bytes = runs.grows cs r.0 new r.1.1 in
@@ -438,25 +481,32 @@ module _ (on dropped calm : ℕ → Bool) (sub : (st : ℕ) → calm st ≡ true
       let one : (q : ℕ) → calm q ≡ true → (breaks (opened q) q c ≡ false) × (goes_on (opened q || opens_incoming q c) q cs ≡ true) = λ q e.
       let b = both (not (breaks (opened q) q c)) (goes_on (opened q || opens_incoming q c) q cs) (whole q e) in
       (negated (breaks (opened q) q c) b.0, b.1) in
-      subst (λ k. HasBeside new k (modes_from m (plain_calls (c ∷ cs)))) sum
-      (subst (HasBeside new ((n + d) + rest)) (modes-on c cs m)
-      (all-any (λ q. opened q || opens_incoming q c) cs r.0 new (n + d) (modes_from m (plain_calls (c ∷ []))) r.1.1 (omega (arith, few)) short
+      let left : (gone ++ gone_any c s) ++ abandoned_any r.0 cs new r.1.1 ≡ gone ++ abandoned_any s (c ∷ cs) new r =
+      append_assoc gone (gone_any c s) (abandoned_any r.0 cs new r.1.1) ∙ ap (λ xs. gone ++ xs) (gone-on c cs s new r) in
+      subst (λ k. HasBeside new k (gone ++ abandoned_any s (c ∷ cs) new r) (modes_from m (plain_calls (c ∷ cs)))) sum
+      (subst (λ xs. HasBeside new ((n + d) + rest) xs (modes_from m (plain_calls (c ∷ cs)))) left
+      (subst (HasBeside new ((n + d) + rest) ((gone ++ gone_any c s) ++ abandoned_any r.0 cs new r.1.1)) (modes-on c cs m)
+      (all-any (λ q. opened q || opens_incoming q c) cs r.0 new (n + d) (gone ++ gone_any c s) (modes_from m (plain_calls (c ∷ []))) r.1.1
+      (omega (arith, few)) short
       (λ t e. so t (or-right (drops t c) (list_any (drops t) cs) e)) (λ q e. off q (or-right (renews q c) (list_any (renews q) cs) e))
       (λ q e. (one q e).1) (ready-after calm opened c s r.0 r.1.0 (λ q e. (one q e).0) ready)
-      (one-any opened c s r.0 n m r.1.0 (omega (arith, few)) (omega (arith, bytes, short)) (λ t e. so t (or-left (drops t c) (list_any (drops t) cs) e))
-      (λ q e. off q (or-left (renews q c) (list_any (renews q) cs) e)) (λ q e. (one q e).0) ready h)))
+      (one-any opened c s r.0 n gone m r.1.0 (omega (arith, few)) (omega (arith, bytes, short)) (λ t e. so t (or-left (drops t c) (list_any (drops t) cs) e))
+      (λ q e. off q (or-left (renews q c) (list_any (renews q) cs) e)) (λ q e. (one q e).0) ready h))))
 
   begins : (reported : Reported) (size max most : ℕ) (limits : Option Limits) → first < 2 ^ 32 → 0 < size
-      → HasBeside (at_start_with reported first size max most limits) 0 at_first
+      → HasBeside (at_start_with reported first size max most limits) 0 [] at_first
   begins reported size max most limits small some = by reported
     where
-      p : IsPlayed (at_start first size max most limits) 0 at_first
+      p : IsPlayed (at_start first size max most limits) 0 [] at_first
       p = record {
         numbered = [];
         sent = [];
         spread = spread-first-on on dropped first size max most limits small some;
         said = said-first first size max most limits;
+        begun = λ k lt e. absurd (omega (arith, lt));
         answered = λ st c. answered-first st first on dropped size max most limits small some;
+        up = λ st c none.
+            record { next = 0; number = omega arith; front = tt; within = omega arith; near = omega arith; read = λ j lt. absurd (omega (arith, lt)) };
         counted = record { written = refl; back = refl };
         size = size;
         max = max;
@@ -464,32 +514,28 @@ module _ (on dropped calm : ℕ → Bool) (sub : (st : ℕ) → calm st ≡ true
         ran = refl;
       }
 
-      by : (k : Reported) → HasBeside (at_start_with k first size max most limits) 0 at_first
-      by Drop = (
-        [],
-        record {
-          other = at_start first size max most limits;
-          shadow = record { streams = []; chunks = []; sender = refl; alike = refl; like = tt; receiving = refl; made = refl; written = refl; sacks = tt };
-          plays = λ few. p;
-        },
-      )
-      by Keep = (
-        [],
-        record {
-          other = at_start first size max most limits;
-          shadow = record { streams = []; chunks = []; sender = refl; alike = refl; like = tt; receiving = refl; made = refl; written = refl; sacks = tt };
-          plays = λ few. p;
-        },
-      )
+      by : (k : Reported) → HasBeside (at_start_with k first size max most limits) 0 [] at_first
+      by Drop = record {
+        other = at_start first size max most limits;
+        shadow = record { streams = []; chunks = []; sender = refl; alike = refl; like = tt; receiving = refl; made = refl; written = refl; sacks = tt };
+        plays = λ few. p;
+      }
+      by Keep = record {
+        other = at_start first size max most limits;
+        shadow = record { streams = []; chunks = []; sender = refl; alike = refl; like = tt; receiving = refl; made = refl; written = refl; sacks = tt };
+        plays = λ few. p;
+      }
 
   pub has-beside : (reported : Reported) (size max most : ℕ) (limits : Option Limits) (cs : List AnyCall) (s : Session)
       → (r : RunsAny (at_start_with reported first size max most limits) cs s) → first < 2 ^ 32 → 0 < size
       → tsns_given_any (at_start_with reported first size max most limits) cs s r < 2 ^ 31 → bytes_written s < 2 ^ 64
       → ((t : ℕ) → list_any (drops t) cs ≡ true → dropped t ≡ true) → ((q : ℕ) → list_any (renews q) cs ≡ true → on q ≡ false)
       → ((q : ℕ) → calm q ≡ true → is_unbroken cs q ≡ true)
-      → HasBeside s (tsns_given_any (at_start_with reported first size max most limits) cs s r) (modes_from at_first (plain_calls cs))
+      → HasBeside s (tsns_given_any (at_start_with reported first size max most limits) cs s r)
+      (abandoned_any (at_start_with reported first size max most limits) cs s r) (modes_from at_first (plain_calls cs))
   has-beside reported size max most limits cs s r small some few short so off whole =
       let n = tsns_given_any (at_start_with reported first size max most limits) cs s r in
-      subst (λ k. HasBeside s k (modes_from at_first (plain_calls cs))) {x = 0 + n} {y = n} (omega arith)
-      (all-any (λ q. false) cs (at_start_with reported first size max most limits) s 0 at_first r (omega (arith, few)) short so off whole
+      subst (λ k. HasBeside s k (abandoned_any (at_start_with reported first size max most limits) cs s r) (modes_from at_first (plain_calls cs)))
+      {x = 0 + n} {y = n} (omega arith)
+      (all-any (λ q. false) cs (at_start_with reported first size max most limits) s 0 [] at_first r (omega (arith, few)) short so off whole
       (ready-first calm reported first size max most limits) (begins reported size max most limits small some))

@@ -140,7 +140,8 @@ module _ (st : ℕ) (old new : Session) (o : is_open st old.receiving.receiver �
 
   by-forward : (g : ForwardTsn) → new.receiving.receiver ≡ after_forward_tsn g q → is_open st new.receiving.receiver ≡ true
   by-forward g after = by-test (is_stale g q)
-      (λ e. still (ap (stream_of st) (stale-same 0 st 0 (λ k. 0) (λ k. false) (λ c. ⊤) (omega arith) (λ j k le. omega arith) g old.receiving new.receiving after e)))
+      (λ e. still (ap (stream_of st)
+      (stale-same 0 st 0 (λ k. 0) (λ k. false) (λ c. ⊤) (omega arith) (λ j k le. omega arith) g old.receiving new.receiving after e)))
       (λ e. by-map _ (found-after 0 st 0 (λ k. 0) (λ k. false) (λ c. ⊤) (omega arith) (λ j k le. omega arith) g old.receiving new.receiving after e))
 
   pub open-after : (call : ReceiverCall) → ReceiverFollows call old new → is_open st new.receiving.receiver ≡ true

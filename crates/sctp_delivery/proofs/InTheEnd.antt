@@ -5,7 +5,7 @@ use Rattle.sctp_delivery.proofs.Names.{ChunkPayloadData, ChunkSet, Data, Unknown
 use Rattle.sctp_receiver.specs.Inbound.{has_number}
 use Rattle.sctp_delivery.proofs.Every.{Every, one-of}
 use Rattle.sctp_delivery.proofs.ReadOnce.{count-none, none-count, one}
-use Rattle.sctp_delivery.proofs.Sending.{Queued}
+use Rattle.sctp_delivery.proofs.Sending.{QueuedOn}
 use Rattle.sctp_delivery.proofs.Sent.{Entry, Numbered}
 use Rattle.sctp_delivery.proofs.Waiting.{between}
 
@@ -43,9 +43,9 @@ sets-all t (s ∷ ss) e = let b = both (list_all t s.chunks) (list_all t (fragme
 -- ## The sender's side
 
 -- where nothing waits, no message is partially sent
-pub none-selected : (ws : List Numbered) (first : ℕ) (number : ℕ → ℕ) (q : Pending) (sent : List Entry) → Queued ws first number q sent → q.ordered ≡ []
-    → q.unordered ≡ [] → q.selected ≡ None
-none-selected ws first number q sent h o u = grind (arith, nat_tests, between)
+pub none-selected : (on : ℕ → Bool) (ws : List Numbered) (first : ℕ) (number : ℕ → ℕ) (q : Pending) (sent : List Entry)
+    → QueuedOn on ws first number q sent → q.ordered ≡ [] → q.unordered ≡ [] → q.selected ≡ None
+none-selected on ws first number q sent h o u = grind (arith, nat_tests, between)
 
 pub none-data : Data
 none-data = record {

@@ -183,7 +183,7 @@ complete-messages first size max most limits cs s run sent made = λ k m lt.
 
 -- # Where messages were abandoned, each other write is read exactly once in the end
 
-slice-itself : {A : Type 0} (xs : List A) (k : ℕ) (a b : A) → k < length xs → slice_index_or xs k a ≡ slice_index_or xs k b
+pub slice-itself : {A : Type 0} (xs : List A) (k : ℕ) (a b : A) → k < length xs → slice_index_or xs k a ≡ slice_index_or xs k b
 slice-itself [] k a b lt = absurd (omega (arith, lt))
 slice-itself (x ∷ xs) zero a b lt = refl
 slice-itself (x ∷ xs) (suc k) a b lt = slice-itself xs k a b (omega (arith, lt))
@@ -537,7 +537,8 @@ sender-kept first n gone call old new ns sent few f k =
             i.spread.long x.spread.long few st i.spread.step.numbered.acked x.spread.step.numbered.acked old.receiving d (omega (arith, least, same))
             (calls.unarrived first n small old old ns sent i gone st) gone (gone ++ abandoned_by call old.sending.sender) old.made
             (made_after call old.sending.sender old.made) (gone-left gone (abandoned_by call old.sending.sender))
-            (λ t. made_in.more-made (passes t) call old.sending.sender old.made) (sessions.near st first all_streams none_dropped refl n old ns sent i.spread small) (k.kept st));
+            (λ t. made_in.more-made (passes t) call old.sending.sender old.made)
+            (sessions.near st first all_streams none_dropped refl n old ns sent i.spread small) (k.kept st));
         tight = λ st. tight-later st h.acked x.spread.step.numbered.acked x.more x.rises
             (tight-after st h.acked n sent x.more old.sending.sender call x.grown f.accepted x.spread.holds.held.stands.queued.indexed i.spread.long h.total
             (are-steps all_streams first n sent i.spread.long small st refl h.acked cs h.total h.run known)

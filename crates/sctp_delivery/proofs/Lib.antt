@@ -41,6 +41,8 @@ pub mod OnceWritten
 pub mod Dropped
 pub mod EveryRuns
 pub mod EveryTurns
+pub mod EveryFronts
+pub mod EveryEnds
 pub mod EveryShadows
 pub mod EveryMessages
 pub mod EveryExamples

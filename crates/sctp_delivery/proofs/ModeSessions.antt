@@ -10,7 +10,7 @@ use Rattle.sctp_delivery.proofs.Names.{AfterEachRunOfFewTsns, Expires, ExpiresTa
 use Rattle.sctp_delivery.proofs.Names.{expires_late, expires_rexmit, expires_tail, forwards, forwards_within, marks, opens, resends, reserves, sends, sets_low}
 use Rattle.sctp_delivery.proofs.Names.{sets_mode, sets_size, starts, takes_sack, writes, length-map, none-some, ChunkPayloadData, Data, data_of, next_pending}
 use Rattle.sctp_delivery.proofs.Names.{Limits, StandAt, ReceiverCall, Call, ReceiverFollows, RunsTo, SenderFollows, Session, at_start, of_receiver, of_sender}
-use Rattle.sctp_delivery.proofs.Names.{common_steps, distance, Message, tsns_given}
+use Rattle.sctp_delivery.proofs.Names.{common_steps, distance, Ledger, Message, tsns_given}
 use Rattle.std.specs.Prelude.{drop}
 use Rattle.sctp_sender.proofs.SenderStreams.{made}
 use Rattle.sctp_stream.specs.Stream.{new_stream}
@@ -304,9 +304,14 @@ said-after call old new m ns sent more f grown sized h = record {
     by : (o : Option ChunkPayloadData) → sent_by call old.sending.sender ≡ o → IsMoreBy o sent more → AreOfKinds vs more
     by o h2 h3 = grind (arith, nat_tests, kept, sent-kind, vs)
 
-pub said-still : (call : ReceiverCall) (old new : Session) (m : Modes) (ns : List Numbered) (sent : List Entry) → ReceiverFollows call old new
-    → IsAsSaid m old ns sent → IsAsSaid m new ns sent
-said-still call old new m ns sent f h = grind (arith, nat_tests)
+-- where the sender stays as it is, it is as the calls say still
+pub said-beside : (d e : Session) (m : Modes) (ns : List Numbered) (sent : List Entry) → e.sending ≡ d.sending → IsAsSaid m d ns sent → IsAsSaid m e ns sent
+said-beside d e m ns sent same h = record {
+  sender = subst (λ (l : Ledger). IsModed m l.sender) (sym same) h.sender;
+  kinds = h.kinds;
+  count = h.count;
+  filled = subst (λ (l : Ledger). AllWait IsFilled l.sender.flight.queue.pending) (sym same) h.filled;
+}
 
 pub said-first : (tsn size max most : ℕ) (limits : Option Limits) → IsAsSaid at_first (at_start tsn size max most limits) [] []
 said-first tsn size max most limits = record { sender = moded-first tsn size max; kinds = tt; count = refl; filled = (tt, tt) }
@@ -334,7 +339,7 @@ said-run first (of_receiver call ∷ cs) old new m r h = said-run first cs r.0 n
   numbered = h.numbered;
   sent = h.sent;
   holds = receiver-step first call old r.0 h.numbered h.sent r.1.0 h.holds;
-  said = said-still call old r.0 m h.numbered h.sent r.1.0 h.said;
+  said = said-beside old r.0 m h.numbered h.sent (ap (λ (y : Session). y.sending) r.1.0.after) h.said;
 })
 
 pub said-in : (tsn size max most : ℕ) (limits : Option Limits) (cs : List Call) (s : Session) → tsn < 2 ^ 32 → 0 < size
@@ -410,7 +415,7 @@ still-then first n call old new m few f h = record {
   numbered = h.numbered;
   sent = h.sent;
   unwrapped = receiver-unwrapped first n call old new h.numbered h.sent few f h.unwrapped;
-  said = said-still call old new m h.numbered h.sent f h.said;
+  said = said-beside old new m h.numbered h.sent (ap (λ (y : Session). y.sending) f.after) h.said;
 }
 
 -- none is given out by a call of the receiver

@@ -118,7 +118,12 @@ module _ (st first n : ℕ) (few : n < 2 ^ 31) (s : Session) (ns : List Numbered
       place-in = kept.place-in ns first sent i.holds.held.stands.queued.line i.holds.held.stands.queued.joined n i.long few st
 
       pub same-index : c.index ≡ due.index
-      same-index = grind (arith, nat_tests, up i.step.numbered.acked d.arrived.place d.arrived.least_is, sessions.near st first all_streams none_dropped refl n s ns sent i few)
+      same-index = grind (
+        arith,
+        nat_tests,
+        up i.step.numbered.acked d.arrived.place d.arrived.least_is,
+        sessions.near st first all_streams none_dropped refl n s ns sent i few,
+      )
 
       pub front-none : front_readable held.next_ssn held.ordered ≡ None
       front-none = grind (arith, nat_tests)

@@ -5,6 +5,7 @@ use Rattle.sctp_delivery.specs.Abandoned.{AfterEachSessionOfMessages, AreOfWrite
 use Rattle.sctp_delivery.specs.Complete.{IsAllReadInTheEnd, IsAllReadWhereSettled}
 use Rattle.sctp_delivery.proofs.AbandonedMessages.{IsMarkedGone}
 use Rattle.sctp_delivery.proofs.Calls.{length-forgotten}
+use Rattle.sctp_delivery.proofs.Cases.{all_streams}
 use Rattle.sctp_delivery.proofs.KeptSessions.{idle-of, none-held, others-once, read-whole, kept-in}
 use Rattle.sctp_delivery.proofs.Every.{all-of-every, every-of}
 use Rattle.sctp_delivery.proofs.HeldInTheEnd.{taken-read}
@@ -21,7 +22,7 @@ others-read first size max most limits cs s run small few some exhausted =
     let idle = idle-of s b.0 in
     others-once first size max most limits cs s run small few _ h.numbered h.sent h.kept.unwrapped.spread h.kept.passed idle
     (taken-read first size max most limits cs s run _ few _ h.numbered h.sent h.kept idle.inflight
-    (none-selected h.numbered first _ s.sending.sender.flight.queue.pending h.sent h.kept.unwrapped.spread.holds.held.stands.queued idle.ordered
+    (none-selected all_streams h.numbered first _ s.sending.sender.flight.queue.pending h.sent h.kept.unwrapped.spread.holds.held.stands.queued idle.ordered
     idle.unordered) b.1)
 
 -- and where nothing is held

@@ -9,7 +9,7 @@ use Rattle.sctp_delivery.proofs.Names.{at_start}
 use Rattle.std.proofs.Common.{◌⊎◌}
 use Rattle.std.specs.List.{find}
 use Rattle.sctp_delivery.specs.SenderCalls as outgoing
-use Rattle.sctp_delivery.proofs.Cases.{at-test, by-test}
+use Rattle.sctp_delivery.proofs.Cases.{all_streams, at-test, by-test}
 use Rattle.sctp_delivery.proofs.AbandonedMessages.{AreAmong, AreMarkedGone, cut-later, flight_of, gone-left, gone-right, marked-later, stays-cut, stays-marked}
 use Rattle.sctp_delivery.proofs.AbandonedMessages.{AreBegunOrGone, begun-later, stays-begun-or-gone, AreBelow, below-after, by-below}
 use Rattle.sctp_delivery.proofs.Calls.{numbered_after}
@@ -313,7 +313,7 @@ sender-passes first n gone call old new ns sent i few f x h =
       marked = stays-marked more old new (λ t. was_taken t old) (λ t. list_any (passes t) old.made) valid marked call among f;
       cut = stays-cut more first old new ns sent x.more i.holds x.spread.holds.held.stands.counted (cut-later gone more later sent h.cut) call among f x.grown;
       begun' =
-          stays-begun-or-gone more first old new ns sent x.more i.holds x.once
+          stays-begun-or-gone all_streams more first old new ns sent x.more i.holds x.once
           (begun-later gone more later (length ns) sent (flight_of old).queue.pending h.begun') call among f x.grown;
       below =
           below-after call ns more

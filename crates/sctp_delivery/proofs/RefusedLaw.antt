@@ -271,7 +271,8 @@ module _ (first n : ℕ) (few : n < 2 ^ 31) (gone : List ℕ) (s : Session) (h :
           let past = c.late (entry.before + 1) (omega (arith, within, long))
           (inl (data_of x, at.0, at.1, on), ap (λ t. come t r.cumulative_tsn r.beyond) (sym entry.is) ∙ fresh) in
           let low = begun-low st first n few s h.numbered sent spread d held due Late c none in
-          let least = sessions.grows st first all_streams none_dropped refl n s h.numbered sent spread few spread.step.numbered.acked d.arrived.place d.arrived.least_is in
+          let least = sessions.grows st first all_streams none_dropped refl n s h.numbered sent spread few
+          spread.step.numbered.acked d.arrived.place d.arrived.least_is in
           let top = sessions.grows st first all_streams none_dropped refl n s h.numbered sent spread few (entry.before + 1) n (omega (arith, within, long)) in
           let from = due.from in
           record {
@@ -313,7 +314,8 @@ module _ (first n : ℕ) (few : n < 2 ^ 31) (gone : List ℕ) (s : Session) (h :
           let same : a.0 ≡ w.index = omega (arith, number, a.1.0.0, a.1.0.1, le) in
           let fits = subst (λ k. Fits p st n B E M k y.chunks) same a.1.1 in
           let queued = spread.holds.held.stands.queued in
-          let put = rises-put p st n B E M few (sessions.grows st first all_streams none_dropped refl n s h.numbered sent spread few) w.index 0 x y.chunks w.of (omega arith)
+          let put = rises-put p st n B E M few (sessions.grows st first all_streams none_dropped refl n s h.numbered sent spread few)
+          w.index 0 x y.chunks w.of (omega arith)
           v.0 fits in
           let all = set-fits st first n few h.numbered sent spread.long queued.line queued.joined max bound w.index
           (insert_before chunk_before x y.chunks)

@@ -144,7 +144,8 @@ sender-spreads-on on dropped first n call old new ns sent i few f =
     let total = i.step.numbered.total in
     let long = i.long in
     let within : a ≤ length sent = omega (arith, total, long) in
-    let r = (moves (base first) n (known_or dropped old) old new small i.step.numbered call i.step.sacks f).rises a i.step.numbered.acked_is (omega (arith, total)) in
+    let r =
+    (moves (base first) n (known_or dropped old) old new small i.step.numbered call i.step.sacks f).rises a i.step.numbered.acked_is (omega (arith, total)) in
     let most = step.numbered.total in
     let from = r.1 in
     let upto = r.2 in

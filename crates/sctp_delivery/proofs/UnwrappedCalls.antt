@@ -263,7 +263,8 @@ module _ (p st n : ℕ) (B : ℕ → ℕ) (E : ℕ → Bool) (M : ChunkPayloadDa
                 let x = push-ordered p n B Fits Was (at-in p st n B E M few up) d.k d.reach more i (g.before + 1) c answered acc.stream.queue acc.queue dd kind
                 (of, omega arith, tt)
                 (λ cs none r. rises-put p st n B E M few up i 0 c cs of (omega arith) none r) o.2 at o.1 wide.0 wide.1 le lt far acc.pushed in
-                build c old new d g with_chunk acc.after read fresh more le most (is-due (Came new.receiver.cumulative_tsn new.receiver.beyond) d.k more (λ no. absurd (not_both (sym no ∙ on.0)))
+                build c old new d g with_chunk acc.after read fresh more le most
+                (is-due (Came new.receiver.cumulative_tsn new.receiver.beyond) d.k more (λ no. absurd (not_both (sym no ∙ on.0)))
                 (λ yes held.
                 recame p n B Fits Was (Came new.receiver.cumulative_tsn new.receiver.beyond) d.k more acc.queue.held x.0
                 (λ y m h. elim (back c old new d g with_chunk acc.after read fresh y m h) [

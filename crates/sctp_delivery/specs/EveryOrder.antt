@@ -3,7 +3,8 @@ use Rattle.std.specs.Prelude.{◌≡◌, ◌≢◌, ℕ, ◌<◌, ◌≤◌, ◌
 use Rattle.std.specs.List.{list_all, list_any}
 use Rattle.sctp_sender.specs.Abandonment.{is_pair_of}
 use Rattle.sctp_sender.specs.Numbers.{is_ordered_on}
-use Rattle.sctp_delivery.specs.EveryCall.{AnyCall, closes_incoming, discards, makes, of_receiving, of_sending, passes_over, renews, resets_incoming, single_messages}
+use Rattle.sctp_delivery.specs.EveryCall.{AnyCall, closes_incoming, discards, makes, of_receiving, of_sending, passes_over, renews, resets_incoming}
+use Rattle.sctp_delivery.specs.EveryCall.{single_messages}
 use Rattle.sctp_delivery.specs.InOrder.{Are, AreAmong, keeps_order, read_from, written_to}
 use Rattle.sctp_delivery.specs.Messages.{StandAt}
 use Rattle.sctp_delivery.specs.Modes.{sendings, was_written_ordered}

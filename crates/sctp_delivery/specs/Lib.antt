@@ -23,4 +23,5 @@ pub mod Delivering
 pub mod BothWays
 pub mod EveryCall
 pub mod EveryOrder
+pub mod EveryEnd
 pub mod StandAny

@@ -4,9 +4,11 @@
 //! Where the sender resets or closes a stream, and the receiver does not, two messages may have one number. Where one is sent right behind
 //! the other, and the receiver has not read the first one, it reads both as one message.
 //!
-//! Not said here: that each message is read in the end, and that a chunk in flight is not refused.
+//! Not said here: that unordered messages, and ordered ones of a stream that a FORWARD-TSN names, are read in the end; and that a chunk in
+//! flight is not refused.
 
 ghost use Rattle.sctp_delivery.specs.EveryCall.{AcknowledgedArrived, AfterEachAny, AfterEachAnyOfFewBytes, AfterEachAnyOfFewTsns, AreSingle, AreSingleWhereSteady, AreSingleWritesOfTheirOwn, AreToldApart, AreWritesWhereSingle, LeftArrived, ReleasedArrived, ReportWhatArrived};
+ghost use Rattle.sctp_delivery.specs.EveryEnd.{AfterEachAnyOfMessages, IsOrderedReadInTheEnd, IsSentReadInTheEnd};
 ghost use Rattle.sctp_delivery.specs.EveryOrder.{AreReadInTurnWhereUnbroken, AreSingleReadAsWritten, AreSingleReadInOrder};
 ghost use Rattle.sctp_delivery.specs.Messages.{AreParts, AreSame, NoneIsReadTwice};
 ghost use Rattle.sctp_delivery.specs.Returns.{IsAccountedSo, NoneIsRefusedSo};
@@ -44,6 +46,14 @@ pub fn whatever_is_called_messages_are_read_in_order()
     ensures order { AfterEachAnyOfFewBytes AreSingleReadInOrder }
     ensures modes { AfterEachAnyOfFewBytes AreSingleReadAsWritten }
     ensures turn { AfterEachAnyOfFewBytes AreReadInTurnWhereUnbroken }
+{}
+
+/// With so few TSNs and bytes: where nothing waits to be sent, nothing is in flight, and on no stream is a message to read, take a stream that goes
+/// on, and that no FORWARD-TSN names. Each ordered write on it was read exactly once, unless a call abandoned its message, or let it expire;
+/// and so was each ordered DATA chunk that was made.
+pub fn whatever_is_called_what_is_ordered_is_read_in_the_end()
+    ensures writes { AfterEachAnyOfMessages IsOrderedReadInTheEnd }
+    ensures chunks { AfterEachAnyOfFewBytes IsSentReadInTheEnd }
 {}
 
 /// While the sender has given out fewer than 2^31 TSNs: the receiver can make a SACK at any time, and the sender refuses none of them.

@@ -1,0 +1,238 @@
+-- Sessions of every call: in the end each ordered DATA chunk of a stream that goes on, and that no FORWARD-TSN names, was read.
+use Rattle.sctp_delivery.proofs.Names.{◌≡◌, ℕ, suc, ◌+◌, ◌^◌, ◌<◌, ◌≤◌, Bool, true, false, List, [], ◌∷◌, length, Option, Some, None, inl, inr, refl, ap, sym}
+use Rattle.sctp_delivery.proofs.Names.{subst, ◌∙◌, arith, ◌⊎◌, All, Contains, if◌then◌else◌, list_any, nat_le, cases_lt, nat_tests}
+use Rattle.sctp_delivery.proofs.Names.{or-left, or-split, same-is, same-yes, and, not_both, none-some, at_or_before, at_or_before16, tsn}
+use Rattle.sctp_delivery.proofs.Names.{at_or_before16-index, ChunkPayloadData, ChunkSet, Data, data_of, has_tsn, is_complete, is_readable, front_readable}
+use Rattle.sctp_delivery.proofs.Names.{message_read, Reassembly, InboundStream, Reception, stream_of, Message, reads_nothing, data_chunk, AreMade, AreMessages}
+use Rattle.sctp_delivery.proofs.Names.{Session, AllPass-from_list_all, ◌==◌, is_ordered_on, not}
+use Rattle.std.proofs.lemmas.List.Folds.{Any-from_list_any}
+use Rattle.sctp_data.specs.ChunkSet.{fresh}
+use Rattle.sctp_reassembly.specs.reassembly_queue.ReassemblyQueue.{message_among}
+use Rattle.sctp_delivery.specs.EveryEnd.{IsReadOn}
+use Rattle.sctp_delivery.proofs.Cases.{by-test}
+use Rattle.sctp_delivery.proofs.Delivered.{found-sent-on}
+use Rattle.sctp_delivery.proofs.EveryFronts.{FrontOf, HasFront, HasRead, IsReadUp, from-next, index-is, next_of}
+use Rattle.sctp_delivery.proofs.InTheEnd.{unread-of}
+use Rattle.sctp_delivery.proofs.MessagePlaces.{IsEntryAt, has-all, misses-one, place-tsn}
+use Rattle.sctp_delivery.proofs.NotRefused.{begin-place}
+use Rattle.sctp_delivery.proofs.OrderedEntries.{AreJoined, IsOpen}
+use Rattle.sctp_delivery.proofs.PassedMessages.{EndsMessage}
+use Rattle.sctp_delivery.proofs.Sent.{Entry, IsLine, IsPart, Numbered, contains-more, fragment, part-itself, part-length, same-tsn, terminal}
+use Rattle.sctp_delivery.proofs.SpreadCalls.{IsSpreadOn}
+use Rattle.sctp_delivery.proofs.TsnPlaces.{base, same-place, upto-yes}
+use Rattle.sctp_delivery.proofs.UnwrappedHolds as holds
+use Rattle.sctp_delivery.proofs.UnwrappedHolds.{AreDue, at-in}
+use Rattle.sctp_delivery.proofs.UnwrappedReads.{AreSets, IsDue, later-none}
+use Rattle.sctp_delivery.proofs.UnwrappedSessions as sessions
+
+module _ (st first : ℕ) (on dropped : ℕ → Bool) (o : on st ≡ true) (n : ℕ) (s : Session) (ns : List Numbered) (sent : List Entry)
+    (i : IsSpreadOn on dropped first n s ns sent) (few : n < 2 ^ 31) where
+  abbrev p : ℕ
+  p = base first
+
+  abbrev r : Reception
+  r = s.receiving.receiver
+
+  abbrev B : ℕ → ℕ
+  B = sessions.to st first sent
+
+  abbrev E : ℕ → Bool
+  E = sessions.at st first sent
+
+  abbrev M : ChunkPayloadData → Type 0
+  M = sessions.Was st first sent
+
+  abbrev Fits : ℕ → List ChunkPayloadData → Type 0
+  Fits = holds.Fits p st n B E M
+
+  abbrev Came : ℕ → Type 0
+  Came = holds.Came p st n B E M r.cumulative_tsn r.beyond
+
+  line : IsLine ns first sent
+  line = i.holds.held.stands.queued.line
+
+  joined : AreJoined sent
+  joined = i.holds.held.stands.queued.joined
+
+  grows : (j k : ℕ) → j ≤ k → B j ≤ B k
+  grows = sessions.grows st first on dropped o n s ns sent i few
+
+  -- ## Nothing is in flight, and nothing is to be read
+
+  module _ (d : AreDue p st n B E M i.step.numbered.acked s.receiving) (u : IsReadUp st first n sent (stream_of st r) s.receiving.read)
+      (landed : s.sending.sender.flight.queue.inflight.chunks ≡ []) (unbegun : s.sending.sender.flight.queue.pending.selected ≡ None)
+      (unread : reads_nothing r ≡ true) where
+    long : length sent ≡ n
+    long = i.long
+
+    -- the last message was sent whole, or cut short
+    ends : 0 < n → EndsMessage sent
+    ends some = by sent (subst (IsOpen sent) unbegun i.holds.held.stands.queued.open') long
+      where
+        by : (xs : List Entry) → IsOpen xs None → length xs ≡ n → EndsMessage xs
+        by [] e l = absurd (omega (arith, some, l))
+        by (terminal ∷ xs) e l = tt
+        by (fragment d w after ∷ xs) e l = e
+
+    upto : n ≤ d.arrived.place
+    upto =
+        let total = i.step.numbered.total in
+        let none = ap length landed in
+        let least = d.arrived.least_is in
+        omega (arith, total, none, least)
+
+    came : (y : ℕ) → y ≤ n → E y ≡ true → Came y
+    came y le on' =
+        let most = d.arrived.within in
+        let all = upto in (
+          on',
+          or-left (at_or_before (tsn p y) r.cumulative_tsn) (list_any (λ t. t == tsn p y) r.beyond)
+              (upto-yes p y d.arrived.place refl d.arrived.is (omega (arith, le, few)) (omega (arith, most, few)) (omega (arith, le, all))),
+        )
+
+    module _ (l : InboundStream) (found : stream_of st r ≡ Some l) (due : IsDue p n B Fits Came d.k d.reach l.queue.held) (front : HasFront l.queue.held) where
+      abbrev q : Reassembly
+      q = l.queue.held
+
+      abbrev Sets : ℕ → List ChunkSet → Type 0
+      Sets low ss = AreSets p n B Fits Came low d.reach ss
+
+      abbrev has : ℕ → List ChunkSet → Bool
+      has z ss = list_any (λ (x : ChunkSet). list_any (has_tsn (tsn p z)) x.chunks) ss
+
+      none : message_read q ≡ None
+      none = unread-of st r.streams l unread found
+
+      -- a place of the next message is held
+      held : (z : ℕ) → z ≤ n → E z ≡ true → B z ≡ due.index + 1 → has z q.ordered ≡ true
+      held z le on' begun = elim (due.kept z le (came z le on')) [
+        | inl h ↦ absurd (omega (arith, h, begun))
+        | inr h ↦ h
+      ]
+
+      -- the front set is not that of the next message
+      module _ (x : ChunkSet) (xs : List ChunkSet) (is : q.ordered ≡ x ∷ xs) (a : Sets due.index (x ∷ xs)) (same : a.0 ≡ due.index)
+          (some : 0 < length x.chunks) (past : due.index < B n) where
+        not-whole : is_complete x.chunks ≡ true → ⊥
+        not-whole c =
+            let order : nat_le a.0 due.index ≡ true = grind (arith, nat_tests, same) in
+            let at : at_or_before16 x.ssn q.next_ssn ≡ true = cc (
+              a.1.0.2,
+              due.next,
+              at_or_before16-index a.0 due.index (omega (arith, same)) (omega (arith, same)),
+              order,
+            ) in
+            let e : is_readable q.next_ssn x ≡ true = and (is_complete x.chunks) (at_or_before16 x.ssn q.next_ssn) c at in
+            by q.unordered refl (ap (front_readable q.next_ssn) is ∙ ap (λ b. if b then Some x else None) e)
+          where
+            by : (us : List ChunkSet) → q.unordered ≡ us → front_readable q.next_ssn q.ordered ≡ Some x → ⊥
+            by [] e f = none-some x (sym (sym f ∙ ap (λ us. message_among us q) (sym e) ∙ none))
+            by (v ∷ vs) e f = none-some v (sym (ap (λ us. message_among us q) (sym e) ∙ none))
+
+        not-open : is_complete x.chunks ≡ false → ⊥
+        not-open c =
+            let miss = misses-one ns first sent line joined n long few st a.0 n (omega arith) (sent, part-itself sent, long, ends (given x.chunks a.1.1 some))
+            (omega (arith, same, past)) x.chunks a.1.1 some c in
+            let z = sessions.missed st first on dropped o n s ns sent i few n a.0 x.chunks (omega arith) a.1.1 miss in
+            elim (or-split (list_any (has_tsn (tsn p z.0)) x.chunks) (has z.0 xs)
+            (sym (ap (has z.0) is) ∙ held z.0 z.1 z.2 (omega (arith, same, z.3)))) [
+              | inl h ↦ not_both (sym z.4 ∙ h)
+              | inr h ↦ later-none p n B Fits Came (at-in p st n B E M few grows) (a.0 + 1) d.reach z.0 xs a.2 z.1 (omega (arith, z.3)) h
+            ]
+          where
+            given : (cs : List ChunkPayloadData) → Fits a.0 cs → 0 < length cs → 0 < n
+            given [] h lt = absurd (omega (arith, lt))
+            given (c ∷ cs) h lt = let w = h.0.within in omega (arith, w)
+
+        no-front : ⊥
+        no-front = by-test (is_complete x.chunks) not-whole not-open
+
+      all-begun : B n ≤ due.index
+      all-begun = elim (cases_lt due.index (B n)) [
+        | inr ge ↦ ge
+        | inl lt ↦
+            let z = begin-place st n due.index sent (omega (arith, lt)) in
+            absurd (by q.ordered refl (from-next p n B Fits Came d.k d.reach q due front) z.0 z.1 z.3 (held z.0 z.1 z.2 z.3) lt)
+      ]
+        where
+          by : (ss : List ChunkSet) → q.ordered ≡ ss → Sets due.index q.ordered → (z : ℕ) → z ≤ n → B z ≡ due.index + 1 → has z q.ordered ≡ true
+              → due.index < B n → ⊥
+          by [] is a z le begun h lt = not_both (sym (ap (has z) is) ∙ h)
+          by (x ∷ xs) is a' z le begun h lt =
+              let a = subst (Sets due.index) is a' in
+              let lo = a.1.0.0 in
+              elim (or-split (list_any (has_tsn (tsn p z)) x.chunks) (has z xs) (sym (ap (has z) is) ∙ h)) [
+                | inr g ↦ later-none p n B Fits Came (at-in p st n B E M few grows) (a.0 + 1) d.reach z xs a.2 le (omega (arith, begun, lo)) g
+                | inl g ↦
+                    let b = at-in p st n B E M few grows a.0 z x.chunks le a.1.1 g in
+                    no-front x xs is a (omega (arith, b, begun)) (some-in x.chunks g) lt
+              ]
+            where
+              some-in : (cs : List ChunkPayloadData) → list_any (has_tsn (tsn p z)) cs ≡ true → 0 < length cs
+              some-in [] e = absurd (not_both e)
+              some-in (c ∷ cs) e = omega arith
+
+    -- so all ordered messages of the stream are before the next one
+    pub all-up : B n ≤ u.next
+    all-up = by (stream_of st r) refl
+      where
+        by : (l : Option InboundStream) → stream_of st r ≡ l → B n ≤ u.next
+        by None is =
+            let due = subst (holds.DueOn p st n B E M Came d.k d.reach) is d.due in
+            let y = due.1 in
+            let covered = d.arrived.covered in
+            let up = grows n d.arrived.place upto in
+            omega (arith, y, covered, up)
+        by (Some l) is =
+            let due = subst (holds.DueOn p st n B E M Came d.k d.reach) is d.due in
+            let all = all-begun l is due (subst FrontOf is u.front) in
+            let same = index-is st first on dropped o n s ns sent i few s d u l due (ap next_of (sym is) ∙ u.number) in
+            omega (arith, all, same)
+
+  -- ## A chunk that was made
+
+  -- the message with an index was read
+  read-at : (j : ℕ) (ms : List Message) → HasRead st first n sent j ms → (m : Message) × Contains ms m × (m.stream ≡ st) × Fits j m.fragments
+  read-at j [] h = absurd h
+  read-at j (m ∷ ms) h = elim h [
+    | inl e ↦ (m, (0, omega arith, refl), e.0, e.1)
+    | inr e ↦ let x = read-at j ms e in (x.0, contains-more m ms x.0 x.1, x.2, x.3)
+  ]
+
+  pub was-read : AreMessages s → AreMade s → (d : Data) (w : Numbered) (after : List ℕ) (xs : List Entry) → IsPart (fragment d w after ∷ xs) sent
+      → d.stream_identifier ≡ st → d.unordered ≡ false → ((j : ℕ) → j < B n → HasRead st first n sent j s.receiving.read)
+      → IsReadOn st d s.receiving.read
+  was-read whole made d w after xs part on' kind read =
+      let c0 = fresh d in
+      let ordered : is_ordered_on st c0 ≡ true =
+      and (d.stream_identifier == st) (not d.unordered) (ap (λ k. k == st) on' ∙ same-yes st) (ap not kind) in
+      let entry = sessions.entry-of st first on dropped o n s ns sent i few c0 (w, after, xs, part) in
+      let own = entry.step.number ordered in
+      let top = grows (entry.before + 1) n (let w' = entry.within in let long = i.long in omega (arith, w', long)) in
+      let m = read-at own.0 s.receiving.read (read own.0 (let e = own.1 in omega (arith, e, top))) in
+      let e : IsEntryAt sent (suc (length xs)) d w = record { after = after; entries = xs; part = part; place = refl } in
+      let within : suc (length xs) ≤ n = let l = part-length sent (fragment d w after ∷ xs) part in let long = i.long in omega (arith, l, long) in
+      let is = place-tsn ns first sent line joined n i.long few (suc (length xs)) d w e in
+      let at : entry.before + 1 ≡ suc (length xs) =
+      same-place p (entry.before + 1) (suc (length xs)) (let w' = entry.within in let long = i.long in omega (arith, w', long, few))
+      (omega (arith, within, few))
+      (sym entry.is ∙ is) in
+      let complete : is_complete m.0.fragments ≡ true =
+      subst (λ (x : Message). is_complete x.fragments ≡ true) m.1.2
+      (AllPass-from_list_all (λ x. is_complete x.fragments) s.receiving.read whole.0 m.1.0 m.0 m.1.1) in
+      let all : All (λ c. Contains s.made (data_chunk (data_of c))) m.0.fragments =
+      subst (λ (x : Message). All (λ c. Contains s.made (data_chunk (data_of c))) x.fragments) m.1.2 (made m.1.0 m.0 m.1.1) in
+      let there = has-all ns first sent line joined n i.long few st own.0 m.0.fragments m.3 complete (suc (length xs))
+      (inl (d, w, e, ordered)) (sym (ap B at) ∙ sym own.1) in
+      let a = Any-from_list_any (has_tsn (tsn p (suc (length xs)))) m.0.fragments there in
+      let c = a.1 in
+      let number : c.tsn ≡ d.tsn = same-is c.tsn (tsn p (suc (length xs))) a.4 ∙ sym is in
+      let here : Contains s.made (data_chunk (data_of c)) = subst (λ x. Contains s.made (data_chunk (data_of x))) a.3 (all a.0 c a.2) in (
+        m.0,
+        m.1,
+        m.2,
+        c,
+        (a.0, a.2, a.3),
+        same-tsn ns first sent (let long = i.long in omega (arith, long, few)) line (data_of c) d
+            (found-sent-on on sent s.made (data_of c) i.holds.made here) (w, after, xs, part) number,
+      )

@@ -1,0 +1,86 @@
+-- What was read in the end of a session of every call (RFC 4960 6.2, 6.9): of a stream that goes on, and that no FORWARD-TSN names.
+use Rattle.std.specs.Prelude.{◌≡◌, ◌≢◌, ℕ, ◌+◌, ◌-◌, ◌^◌, ◌<◌, Bool, true, false, not, nat_eq, List, [], ◌∷◌, ◌++◌, length, slice_index_or, AllPairs, Contains}
+use Rattle.std.specs.Prelude.{Option}
+use Rattle.std.specs.List.{list_any}
+use Rattle.sctp_data.specs.declared.chunk.chunk_payload_data.ChunkPayloadData.{ChunkPayloadData}
+use Rattle.sctp_data.specs.PayloadData.{Data, data_of}
+use Rattle.sctp_receiver.specs.ReceiverRuns.{Message}
+use Rattle.sctp_sender.specs.Abandonment.{is_pair_of}
+use Rattle.sctp_delivery.specs.Complete.{is_exhausted}
+use Rattle.sctp_delivery.specs.Abandoned.{abandoned_by}
+use Rattle.sctp_delivery.specs.EveryCall.{AnyCall, RunsAny, makes, of_receiving, of_sending, single_messages, tsns_given_any}
+use Rattle.sctp_delivery.specs.EveryOrder.{is_unbroken, plain_calls}
+use Rattle.sctp_delivery.specs.Messages.{StandAt}
+use Rattle.sctp_delivery.specs.Modes.{sendings, unknown}
+use Rattle.sctp_delivery.specs.Returns.{at_start_with}
+use Rattle.sctp_delivery.specs.SenderCalls.{Made, Write, data_chunk, forward_tsn}
+use Rattle.sctp_delivery.specs.Session.{Session, bytes_written, of_receiver, of_sender}
+use Rattle.sctp_receiver.specs.declared.receiver.limits.Limits.{Limits}
+use Rattle.sctp_sender.specs.declared.sender.Reported.{Reported}
+
+-- a FORWARD-TSN that names the stream
+abbrev pub is_naming : ℕ → Made → Bool
+is_naming s (data_chunk d) = false
+is_naming s (forward_tsn f) = list_any (is_pair_of s) f.streams
+
+-- the sender made none
+abbrev pub is_unnamed : ℕ → List Made → Bool
+is_unnamed s ms = not (list_any (is_naming s) ms)
+
+-- of these messages one was read on the stream, and the chunk is a fragment of it
+abbrev pub IsReadOn : ℕ → Data → List Message → Type 0
+IsReadOn stream d ms =
+    (m : Message) × Contains ms m × (m.stream ≡ stream)
+    × (c : ChunkPayloadData) × Contains m.fragments c × (data_of c ≡ d)
+
+-- where nothing waits to be sent, nothing is in flight, and nothing is to be read: on such a stream each ordered DATA chunk that was made was
+-- read
+abbrev pub IsSentReadInTheEnd : List AnyCall → Session → Type 0
+IsSentReadInTheEnd calls s =
+    is_exhausted s.sending.sender s.receiving.receiver ≡ true
+    → (stream : ℕ) → is_unbroken calls stream ≡ true → is_unnamed stream s.made ≡ true
+    → (d : Data) → Contains s.made (data_chunk d) → d.stream_identifier ≡ stream
+    → d.unordered ≡ false → IsReadOn stream d s.receiving.read
+
+-- ## Writes
+
+-- the messages that calls abandoned or let expire
+abbrev pub abandoned_any : (old : Session) (calls : List AnyCall) (new : Session)
+    → RunsAny old calls new → List ℕ
+abandoned_any old [] new run = []
+abandoned_any old (makes (of_sender call) ∷ cs) new run =
+    abandoned_by call old.sending.sender ++ abandoned_any run.0 cs new run.1.1
+abandoned_any old (makes (of_receiver call) ∷ cs) new run = abandoned_any run.0 cs new run.1.1
+abandoned_any old (of_sending call ∷ cs) new run = abandoned_any run.0 cs new run.1.1
+abandoned_any old (of_receiving call ∷ cs) new run = abandoned_any run.0 cs new run.1.1
+
+-- P of these, of the calls and of the session, after each session that gives out fewer than 2^31 TSNs, and in which fewer than 2^64 bytes were
+-- written; the first TSN is a number of 32 bits, and fragments have some bytes
+abbrev pub AfterEachAnyOfMessages : (List ℕ → List AnyCall → Session → Type 0) → Type 0
+AfterEachAnyOfMessages P =
+    (reported : Reported) (tsn size max most : ℕ) (limits : Option Limits)
+    (calls : List AnyCall) (s : Session)
+    → (run : RunsAny (at_start_with reported tsn size max most limits) calls s) → tsn < 2 ^ 32
+    → 0 < size
+    → tsns_given_any (at_start_with reported tsn size max most limits) calls s run < 2 ^ 31
+    → bytes_written s < 2 ^ 64
+    → P (abandoned_any (at_start_with reported tsn size max most limits) calls s run) calls s
+
+-- the write at place k is an ordered one on the stream, and its message, which has the number length s.written - (k + 1), is none of these
+pub record IsLeftOn (stream : ℕ) (gone : List ℕ) (calls : List AnyCall) (s : Session) (k : ℕ)
+    : Type 0 where
+  pub inside : k < length s.written
+  pub on : (w : Write) → (slice_index_or s.written k w).stream ≡ stream
+  pub ordered : (slice_index_or (sendings (plain_calls calls)) k unknown).mode.unordered ≡ false
+  pub left : list_any (nat_eq (length s.written - (k + 1))) gone ≡ false
+
+-- where nothing waits to be sent, nothing is in flight, and nothing is to be read: each message of which no fragment but the first begins one is a
+-- write at a place of its own; and on a stream that goes on, and that no FORWARD-TSN names, each ordered write that was not abandoned stands at one
+-- of these, so it was read exactly once
+abbrev pub IsOrderedReadInTheEnd : List ℕ → List AnyCall → Session → Type 0
+IsOrderedReadInTheEnd gone calls s =
+    is_exhausted s.sending.sender s.receiving.receiver ≡ true
+    → (places : List ℕ) × StandAt s.written (single_messages s.receiving.read) places
+    × AllPairs (λ p q. p ≢ q) places
+    × ((stream : ℕ) → is_unbroken calls stream ≡ true → is_unnamed stream s.made ≡ true
+    → (k : ℕ) → IsLeftOn stream gone calls s k → Contains places k)
