@@ -1,6 +1,7 @@
 -- Two hosts stand in a session of every call, and each call leads to the next.
 use Rattle.sctp_delivery.proofs.Names.{◌≡◌, ◌+◌, ◌≤◌, ◌<◌, ◌^◌, List, [], ◌∷◌, ◌++◌, refl, ap, sym, subst, ◌∙◌, arith, Contains, Sack, Session, SenderCall}
-use Rattle.sctp_delivery.proofs.Names.{ℕ, ◌&&◌, ◌||◌, Bool, true, false, and, both, not, SenderFollows, SenderMakes, of_sender, of_receiver, takes_sack, bytes_written, distance, Transmission, Made}
+use Rattle.sctp_delivery.proofs.Names.{ℕ, ◌&&◌, ◌||◌, Bool, true, false, and, both, not, SenderFollows, SenderMakes, of_sender, of_receiver, takes_sack}
+use Rattle.sctp_delivery.proofs.Names.{bytes_written, distance, Transmission, Made}
 use Rattle.sctp_sender.specs.SenderRuns as sender_runs
 use Rattle.sctp_receiver.specs.ReceiverRuns as receiver_runs
 use Rattle.sctp_delivery.specs.EveryCall.{AnyCall, FollowsAny, IsReceiverTaken, IsSenderTaken, ReceiverDoes, Restores}
