@@ -13,6 +13,7 @@ use Rattle.sctp_data.specs.declared.chunk.chunk_payload_data.PayloadProtocolIden
 use Rattle.sctp_data.specs.SelectiveAck.{Sack}
 use Rattle.sctp_delivery.proofs.Changes.{Change, acknowledges, all_start, changes, each_leaves, flight_after, front_expires, more_room, nothing, one_leaves}
 use Rattle.sctp_delivery.proofs.Changes.{some_marked, some_missed}
+use Rattle.sctp_delivery.proofs.EveryMessages.{steady-there}
 use Rattle.sctp_delivery.proofs.EveryShadows.{HasBeside, IsPlayed, has-beside}
 use Rattle.sctp_delivery.proofs.Numbers.{number_of}
 use Rattle.sctp_delivery.proofs.PlainHolds.{held-like}
@@ -20,6 +21,9 @@ use Rattle.sctp_delivery.proofs.Queues.{started}
 use Rattle.sctp_delivery.proofs.Senders.{IsHeldOn}
 use Rattle.sctp_delivery.proofs.Writing.{accepted-stream}
 use Rattle.sctp_delivery.specs.EveryCall.{AnyCall, FollowsAny, RunsAny, is_steady, tsns_given_any, was_dropped}
+use Rattle.sctp_delivery.specs.EveryEnd.{abandoned_any}
+use Rattle.sctp_delivery.specs.EveryOrder.{is_unbroken, plain_calls}
+use Rattle.sctp_delivery.specs.Modes.{Modes, at_first, modes_from}
 use Rattle.sctp_delivery.specs.Returns.{at_start_with}
 use Rattle.sctp_delivery.specs.SenderCalls as outgoing
 use Rattle.sctp_delivery.specs.SenderCalls.{SenderCall, SenderMakes}
@@ -253,19 +257,25 @@ module _ (st : StandAny) where
   abbrev on : ℕ → Bool
   on = is_steady st.calls
 
-  beside : HasBeside on (was_dropped st.calls) st.tsn st.session (given_any st)
-  beside =
-      has-beside on (was_dropped st.calls) st.tsn st.reported st.size st.max st.most st.limits st.calls st.session st.run st.small st.some st.few st.short
-      (λ t e. e) (λ q e. ap not e)
+  abbrev gone : List ℕ
+  gone = abandoned_any (at_start_with st.reported st.tsn st.size st.max st.most st.limits) st.calls st.session st.run
 
-  played : IsPlayed on (was_dropped st.calls) st.tsn beside.2.other (given_any st)
-  played = beside.2.plays st.few
+  abbrev modes : Modes
+  modes = modes_from at_first (plain_calls st.calls)
+
+  beside : HasBeside on (was_dropped st.calls) (is_unbroken st.calls) (steady-there false st.calls) st.tsn st.session (given_any st) gone modes
+  beside =
+      has-beside on (was_dropped st.calls) (is_unbroken st.calls) (steady-there false st.calls) st.tsn st.reported st.size st.max st.most st.limits
+      st.calls st.session st.run st.small st.some st.few st.short (λ t e. e) (λ q e. ap not e) (λ q e. e)
+
+  played : IsPlayed on (was_dropped st.calls) (is_unbroken st.calls) (steady-there false st.calls) st.tsn beside.other (given_any st) gone modes
+  played = beside.plays st.few
 
   held : IsHeldOn on played.numbered st.tsn st.session.sending.sender played.sent
   held =
-      let x = beside.2.shadow in
+      let x = beside.shadow in
       held-like on st.tsn st.session.sending.sender x.streams x.chunks played.numbered played.sent x.alike x.like
-      (subst (λ u. IsHeldOn on played.numbered st.tsn u played.sent) x.sender played.holds.held)
+      (subst (λ u. IsHeldOn on played.numbered st.tsn u played.sent) x.sender played.spread.holds.held)
 
   pub small-in : st.session.sending.sender.flight.next_tsn < 2 ^ 32
   small-in = let n = held.stands.counted in omega (arith, n)

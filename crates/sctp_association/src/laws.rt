@@ -47,8 +47,8 @@ pub fn what_is_read_was_written()
 {}
 
 /// Two associations as above, whatever datagrams bring: streams are reset or closed, TSNs come without their chunks, names of streams that are
-/// not open are passed over. Only each receiver begins once, with the peer's first TSN, and no sender anew. What is read on a stream that its
-/// sender did not begin again is what was written, no write twice. In which order, and that each write is read, is not said.
+/// not open are passed over. Only each receiver begins once, with the peer's first TSN, and no sender again. What is read on a stream that its
+/// sender did not begin again is what was written, no write twice; and in order, and in the end, on an untouched stream (`IsUntouched`).
 pub fn whatever_is_reset_what_is_read_was_written()
     ensures hosts { EachDeliversAny }
     ensures linked { EachLinkDeliversAny }
