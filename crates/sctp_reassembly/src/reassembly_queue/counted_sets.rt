@@ -2,6 +2,7 @@
 
 ghost use Rattle.std.specs.Prelude.{◌≡◌, List, ◌+◌, ◌-◌, ◌*◌, ◌^◌, ◌<◌, ◌≤◌, [], ◌∷◌, ◌++◌, length, min, not, drop, set, remove, slice_index_or, option_map, MatchOption, OnOk, OnErr, IfOk, IfErr, IfSome, IfNone, IsOk, None};
 ghost use Rattle.std.specs.List.{All, insert, filter};
+ghost use Rattle.std.specs.VecDeque.{deque_capacity};
 ghost use Rattle.sctp_data.specs.ChunkSet.{ChunkSet};
 ghost use Rattle.sctp_util.specs.declared.error.Error.TheVariants.{ErrOutOfMemory};
 ghost use Rattle.sctp_reassembly.specs.reassembly_queue.Orders.{digits, IsInOrder};
@@ -204,6 +205,7 @@ impl CountedSets {
         ensures memory { IfErr result (λ e. e ≡ ErrOutOfMemory) }
     {
         let more = set.fragments().len();
+        reserve(&mut self.sets, 1)?;
         self.sets.insert(place, set)?;
         self.n_chunks = self.n_chunks.saturating_add(more);
         Ok(())
@@ -216,8 +218,7 @@ impl CountedSets {
         ensures none { more ≡ 0 → IsOk result }
         ensures memory { IfErr result (λ e. e ≡ ErrOutOfMemory) }
     {
-        self.sets.reserve(more)?;
-        Ok(())
+        reserve(&mut self.sets, more)
     }
 
     /// Puts a set behind the others. It takes no memory.
@@ -276,6 +277,21 @@ impl CountedSets {
         give_back(&mut self.sets);
         gone
     }
+}
+
+// Makes room for so many more sets, exactly where there is room for none: most streams hold one message at a time.
+fn reserve(sets: &mut VecDeque<Fragments>, more: usize) -> Result<()>
+    ensures items { sets.new.items ≡ sets.old.items }
+    ensures room { OnOk result (length sets.new.items + more ≤ deque_capacity sets.new) }
+    ensures none { more ≡ 0 → IsOk result }
+    ensures memory { IfErr result (λ e. e ≡ ErrOutOfMemory) }
+{
+    if sets.capacity() == 0 {
+        sets.reserve_exact(more)?;
+    } else {
+        sets.reserve(more)?;
+    }
+    Ok(())
 }
 
 // Equal sets, which share their bytes.
