@@ -59,14 +59,13 @@ use std::marker::Model;
 /// stream sequence numbers, complete unordered messages, and unassembled fragments of unordered ones.
 #[derive(Drop)]
 pub struct ReassemblyQueue {
-    alloc: Global,
     si: u16,
     next_ssn: u16,
+    max_message_size: u32,
     ordered: OrderedSets,
     unordered: CountedSets,
     unordered_chunks: Pool,
     n_bytes: usize,
-    max_message_size: u32,
 }
 
 impl Model for ReassemblyQueue {
@@ -108,7 +107,6 @@ impl ReassemblyQueue {
         } }
     {
         ReassemblyQueue {
-            alloc,
             si,
             next_ssn: 0,
             ordered: OrderedSets::new(alloc),
@@ -119,13 +117,17 @@ impl ReassemblyQueue {
         }
     }
 
+    // The allocator, which each of its lists has.
+    fn alloc(&self) -> Global {
+        self.ordered.alloc()
+    }
+
     /// An equal queue, which shares its bytes. Refuses only for memory.
     pub fn try_clone(&self, alloc: Global) -> Result<Self>
         ensures ok { IfOk result (λ queue. queue ≡ self.now) }
         ensures memory { IfErr result (λ e. e ≡ ErrOutOfMemory) }
     {
         Ok(ReassemblyQueue {
-            alloc,
             si: self.si,
             next_ssn: self.next_ssn,
             ordered: self.ordered.try_clone(alloc)?,
@@ -194,6 +196,14 @@ impl ReassemblyQueue {
             .chunk_count()
             .saturating_add(self.unordered.chunk_count())
             .saturating_add(self.unordered_chunks.unassembled().len())
+    }
+
+    /// Gives back the room of the lists of messages in which none is left, by no clause. It takes no memory.
+    pub fn give_back(&mut self)
+        ensures { self.new ≡ self.old }
+    {
+        self.ordered.give_back();
+        self.unordered.give_back();
     }
 
     /// Lowers the byte count, which stops at 0. Where it was the sum of the bytes held and so many more, it is the sum again.
@@ -400,7 +410,7 @@ impl ReassemblyQueue {
         if sna16lt(ssn, self.next_ssn) {
             return Ok((false, PushUndo::of(PushChange::NotKept, before)));
         }
-        let fragment = Fragment::new(self.alloc, chunk)?;
+        let fragment = Fragment::new(self.alloc(), chunk)?;
         let Some(put) = self.ordered.put(spot, fragment, turns)? else {
             return Ok((false, PushUndo::of(PushChange::NotKept, before)));
         };
@@ -437,9 +447,10 @@ impl ReassemblyQueue {
         let len = chunk.user_data.len();
         self.unordered.reserve(1)?;
         let n_chunks = self.unordered.chunk_count();
+        let alloc = self.alloc();
         let (run, undo) = self
             .unordered_chunks
-            .put_undoable(self.alloc, place, chunk, turns)?;
+            .put_undoable(alloc, place, chunk, turns)?;
         self.n_bytes = before.saturating_add(len);
         match run {
             Some(chunks) => {

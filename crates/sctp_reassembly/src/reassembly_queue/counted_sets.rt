@@ -221,6 +221,20 @@ impl CountedSets {
         reserve(&mut self.sets, more)
     }
 
+    /// The allocator.
+    pub(crate) fn alloc(&self) -> Global {
+        *self.sets.allocator()
+    }
+
+    /// Gives back all room, where no set is left. It takes no memory.
+    pub(crate) fn give_back(&mut self)
+        ensures { self.new.items ≡ self.old.items }
+    {
+        if self.sets.is_empty() {
+            self.sets.shrink_to_fit();
+        }
+    }
+
     /// Puts a set behind the others. It takes no memory.
     /// Precondition: there is room for it.
     pub(crate) fn push_back_reserved(&mut self, set: Fragments)

@@ -308,6 +308,18 @@ impl OrderedSets {
         self.ascending = undo.noted.ascending;
     }
 
+    /// The allocator.
+    pub(crate) fn alloc(&self) -> Global {
+        self.sets.alloc()
+    }
+
+    /// Gives back all room, where no set is left. It takes no memory.
+    pub(crate) fn give_back(&mut self)
+        ensures { self.new ≡ self.old }
+    {
+        self.sets.give_back();
+    }
+
     /// Removes the sets that a skip discards: the incomplete ones, those alone whose numbers are in the stretch where there is
     /// one, and those alone that miss a TSN where there is a bound. Counts their bytes up to the greatest number. Its turns are added:
     /// four for each set at most where there is no bound, numbers ascend, and TSNs in each set.

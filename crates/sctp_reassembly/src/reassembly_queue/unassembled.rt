@@ -32,8 +32,8 @@ pub struct Loose {
     serial: bool,
     // so many at once take no memory
     places: usize,
-    // without the fragment at this place there is no complete message, where that is known
-    apart: Option<usize>,
+    // without the fragment at this place there is no complete message, where that is known; of 32 bits, since each stream has one
+    apart: Option<u32>,
 }
 
 impl Model for Loose {
@@ -155,7 +155,7 @@ impl Loose {
         ensures { result ≡ true → HasNoRun (remove self.now.chunks place) }
     {
         match self.apart {
-            Some(apart) => apart == place,
+            Some(apart) => apart as usize == place,
             None => false,
         }
     }
@@ -394,11 +394,11 @@ impl Loose {
 }
 
 // The place, where it is known that without its fragment there is no complete message.
-fn apart_at(place: usize, searched: bool) -> Option<usize>
+fn apart_at(place: usize, searched: bool) -> Option<u32>
     ensures { IfSome result (λ apart. (apart ≡ place) × (searched ≡ true)) }
 {
-    if searched {
-        return Some(place);
+    if searched && place <= u32::MAX as usize {
+        return Some(place as u32);
     }
     None
 }

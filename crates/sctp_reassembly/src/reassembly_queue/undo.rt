@@ -160,8 +160,8 @@ impl ReassemblyQueue {
             PushChange::NotKept => {}
             PushChange::Ordered(put) => self.ordered.undo_put(put),
             PushChange::Unassembled(put) => {
-                self.unordered_chunks
-                    .undo_put(put, FragmentList::of(Vec::new(self.alloc)), turns);
+                let none = FragmentList::of(Vec::new(self.alloc()));
+                self.unordered_chunks.undo_put(put, none, turns);
             }
             PushChange::Message(put) => self.undo_message(put, turns),
         }
