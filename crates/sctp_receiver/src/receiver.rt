@@ -9,6 +9,7 @@ pub mod inbound_streams;
 pub(crate) mod intake;
 pub mod limits;
 mod names;
+pub mod received;
 pub mod refusal;
 mod resets;
 pub(crate) mod sack_out;
@@ -264,7 +265,7 @@ impl Receiver {
         ensures { result ≡ option_map (λ l. l.stats) (stream_of stream self.now) }
     {
         match self.streams.find(stream) {
-            Some(inbound) => Some(inbound.stats),
+            Some(inbound) => Some(inbound.stats.stats()),
             None => None,
         }
     }

@@ -17,6 +17,7 @@ ghost use Rattle.sctp_receiver.specs.Visited.{skip_forwarded, to_visit};
 
 use crate::receiver::limits::cost_of;
 use crate::receiver::names::{make_each, make_room, note_each};
+use crate::receiver::received::Received;
 use crate::receiver::refusal::ReceiverRefusal;
 use crate::receiver::spans::TsnSpan;
 use crate::receiver::visit::{Skip, forward_each, renew, renew_within};
@@ -29,7 +30,6 @@ use sctp_reassembly::ordered_skips::OrderedSkips;
 use sctp_reassembly::reassembly_queue::ReassemblyQueue;
 use sctp_reassembly::reassembly_queue::undo::PushUndo;
 use sctp_serial::turns::Turns;
-use sctp_stream::stream::DataChannelStats;
 use sctp_stream::stream_numbers::{StreamNumbers, make_place, put};
 use sctp_util::error::Error;
 use std::alloc::Global;
@@ -41,7 +41,7 @@ pub struct InboundStream {
     /// What came and was not read.
     pub queue: ReassemblyQueue,
     /// What was read.
-    pub stats: DataChannelStats,
+    pub stats: Received,
 }
 
 impl InboundStream {
@@ -54,14 +54,7 @@ impl InboundStream {
     {
         InboundStream {
             queue: ReassemblyQueue::new(alloc, stream, max_message_size),
-            stats: DataChannelStats {
-                stream_identifier: stream,
-                generation: 0,
-                messages_sent: 0,
-                bytes_sent: 0,
-                messages_received: 0,
-                bytes_received: 0,
-            },
+            stats: Received::new(stream),
         }
     }
 
@@ -108,7 +101,7 @@ impl InboundStream {
         ensures rest { self.new ≡ stream_read self.old }
     {
         let chunks = self.queue.read()?;
-        self.stats.received(chunks.ppi(), chunks.len());
+        self.stats.count(chunks.ppi(), chunks.len());
         Some(chunks)
     }
 
@@ -138,6 +131,8 @@ pub struct InboundStreams {
     // by place, nothing but while the names of a FORWARD-TSN are followed
     noted: Vec<Option<OrderedSkips>>,
     copies: Option<Global>,
+    // the stream that was read last
+    last_read: u16,
 }
 
 impl Model for InboundStreams {
@@ -178,6 +173,7 @@ impl InboundStreams {
             visits: Visits::new(alloc),
             noted: Vec::new(alloc),
             copies,
+            last_read: 0,
         }
     }
 
@@ -342,6 +338,22 @@ impl InboundStreams {
             × (is_some (find (has_number stream) self.old) ≡ false)) }
         ensures err { OnErr result (self.new ≡ self.old) }
     {
+        let answer = self.take(stream);
+        self.leave(stream);
+        answer
+    }
+
+    // The same, and no stream gives back room.
+    fn take(&mut self, stream: u16) -> Result<Option<Chunks>, ReceiverRefusal>
+        ensures message { IfOk result (λ message. message
+            ≡ option_map at_start (message_of (find (has_number stream) self.old))) }
+        ensures ok { OnOk result (self.new
+            ≡ change_where (has_number stream) stream_read self.old) }
+        ensures accepted { IsOk result → is_some (find (has_number stream) self.old) ≡ true }
+        ensures refused { IfErr result (λ e. (e ≡ StreamUnknown)
+            × (is_some (find (has_number stream) self.old) ≡ false)) }
+        ensures err { OnErr result (self.new ≡ self.old) }
+    {
         let Some(place) = self.numbers.place_of(stream) else {
             return Err(ReceiverRefusal::StreamUnknown);
         };
@@ -351,6 +363,21 @@ impl InboundStreams {
         self.cost = moved(self.cost, before, cost_of(&inbound.queue));
         renew(&mut self.visits, place, &inbound.queue, false);
         Ok(message)
+    }
+
+    // The stream that was read last gives back the room of its messages, where none is left, and another one is read now. So of streams on
+    // which a message comes now and then, one at most keeps it. It takes no memory.
+    fn leave(&mut self, stream: u16)
+        ensures { self.new ≡ self.old }
+    {
+        let last = self.last_read;
+        if last == stream {
+            return;
+        }
+        self.last_read = stream;
+        if let Some(place) = self.numbers.place_of(last) {
+            give_back_at(&mut self.items, place);
+        }
     }
 
     /// Resets a stream, whose old use ends with the TSN (RFC 6525 5.2.2). Refuses with `StreamUnknown`, where the stream is not open, else only
@@ -435,6 +462,18 @@ pub(crate) fn moved(total: u128, before: usize, after: usize) -> u128
     ensures { result ≡ total - before + after }
 {
     total - before as u128 + after as u128
+}
+
+// The stream at a place gives back the room of its messages, where it is one and none is left. It stands apart, so that a read after
+// another one of the same stream stays small.
+#[cold]
+#[inline(never)]
+fn give_back_at(streams: &mut Vec<InboundStream>, place: usize)
+    ensures { streams.new.items ≡ streams.old.items }
+{
+    if place < streams.len() {
+        streams[place].queue.give_back();
+    }
 }
 
 // The numbers of those with a message to read.

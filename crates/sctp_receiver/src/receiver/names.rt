@@ -22,7 +22,7 @@ use crate::receiver::visits::Visits;
 use sctp_data::chunk::chunk_forward_tsn::ChunkForwardTsnStream;
 use sctp_reassembly::ordered_skips::OrderedSkips;
 use sctp_serial::turns::Turns;
-use sctp_stream::stream_numbers::StreamNumbers;
+use sctp_stream::stream_numbers::{StreamNumbers, make_place, put};
 use sctp_util::error::Result;
 
 /// Makes room for the notes of one stream more. Refuses only for memory.
@@ -36,7 +36,8 @@ pub(crate) fn make_room(noted: &mut Vec<Option<OrderedSkips>>, streams: usize) -
     ensures memory { IsOkUnless result ErrOutOfMemory }
 {
     if noted.len() == streams {
-        noted.push(None)?;
+        make_place(noted)?;
+        put(noted, None);
     }
     Ok(())
 }

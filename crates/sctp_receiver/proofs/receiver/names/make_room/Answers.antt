@@ -12,5 +12,7 @@ one-more ns none = λ p s e. by_same p (length ns)
     not-some : {s : OrderedSkips} → None ≡ Some s → ⊥
     not-some e = absurd (cc)
 
-pub returns-in_ok-push-clause-none : goal.returns-in_ok-push-clause-none
-returns-in_ok-push-clause-none c = subst AreNone (sym c.in_ok-push.ensures.items) (one-more c.args.noted.now.items c.requires.none)
+pub returns-in_ok-make_place-clause-none : goal.returns-in_ok-make_place-clause-none
+returns-in_ok-make_place-clause-none c =
+    let put = c.put.ensures.items ∙ ap (λ ns. ns ++ None ∷ []) c.make_place.ensures.items in
+    subst AreNone (sym put) (one-more c.args.noted.now.items c.requires.none)

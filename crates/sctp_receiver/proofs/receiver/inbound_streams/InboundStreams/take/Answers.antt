@@ -5,7 +5,7 @@ use Rattle.sctp_receiver.proofs.Settled.{read-none}
 use Rattle.sctp_receiver.proofs.Listing.{outside, renewed-less}
 use Rattle.sctp_receiver.proofs.Spans.{read-inside}
 use Rattle.sctp_receiver.proofs.CostSums.{is-part, changed-fits, changed-sum}
-use Rattle.sctp_receiver.proofs.receiver.inbound_streams.InboundStreams.read.Goals as goal
+use Rattle.sctp_receiver.proofs.receiver.inbound_streams.InboundStreams.take.Goals as goal
 
 pub returns-in_default-clause-refused : goal.returns-in_default-clause-refused
 returns-in_default-clause-refused c = (
