@@ -327,6 +327,7 @@ impl PayloadQueue {
     /// Precondition: its TSN is not held; it and all that is held lie at distance 1
     /// to 2^31 after some number (`can_push_no_check` tells); and the bytes of all are fewer than 2^64.
     /// Refuses only for memory, and never within the room of `reserve`. The queue is as it was then.
+    #[inline(always)]
     pub fn push_no_check(&mut self, chunk: ChunkPayloadData) -> Result<()>
         requires fresh { is_held self.old.chunks chunk.tsn ≡ false }
         requires window { SpansOneWindow self.old.chunks chunk.tsn }
@@ -343,6 +344,7 @@ impl PayloadQueue {
     }
 
     // Puts a chunk where it goes.
+    #[inline(always)]
     fn insert(&mut self, place: usize, chunk: ChunkPayloadData) -> Result<()>
         requires place { IsPlaceFor self.old.chunks chunk.tsn place }
         requires window { SpansOneWindow self.old.chunks chunk.tsn }

@@ -176,24 +176,23 @@ fn long_run_from(
     (next, behind)
 }
 
-// For how many blocks, beside the next, an empty list gets room at most: 256 have 1,024 bytes, the most that glibc hands out at once.
-const MORE_ROOM: usize = 255;
+// For how many blocks an empty list gets room at most: 256 have 1,024 bytes, the most that glibc hands out at once.
+const FIRST_ROOM: usize = 256;
 
-// The list with room for one block more, and for so many behind it; an empty one for up to `MORE_ROOM` behind it. It stands apart, as
-// it is seldom called.
+// The list with room for so many blocks more, one at least; an empty one for up to `FIRST_ROOM`. It stands apart, as it is seldom called.
 #[cold]
 #[inline(never)]
-fn grown(blocks: Vec<GapAckBlock>, behind: usize) -> Result<Vec<GapAckBlock>>
-    ensures items { IfOk result (λ more. more.items ≡ blocks.items) }
-    ensures room { IfOk result (λ more. vec_len more < vec_capacity more) }
+fn grown(blocks: Vec<GapAckBlock>, more: usize) -> Result<Vec<GapAckBlock>>
+    ensures items { IfOk result (λ grown. grown.items ≡ blocks.items) }
+    ensures room { IfOk result (λ grown. vec_len grown < vec_capacity grown) }
     ensures memory { IsOkUnless result ErrOutOfMemory }
 {
     let mut blocks = blocks;
-    let mut behind = behind;
+    let mut more = more.max(1);
     if blocks.is_empty() {
-        behind = behind.min(MORE_ROOM);
+        more = more.min(FIRST_ROOM);
     }
-    blocks.reserve(behind.saturating_add(1))?;
+    blocks.reserve(more)?;
     Ok(blocks)
 }
 
@@ -230,7 +229,7 @@ impl PayloadQueue {
             let run = run_from(&self.held, &tsns, cumulative_tsn, place, offset, turns);
             if blocks.len() == blocks.capacity() {
                 let left = most - blocks.len();
-                blocks = grown(blocks, left.min(self.held.len().saturating_sub(run.next)))?;
+                blocks = grown(blocks, left.min(self.held.len() - place))?;
             }
             blocks.push_reserved(GapAckBlock {
                 start: offset as u16,

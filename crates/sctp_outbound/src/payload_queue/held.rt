@@ -361,6 +361,7 @@ impl Held {
     /// Puts a chunk at a place, before the one that is there.
     /// Precondition: the place is at most the number of chunks, and all have fewer than 2^64 bytes with it.
     /// Refuses only for memory, and never within the room. Nothing changes then.
+    #[inline(always)]
     pub fn insert(&mut self, place: usize, chunk: ChunkPayloadData) -> Result<()>
         requires place { place ≤ length self.old.chunks }
         requires bytes { bytes_of self.old.chunks + length chunk.user_data < 2 ^ 64 }
@@ -504,6 +505,18 @@ fn put_in(places: &mut VecDeque<Place>, at: usize, place: Place)
         places.push_back_reserved(place);
         return;
     }
+    put_before(places, at, place);
+}
+
+// The same where one is there. It stands apart, so that what puts a place behind the last stays small.
+#[inline(never)]
+fn put_before(places: &mut VecDeque<Place>, at: usize, place: Place)
+    requires index { at ≤ deque_len places.old }
+    requires room { deque_len places.old < deque_capacity places.old }
+    ensures items { places.new.items ≡ insert places.old.items at place }
+    ensures len { deque_len places.new ≡ deque_len places.old + 1 }
+    ensures capacity { deque_capacity places.old ≤ deque_capacity places.new }
+{
     match places.insert(at, place) {
         Ok(()) => (),
         Err(_) => unreachable!(),
