@@ -545,6 +545,7 @@ impl OutboundQueue {
     }
 
     /// Takes the first chunk in flight, if it has this TSN.
+    #[inline(always)]
     pub fn pop(&mut self, tsn: u32) -> Option<ChunkPayloadData>
         ensures popped { result ≡ front_with tsn self.old.inflight.chunks }
         ensures rest { self.new

@@ -115,6 +115,7 @@ fn search<'a>(
 }
 
 // Where a chunk with this TSN goes, unless it is held: mostly behind the last. A look at the last, then a search.
+#[inline(always)]
 fn free_place(held: &Held, tsn: u32, turns: &mut Turns) -> Option<usize>
     requires { IsSerial held.now.chunks }
     ensures free { is_some result ≡ not (is_held held.now.chunks tsn) }
@@ -131,6 +132,19 @@ fn free_place(held: &Held, tsn: u32, turns: &mut Turns) -> Option<usize>
     if sna32lt(last, tsn) {
         return Some(len);
     }
+    searched_place(held, tsn, turns)
+}
+
+// The same by a search. It stands apart, so that a push behind the last stays small.
+#[inline(never)]
+fn searched_place(held: &Held, tsn: u32, turns: &mut Turns) -> Option<usize>
+    requires { IsSerial held.now.chunks }
+    ensures free { is_some result ≡ not (is_held held.now.chunks tsn) }
+    ensures place { IfSome result (IsPlaceFor held.now.chunks tsn) }
+    ensures fits { tsn < 2 ^ 32 }
+    ensures not_back { turns.old ≤ turns.new }
+    ensures cost { IsWithinDigits (length held.now.chunks) (turns.new - turns.old) }
+{
     match search(held, tsn, turns) {
         Ok(_) => None,
         Err(place) => Some(place),
@@ -313,6 +327,7 @@ impl PayloadQueue {
     /// Precondition: its TSN is not held; it and all that is held lie at distance 1
     /// to 2^31 after some number (`can_push_no_check` tells); and the bytes of all are fewer than 2^64.
     /// Refuses only for memory, and never within the room of `reserve`. The queue is as it was then.
+    #[inline(always)]
     pub fn push_no_check(&mut self, chunk: ChunkPayloadData) -> Result<()>
         requires fresh { is_held self.old.chunks chunk.tsn ≡ false }
         requires window { SpansOneWindow self.old.chunks chunk.tsn }
@@ -329,6 +344,7 @@ impl PayloadQueue {
     }
 
     // Puts a chunk where it goes.
+    #[inline(always)]
     fn insert(&mut self, place: usize, chunk: ChunkPayloadData) -> Result<()>
         requires place { IsPlaceFor self.old.chunks chunk.tsn place }
         requires window { SpansOneWindow self.old.chunks chunk.tsn }
@@ -346,6 +362,7 @@ impl PayloadQueue {
     }
 
     /// The front chunk, taken out, if it has this TSN.
+    #[inline(always)]
     pub fn pop(&mut self, tsn: u32) -> Option<ChunkPayloadData>
         ensures popped { result ≡ front_with tsn self.old.chunks }
         ensures rest { self.new ≡ with_chunks self.old (without_front tsn self.old.chunks) }

@@ -258,6 +258,7 @@ impl PendingQueue {
 
     /// As `remove_message`, where what waits of the message stands in front: it looks at that, and at the next chunk of each list.
     /// Precondition: in neither list does a chunk of the message stand behind one of another.
+    #[inline(always)]
     pub(crate) fn pop_message(&mut self, message_id: u64) -> (usize, Option<ChunkPayloadData>)
         requires ordered { stand_in_front message_id self.old.ordered ≡ true }
         requires unordered { stand_in_front message_id self.old.unordered ≡ true }

@@ -550,6 +550,7 @@ impl Sender {
     }
 
     // What `acked` does of what is in flight, where nothing is kept: it makes no list but the answer. The streams stay as they are.
+    #[inline(always)]
     fn acked_dropping(
         &mut self,
         sack: &ChunkSelectiveAck,

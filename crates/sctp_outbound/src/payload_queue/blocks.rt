@@ -95,7 +95,12 @@ fn run_from(
     }
     // a block may end before the fifth TSN
     if offset > 65531 {
-        return last_run_from(held, cumulative_tsn, place, offset, turns);
+        let (next, behind) = last_run_from(held, cumulative_tsn, place, offset, turns);
+        return Run {
+            end: offset + (next - 1 - place) as u32,
+            next,
+            behind,
+        };
     }
     for walked in 1..WALKED {
         let next = place + walked + 1;
@@ -113,8 +118,8 @@ fn run_from(
     }
 }
 
-// The run from a place on that ends at the greatest distance that a block can hold, or up to three before: a look at each TSN. It
-// stands apart, so that other runs test no distance.
+// The place behind the run from a place on that ends at the greatest distance that a block can hold, or up to three before, and the
+// distance there: a look at each TSN. It stands apart, so that other runs test no distance.
 #[cold]
 #[inline(never)]
 fn last_run_from(
@@ -123,11 +128,12 @@ fn last_run_from(
     place: usize,
     offset: u32,
     turns: &mut Turns,
-) -> Run
+) -> (usize, u32)
     requires serial { IsSerial held.now.chunks }
     requires at { IsAtOffset cumulative_tsn held.now.chunks place offset }
     requires near { 65531 < offset }
-    ensures run { IsRunFrom cumulative_tsn held.now.chunks place offset result }
+    ensures run { IsRunFrom cumulative_tsn held.now.chunks place offset
+        (record { end = offset + (result.0 - 1 - place); next = result.0; behind = result.1 }) }
     ensures not_back { turns.old ≤ turns.new }
     ensures cost { turns.new ≤ turns.old + 4 }
 {
@@ -136,7 +142,7 @@ fn last_run_from(
         let end = offset + walked as u32;
         let behind = offset_behind(held, cumulative_tsn, next, None, turns);
         if behind != end + 1 || !is_offset(behind) {
-            return Run { end, next, behind };
+            return (next, behind);
         }
     }
     unreachable!()
@@ -170,20 +176,23 @@ fn long_run_from(
     (next, behind)
 }
 
-// For how many blocks, beside the next, a full list gets room at most: 256 have 1,024 bytes, the most that glibc hands out at once.
-const MORE_ROOM: usize = 255;
+// For how many blocks an empty list gets room at most: 256 have 1,024 bytes, the most that glibc hands out at once.
+const FIRST_ROOM: usize = 256;
 
-// The list with room for one block more, and for one for each of so many places behind it, up to `MORE_ROOM`. It stands apart, as it is
-// seldom called.
+// The list with room for so many blocks more, one at least; an empty one for up to `FIRST_ROOM`. It stands apart, as it is seldom called.
 #[cold]
 #[inline(never)]
-fn grown(blocks: Vec<GapAckBlock>, behind: usize) -> Result<Vec<GapAckBlock>>
-    ensures items { IfOk result (λ more. more.items ≡ blocks.items) }
-    ensures room { IfOk result (λ more. vec_len more < vec_capacity more) }
+fn grown(blocks: Vec<GapAckBlock>, more: usize) -> Result<Vec<GapAckBlock>>
+    ensures items { IfOk result (λ grown. grown.items ≡ blocks.items) }
+    ensures room { IfOk result (λ grown. vec_len grown < vec_capacity grown) }
     ensures memory { IsOkUnless result ErrOutOfMemory }
 {
     let mut blocks = blocks;
-    blocks.reserve(1 + behind.min(MORE_ROOM))?;
+    let mut more = more.max(1);
+    if blocks.is_empty() {
+        more = more.min(FIRST_ROOM);
+    }
+    blocks.reserve(more)?;
     Ok(blocks)
 }
 
@@ -219,7 +228,8 @@ impl PayloadQueue {
             }
             let run = run_from(&self.held, &tsns, cumulative_tsn, place, offset, turns);
             if blocks.len() == blocks.capacity() {
-                blocks = grown(blocks, self.held.len().saturating_sub(run.next))?;
+                let left = most - blocks.len();
+                blocks = grown(blocks, left.min(self.held.len() - place))?;
             }
             blocks.push_reserved(GapAckBlock {
                 start: offset as u16,

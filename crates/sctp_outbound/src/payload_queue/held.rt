@@ -341,6 +341,7 @@ impl Held {
 
     /// From here on `additional` insertions take no memory.
     /// Refuses only for memory, and nothing changes then.
+    #[inline(always)]
     pub fn reserve(&mut self, additional: usize) -> Result<()>
         ensures ok { OnOk result (self.new
             ≡ record self.old { room = max additional self.old.room }) }
@@ -360,6 +361,7 @@ impl Held {
     /// Puts a chunk at a place, before the one that is there.
     /// Precondition: the place is at most the number of chunks, and all have fewer than 2^64 bytes with it.
     /// Refuses only for memory, and never within the room. Nothing changes then.
+    #[inline(always)]
     pub fn insert(&mut self, place: usize, chunk: ChunkPayloadData) -> Result<()>
         requires place { place ≤ length self.old.chunks }
         requires bytes { bytes_of self.old.chunks + length chunk.user_data < 2 ^ 64 }
@@ -369,15 +371,26 @@ impl Held {
         ensures memory { IsOkUnless result ErrOutOfMemory }
         ensures succeeds { 0 < self.old.room → IsOk result }
     {
-        self.places.reserve(1)?;
-        self.slab.reserve(1)?;
+        self.reserve(1)?;
+        self.insert_within_room(place, chunk);
+        Ok(())
+    }
+
+    // The same. There is room.
+    #[inline(always)]
+    fn insert_within_room(&mut self, place: usize, chunk: ChunkPayloadData)
+        requires place { place ≤ length self.old.chunks }
+        requires bytes { bytes_of self.old.chunks + length chunk.user_data < 2 ^ 64 }
+        requires room { 0 < self.old.room }
+        ensures { self.new
+            ≡ record { chunks = insert self.old.chunks place chunk; room = self.old.room - 1 } }
+    {
         let tsn = chunk.tsn;
         self.earliest = self.earliest.min(deadline_of(&chunk));
         self.outstanding.count(&chunk);
         self.room = self.room.saturating_sub(1);
         let key = self.slab.insert_reserved(chunk);
         put_in(&mut self.places, place, Place { tsn, key });
-        Ok(())
     }
 
     /// The room is no more than this from here on.
@@ -392,7 +405,7 @@ impl Held {
     fn give_back(&mut self)
         ensures { self.new ≡ self.old }
     {
-        if self.places.capacity() > MUCH && self.places.is_empty() && self.room == 0 {
+        if self.places.is_empty() && self.places.capacity() > MUCH && self.room == 0 {
             self.shrink();
         }
     }
@@ -413,6 +426,7 @@ impl Held {
 
     /// Takes out the chunk at a place, which is room then.
     /// Precondition: the place has one.
+    #[inline(always)]
     pub fn remove_leaving_room(&mut self, place: usize) -> ChunkPayloadData
         requires { place < length self.old.chunks }
         ensures removed { self.new ≡ record {
@@ -443,6 +457,7 @@ impl Held {
 
     /// Marks the chunk at a place, which is a turn, and answers how many bytes left with it.
     /// Precondition: the place has one.
+    #[inline(always)]
     pub(crate) fn mark(&mut self, place: usize, mark: Mark, turns: &mut Turns) -> usize
         requires { place < length self.old.chunks }
         ensures changed { (d : _) → self.new ≡ with_chunks self.old (slice_set self.old.chunks place
@@ -490,6 +505,18 @@ fn put_in(places: &mut VecDeque<Place>, at: usize, place: Place)
         places.push_back_reserved(place);
         return;
     }
+    put_before(places, at, place);
+}
+
+// The same where one is there. It stands apart, so that what puts a place behind the last stays small.
+#[inline(never)]
+fn put_before(places: &mut VecDeque<Place>, at: usize, place: Place)
+    requires index { at ≤ deque_len places.old }
+    requires room { deque_len places.old < deque_capacity places.old }
+    ensures items { places.new.items ≡ insert places.old.items at place }
+    ensures len { deque_len places.new ≡ deque_len places.old + 1 }
+    ensures capacity { deque_capacity places.old ≤ deque_capacity places.new }
+{
     match places.insert(at, place) {
         Ok(()) => (),
         Err(_) => unreachable!(),

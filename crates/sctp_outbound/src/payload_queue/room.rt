@@ -18,6 +18,7 @@ impl PayloadQueue {
     }
 
     /// The front chunk, taken out, if it has this TSN; its place is room then.
+    #[inline(always)]
     pub fn pop_leaving_room(&mut self, tsn: u32) -> Option<ChunkPayloadData>
         ensures popped { result ≡ front_with tsn self.old.chunks }
         ensures rest { self.new ≡ record self.old {

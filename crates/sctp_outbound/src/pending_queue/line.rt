@@ -295,8 +295,11 @@ impl Line {
     fn give_back(&mut self)
         ensures { self.new ≡ self.old }
     {
+        if self.chunks.len() > 1 {
+            return;
+        }
         let capacity = self.chunks.capacity();
-        if capacity > MUCH && self.chunks.len() <= 1 && capacity / 4 > self.room {
+        if capacity > MUCH && capacity / 4 > self.room {
             self.shrink();
         }
     }

@@ -2,14 +2,8 @@ use Rattle.std.proofs.Common.{◌≡◌, not, is_some, sym, ap, ◌∙◌, ◌-�
 use Rattle.sctp_data.specs.declared.chunk.chunk_payload_data.ChunkPayloadData.{ChunkPayloadData}
 use Rattle.sctp_serial.specs.Window.{IsPlaceFor}
 use Rattle.sctp_outbound.proofs.lemmas.payload_queue.Search.{Narrowed, none_has, place_found, narrowed_none, behind_last}
-use Rattle.sctp_serial.proofs.lemmas.Serials.{find_held, not_found}
+use Rattle.sctp_serial.proofs.lemmas.Serials.{not_found}
 use Rattle.sctp_outbound.proofs.payload_queue.free_place.Goals as goal
-
-pub returns-in-Ok-clause-free : goal.returns-in-Ok-clause-free
-returns-in-Ok-clause-free c = ap not (sym (ap is_some (find_held _ c.args.tsn c.requires _ _ c.in-Ok.ensures.found)))
-
-pub returns-in-Err-clause-free : goal.returns-in-Err-clause-free
-returns-in-Err-clause-free c = ap not (sym (ap is_some (not_found _ c.args.tsn c.in-Err.ensures.absent)))
 
 pub returns-then-len-eq0-clause-free : goal.returns-then-len-eq0-clause-free
 returns-then-len-eq0-clause-free c =

@@ -57,6 +57,12 @@ pub(super) fn tell_anew(
     ensures unknown { turns.new ≤ turns.old + 2 * length sorted.now + 2 * length known.now
         + 2 * unknown_in known.now count sorted.now + 1 }
 {
+    // each block reports one chunk at least, of which none was reported before
+    give_room(
+        released,
+        sorted.len(),
+        known.is_empty() && !sorted.is_empty(),
+    )?;
     let mut next = 0;
     tell_between(queue, known, (0, count), &mut next, released, turns)?;
     for block in sorted {

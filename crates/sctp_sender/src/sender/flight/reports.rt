@@ -72,6 +72,7 @@ impl InFlight {
     /// else is in flight costs nothing, however much it is. What both this SACK and the one taken before it have in blocks is passed
     /// over, a block at a time. One that is out of date takes no turn, and one that is refused for what it claims at most one for each
     /// block.
+    #[inline(always)]
     pub(crate) fn acked_counted(
         &mut self,
         alloc: Global,

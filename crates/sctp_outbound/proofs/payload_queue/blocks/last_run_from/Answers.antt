@@ -29,7 +29,7 @@ returns-then-behind-end-clause-run c =
     let behind = c.offset_behind-behind.result in
     let told = c.offset_behind-behind.ensures.value in
     run_ended c.args.cumulative_tsn c.args.held.now.chunks c.ranges.cumulative_tsn.fits c.requires.serial c.args.place c.args.offset (c.args.place + walked)
-    (c.args.offset + walked) _ c.requires.at (omega arith) (omega arith) inv.rising inv.at refl refl told
+    (c.args.offset + walked) _ c.requires.at (omega arith) (omega arith) inv.rising inv.at refl (omega arith) told
     (λ e small. elim c.then-behind-end.branch [
       | then-behind-end-via-then-behind-end w ↦ w.if-behind-end.true e
       | then-behind-end-via-else-behind-end+then-not-is_offset w ↦ absurd (false≢true (sym w.if-not-is_offset.true ∙ w.is_offset.ensures
