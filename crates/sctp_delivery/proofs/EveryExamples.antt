@@ -91,66 +91,26 @@ reads-both : ReceiverFollows (reads 1) two_taken both_read
 unfolding at_or_before at_or_before16 comes_before comes_before16 distance distance16
 reads-both = by-receiver (reads 1) both_read.receiving.receiver two_taken tt refl refl
 
+-- the calls from where the first message came
+abbrev rest : List AnyCall
+rest =
+    makes (of_receiver (reports 1000)) ∷ makes (of_sender (acks 10 in_flight.sending.sender)) ∷ of_sending (resets 1)
+    ∷ makes (of_sender (writes 1 Binary (8 ∷ []))) ∷ makes (of_sender (sends 6)) ∷ makes (of_receiver (takes second (New true)))
+    ∷ makes (of_receiver (reads 1)) ∷ []
+
 abbrev calls : List AnyCall
 calls =
     makes (of_sender (outgoing.opens 1)) ∷ makes (of_sender (writes 1 Binary (7 ∷ []))) ∷ makes (of_sender (sends 5))
-    ∷ makes (of_receiver (incoming.opens 1)) ∷ makes (of_receiver (takes chunk (New true))) ∷ makes (of_receiver (reports 1000))
-    ∷ makes (of_sender (acks 10 in_flight.sending.sender)) ∷ of_sending (resets 1) ∷ makes (of_sender (writes 1 Binary (8 ∷ [])))
-    ∷ makes (of_sender (sends 6)) ∷ makes (of_receiver (takes second (New true))) ∷ makes (of_receiver (reads 1)) ∷ []
+    ∷ makes (of_receiver (incoming.opens 1)) ∷ makes (of_receiver (takes chunk (New true))) ∷ rest
+
+goes-on : RunsAny taken rest both_read
+goes-on = (
+  reported,
+  (reports-one, (acknowledged, (takes-sack, (reset, (resets-it, (two_written, (writes-two, (two_sent, (sends-two, (two_taken, (takes-two, (both_read, (reads-both, refl))))))))))))),
+)
 
 session : RunsAny start calls both_read
-session = (
-  opened,
-  (
-    opens,
-    (
-      written,
-      (
-        writes-one,
-        (
-          in_flight,
-          (
-            sends-one,
-            (
-              both_open,
-              (
-                opens-too,
-                (
-                  taken,
-                  (
-                    takes-one,
-                    (
-                      reported,
-                      (
-                        reports-one,
-                        (
-                          acknowledged,
-                          (
-                            takes-sack,
-                            (
-                              reset,
-                              (
-                                resets-it,
-                                (
-                                  two_written,
-                                  (writes-two, (two_sent, (sends-two, (two_taken, (takes-two, (both_read, (reads-both, refl))))))),
-                                ),
-                              ),
-                            ),
-                          ),
-                        ),
-                      ),
-                    ),
-                  ),
-                ),
-              ),
-            ),
-          ),
-        ),
-      ),
-    ),
-  ),
-)
+session = (opened, (opens, (written, (writes-one, (in_flight, (sends-one, (both_open, (opens-too, (taken, (takes-one, goes-on))))))))))
 
 -- both messages were read as one
 joined : both_read.receiving.read ≡ record { stream = 1; fragments = chunk ∷ second ∷ [] } ∷ []

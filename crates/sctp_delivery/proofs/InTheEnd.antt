@@ -1,8 +1,10 @@
 -- What is so in the end: where nothing waits, no message is partially sent; and where nothing is to be read, no stream has a message.
 use Rattle.sctp_delivery.proofs.Names.{◌≡◌, ℕ, ◌<◌, Bool, true, false, not, List, [], ◌∷◌, Option, Some, None, is_some, refl, sym, ◌∙◌, arith, find, list_all}
 use Rattle.sctp_delivery.proofs.Names.{list_any, sum_by, cases_lt, list_all-append, sum_by-cons, none-some, nat_tests, some-same, both, not_both}
-use Rattle.sctp_delivery.proofs.Names.{ChunkPayloadData, ChunkSet, Data, Unknown, Pending, message_read, InboundStream, set_weight, has_tsn, fragments_of_sets}
+use Rattle.sctp_delivery.proofs.Names.{ChunkPayloadData, ChunkSet, Data, Pending, message_read, InboundStream, set_weight, has_tsn, fragments_of_sets}
 use Rattle.sctp_receiver.specs.Inbound.{has_number}
+use Rattle.sctp_sender.proofs.Runs.{any_chunk}
+use Rattle.sctp_data.specs.PayloadData.{data_of}
 use Rattle.sctp_delivery.proofs.Every.{Every, one-of}
 use Rattle.sctp_delivery.proofs.ReadOnce.{count-none, none-count, one}
 use Rattle.sctp_delivery.proofs.Sending.{QueuedOn}
@@ -47,18 +49,9 @@ pub none-selected : (on : ℕ → Bool) (ws : List Numbered) (first : ℕ) (numb
     → QueuedOn on ws first number q sent → q.ordered ≡ [] → q.unordered ≡ [] → q.selected ≡ None
 none-selected on ws first number q sent h o u = grind (arith, nat_tests, between)
 
-pub none-data : Data
-none-data = record {
-  unordered = false;
-  beginning_fragment = false;
-  ending_fragment = false;
-  immediate_sack = false;
-  tsn = 0;
-  stream_identifier = 0;
-  stream_sequence_number = 0;
-  payload_type = Unknown;
-  user_data = [];
-}
+-- any data, where a look-up asks for some to fall back on
+abbrev pub none-data : Data
+none-data = data_of any_chunk
 
 pub nothing : (o : Option ChunkSet) → not (is_some o) ≡ true → o ≡ None
 nothing None e = refl

@@ -115,6 +115,7 @@ pub mod PlainSessions
 pub mod PlainCalls
 pub mod Besides
 pub mod PlainReturns
+pub mod ReturnsAny
 pub mod PlainRuns
 pub mod PlainLaws
 pub mod PlainHolds

@@ -1,11 +1,9 @@
 -- Chunks in flight of a sender that keeps what is reported, beside those that it would have if no gap ack block were taken.
-use Rattle.sctp_delivery.proofs.Names.{nat_tests, common_steps, ◌≡◌, ℕ, zero, suc, ◌<◌, ◌+◌, ◌%◌, ◌^◌, Bool, true, false, List, [], ◌∷◌, ◌++◌, length, map}
+use Rattle.sctp_delivery.proofs.Names.{nat_tests, common_steps, ◌≡◌, ℕ, zero, suc, ◌+◌, Bool, true, false, List, [], ◌∷◌, ◌++◌, length, map}
 use Rattle.sctp_delivery.proofs.Names.{take, drop, refl, ap, ap₂, sym, ◌∙◌, arith, Option, Some, None, option_map, if◌then◌else◌, ◌||◌, filter, find}
-use Rattle.sctp_delivery.proofs.Names.{change_where, insert_before, list_any, negated, both, not_both, some-same, length-map, ChunkPayloadData, Sack}
-use Rattle.sctp_delivery.proofs.Names.{as_abandoned, as_acknowledged, reports_anew, chunk_before, tsns, following_tsn, comes_before, at_or_before, last_of}
-use Rattle.sctp_delivery.proofs.Names.{IsRunFrom}
+use Rattle.sctp_delivery.proofs.Names.{change_where, list_any, negated, both, not_both, some-same, length-map, ChunkPayloadData, Sack}
+use Rattle.sctp_delivery.proofs.Names.{as_abandoned, as_acknowledged, reports_anew, tsns, at_or_before, last_of}
 use Rattle.sctp_sender.specs.Keeping.{back_each, back_of, keep, keep_each, restored, restored_with, trimmed}
-use Rattle.sctp_sender.proofs.Flights.{behind}
 use Rattle.sctp_delivery.proofs.Cases.{at-if, at-test}
 use Rattle.sctp_delivery.proofs.Every.{Every}
 
@@ -181,20 +179,6 @@ take-plain n cs ds e = sym (one n cs) ∙ ap (take n) e ∙ one n ds
 pub blind-same : {B : Type 0} (g : Option ChunkPayloadData → B) → ((c : ChunkPayloadData) → g (Some (plain c)) ≡ g (Some c)) → (o q : Option ChunkPayloadData)
     → option_map plain o ≡ option_map plain q → g o ≡ g q
 blind-same g h o q e = grind (arith, nat_tests, common_steps)
-
--- ## A chunk with the next TSN goes to the end
-
-pub put-end : (x : ChunkPayloadData) (cs : List ChunkPayloadData) (first : ℕ) → first < 2 ^ 32 → length cs < 2 ^ 31 → IsRunFrom first cs
-    → x.tsn ≡ (first + length cs) % 2 ^ 32 → insert_before chunk_before x cs ≡ cs ++ x ∷ []
-put-end x [] first small few run is = refl
-put-end x (c ∷ cs) first small few run is =
-    let head : c.tsn ≡ first = cc in
-    let tail : IsRunFrom (following_tsn first) cs = cc in
-    let late : comes_before x.tsn c.tsn ≡ false = ap (λ t. comes_before t c.tsn) is ∙ ap (comes_before ((first + suc (length cs)) % 2 ^ 32)) head
-    ∙ behind first (suc (length cs)) small (omega arith) (omega (arith, few)) in
-    let same : x.tsn ≡ (following_tsn first + length cs) % 2 ^ 32 = omega (arith, is) in
-    ap (λ b. if b then x ∷ c ∷ cs else c ∷ insert_before chunk_before x cs) late
-    ∙ ap (λ xs. c ∷ xs) (put-end x cs (following_tsn first) (omega arith) (omega (arith, few)) tail same)
 
 -- ## A SACK
 

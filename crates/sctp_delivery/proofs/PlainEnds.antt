@@ -17,8 +17,7 @@ use Rattle.sctp_delivery.proofs.EndWindows.{grows-each, room-each}
 use Rattle.sctp_delivery.proofs.Every.{Every, every-of, every-of-all, one-of}
 use Rattle.sctp_delivery.proofs.NoneAbandoned.{each-of-others}
 use Rattle.sctp_delivery.proofs.Plain.{AreLike, are-long, rest_of}
-use Rattle.sctp_delivery.proofs.PlainLaws.{acknowledged-came}
-use Rattle.sctp_delivery.proofs.PlainRuns.{goes, other, shadow}
+use Rattle.sctp_delivery.proofs.PlainRuns.{acknowledged-came, goes, other, shadow}
 use Rattle.sctp_delivery.proofs.PlainSessions.{as_plain, kept_of, plain, step-of}
 use Rattle.sctp_delivery.proofs.RefusedLaw.{limits-same}
 use Rattle.sctp_delivery.proofs.SackLaws.{IsInStep}

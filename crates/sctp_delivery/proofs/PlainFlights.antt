@@ -24,7 +24,8 @@ use Rattle.sctp_delivery.proofs.Every.{Every, every-all, every-tested}
 use Rattle.sctp_delivery.proofs.GivenTsns.{IsNumbered}
 use Rattle.sctp_delivery.proofs.Plain.{Are, AreLike, rest_of, IsBareSack, IsLike, IsLikeBehind, are-changed, are-behind, are-left, are-long, are-plain}
 use Rattle.sctp_delivery.proofs.Plain.{are-reported, are-so, are-trimmed, are-tsns, blind-same, found-plain, last-plain, like-abandoned, like-itself}
-use Rattle.sctp_delivery.proofs.Plain.{passing-plain, plain, put-end, take-plain}
+use Rattle.sctp_sender.proofs.InLine.{put-behind}
+use Rattle.sctp_delivery.proofs.Plain.{passing-plain, plain, take-plain}
 use Rattle.sctp_delivery.proofs.QueueChunks.{peeked, removed}
 use Rattle.sctp_delivery.proofs.TsnPlaces.{tsn-small}
 use Rattle.sctp_delivery.proofs.ValidMarks.{IsUnmarked}
@@ -120,9 +121,9 @@ module _ (p n : ℕ) (f : Flight) (ks : List (Option (List ℕ))) (ds : List Chu
       let longer = are-long ks cs es b in
       let total = h.total in
       let run : IsRunFrom first es = same ∙ h.run ∙ ap (tsns_from first) (sym long) in
-      subst (λ xs. AreLike ks (insert_before chunk_before x cs) xs) (sym (put-end x es first (tsn-small p (h.acked + 1)) (omega (arith, long, total, few)) run
+      subst (λ xs. AreLike ks (insert_before chunk_before x cs) xs) (sym (put-behind x es first (tsn-small p (h.acked + 1)) (omega (arith, long, total, few)) run
       (omega (arith, is, h.next_is, total, long))))
-      (subst (λ xs. AreLike ks xs (es ++ x ∷ [])) (sym (put-end x cs first (tsn-small p (h.acked + 1)) (omega (arith, long, longer, total, few))
+      (subst (λ xs. AreLike ks xs (es ++ x ∷ [])) (sym (put-behind x cs first (tsn-small p (h.acked + 1)) (omega (arith, long, longer, total, few))
       (are-tsns ks cs es b ∙ run ∙ ap (tsns_from first) (sym longer)) (omega (arith, is, h.next_is, total, long, longer))))
       (are-behind IsLike x x like ks cs es b))
 

@@ -1,31 +1,28 @@
--- Sessions of a sender that keeps what is reported: what is acknowledged came, and only what may expire does.
-use Rattle.sctp_delivery.proofs.Names.{nat_tests, common_steps, ◌≡◌, ℕ, ◌<◌, ◌+◌, ◌^◌, true, false, List, [], ◌∷◌, length, refl, ap, ap₂, sym, subst, ◌∙◌}
-use Rattle.sctp_delivery.proofs.Names.{arith, inl, inr, Option, Some, None, Contains, list_any, list_any_at, or-right, or-split, both, not_both, ◌||◌}
-use Rattle.sctp_delivery.proofs.Names.{ChunkPayloadData, Sack, Transmission, Session, SenderFollows, of_receiver, of_sender, is_reported, reports}
-use Rattle.sctp_delivery.proofs.Names.{OutboundStream, map, ⊤, Limits, Modes, abandoned_by, bytes_written, tsn, tsns_from, takes_sack, was_taken}
-use Rattle.sctp_delivery.proofs.Names.{AcknowledgedCame, Flight, SenderCall, next_pending, all_started, at_or_before, is_in_blocks, distance}
-use Rattle.sctp_delivery.proofs.Names.{fragments_with_mode, modes_from, at_first, IsReported, as_sent, terminal_chunk}
+-- Sessions of a sender that keeps what is reported: what holds of sessions of every call, and that only what may expire expires.
+use Rattle.sctp_delivery.proofs.Names.{nat_tests, common_steps, ◌≡◌, ℕ, ◌<◌, ◌+◌, ◌^◌, List, [], ◌∷◌, refl, ap, sym, subst, ◌∙◌}
+use Rattle.sctp_delivery.proofs.Names.{arith, Option, Contains}
+use Rattle.sctp_delivery.proofs.Names.{ChunkPayloadData, Sack, Transmission, Session, SenderFollows}
+use Rattle.sctp_delivery.proofs.Names.{OutboundStream, map, ⊤, Limits, Modes, abandoned_by, bytes_written, tsn, tsns_from, takes_sack}
+use Rattle.sctp_delivery.proofs.Names.{next_pending}
+use Rattle.sctp_delivery.proofs.Names.{modes_from, at_first}
 use Rattle.sctp_sender.specs.declared.sender.Reported.{Reported}
-use Rattle.sctp_sender.specs.declared.sender.Reported.TheVariants.{Drop, Keep}
-use Rattle.sctp_outbound.specs.Marks.{as_taken_back}
-use Rattle.sctp_sender.specs.Keeping.{restored}
-use Rattle.sctp_sender.specs.Sender.{back_by}
 use Rattle.sctp_delivery.specs.Expiries.{EachDueExpires, OnlyTheDueExpire, IsReason}
 use Rattle.sctp_delivery.specs.Modes.{Sending, numbered_in}
-use Rattle.sctp_delivery.specs.Returns.{AfterEachWithReturnsOfFewTsns, CallOrReturn, RunsWithReturns, at_start_with, makes, other_calls, takes_back}
+use Rattle.sctp_delivery.specs.EveryCall.{SenderDoes, takes_back}
+use Rattle.sctp_delivery.specs.Messages.{AreParts, AreSame}
+use Rattle.sctp_delivery.specs.SenderCalls.{TakesBackAndSack}
+use Rattle.sctp_delivery.specs.Returns.{AfterEachWithReturnsOfFewTsns, CallOrReturn, EachAckedIsTwoCalls, NoneIsRefusedSo, RunsWithReturns, after_return}
+use Rattle.sctp_delivery.specs.Returns.{at_start_with, other_calls}
+use Rattle.sctp_sender.specs.declared.sender.flight.Released.{Released}
+use Rattle.sctp_sender.specs.declared.sender.flight.kept.TakenBack.{TakenBack}
 use Rattle.sctp_delivery.specs.Returns.{tsns_given_so}
-use Rattle.sctp_delivery.specs.SenderCalls as outgoing
-use Rattle.sctp_delivery.proofs.Changes.{Change, acknowledges, all_start, changes, each_leaves, flight_after, front_expires, more_room, nothing, one_leaves}
-use Rattle.sctp_delivery.proofs.Changes.{some_marked, some_missed}
 use Rattle.sctp_delivery.proofs.Every.{Every, all-of-every, every-all, every-of, every-of-all}
 use Rattle.sctp_delivery.proofs.Plain.{IsLike, are-long, are-tsns, paired}
+use Rattle.sctp_delivery.proofs.EveryMessages as messages
 use Rattle.sctp_delivery.proofs.PlainRuns.{goes, shadow, so}
-use Rattle.sctp_delivery.proofs.PlainSessions.{IsThere, kept_of}
-use Rattle.sctp_delivery.proofs.QueueChunks.{AllWait, EachIs, abandoned, each-abandoned, each-fragment, expired, marked, missed-some, pushed, sacked, sent}
-use Rattle.sctp_delivery.proofs.QueueChunks.{started}
-use Rattle.sctp_delivery.proofs.SackLaws as sacks
-use Rattle.sctp_delivery.proofs.Stands.{more-reported}
-use Rattle.sctp_delivery.proofs.Writing.{accepted-stream}
+use Rattle.sctp_delivery.proofs.ReturnsAny.{of-few-bytes}
+use Rattle.sctp_delivery.proofs.PlainSessions.{kept_of}
+use Rattle.sctp_delivery.proofs.QueueChunks.{AllWait}
 use Rattle.sctp_delivery.specs.Counters.{AreSums, HasSums}
 use Rattle.sctp_delivery.proofs.CounterLaws as counters
 use Rattle.sctp_delivery.proofs.PlainStreams.{bare}
@@ -36,120 +33,33 @@ use Rattle.sctp_delivery.proofs.ModeQueues.{AreModed, IsFlying, has-mode-kept}
 use Rattle.sctp_delivery.proofs.ModeSessions.{HasSaidOfFew, said-of-few}
 use Rattle.sctp_delivery.proofs.TsnPlaces.{base}
 
--- ## What is acknowledged was reported
+-- ## Chunks, and what comes back
 
-module _ (all : List Sack) where
-  abbrev IsOpen : ChunkPayloadData → Type 0
-  IsOpen c = c.acked ≡ false
+pub parts : AfterEachWithReturnsOfFewTsns (λ first n gone cs s. AreParts s)
+parts = of-few-bytes (λ cs s. AreParts s) messages.parts
 
-  -- one of these SACKs reports it
-  abbrev IsTold : ChunkPayloadData → Type 0
-  IsTold c = c.acked ≡ true → list_any (λ k. reports k c) all ≡ true
+pub same : AfterEachWithReturnsOfFewTsns (λ first n gone cs s. AreSame s)
+same = of-few-bytes (λ cs s. AreSame s) messages.same
 
-  untold : (c : ChunkPayloadData) → c.acked ≡ false → IsTold c
-  untold c e a = absurd (not_both (sym e ∙ a))
+pub none-refused-back : AfterEachWithReturnsOfFewTsns (λ first n gone cs s. NoneIsRefusedSo s)
+none-refused-back = of-few-bytes (λ cs s. NoneIsRefusedSo s) messages.none-refused-back
 
-  told-by : (call : SenderCall) (t : Transmission) → EachIs IsOpen IsTold t.flight.queue → (c : Change call t)
-      → ((k : Sack) (gone : _) → call ≡ takes_sack k gone → Contains all k) → EachIs IsOpen IsTold (flight_after call t c).queue
-  told-by call t h nothing in' = h
-  told-by call t h (all_start now) in' = started IsOpen IsTold now (λ c e. e) t.flight.queue h
-  told-by call t h (more_room count) in' = record { ordered = h.ordered; unordered = h.unordered; inflight = h.inflight }
-  told-by call t h (some_marked p f k) in' =
-      marked IsOpen IsTold p f (λ c e a. ap (λ (d : ChunkPayloadData). list_any (λ s. reports s d) all) (k c)
-      ∙ e (sym (ap (λ (d : ChunkPayloadData). d.acked) (k c)) ∙ a)) t.flight.queue h
-  told-by call t h (some_missed count) in' = missed-some IsOpen IsTold (λ c e. e) count t.flight h
-  told-by call t h (one_leaves o e found) in' = abandoned IsOpen IsTold (λ c e. e) (λ u c e. untold (terminal_chunk u c) e) o t.flight.next_tsn t.flight.queue h
-  told-by call t h (each_leaves ts short e) in' = each-abandoned IsOpen IsTold (λ c e. e) (λ u c e. untold (terminal_chunk u c) e) ts t.flight h
-  told-by call t h (front_expires now c found e) in' = expired IsOpen IsTold (λ c e. e) (Some c) t.flight.queue h
-  told-by call t h (acknowledges k gone e) in' =
-      let i = in' k gone e in
-      sacked IsOpen IsTold k (λ c r _ _. list_any_at (λ s. reports s c) all i.0 k i.1 (ap (λ s. reports s c) i.2 ∙ (both _ (reports k c) r).1)) t.flight h
+-- what `acked` makes of the sender is two calls of such a session
+abbrev AckedIsTwoCalls : Session → Type 0
+AckedIsTwoCalls s =
+    (sack : Sack) (back : List TakenBack) (gone : List Released) (new : Transmission) → Contains s.sacks sack
+    → TakesBackAndSack sack back gone s.sending.sender new → SenderDoes (takes_back sack back) s (after_return sack back s)
+    × (t : Session) × SenderFollows (takes_sack sack gone) (after_return sack back s) t × (t.sending.sender ≡ new)
 
-  told-call : (call : SenderCall) (s v : Session) → SenderFollows call s v → ((k : Sack) → Contains s.sacks k → Contains all k)
-      → EachIs IsOpen IsTold s.sending.sender.flight.queue → EachIs IsOpen IsTold v.sending.sender.flight.queue
-  told-call (outgoing.writes stream ppi (b ∷ bs)) s v f in' h =
-      let l = accepted-stream stream (length (b ∷ bs)) s.sending.sender f.accepted in
-      subst (λ (u : Transmission). EachIs IsOpen IsTold u.flight.queue) (sym (f.exact.1 (omega arith) l.0 l.1))
-      (pushed IsOpen IsTold IsOpen IsTold (λ c e. e) (λ c e. e) (fragments_with_mode l.0 ppi (b ∷ bs)) s.sending.sender.flight.queue
-      (each-fragment IsOpen l.0 ppi (b ∷ bs) (λ i. refl)) h)
-  told-call (outgoing.sends now) s v f in' h =
-      let q = all_started now s.sending.sender.flight.queue in
-      subst (λ (u : Transmission). EachIs IsOpen IsTold u.flight.queue) (sym f.exact)
-      (sent IsOpen IsTold s.sending.sender.flight.next_tsn now (λ c e. untold (as_sent s.sending.sender.flight.next_tsn now c) e)
-      (next_pending q.pending) q refl
-      (started IsOpen IsTold now (λ c e. e) s.sending.sender.flight.queue h))
-  told-call call s v f in' h =
-      let x = changes s.sending.sender v.sending.sender call refl f.step.sender f.exact in
-      subst (λ (g : Flight). EachIs IsOpen IsTold g.queue) (sym x.flight)
-      (told-by call s.sending.sender h x.change (λ k gone e. in' k (subst (λ c. IsReported c s) e f.handed)))
-
-  told-back : (bs : List (Option (List ℕ))) (cs : List ChunkPayloadData) → Every IsTold cs → Every IsTold (restored bs cs)
-  told-back [] cs e = e
-  told-back (b ∷ bs) [] e = tt
-  told-back (None ∷ bs) (c ∷ cs) e = (e.0, told-back bs cs e.1)
-  told-back (Some bytes ∷ bs) (c ∷ cs) e = (untold (as_taken_back bytes c) refl, told-back bs cs e.1)
-
--- the SACKs that were made stay
-sacks-stay : (cs : List CallOrReturn) (s new : Session) → RunsWithReturns s cs new → (k : Sack) → Contains s.sacks k → Contains new.sacks k
-sacks-stay [] s new r k c = subst (λ (y : Session). Contains y.sacks k) (sym r) c
-sacks-stay (makes (of_sender call) ∷ cs) s new r k c =
-    sacks-stay cs r.0 new r.1.1 k (subst (λ ks. Contains ks k) (sym (ap (λ (y : Session). y.sacks) r.1.0.after)) c)
-sacks-stay (makes (of_receiver call) ∷ cs) s new r k c =
-    sacks-stay cs r.0 new r.1.1 k (subst (λ ks. Contains ks k) (sym (ap (λ (y : Session). y.sacks) r.1.0.after))
-    (more-reported call s.receiving.receiver s.sacks k c))
-sacks-stay (takes_back sack back ∷ cs) s new r k c =
-    sacks-stay cs r.0 new r.1.1 k (subst (λ ks. Contains ks k) (sym (ap (λ (y : Session). y.sacks) r.1.0.after)) c)
-
-told-run : (cs : List CallOrReturn) (s new : Session) → RunsWithReturns s cs new → EachIs (IsOpen new.sacks) (IsTold new.sacks) s.sending.sender.flight.queue
-    → EachIs (IsOpen new.sacks) (IsTold new.sacks) new.sending.sender.flight.queue
-told-run [] s new r h = subst (λ (y : Session). EachIs (IsOpen new.sacks) (IsTold new.sacks) y.sending.sender.flight.queue) (sym r) h
-told-run (makes (of_sender call) ∷ cs) s new r h =
-    told-run cs r.0 new r.1.1 (told-call new.sacks call s r.0 r.1.0 (sacks-stay (makes (of_sender call) ∷ cs) s new r) h)
-told-run (makes (of_receiver call) ∷ cs) s new r h =
-    told-run cs r.0 new r.1.1 (subst (λ (y : Session). EachIs (IsOpen new.sacks) (IsTold new.sacks) y.sending.sender.flight.queue) (sym r.1.0.after) h)
-told-run (takes_back sack back ∷ cs) s new r h =
-    told-run cs r.0 new r.1.1 (subst (λ (y : Transmission). EachIs (IsOpen new.sacks) (IsTold new.sacks) y.flight.queue) (sym r.1.0.exact) (record {
-      ordered = h.ordered;
-      unordered = h.unordered;
-      inflight = told-back new.sacks (back_by sack s.sending.sender.flight s.sending.sender.kept) s.sending.sender.flight.queue.inflight.chunks h.inflight;
-    }))
-
-told-first : (reported : Reported) (first size max : ℕ) (all : List Sack) → EachIs (IsOpen all) (IsTold all)
-    (at_start_with reported first size max 0 None).sending.sender.flight.queue
-told-first Drop first size max all = record { ordered = tt; unordered = tt; inflight = tt }
-told-first Keep first size max all = record { ordered = tt; unordered = tt; inflight = tt }
-
--- one that a SACK of the first session reports, one of the other does
-told-there : (ks ss : List Sack) → Every (IsThere ks) ss → (c d : ChunkPayloadData) → c.tsn ≡ d.tsn → list_any (λ k. reports k c) ss ≡ true
-    → list_any (λ k. reports k d) ks ≡ true
-told-there ks [] e c d same h = absurd (not_both h)
-told-there ks (s ∷ ss) e c d same h = elim (or-split (reports s c) (list_any (λ k. reports k c) ss) h) [
-  | inl i ↦ let x = e.0.itself in list_any_at (λ k. reports k d) ks x.0 s x.1 (ap (λ k. reports k d) x.2
-      ∙ ap (λ t. at_or_before t s.cumulative_tsn_ack || is_in_blocks s.gap_ack_blocks (distance s.cumulative_tsn_ack t)) (sym same) ∙ i)
-  | inr i ↦ told-there ks ss e.1 c d same i
-]
-
-pub acknowledged-came : AfterEachWithReturnsOfFewTsns (λ first n gone cs s. AcknowledgedCame s)
-acknowledged-came reported first size max most limits cs s run small some few short =
-    let x = shadow reported first size max most limits cs s run small few short in
-    let d = (goes reported first size max most limits cs s run small few short).other in
-    let t = s.sending.sender in
-    let told = told-run cs (at_start_with reported first size max most limits) s run (told-first reported first size max s.sacks) in
-    let law = so reported first size max most limits cs s run small few short AcknowledgedCame
-    (λ ks r lt. sacks.acknowledged-came first size max most limits ks _ r small lt) in
-    let came : Every (λ (e : ChunkPayloadData). (e.acked || list_any (λ k. reports k e) d.sacks) ≡ true → (was_taken e.tsn s || e.abandoned) ≡ true) x.chunks =
-    subst (λ (u : Transmission).
-    Every (λ (e : ChunkPayloadData). (e.acked || list_any (λ k. reports k e) d.sacks) ≡ true → (was_taken e.tsn s || e.abandoned) ≡ true)
-    u.flight.queue.inflight.chunks) x.sender (every-of-all _ d.sending.sender.flight.queue.inflight.chunks law) in
-    all-of-every (λ c. is_reported s c ≡ true → (was_taken c.tsn s || c.abandoned) ≡ true) t.flight.queue.inflight.chunks
-    (paired (IsTold s.sacks) _ (λ c. is_reported s c ≡ true → (was_taken c.tsn s || c.abandoned) ≡ true)
-    (λ k c e i a b h.
-    let same = ap (λ (y : ChunkPayloadData). y.tsn) i.same in
-    let one : list_any (λ k. reports k c) s.sacks ≡ true =
-    elim (or-split c.acked (list_any (λ k. reports k c) s.sacks) h) [ inl u ↦ a u | inr u ↦ u ] in
-    ap₂ (λ u g. was_taken u s || g) same (ap (λ (y : ChunkPayloadData). y.abandoned) i.same)
-    ∙ b (or-right e.acked (list_any (λ k. reports k e) d.sacks) (told-there d.sacks s.sacks x.sacks c e same one)))
-    (kept_of t.kept) t.flight.queue.inflight.chunks x.chunks x.like told.inflight came)
+pub two-calls : AfterEachWithReturnsOfFewTsns (λ first n gone cs s. EachAckedIsTwoCalls s)
+two-calls reported first size max most limits cs s run small some few short sack back gone new handed x =
+    let w = of-few-bytes (λ cs s. AckedIsTwoCalls s) messages.two-calls reported first size max most limits cs s run small some few short sack back gone new
+    handed x in (
+      record { handed = w.0.handed; step = w.0.step; exact = w.0.exact; accepted = w.0.accepted.0; answered = w.0.accepted.1; after = w.0.after },
+      w.1,
+      w.2,
+      w.3,
+    )
 
 -- ## Only what may expire expires
 

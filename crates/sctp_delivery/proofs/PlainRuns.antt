@@ -1,94 +1,49 @@
 -- Sessions of a sender that keeps what is reported: beside each there is one in which no gap ack block is taken, with the same chunks.
 use Rattle.sctp_delivery.proofs.Names.{nat_tests, common_steps, ◌≡◌, AllPairs, ℕ, ◌<◌, ◌≤◌, ◌+◌, ◌^◌, true, List, [], ◌∷◌, ◌++◌, length, refl, ap, ap₂, sym}
-use Rattle.sctp_delivery.proofs.Names.{subst, ◌∙◌, arith, append-nil, append_assoc, Option, Some, None, if◌then◌else◌, ◌==◌, ◌&&◌, nat_lt, list_all, list_any, list_any_at}
-use Rattle.sctp_delivery.proofs.Names.{All, Contains, sum_by, Sack, Limits, Transmission, Drop, total_bytes, with_inflight, is_outdated, sack_refusal, Session}
+use Rattle.sctp_delivery.proofs.Names.{subst, ◌∙◌, arith, append-nil, append_assoc, Option, ◌==◌, ◌&&◌}
+use Rattle.sctp_delivery.proofs.Names.{Contains, Sack, Limits, Transmission, Drop, Session}
 use Rattle.sctp_delivery.proofs.Names.{RunsTo, at_start, bytes_written, of_receiver, of_sender, abandoned_in, tsns_given, Modes, at_first, modes_from, Write}
-use Rattle.sctp_delivery.proofs.Names.{chunk_count, is_exhausted, reads_nothing, reports_tsn, held_by_sender, StandAt, AreMade, AreMessages, Stand, Call, Data}
+use Rattle.sctp_delivery.proofs.Names.{chunk_count, is_exhausted, reads_nothing, StandAt, AreMade, AreMessages, Stand, Call, Data}
 use Rattle.sctp_delivery.proofs.Names.{data_chunk, EachOtherIsReadOnce, slice_index_or, ◌-◌, AreWrites, AreWritesOfTheirOwn, NoneIsReadTwice, AreReadInOrder}
-use Rattle.sctp_delivery.proofs.Names.{NoneIsRefused, NoneIsTakenTwice, EachSackTells, at_or_before}
+use Rattle.sctp_delivery.proofs.Names.{NoneIsRefused, NoneIsTakenTwice, EachSackTells, ◌||◌, was_passed, was_taken}
 use Rattle.std.specs.Prelude.{◌≢◌}
 use Rattle.sctp_util.specs.Serial.{distance}
 use Rattle.sctp_sender.specs.declared.sender.Reported.{Reported}
 use Rattle.sctp_sender.specs.declared.sender.Reported.TheVariants.{Keep}
 use Rattle.sctp_sender.specs.declared.sender.flight.kept.TakenBack.{TakenBack}
-use Rattle.sctp_sender.specs.declared.sender.refusal.SenderRefusal.TheVariants.{InflightQueueTsnPop, TsnRequestNotExist}
-use Rattle.sctp_sender.specs.Flight.{count_acked, is_within}
-use Rattle.sctp_sender.specs.Keeping.{bytes_back}
-use Rattle.sctp_sender.specs.Totals.{bytes_in}
-use Rattle.sctp_sender.specs.Sender.{take_back_refusal}
-use Rattle.sctp_sender.specs.SenderRuns as sender_runs
-use Rattle.sctp_sender.proofs.Accounts as accounts
 use Rattle.sctp_delivery.specs.Abandoned.{IsEachOtherReadInTheEnd}
-use Rattle.sctp_delivery.specs.Messages.{AreParts, AreSame, IsPart}
+use Rattle.sctp_delivery.specs.Messages.{IsPart}
 use Rattle.sctp_delivery.specs.Modes.{AreReadAsWritten, AreSentAsWritten, IsUnorderedAt, was_written_ordered}
 use Rattle.sctp_delivery.specs.Order.{places_where}
-use Rattle.sctp_delivery.specs.Returns.{AfterEachWithReturns, AfterEachWithReturnsOfFewTsns, CallOrReturn, EachAckedIsTwoCalls, IsAccountedSo, NoneIsRefusedSo}
-use Rattle.sctp_delivery.specs.Returns.{FollowsOrReturns, RunsWithReturns, TakesBack, abandoned_so, after_return, at_start_with, makes, other_calls, takes_back}
+use Rattle.sctp_delivery.specs.Returns.{AfterEachWithReturns, AfterEachWithReturnsOfFewTsns, CallOrReturn, IsAccountedSo}
+use Rattle.sctp_delivery.specs.Returns.{FollowsOrReturns, RunsWithReturns, TakesBack, abandoned_so, at_start_with, makes, other_calls, takes_back}
 use Rattle.sctp_delivery.specs.Returns.{tsns_given_so}
-use Rattle.sctp_delivery.specs.Sacks.{LeftCame, ReportWhatCame}
-use Rattle.sctp_delivery.specs.SenderCalls as outgoing
+use Rattle.sctp_delivery.specs.Sacks.{AcknowledgedCame, LeftCame, ReportWhatCame}
+use Rattle.sctp_delivery.specs.EveryCall.{AcknowledgedArrived, LeftArrived, ReportWhatArrived}
 use Rattle.sctp_delivery.proofs.Delivered as delivered
 use Rattle.sctp_delivery.proofs.Delivered.{next_tsn}
-use Rattle.sctp_delivery.proofs.Every.{all-of-every, every-of, one-of}
+use Rattle.sctp_delivery.proofs.EveryRuns as every
+use Rattle.sctp_delivery.proofs.ReturnsAny.{any_calls, none-dropped, of-each, of-few-tsns, runs-any}
 use Rattle.sctp_delivery.proofs.ModeSessions as modes
 use Rattle.sctp_delivery.proofs.OnceWritten as once_written
 use Rattle.sctp_delivery.proofs.OneRead.{no-way}
 use Rattle.sctp_delivery.proofs.OthersOnce as others
 use Rattle.sctp_delivery.proofs.Plain.{are-long}
 use Rattle.sctp_delivery.proofs.PlainCalls.{sender-goes}
-use Rattle.sctp_delivery.proofs.PlainReturns.{back-fits, back-like, back-more}
-use Rattle.sctp_delivery.proofs.PlainSessions.{Goes, IsThere, Shadows, Others, gone_by, kept_of, modes_by, plain, receives-too, small-next, step-of}
+use Rattle.sctp_delivery.proofs.PlainReturns.{back-like}
+use Rattle.sctp_delivery.proofs.PlainSessions.{Goes, Shadows, Others, gone_by, kept_of, modes_by, plain, receives-too, small-next}
 use Rattle.sctp_delivery.proofs.PlainStreams.{returned-alike}
-use Rattle.sctp_delivery.proofs.ReadOnce as read_once
-use Rattle.sctp_delivery.proofs.SackLaws as sacks
-use Rattle.sctp_delivery.proofs.Sessions as sessions
-use Rattle.sctp_delivery.proofs.SackSteps.{known_or, none_dropped}
-use Rattle.sctp_delivery.proofs.TakenCalls.{AreTaken, IsInOrder, each-sack-tells}
-use Rattle.sctp_delivery.proofs.ArrivedTsns.{IsArrived}
-use Rattle.sctp_delivery.proofs.TsnPlaces.{base}
 use Rattle.sctp_delivery.proofs.UnwrappedLaw as unwrapped
-use Rattle.sctp_delivery.proofs.Sessions.{written-more}
 
 -- ## Bytes
 
-abbrev sender_calls : List CallOrReturn → List sender_runs.Call
-sender_calls [] = []
-sender_calls (makes (of_sender call) ∷ cs) = outgoing.as_run call ∷ sender_calls cs
-sender_calls (makes (of_receiver call) ∷ cs) = sender_calls cs
-sender_calls (takes_back sack back ∷ cs) = sender_runs.takes_back back ∷ sender_calls cs
-
-sender-runs : (cs : List CallOrReturn) (old new : Session) → RunsWithReturns old cs new → sender_runs.RunsTo old.sending (sender_calls cs) new.sending
-sender-runs [] old new r = ap (λ (s : Session). s.sending) r
-sender-runs (makes (of_sender call) ∷ cs) old new r = (r.0.sending, (r.1.0.step, sender-runs cs r.0 new r.1.1))
-sender-runs (makes (of_receiver call) ∷ cs) old new r =
-    subst (λ l. sender_runs.RunsTo l (sender_calls cs) new.sending) (ap (λ (s : Session). s.sending) r.1.0.after) (sender-runs cs r.0 new r.1.1)
-sender-runs (takes_back sack back ∷ cs) old new r = (r.0.sending, (r.1.0.step, sender-runs cs r.0 new r.1.1))
-
-abbrev IsWritten : Session → Type 0
-IsWritten s = bytes_written s ≡ s.sending.written
-
-counted : (cs : List CallOrReturn) (old new : Session) → RunsWithReturns old cs new → IsWritten old → IsWritten new
-counted [] old new r h = subst IsWritten (sym r) h
-counted (makes (of_sender call) ∷ cs) old new r h =
-    let f = r.1.0 in
-    counted cs r.0 new r.1.1 (let e = ap bytes_written f.after in let m = written-more call old.written in let w = f.step.written in omega (arith, e, m, w, h))
-counted (makes (of_receiver call) ∷ cs) old new r h =
-    let f = r.1.0 in
-    counted cs r.0 new r.1.1 (ap bytes_written f.after ∙ h ∙ sym (ap (λ (s : Session). s.sending.written) f.after))
-counted (takes_back sack back ∷ cs) old new r h =
-    let f = r.1.0 in
-    counted cs r.0 new r.1.1 (let e = ap bytes_written f.after in let w = f.step.written in omega (arith, e, w, h))
-
 pub accounted : AfterEachWithReturns (λ calls s. IsAccountedSo s)
-accounted reported tsn size max most limits cs s r = grind (arith, nat_tests, common_steps, accounts.accounted, sender-runs, counted)
+accounted = of-each (λ cs s. IsAccountedSo s) every.accounted
 
 -- ## Every call
 
 pub grows : (cs : List CallOrReturn) (old new : Session) → RunsWithReturns old cs new → bytes_written old ≤ bytes_written new
-grows [] old new r = let e = ap bytes_written r in omega (arith, e)
-grows (makes (of_sender call) ∷ cs) old new r = grind (arith, nat_tests, common_steps, written-more, grows cs r.0 new r.1.1)
-grows (makes (of_receiver call) ∷ cs) old new r = let e = ap bytes_written r.1.0.after in let rest = grows cs r.0 new r.1.1 in omega (arith, e, rest)
-grows (takes_back sack back ∷ cs) old new r = let e = ap bytes_written r.1.0.after in let rest = grows cs r.0 new r.1.1 in omega (arith, e, rest)
+grows cs old new r = every.grows (any_calls cs) old new (runs-any cs old new r)
 
 -- what a call abandons, and what it makes of the modes
 abbrev gone_so : CallOrReturn → Session → List ℕ
@@ -214,33 +169,14 @@ module _ (reported : Reported) (first size max most : ℕ) (limits : Option Limi
       (record { sending = goes.other.sending; receiving = s.receiving; made = s.made; sacks = goes.other.sacks; written = s.written })
   so-called P law = grind (arith, nat_tests, common_steps, as-seen)
 
-  pub so-given : (P : ℕ → Session → Type 0) → ((cs : List Call) (r : RunsTo (at_start first size max most limits) cs goes.other)
-      → tsns_given (at_start first size max most limits) cs goes.other r < 2 ^ 31
-      → P (tsns_given (at_start first size max most limits) cs goes.other r) goes.other)
-      → P (tsns_given_so (at_start_with reported first size max most limits) calls s run)
-      (record { sending = goes.other.sending; receiving = s.receiving; made = s.made; sacks = goes.other.sacks; written = s.written })
-  so-given P law = grind (arith, nat_tests, common_steps, as-seen)
-
-  pub tells-so : EachSackTells s
-  tells-so =
-      let n = tsns_given_so (at_start_with reported first size max most limits) calls s run in
-      let i = step-of first (plain first size max most limits small) s.sending.sender s n
-      (abandoned_so (at_start_with reported first size max most limits) calls s run)
-      (modes_from at_first (other_calls calls)) few goes in
-      let kn = known_or none_dropped goes.other in
-      let same = goes.shadow.receiving in
-      each-sack-tells (base first) n s kn few (subst (λ (q : Stand). IsArrived (base first) n kn q.receiver.cumulative_tsn q.receiver.beyond) same i.arrived)
-      (subst (λ (q : Stand). IsInOrder q.receiver) same i.order) (subst (λ (q : Stand). AreTaken (base first) n q.receiver q.accepted) same i.taken)
-
 -- ## Messages
 
 pub made : AfterEachWithReturnsOfFewTsns (λ first n gone cs s. AreMade s)
-made reported first size max most limits cs s run small some few short =
-    so reported first size max most limits cs s run small few short AreMade (λ ks r lt. sessions.made first size max most limits ks _ r)
+made reported first size max most limits cs s run small some few short = of-each (λ cs s. AreMade s) every.made reported first size max most limits cs s run
 
 pub messages : AfterEachWithReturnsOfFewTsns (λ first n gone cs s. AreMessages s)
 messages reported first size max most limits cs s run small some few short =
-    so reported first size max most limits cs s run small few short AreMessages (λ ks r lt. sessions.messages first size max most limits ks _ r)
+    of-each (λ cs s. AreMessages s) every.messages reported first size max most limits cs s run
 
 pub written : AfterEachWithReturnsOfFewTsns (λ first n gone cs s. AreWrites s)
 written reported first size max most limits cs s run small some few short =
@@ -248,8 +184,7 @@ written reported first size max most limits cs s run small some few short =
     (λ ks r lt. delivered.law first size max most limits ks _ small some r (omega (arith, lt)))
 
 pub none-read-twice : AfterEachWithReturnsOfFewTsns (λ first n gone cs s. NoneIsReadTwice s)
-none-read-twice reported first size max most limits cs s run small some few short =
-    so reported first size max most limits cs s run small few short NoneIsReadTwice (λ ks r lt. read_once.none-twice first size max most limits ks _ r small lt)
+none-read-twice = of-few-tsns (λ first n cs s. NoneIsReadTwice s) every.none-read-twice
 
 pub of-their-own : AfterEachWithReturnsOfFewTsns (λ first n gone cs s. AreWritesOfTheirOwn s)
 of-their-own reported first size max most limits cs s run small some few short =
@@ -273,15 +208,6 @@ as-written reported first size max most limits cs s run small some few short =
     (λ ks r lt. modes.read-as-written first size max most limits ks _ small some r lt)
 
 -- ## Chunks
-
-pub parts : AfterEachWithReturnsOfFewTsns (λ first n gone cs s. AreParts s)
-parts reported first size max most limits cs s run small some few short =
-    so reported first size max most limits cs s run small few short AreParts (λ ks r lt. delivered.parts first size max most limits ks _ small some r)
-
-pub same : AfterEachWithReturnsOfFewTsns (λ first n gone cs s. AreSame s)
-same reported first size max most limits cs s run small some few short =
-    so reported first size max most limits cs s run small few short AreSame
-    (λ ks r lt. delivered.same first size max most limits ks _ small some r (omega (arith, lt)))
 
 -- `AreSentAsWritten`, of the modes
 abbrev AreSentSo : Modes → Session → Type 0
@@ -310,87 +236,28 @@ others-read reported first size max most limits cs s run small some few short ex
 -- ## SACKs
 
 pub none-refused : AfterEachWithReturnsOfFewTsns (λ first n gone cs s. NoneIsRefused s)
-none-refused reported first size max most limits cs s run small some few short =
-    let x = shadow reported first size max most limits cs s run small few short in
-    let d = other reported first size max most limits cs s run small few short in
-    let f = s.sending.sender.flight in
-    let long = are-long (kept_of s.sending.sender.kept) f.queue.inflight.chunks x.chunks x.like in
-    let all = so reported first size max most limits cs s run small few short NoneIsRefused
-    (λ ks r lt. sacks.none-refused first size max most limits ks _ r small lt) in
-    all-of-every (λ k. sack_refusal k f ≡ None) s.sacks (every-of (IsThere d.sacks) (λ k. sack_refusal k f ≡ None)
-    (λ k i. ap (λ j. if is_outdated k f then None else (if nat_lt j (count_acked k f) then Some InflightQueueTsnPop
-    else (if list_all (is_within (j - count_acked k f)) k.gap_ack_blocks then None else Some TsnRequestNotExist))) long
-    ∙ sym (ap (λ (u : Transmission). sack_refusal k u.flight) x.sender) ∙ contained-all (λ j. sack_refusal j
-    (other reported first size max most limits cs s run small few short).sending.sender.flight ≡ None) d.sacks k i.itself all) s.sacks x.sacks)
-  where
-    contained-all : (P : Sack → Type 0) (ks : List Sack) (k : Sack) → Contains ks k → All P ks → P k
-    contained-all P ks k c a = subst P c.2 (a c.0 k c.1)
+none-refused = of-few-tsns (λ first n cs s. NoneIsRefused s) every.none-refused
 
 pub report-came : AfterEachWithReturnsOfFewTsns (λ first n gone cs s. ReportWhatCame first n s)
 report-came reported first size max most limits cs s run small some few short t fits from told =
-    let x = shadow reported first size max most limits cs s run small few short in
-    let d = other reported first size max most limits cs s run small few short in
-    let i = one-of (IsThere d.sacks) (reports_tsn t) s.sacks told x.sacks in
-    let there : list_any (reports_tsn t) d.sacks ≡ true =
-    list_any_at (reports_tsn t) d.sacks i.2.itself.0 i.0 i.2.itself.1 (ap (reports_tsn t) i.2.itself.2 ∙ i.1) in
-    so-given reported first size max most limits cs s run small few short (ReportWhatCame first)
-    (λ ks r lt. sacks.report-given first size max most limits ks _ r small lt)
-    t fits from there
+    let x = of-few-tsns ReportWhatArrived every.report-arrived reported first size max most limits cs s run small some few short t fits from told in
+    (subst (λ b. ((b || was_taken t s) || was_passed t s) ≡ true) (none-dropped cs t) x.0, x.1)
 
 pub each-tells : AfterEachWithReturnsOfFewTsns (λ first n gone cs s. EachSackTells s)
-each-tells reported first size max most limits cs s run small some few short =
-    tells-so reported first size max most limits cs s run small few short
+each-tells = of-few-tsns (λ first n cs s. EachSackTells s) every.each-tells
 
 pub left-came : AfterEachWithReturnsOfFewTsns (λ first n gone cs s. LeftCame first s)
-left-came reported first size max most limits cs s run small some few short =
-    let x = shadow reported first size max most limits cs s run small few short in
-    let law = so reported first size max most limits cs s run small few short (LeftCame first)
-    (λ ks r lt. sacks.all-left-came first size max most limits ks _ r small lt) in
-    λ t fits from upto. law t fits from (ap (λ (u : Transmission). at_or_before t u.flight.acked_tsn) x.sender ∙ upto)
+left-came reported first size max most limits cs s run small some few short t fits from upto =
+    subst (λ b. ((b || was_taken t s) || was_passed t s) ≡ true) (none-dropped cs t)
+    (of-few-tsns (λ first n cs s. LeftArrived first cs s) every.left-arrived reported first size max most limits cs s run small some few short t fits from upto)
+
+pub acknowledged-came : AfterEachWithReturnsOfFewTsns (λ first n gone cs s. AcknowledgedCame s)
+acknowledged-came reported first size max most limits cs s run small some few short k c lt told =
+    let t = (slice_index_or s.sending.sender.flight.queue.inflight.chunks k c).tsn in
+    let gone = (slice_index_or s.sending.sender.flight.queue.inflight.chunks k c).abandoned in
+    subst (λ b. ((b || was_taken t s) || gone) ≡ true) (none-dropped cs t)
+    (of-few-tsns (λ first n cs s. AcknowledgedArrived cs s) every.acknowledged-arrived reported first size max most limits cs s run small some few short k c lt
+    told)
 
 pub none-taken-twice : AfterEachWithReturnsOfFewTsns (λ first n gone cs s. NoneIsTakenTwice s)
-none-taken-twice reported first size max most limits cs s run small some few short =
-    so reported first size max most limits cs s run small few short NoneIsTakenTwice (λ ks r lt. sacks.none-twice first size max most limits ks _ r small lt)
-
--- ## A SACK that takes back
-
-pub none-refused-back : AfterEachWithReturnsOfFewTsns (λ first n gone cs s. NoneIsRefusedSo s)
-none-refused-back reported first size max most limits cs s run small some few short =
-    let x = shadow reported first size max most limits cs s run small few short in
-    let g = goes reported first size max most limits cs s run small few short in
-    let t = s.sending.sender in
-    let all = sessions.accounted first size max most limits g.plays.calls g.other g.plays.run in
-    let held : held_by_sender g.other.sending.sender ≡ total_bytes (with_inflight t.flight.queue x.chunks) = ap held_by_sender x.sender in
-    let before : bytes_written g.other ≡ bytes_written s = ap (λ ws. sum_by (λ (y : Write). length y.bytes) ws) x.written in
-    let refused = none-refused reported first size max most limits cs s run small some few short in
-    λ i k lt. back-fits (slice_index_or s.sacks i k) t x.chunks x.like (omega (arith, all, held, before, short)) (refused i k lt)
-
-pub two-calls : AfterEachWithReturnsOfFewTsns (λ first n gone cs s. EachAckedIsTwoCalls s)
-two-calls reported first size max most limits cs s run small some few short sack back gone new handed x =
-    let h = shadow reported first size max most limits cs s run small few short in
-    let t = s.sending.sender in
-    let more = back-more sack t h.chunks h.like in
-    let same = ap bytes_back x.returned in
-    let all = x.bytes in
-    let refused = none-refused-back reported first size max most limits cs s run small some few short in (
-      record {
-        handed = handed;
-        step = record { sender = omega (arith, more, same); written = omega arith; released = omega arith; taken_back = refl };
-        exact = refl;
-        accepted = subst (λ k. take_back_refusal k t ≡ None) handed.2 (refused handed.0 sack handed.1);
-        answered = x.returned;
-        after = refl;
-      },
-      record (after_return sack back s) {
-        sending = record (after_return sack back s).sending { sender = new; released = s.sending.released + bytes_in gone };
-      },
-      record {
-        handed = handed;
-        step = record { sender = omega (arith, more, same, all); written = omega arith; released = refl; taken_back = omega arith };
-        exact = x.exact;
-        accepted = x.accepted;
-        answered = x.answered;
-        after = refl;
-      },
-      refl,
-    )
+none-taken-twice = of-few-tsns (λ first n cs s. NoneIsTakenTwice s) every.none-taken-twice

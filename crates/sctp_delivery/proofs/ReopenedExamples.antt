@@ -121,54 +121,32 @@ reads-second : ReceiverFollows (reads 1) second_taken second_read
 unfolding at_or_before at_or_before16 comes_before comes_before16 distance distance16
 reads-second = by-receiver (reads 1) second_read.receiving.receiver second_taken tt refl refl
 
+-- the calls from where three messages were sent
+abbrev rest : List AnyCall
+rest =
+    makes (of_receiver (incoming.opens 1)) ∷ makes (of_receiver (takes third (New true))) ∷ makes (of_receiver (reads 1))
+    ∷ makes (of_receiver (takes second_chunk (New true))) ∷ makes (of_receiver (reads 1)) ∷ []
+
+-- and from where the second was
+abbrev later : List AnyCall
+later = of_sending (closes 1) ∷ makes (of_sender (outgoing.opens 1)) ∷ makes (of_sender (writes 1 Binary (9 ∷ []))) ∷ makes (of_sender (sends 7)) ∷ rest
+
 abbrev calls : List AnyCall
 calls =
     makes (of_sender (outgoing.opens 1)) ∷ makes (of_sender (writes 1 Binary (7 ∷ []))) ∷ makes (of_sender (sends 5))
-    ∷ makes (of_sender (writes 1 Binary (8 ∷ []))) ∷ makes (of_sender (sends 6)) ∷ of_sending (closes 1) ∷ makes (of_sender (outgoing.opens 1))
-    ∷ makes (of_sender (writes 1 Binary (9 ∷ []))) ∷ makes (of_sender (sends 7)) ∷ makes (of_receiver (incoming.opens 1))
-    ∷ makes (of_receiver (takes third (New true))) ∷ makes (of_receiver (reads 1)) ∷ makes (of_receiver (takes second_chunk (New true)))
-    ∷ makes (of_receiver (reads 1)) ∷ []
+    ∷ makes (of_sender (writes 1 Binary (8 ∷ []))) ∷ makes (of_sender (sends 6)) ∷ later
 
-last-calls : RunsAny three_sent
-    (makes (of_receiver (incoming.opens 1)) ∷ makes (of_receiver (takes third (New true))) ∷ makes (of_receiver (reads 1))
-    ∷ makes (of_receiver (takes second_chunk (New true))) ∷ makes (of_receiver (reads 1)) ∷ []) second_read
-last-calls = (
+ends : RunsAny three_sent rest second_read
+ends = (
   receiver_open,
   (opens-receiver, (third_taken, (takes-third, (third_read, (reads-third, (second_taken, (takes-second, (second_read, (reads-second, refl))))))))),
 )
 
+goes-on : RunsAny both_sent later second_read
+goes-on = (closed, (closes-it, (anew, (opens-anew, (three_written, (writes-third, (three_sent, (sends-third, ends))))))))
+
 session : RunsAny start calls second_read
-session = (
-  opened,
-  (
-    opens,
-    (
-      written,
-      (
-        writes-one,
-        (
-          in_flight,
-          (
-            sends-one,
-            (
-              two_written,
-              (
-                writes-second,
-                (
-                  both_sent,
-                  (
-                    sends-both,
-                    (closed, (closes-it, (anew, (opens-anew, (three_written, (writes-third, (three_sent, (sends-third, last-calls)))))))),
-                  ),
-                ),
-              ),
-            ),
-          ),
-        ),
-      ),
-    ),
-  ),
-)
+session = (opened, (opens, (written, (writes-one, (in_flight, (sends-one, (two_written, (writes-second, (both_sent, (sends-both, goes-on))))))))))
 
 -- the second message was read behind the third
 abbrev two_read : List Message

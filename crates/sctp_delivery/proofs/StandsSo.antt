@@ -6,12 +6,11 @@ use Rattle.sctp_delivery.specs.SenderCalls.{TakesBackAndSack}
 use Rattle.sctp_delivery.specs.Returns.{CallOrReturn, FollowsOrReturns, RunsWithReturns, after_return, at_start_with, makes, takes_back, tsns_given_so}
 use Rattle.sctp_delivery.specs.Stand.{EachAckedStepsSo, EachReceiverCallStepsSo, EachSenderCallStepsSo, EachTwoBeginSo, StandSo, StepsSo, given_so}
 use Rattle.sctp_delivery.specs.Stand.{most_given_so}
-use Rattle.sctp_delivery.proofs.Delivered.{next_tsn, sender-step}
-use Rattle.sctp_delivery.proofs.OneRead.{no-way}
-use Rattle.sctp_delivery.proofs.PlainHolds.{has-made}
-use Rattle.sctp_delivery.proofs.PlainRuns.{goes, two-calls}
-use Rattle.sctp_delivery.proofs.PlainSessions.{plain, small-next}
-use Rattle.sctp_delivery.proofs.Stands.{more-made, more-reported, one-given, receiver-follows, receiver_after, sender-follows, sender_after}
+use Rattle.sctp_delivery.proofs.Delivered.{next_tsn}
+use Rattle.sctp_delivery.proofs.EveryMessages as messages
+use Rattle.sctp_delivery.proofs.PlainLaws.{two-calls}
+use Rattle.sctp_delivery.proofs.ReturnsAny.{of-few-bytes}
+use Rattle.sctp_delivery.proofs.Stands.{more-made, more-reported, receiver-follows, receiver_after, sender-follows, sender_after}
 
 -- ## One call more
 
@@ -30,17 +29,14 @@ module _ (st : StandSo) where
   -- no way from the TSN that is next to itself
   same-way : distance (next_tsn st.session) (next_tsn st.session) ≡ 0
   same-way =
-      no-way (next_tsn st.session)
-      (small-next st.tsn (plain st.tsn st.size st.max st.most st.limits st.small) st.session.sending.sender st.session _ _ _ st.few
-      (goes st.reported st.tsn st.size st.max st.most st.limits st.calls st.session st.run st.small st.few st.short))
+      of-few-bytes (λ cs s. distance (next_tsn s) (next_tsn s) ≡ 0) messages.same-way st.reported st.tsn st.size st.max st.most st.limits st.calls st.session
+      st.run st.small st.some st.few st.short
 
   -- a call of the sender gives out one at most
   given-once : (call : SenderCall) (t : Session) → SenderFollows call st.session t → distance (next_tsn st.session) (next_tsn t) ≤ 1
-  given-once call t f =
-      let h = has-made st.tsn st.size st.max st.most st.limits st.small st.some st.session _ _ _
-      (goes st.reported st.tsn st.size st.max st.most st.limits st.calls st.session st.run st.small st.few st.short) in
-      let x = sender-step st.tsn call st.session t h.numbered h.sent f h.holds in
-      one-given st.tsn h.sent x.more (next_tsn st.session) (next_tsn t) h.holds.held.stands.counted x.holds.held.stands.counted x.once
+  given-once =
+      of-few-bytes (λ cs s. (call : SenderCall) (t : Session) → SenderFollows call s t → distance (next_tsn s) (next_tsn t) ≤ 1) messages.given-once
+      st.reported st.tsn st.size st.max st.most st.limits st.calls st.session st.run st.small st.some st.few st.short
 
   -- what one call leads to
   record Leads (c : CallOrReturn) (t : Session) : Type 0 where

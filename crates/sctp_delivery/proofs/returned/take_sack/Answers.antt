@@ -6,7 +6,8 @@ use Rattle.sctp_sender.specs.Sender.{take_back_refusal}
 use Rattle.sctp_sender.specs.declared.sender.Acked.{Acked}
 use Rattle.sctp_sender.specs.declared.sender.refusal.SenderRefusal.TheVariants.{OutOfMemory}
 use Rattle.sctp_delivery.specs.Returns.{AfterEachWithReturnsOfFewTsns, AreTwoCalls}
-use Rattle.sctp_delivery.proofs.PlainRuns.{none-refused, none-refused-back, two-calls}
+use Rattle.sctp_delivery.proofs.PlainLaws.{none-refused-back, two-calls}
+use Rattle.sctp_delivery.proofs.PlainRuns.{none-refused}
 use Rattle.sctp_delivery.proofs.WholeSacks.{makes}
 use Rattle.sctp_delivery.proofs.returned.take_sack.Goals as goal
 

@@ -4,11 +4,11 @@ use Rattle.sctp_delivery.proofs.laws.returns.whatever_comes_back_sacks_tell_what
 
 pub returns : goal.returns
 returns c = record {
-  back = runs.none-refused-back;
+  back = laws.none-refused-back;
   refused = runs.none-refused;
   reported = runs.report-came;
   told = runs.each-tells;
-  came = laws.acknowledged-came;
+  came = runs.acknowledged-came;
   left = runs.left-came;
   once = runs.none-taken-twice;
 }
