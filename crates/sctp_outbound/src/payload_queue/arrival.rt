@@ -19,6 +19,7 @@ impl PayloadQueue {
     /// Precondition: where the chunk is new (`can_push`), it and all that is held lie at
     /// distance 1 to 2^31 after `cumulative_tsn` (`fits` tells), and the bytes of all are fewer than 2^64.
     /// Refuses only for memory, and a new chunk never within the room of `reserve`. The queue is as it was then.
+    #[inline(always)]
     pub fn push(&mut self, chunk: ChunkPayloadData, cumulative_tsn: u32) -> Result<bool>
         requires window { IsTrue (is_new self.old.chunks chunk.tsn cumulative_tsn)
             → IsWindow cumulative_tsn self.old.chunks chunk.tsn }
@@ -37,6 +38,7 @@ impl PayloadQueue {
     }
 
     /// The same, and its turns are added, refused or not: at most one more than the number of held chunks has binary digits.
+    #[inline(always)]
     pub fn push_counted(
         &mut self,
         chunk: ChunkPayloadData,
