@@ -293,8 +293,25 @@ impl CountedSets {
     }
 }
 
-// Makes room for so many more sets, exactly where there is room for none: most streams hold one message at a time.
+// Makes room for so many more sets.
+#[inline(always)]
 fn reserve(sets: &mut VecDeque<Fragments>, more: usize) -> Result<()>
+    ensures items { sets.new.items ≡ sets.old.items }
+    ensures room { OnOk result (length sets.new.items + more ≤ deque_capacity sets.new) }
+    ensures none { more ≡ 0 → IsOk result }
+    ensures memory { IfErr result (λ e. e ≡ ErrOutOfMemory) }
+{
+    if more > 0 && more <= sets.capacity().saturating_sub(sets.len()) {
+        return Ok(());
+    }
+    grow(sets, more)
+}
+
+// The same, exactly where there is room for none: most streams hold one message at a time. It stands apart, so that what finds room
+// stays small.
+#[cold]
+#[inline(never)]
+fn grow(sets: &mut VecDeque<Fragments>, more: usize) -> Result<()>
     ensures items { sets.new.items ≡ sets.old.items }
     ensures room { OnOk result (length sets.new.items + more ≤ deque_capacity sets.new) }
     ensures none { more ≡ 0 → IsOk result }
