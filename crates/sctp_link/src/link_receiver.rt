@@ -7,7 +7,7 @@ ghost use Rattle.sctp_receiver.specs.declared.receiver.refusal.ReceiverRefusal.T
 pub(crate) mod tsn_queue;
 
 use self::tsn_queue::TsnQueue;
-use self::tsn_queue::undo::{take_back_each, take_each};
+use self::tsn_queue::undo::{TsnUndo, take_back_each, take_each};
 use sctp_chunks::chunk::chunk_forward_tsn::ChunkForwardTsn;
 use sctp_chunks::chunk::chunk_payload_data::ChunkPayloadData;
 use sctp_queues::chunks::Chunks;
@@ -22,9 +22,10 @@ use std::marker::Model;
 /// A receiver without limits. A payload queue keeps the TSNs that it has.
 #[derive(Drop)]
 pub(crate) struct LinkReceiver {
-    alloc: Global,
     receiver: Receiver,
     tsns: TsnQueue,
+    // how the TSNs of the latest chunks are taken back: a list that is kept for its memory
+    undos: Vec<TsnUndo>,
 }
 
 impl Model for LinkReceiver {
@@ -51,9 +52,9 @@ impl LinkReceiver {
         ensures { result ≡ at_first first_tsn max_message_size None }
     {
         LinkReceiver {
-            alloc,
             receiver: Receiver::new(alloc, first_tsn, max_message_size, None),
             tsns: TsnQueue::new(alloc, first_tsn),
+            undos: Vec::new(alloc),
         }
     }
 
@@ -112,13 +113,13 @@ impl LinkReceiver {
             ⊎ StopsAtBy data_refusal chunks.now self.old e) }
         ensures err { OnErr result (self.new ≡ self.old) }
     {
-        let Ok(undos) = take_each(self.alloc, &mut self.tsns, chunks) else {
+        let Ok(()) = take_each(&mut self.tsns, chunks, &mut self.undos) else {
             return Err(ReceiverRefusal::OutOfMemory);
         };
         match replay::data_each_with_any_ssn(&mut self.receiver, chunks) {
             Ok(arrivals) => Ok(arrivals),
             Err(refusal) => {
-                take_back_each(&mut self.tsns, undos);
+                take_back_each(&mut self.tsns, &mut self.undos);
                 Err(refusal)
             }
         }

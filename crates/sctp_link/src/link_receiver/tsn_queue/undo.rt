@@ -13,7 +13,6 @@ use sctp_queues::payload_queue::PayloadQueue;
 use sctp_serial::serial::distance;
 use sctp_stream::stream_numbers::put;
 use sctp_util::error::Result;
-use std::alloc::Global;
 
 /// What a TSN changed, so that it can be taken back.
 #[derive(Clone, Copy)]
@@ -86,41 +85,42 @@ impl TsnQueue {
     }
 }
 
-/// The TSNs of chunks come, one after another. Answers how each is taken back. Refuses only for memory, and nothing
-/// changes then.
+/// The TSNs of chunks come, one after another. The list then says how each is taken back, and nothing else. Refuses only
+/// for memory, and no TSN has come then.
 pub(crate) fn take_each(
-    alloc: Global,
     tsns: &mut TsnQueue,
     chunks: &[ChunkPayloadData],
-) -> Result<Vec<TsnUndo>>
+    undos: &mut Vec<TsnUndo>,
+) -> Result<()>
     ensures ok { OnOk result (tsns.new.filter ≡ with_arrivals chunks.now tsns.old.filter) }
-    ensures undo { IfOk result (λ us. each_undone us.items tsns.new.filter
+    ensures undo { OnOk result (each_undone undos.new.items tsns.new.filter
         ≡ tsns.old.filter) }
-    ensures can { IfOk result (λ us. CanUndoEach us.items tsns.new) }
+    ensures can { OnOk result (CanUndoEach undos.new.items tsns.new) }
     ensures err { OnErr result (tsns.new.filter ≡ tsns.old.filter) }
     ensures memory { IsOkUnless result ErrOutOfMemory }
 {
-    let mut undos = Vec::new(alloc);
+    undos.clear();
     undos.reserve(chunks.len())?;
     for chunk in chunks {
         match tsns.take(chunk.tsn) {
-            Ok(undo) => put(&mut undos, undo),
+            Ok(undo) => put(undos, undo),
             Err(refusal) => {
                 take_back_each(tsns, undos);
                 return Err(refusal);
             }
         }
     }
-    Ok(undos)
+    Ok(())
 }
 
 /// TSNs are taken back, the last one first. It takes no memory.
 /// Precondition: they were the last that came.
-pub(crate) fn take_back_each(tsns: &mut TsnQueue, undos: Vec<TsnUndo>)
-    requires { CanUndoEach undos.items tsns.old }
-    ensures { tsns.new.filter ≡ each_undone undos.items tsns.old.filter }
+#[cold]
+#[inline(never)]
+pub(crate) fn take_back_each(tsns: &mut TsnQueue, undos: &mut Vec<TsnUndo>)
+    requires { CanUndoEach undos.old.items tsns.old }
+    ensures { tsns.new.filter ≡ each_undone undos.old.items tsns.old.filter }
 {
-    let mut undos = undos;
     while let Some(undo) = undos.pop() {
         tsns.take_back(undo);
     }
