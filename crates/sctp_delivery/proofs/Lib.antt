@@ -44,6 +44,7 @@ pub mod EveryTurns
 pub mod EveryFronts
 pub mod EveryEnds
 pub mod EveryShadows
+pub mod EveryHeld
 pub mod EveryMessages
 pub mod EveryExamples
 pub mod ReopenedExamples
