@@ -17,7 +17,7 @@ use Rattle.sctp_delivery.specs.EveryCall.{AfterEachAny, AnyCall, AreSingle, AreS
 use Rattle.sctp_delivery.specs.EveryCall.{makes, of_receiving, of_sending, renews, SenderDoes, takes_back, AreToldApart, is_single, is_steady, single_messages}
 use Rattle.sctp_delivery.specs.EveryCall.{tsns_given_any, was_dropped}
 use Rattle.sctp_receiver.specs.ReceiverRuns.{AreComplete, AreOfOneMessage}
-use Rattle.sctp_delivery.specs.EveryEnd.{IsLeftOn, IsOrderedReadInTheEnd, IsReadOn, IsSentReadInTheEnd, abandoned_any, is_unnamed}
+use Rattle.sctp_delivery.specs.EveryEnd.{IsLeftOn, IsOrderedReadInTheEnd, IsReadOn, IsSentReadInTheEnd, IsUnorderedReadOrHeld, abandoned_any, is_unnamed}
 use Rattle.sctp_delivery.specs.EveryOrder.{AreSingleReadAsWritten, AreSingleReadInOrder, breaks, goes_on, is_unbroken, opens_incoming, plain_calls}
 use Rattle.sctp_delivery.specs.Messages.{AreParts, AreSame}
 use Rattle.sctp_delivery.specs.Returns.{NoneIsRefusedSo, after_return, at_start_with}
@@ -32,6 +32,8 @@ use Rattle.sctp_delivery.specs.Modes.{unknown, was_written_ordered}
 use Rattle.sctp_delivery.specs.Order.{is_ordered_on, places_where}
 use Rattle.sctp_delivery.proofs.EveryEnds.{all-up, was-read}
 use Rattle.sctp_delivery.proofs.EveryFronts.{HasRead}
+use Rattle.sctp_delivery.proofs.EveryHeld.{even}
+use Rattle.sctp_delivery.proofs.EverySettled as every_settled
 use Rattle.sctp_delivery.proofs.EveryRuns as runs
 use Rattle.sctp_delivery.proofs.EveryShadows.{every, HasBeside, IsPlayed, has-beside, played-accounted}
 use Rattle.sctp_delivery.proofs.Every.{Every, every-contained, every-of-all}
@@ -511,6 +513,14 @@ module _ (reported : Reported) (first size max most : ℕ) (limits : Option Limi
   -- and what was written on it
   pub ordered-read : IsOrderedReadInTheEnd gone cs s
   ordered-read exhausted = (own-places, own-stand, own-apart, λ st c unnamed k left. placed exhausted st c unnamed k left)
+
+  -- what was made of it unordered was read, or is held, if it was neither dropped nor passed
+  pub unordered-read : IsUnorderedReadOrHeld cs s
+  unordered-read acknowledged st c d in' on' kind undropped unpassed =
+      every_settled.read first n few (is_steady cs) (was_dropped cs) s i.numbered i.sent i.spread.long i.spread.holds.held.stands.queued.line made
+      (runs.in-step reported first size max most limits cs s r small few) (runs.all-made reported first size max most limits cs s r)
+      (runs.made reported first size max most limits cs s r) st (even reported first size max most limits cs s r st c) acknowledged d in' on' kind undropped
+      unpassed
 
   -- what comes back is not refused
   pub none-refused-back : NoneIsRefusedSo s

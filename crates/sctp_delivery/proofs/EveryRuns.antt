@@ -333,10 +333,13 @@ takes-made (of_receiving (closes_incoming stream)) old new f h = kept-so old new
 takes-made (of_receiving (resets_incoming stream last)) old new f h = kept-so old new (ap (λ (s : Session). s.made) f.after) f.step.accepted h
 takes-made (of_receiving (passes_over c)) old new f h = kept-so old new (ap (λ (s : Session). s.made) f.after) f.step.accepted h
 
+pub all-made : AfterEachAny (λ calls s. IsTakenMade s)
+all-made reported tsn size max most limits cs s r = keeps IsTakenMade takes-made cs (at_start_with reported tsn size max most limits) s r refl
+
 pub made : AfterEachAny (λ calls s. AreMade s)
 made reported tsn size max most limits cs s r =
     let start = at_start_with reported tsn size max most limits in
-    sessions.made-so tsn most limits (receiver_calls cs) s (receiver-runs cs start s r) (keeps IsTakenMade takes-made cs start s r refl)
+    sessions.made-so tsn most limits (receiver_calls cs) s (receiver-runs cs start s r) (all-made reported tsn size max most limits cs s r)
 
 pub messages : AfterEachAny (λ calls s. AreMessages s)
 messages reported tsn size max most limits cs s r =

@@ -44,6 +44,8 @@ pub mod EveryTurns
 pub mod EveryFronts
 pub mod EveryEnds
 pub mod EveryShadows
+pub mod EveryHeld
+pub mod EverySettled
 pub mod EveryMessages
 pub mod EveryExamples
 pub mod ReopenedExamples

@@ -1,14 +1,12 @@
 -- Two hosts stand in a session of every call, and each call leads to the next.
 use Rattle.sctp_delivery.proofs.Names.{◌≡◌, ◌+◌, ◌≤◌, ◌<◌, ◌^◌, List, [], ◌∷◌, ◌++◌, refl, ap, sym, subst, ◌∙◌, arith, Contains, Sack, Session, SenderCall}
-use Rattle.sctp_delivery.proofs.Names.{ℕ, ◌&&◌, ◌||◌, Bool, true, false, and, both, not, SenderFollows, SenderMakes, of_sender, of_receiver, takes_sack}
+use Rattle.sctp_delivery.proofs.Names.{SenderFollows, SenderMakes, of_sender, of_receiver, takes_sack}
 use Rattle.sctp_delivery.proofs.Names.{bytes_written, distance, Transmission, Made}
 use Rattle.sctp_sender.specs.SenderRuns as sender_runs
 use Rattle.sctp_receiver.specs.ReceiverRuns as receiver_runs
 use Rattle.sctp_delivery.specs.EveryCall.{AnyCall, FollowsAny, IsReceiverTaken, IsSenderTaken, ReceiverDoes, Restores}
 use Rattle.sctp_delivery.specs.EveryCall.{RunsAny, SenderDoes, SenderOther, as_receiver_run, as_sender_run, makes, of_receiving, of_sending, takes_back}
 use Rattle.sctp_delivery.specs.EveryCall.{tsns_given_any}
-use Rattle.sctp_delivery.specs.EveryEnd.{IsOrderedReadInTheEnd}
-use Rattle.sctp_delivery.specs.EveryOrder.{AreReadInTurnWhereUnbroken, AreSingleReadAsWritten, breaks, goes_on, is_unbroken, opens_incoming}
 use Rattle.sctp_delivery.specs.ReceiverCalls.{ReceiverMakes}
 use Rattle.sctp_delivery.specs.Returns.{after_return, at_start_with}
 use Rattle.sctp_delivery.specs.SenderCalls.{TakesBackAndSack}
@@ -17,7 +15,6 @@ use Rattle.sctp_delivery.specs.StandAny.{EachSenderOtherStepsAny, EachTwoBeginAn
 use Rattle.sctp_delivery.proofs.Delivered.{next_tsn}
 use Rattle.sctp_delivery.proofs.EveryMessages as messages
 use Rattle.sctp_delivery.proofs.EveryRuns.{next-same}
-use Rattle.sctp_delivery.proofs.InOrder as in_order
 use Rattle.sctp_delivery.proofs.Stands.{more-made, more-reported, receiver-follows, receiver_after, sender-follows, sender_after}
 
 -- ## One call more
@@ -215,39 +212,3 @@ acked-steps sack back gone old new r st is x handed room =
         b.steps,
       ),
     )
-
--- ## Streams that go on
-
--- the receiver opened the stream by one of the calls
-abbrev pub opened_by : Bool → ℕ → List AnyCall → Bool
-opened_by opened s [] = opened
-opened_by opened s (c ∷ cs) = opened_by (opened || opens_incoming s c) s cs
-
-pub opened-then : (opened : Bool) (s : ℕ) (cs : List AnyCall) (c : AnyCall)
-    → opened_by opened s (cs ++ c ∷ []) ≡ (opened_by opened s cs || opens_incoming s c)
-opened-then opened s [] c = refl
-opened-then opened s (d ∷ cs) c = opened-then (opened || opens_incoming s d) s cs c
-
--- a stream goes on with one call more, which does not break it off
-pub goes-on-then : (opened : Bool) (s : ℕ) (cs : List AnyCall) (c : AnyCall) → goes_on opened s cs ≡ true
-    → breaks (opened_by opened s cs) s c ≡ false → goes_on opened s (cs ++ c ∷ []) ≡ true
-goes-on-then opened s [] c e f = ap (λ b. not b && true) f
-goes-on-then opened s (d ∷ cs) c e f =
-    let b = both (not (breaks opened s d)) (goes_on (opened || opens_incoming s d) s cs) e in
-    and (not (breaks opened s d)) (goes_on (opened || opens_incoming s d) s (cs ++ c ∷ [])) b.0
-    (goes-on-then (opened || opens_incoming s d) s cs c b.1 f)
-
-pub unbroken-steps : (call : AnyCall) (old new : StandAny) → StepsAny call old new → (s : ℕ) → is_unbroken old.calls s ≡ true
-    → breaks (opened_by false s old.calls) s call ≡ false → is_unbroken new.calls s ≡ true
-unbroken-steps call old new t s e f = ap (λ cs. is_unbroken cs s) t.calls ∙ goes-on-then false s old.calls call e f
-
--- where two hosts stand, messages were read in order on such a stream
-pub read-in-order : (st : StandAny) → AreSingleReadAsWritten st.calls st.session
-read-in-order st = messages.as-written st.reported st.tsn st.size st.max st.most st.limits st.calls st.session st.run st.small st.some st.few st.short
-
-pub read-in-turn : (st : StandAny) → AreReadInTurnWhereUnbroken st.calls st.session
-read-in-turn st = in_order.in-turn-any st.reported st.tsn st.size st.max st.most st.limits st.calls st.session st.run st.small st.some st.few st.short
-
-pub ordered-is-read : (st : StandAny) → IsOrderedReadInTheEnd (messages.gone st.reported st.tsn st.size st.max st.most st.limits st.calls st.session st.run
-    st.small st.some st.few st.short) st.calls st.session
-ordered-is-read st = messages.ordered-read st.reported st.tsn st.size st.max st.most st.limits st.calls st.session st.run st.small st.some st.few st.short

@@ -1,14 +1,18 @@
 -- What was read in the end of a session of every call (RFC 4960 6.2, 6.9): of a stream that goes on, and that no FORWARD-TSN names.
 use Rattle.std.specs.Prelude.{◌≡◌, ◌≢◌, ℕ, ◌+◌, ◌-◌, ◌^◌, ◌<◌, Bool, true, false, not, nat_eq, List, [], ◌∷◌, ◌++◌, length, slice_index_or, AllPairs, Contains}
 use Rattle.std.specs.Prelude.{Option}
-use Rattle.std.specs.List.{list_any}
+use Rattle.std.specs.Prelude.{All, ◌⊎◌}
+use Rattle.std.specs.List.{filter, list_any, sum_by}
+use Rattle.sctp_receiver.specs.ReceiverRuns.{fragments_read}
+use Rattle.sctp_serial.specs.DataChunks.{has_tsn, is_on}
 use Rattle.sctp_data.specs.declared.chunk.chunk_payload_data.ChunkPayloadData.{ChunkPayloadData}
 use Rattle.sctp_data.specs.PayloadData.{Data, data_of}
 use Rattle.sctp_receiver.specs.ReceiverRuns.{Message}
 use Rattle.sctp_sender.specs.Abandonment.{is_pair_of}
-use Rattle.sctp_delivery.specs.Complete.{is_exhausted}
+use Rattle.sctp_delivery.specs.Complete.{fragments_held, is_all_acknowledged, is_exhausted}
+use Rattle.sctp_delivery.specs.Sacks.{was_passed}
 use Rattle.sctp_delivery.specs.Abandoned.{abandoned_by}
-use Rattle.sctp_delivery.specs.EveryCall.{AnyCall, RunsAny, makes, of_receiving, of_sending, single_messages, tsns_given_any}
+use Rattle.sctp_delivery.specs.EveryCall.{AnyCall, RunsAny, makes, of_receiving, of_sending, single_messages, tsns_given_any, was_dropped}
 use Rattle.sctp_delivery.specs.EveryOrder.{is_unbroken, plain_calls}
 use Rattle.sctp_delivery.specs.Messages.{StandAt}
 use Rattle.sctp_delivery.specs.Modes.{sendings, unknown}
@@ -84,3 +88,28 @@ IsOrderedReadInTheEnd gone calls s =
     × AllPairs (λ p q. p ≢ q) places
     × ((stream : ℕ) → is_unbroken calls stream ≡ true → is_unnamed stream s.made ≡ true
     → (k : ℕ) → IsLeftOn stream gone calls s k → Contains places k)
+
+-- ## Unordered chunks
+
+-- on a stream that goes on: however chunks are weighed, where ordered ones weigh nothing, those that were taken there weigh as much as the fragments
+-- that were read there, those that are held there, and these, which FORWARD-TSNs pass that were made
+abbrev pub IsUnorderedHeldReadOrPassed : List AnyCall → Session → Type 0
+IsUnorderedHeldReadOrPassed calls s =
+    (stream : ℕ) → is_unbroken calls stream ≡ true → (dropped : List ChunkPayloadData)
+    × All (λ c. was_passed c.tsn s ≡ true) dropped
+    × ((weight : ChunkPayloadData → ℕ)
+    → ((c : ChunkPayloadData) → c.unordered ≡ false → weight c ≡ 0)
+    → sum_by weight (filter (is_on stream) s.receiving.accepted)
+    ≡ sum_by weight (fragments_read stream s.receiving.read)
+    + sum_by weight (fragments_held stream s.receiving.receiver) + sum_by weight dropped)
+
+-- where nothing waits to be sent, and nothing is in flight: on a stream that goes on each unordered DATA chunk that was made was read, or is held,
+-- unless the receiver dropped it, or a FORWARD-TSN passes it
+abbrev pub IsUnorderedReadOrHeld : List AnyCall → Session → Type 0
+IsUnorderedReadOrHeld calls s =
+    is_all_acknowledged s.sending.sender ≡ true
+    → (stream : ℕ) → is_unbroken calls stream ≡ true
+    → (d : Data) → Contains s.made (data_chunk d) → d.stream_identifier ≡ stream
+    → d.unordered ≡ true → was_dropped calls d.tsn ≡ false → was_passed d.tsn s ≡ false
+    → IsReadOn stream d s.receiving.read
+    ⊎ (list_any (has_tsn d.tsn) (fragments_held stream s.receiving.receiver) ≡ true)

@@ -5,10 +5,10 @@
 //! the other, and the receiver has not read the first one, it reads both as one message.
 //!
 //! Not said here: that unordered messages, and ordered ones of a stream that a FORWARD-TSN names, are read in the end; and that a chunk in
-//! flight is not refused.
+//! flight is not refused. Of unordered chunks that were taken is said where each of them is.
 
 ghost use Rattle.sctp_delivery.specs.EveryCall.{AcknowledgedArrived, AfterEachAny, AfterEachAnyOfFewBytes, AfterEachAnyOfFewTsns, AreSingle, AreSingleWhereSteady, AreSingleWritesOfTheirOwn, AreToldApart, AreWritesWhereSingle, LeftArrived, ReleasedArrived, ReportWhatArrived};
-ghost use Rattle.sctp_delivery.specs.EveryEnd.{AfterEachAnyOfMessages, IsOrderedReadInTheEnd, IsSentReadInTheEnd};
+ghost use Rattle.sctp_delivery.specs.EveryEnd.{AfterEachAnyOfMessages, IsOrderedReadInTheEnd, IsSentReadInTheEnd, IsUnorderedHeldReadOrPassed, IsUnorderedReadOrHeld};
 ghost use Rattle.sctp_delivery.specs.EveryOrder.{AreReadInTurnWhereUnbroken, AreSingleReadAsWritten, AreSingleReadInOrder};
 ghost use Rattle.sctp_delivery.specs.Messages.{AreParts, AreSame, NoneIsReadTwice};
 ghost use Rattle.sctp_delivery.specs.Returns.{IsAccountedSo, NoneIsRefusedSo};
@@ -54,6 +54,14 @@ pub fn whatever_is_called_messages_are_read_in_order()
 pub fn whatever_is_called_what_is_ordered_is_read_in_the_end()
     ensures writes { AfterEachAnyOfMessages IsOrderedReadInTheEnd }
     ensures chunks { AfterEachAnyOfFewBytes IsSentReadInTheEnd }
+{}
+
+/// On a stream that goes on, each unordered DATA chunk that was taken was read, is held, or is passed by a FORWARD-TSN, and that once alone.
+/// With few TSNs and bytes, where nothing waits or is in flight: each that was made was read, or is held, unless the receiver dropped it, or a
+/// FORWARD-TSN passes it.
+pub fn whatever_is_called_what_is_unordered_is_held_or_read()
+    ensures held { AfterEachAny IsUnorderedHeldReadOrPassed }
+    ensures ends { AfterEachAnyOfFewBytes IsUnorderedReadOrHeld }
 {}
 
 /// While the sender has given out fewer than 2^31 TSNs: the receiver can make a SACK at any time, and the sender refuses none of them.

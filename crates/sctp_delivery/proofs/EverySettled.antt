@@ -1,0 +1,131 @@
+-- Sessions of every call: where nothing waits or is in flight, each unordered chunk of a stream that goes on was read, or is held.
+use Rattle.sctp_delivery.proofs.Names.{◌≡◌, ℕ, suc, ◌+◌, ◌<◌, ◌≤◌, ◌^◌, Bool, true, false, List, [], ◌∷◌, ◌++◌, length, inl, inr, refl, ap, sym, subst, ◌∙◌}
+use Rattle.sctp_delivery.proofs.Names.{arith, All, Contains, if◌then◌else◌, ◌==◌, ◌||◌, filter, list_any, sum_by, sum_by-cons, sum_by-append, eq-eqb, ◌⊎◌}
+use Rattle.sctp_delivery.proofs.Names.{or-split, same-is, fails, not_both, tsn, ChunkPayloadData, Data, data_of, data_chunk, has_tsn, is_on, passes, Message}
+use Rattle.sctp_delivery.proofs.Names.{fragments_read, fragments_held, is_all_acknowledged, stream_of, was_passed, was_taken, AreMade, Session}
+use Rattle.std.proofs.lemmas.List.Folds.{Any-from_list_any}
+use Rattle.sctp_receiver.proofs.Handed.{taken-more}
+use Rattle.sctp_delivery.specs.EveryEnd.{IsReadOn}
+use Rattle.sctp_delivery.proofs.Cases.{at-test, by-test}
+use Rattle.sctp_delivery.proofs.Delivered.{found-sent-on}
+use Rattle.sctp_delivery.proofs.Every.{Every}
+use Rattle.sctp_delivery.proofs.EveryHeld.{IsEven}
+use Rattle.sctp_delivery.proofs.InTheEnd.{all-every}
+use Rattle.sctp_delivery.proofs.Kept.{held-weighs}
+use Rattle.sctp_delivery.proofs.KeptSessions.{idle-of}
+use Rattle.sctp_delivery.proofs.ReadOnce.{none-count, one}
+use Rattle.sctp_delivery.proofs.SackLaws.{IsInStepBut}
+use Rattle.sctp_delivery.proofs.Senders.{AreSentOn}
+use Rattle.sctp_delivery.proofs.Sent.{Entry, IsLine, Numbered, WasSent, contains-more, fragment, part-length, part-line, same-tsn}
+use Rattle.sctp_delivery.proofs.Sessions.{IsTakenMade, found-made, made_among}
+use Rattle.sctp_delivery.proofs.TsnPlaces.{base, same-place}
+
+module _ (first n : ℕ) (few : n < 2 ^ 31) (on dropped : ℕ → Bool) (s : Session) (ns : List Numbered) (sent : List Entry) (long : length sent ≡ n)
+    (line : IsLine ns first sent) (sent-made : AreSentOn on sent s.made) (step : IsInStepBut dropped (base first) n s) (taken-made : IsTakenMade s)
+    (read-made : AreMade s) (st : ℕ) (even : IsEven st s.made s.receiving) (acknowledged : is_all_acknowledged s.sending.sender ≡ true) (d : Data)
+    (in' : Contains s.made (data_chunk d)) (there : d.stream_identifier ≡ st) (kind : d.unordered ≡ true) (undropped : dropped d.tsn ≡ false)
+    (unpassed : was_passed d.tsn s ≡ false) where
+  was : WasSent sent d
+  was = found-sent-on on sent s.made d sent-made in'
+
+  -- what was made with its TSN is it
+  alike : (c : ChunkPayloadData) → Contains s.made (data_chunk (data_of c)) → has_tsn d.tsn c ≡ true → data_of c ≡ d
+  alike c h e =
+      same-tsn ns first sent (omega (arith, long, few)) line (data_of c) d (found-sent-on on sent s.made (data_of c) sent-made h) was
+      (same-is c.tsn d.tsn e)
+
+  -- it came
+  came : was_taken d.tsn s ≡ true
+  came =
+      let y = suc (length was.2) in
+      let within = part-length sent (fragment d was.0 was.1 ∷ was.2) was.3 in
+      let number = (part-line ns first sent (fragment d was.0 was.1 ∷ was.2) was.3 line).0.number in
+      let is : d.tsn ≡ tsn (base first) y = omega (arith, number) in
+      let a = step.settled in
+      let far = a.within in
+      let total = step.numbered.total in
+      let none = ap length (idle-of s acknowledged).inflight in
+      let same : a.place ≡ step.numbered.acked =
+      same-place (base first) a.place step.numbered.acked (omega (arith, far, few)) (omega (arith, total, few)) (sym a.is ∙ step.numbered.acked_is) in
+      let known = subst (λ t. ((dropped t || was_taken t s) || was_passed t s) ≡ true) (sym is)
+      (a.so_far y (omega arith) (omega (arith, within, long, total, none, same))) in
+      elim (or-split (dropped d.tsn || was_taken d.tsn s) (was_passed d.tsn s) known) [
+        | inr e ↦ absurd (not_both (sym unpassed ∙ e))
+        | inl e ↦ elim (or-split (dropped d.tsn) (was_taken d.tsn s) e) [ inl f ↦ absurd (not_both (sym undropped ∙ f)) | inr f ↦ f ]
+      ]
+
+  -- ## It weighs something
+
+  abbrev w : ChunkPayloadData → ℕ
+  w c = if c.unordered then one d.tsn c else 0
+
+  light : (c : ChunkPayloadData) → c.unordered ≡ false → w c ≡ 0
+  light c e = ap (λ b. if b then one d.tsn c else 0) e
+
+  less : (cs : List ChunkPayloadData) → sum_by w cs ≤ sum_by (one d.tsn) cs
+  less [] = omega arith
+  less (c ∷ cs) =
+      let x : w c ≤ one d.tsn c = at-test (λ b. (if b then one d.tsn c else 0) ≤ one d.tsn c) c.unordered (λ _. omega arith) (λ _. omega arith) in
+      omega (arith, x, less cs, sum_by-cons w c cs, sum_by-cons (one d.tsn) c cs)
+
+  none : (cs : List ChunkPayloadData) → Every (λ c. list_any (passes c.tsn) s.made ≡ true) cs → sum_by w cs ≡ 0
+  none [] e = refl
+  none (c ∷ cs) e =
+      let off : has_tsn d.tsn c ≡ false = fails (has_tsn d.tsn c)
+      (λ h. not_both (sym unpassed ∙ subst (λ t. list_any (passes t) s.made ≡ true) (same-is c.tsn d.tsn h) e.0)) in
+      let z : w c ≡ 0 = at-test (λ b. (if b then one d.tsn c else 0) ≡ 0) c.unordered (λ _. ap (λ b. if b then 1 else 0) off) (λ _. refl) in
+      omega (arith, z, none cs e.1, sum_by-cons w c cs)
+
+  among : (cs : List ChunkPayloadData) → Every (λ c. Contains s.made (data_chunk (data_of c))) cs → list_any (has_tsn d.tsn) cs ≡ true
+      → 0 < sum_by w (filter (is_on st) cs)
+  among [] h e = absurd (not_both e)
+  among (c ∷ cs) h e = by-test (has_tsn d.tsn c)
+      (λ g.
+      let same = alike c h.0 g in
+      let here : is_on st c ≡ true = eq-eqb c.stream_identifier st (ap (λ (x : Data). x.stream_identifier) same ∙ there) in
+      let one' : w c ≡ 1 = ap (λ b. if b then one d.tsn c else 0) (ap (λ (x : Data). x.unordered) same ∙ kind) ∙ ap (λ b. if b then 1 else 0) g in
+      omega (arith, taken-more w st c cs true here, one'))
+      (λ g.
+      let rest = among cs h.1 (ap (λ b. b || list_any (has_tsn d.tsn) cs) (sym g) ∙ e) in
+      omega (arith, taken-more w st c cs (is_on st c) refl, rest))
+
+  -- ## So it was read, if it is not held
+
+  found : (ms : List Message) → 0 < sum_by w (fragments_read st ms)
+      → (m : Message) × Contains ms m × (m.stream ≡ st) × (c : ChunkPayloadData) × Contains m.fragments c × (has_tsn d.tsn c ≡ true)
+  found [] lt = absurd (omega (arith, lt))
+  found (m ∷ ms) lt = at-test (λ b. 0 < sum_by w (if b then m.fragments ++ fragments_read st ms else fragments_read st ms)
+      → (x : Message) × Contains (m ∷ ms) x × (x.stream ≡ st) × (c : ChunkPayloadData) × Contains x.fragments c × (has_tsn d.tsn c ≡ true)) (m.stream == st)
+      (λ e more. by-test (list_any (has_tsn d.tsn) m.fragments)
+      (λ h. let a = Any-from_list_any (has_tsn d.tsn) m.fragments h in (m, (0, omega arith, refl), same-is m.stream st e, a.1, (a.0, a.2, a.3), a.4))
+      (λ h. later (found ms (omega (arith, more, sum_by-append w m.fragments (fragments_read st ms), less m.fragments, none-count d.tsn m.fragments h)))))
+      (λ e more. later (found ms more)) lt
+    where
+      later : (x : Message) × Contains ms x × (x.stream ≡ st) × (c : ChunkPayloadData) × Contains x.fragments c × (has_tsn d.tsn c ≡ true)
+          → (x : Message) × Contains (m ∷ ms) x × (x.stream ≡ st) × (c : ChunkPayloadData) × Contains x.fragments c × (has_tsn d.tsn c ≡ true)
+      later x = (x.0, contains-more m ms x.0 x.1, x.2, x.3, x.4, x.5)
+
+  unheld : list_any (has_tsn d.tsn) (fragments_held st s.receiving.receiver) ≡ false → IsReadOn st d s.receiving.read
+  unheld off =
+      let all = all-every (made_among s.made) (λ c. Contains s.made (data_chunk (data_of c))) (λ c h. found-made s.made (data_of c) h) s.receiving.accepted
+      taken-made in
+      let some = among s.receiving.accepted all came in
+      let held = less (fragments_held st s.receiving.receiver) in
+      let empty = none-count d.tsn (fragments_held st s.receiving.receiver) off in
+      let x = found s.receiving.read (omega (
+        arith,
+        some,
+        even.weighs w light,
+        held-weighs w (stream_of st s.receiving.receiver),
+        held,
+        empty,
+        none even.lost even.spent,
+      )) in
+      let made : All (λ c. Contains s.made (data_chunk (data_of c))) x.0.fragments =
+      subst (λ (m : Message). All (λ c. Contains s.made (data_chunk (data_of c))) m.fragments) x.1.2 (read-made x.1.0 x.0 x.1.1) in
+      let here : Contains s.made (data_chunk (data_of x.3)) =
+      subst (λ c. Contains s.made (data_chunk (data_of c))) x.4.2 (made x.4.0 x.3 x.4.1) in
+      (x.0, x.1, x.2, x.3, x.4, alike x.3 here x.5)
+
+  pub read : IsReadOn st d s.receiving.read ⊎ (list_any (has_tsn d.tsn) (fragments_held st s.receiving.receiver) ≡ true)
+  read = by-test (list_any (has_tsn d.tsn) (fragments_held st s.receiving.receiver)) (λ e. inr e) (λ e. inl (unheld e))
