@@ -1,6 +1,6 @@
 -- Sessions of every call: in the end each ordered DATA chunk of a stream that goes on, and that no FORWARD-TSN names, was read.
 use Rattle.sctp_delivery.proofs.Names.{◌≡◌, ℕ, suc, ◌+◌, ◌^◌, ◌<◌, ◌≤◌, Bool, true, false, List, [], ◌∷◌, length, Option, Some, None, inl, inr, refl, ap, sym}
-use Rattle.sctp_delivery.proofs.Names.{subst, ◌∙◌, arith, ◌⊎◌, All, Contains, if◌then◌else◌, list_any, nat_le, cases_lt, nat_tests}
+use Rattle.sctp_delivery.proofs.Names.{subst, ◌∙◌, arith, All, Contains, if◌then◌else◌, list_any, nat_le, cases_lt, nat_tests}
 use Rattle.sctp_delivery.proofs.Names.{or-left, or-split, same-is, same-yes, and, not_both, none-some, at_or_before, at_or_before16, tsn}
 use Rattle.sctp_delivery.proofs.Names.{at_or_before16-index, ChunkPayloadData, ChunkSet, Data, data_of, has_tsn, is_complete, is_readable, front_readable}
 use Rattle.sctp_delivery.proofs.Names.{message_read, Reassembly, InboundStream, Reception, stream_of, Message, reads_nothing, data_chunk, AreMade, AreMessages}

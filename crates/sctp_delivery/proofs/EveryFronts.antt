@@ -6,7 +6,7 @@ use Rattle.sctp_delivery.proofs.Names.{at_or_before16-index, comes_before16-inde
 use Rattle.sctp_delivery.proofs.Names.{has_ssn, new_set, set_before, BecomesComplete, Pushes, PushesAs, Reassembly, ReassemblyState, is_complete}
 use Rattle.sctp_delivery.proofs.Names.{held_after_incomplete_skip, held_after_ordered_push, held_after_unordered_skip, is_readable}
 use Rattle.sctp_delivery.proofs.Names.{message_read, rest_among, rest_read, cannot_complete, InboundStream, New, new_stream, stream_read, ssns_of, skipped_each}
-use Rattle.sctp_delivery.proofs.Names.{Reception, stream_of, ForwardTsn, after_forward_tsn, is_stale, is_pair_of, message_on, Message, Stand, tsn, map, Session}
+use Rattle.sctp_delivery.proofs.Names.{Reception, stream_of, ForwardTsn, after_forward_tsn, is_stale, is_pair_of, message_on, Message, Stand, map, Session}
 use Rattle.sctp_delivery.proofs.Names.{ReceiverCall, ReceiverFollows, SenderCall, SenderFollows, Contains, forward_tsn, has_come, filter_of, with_filter}
 use Rattle.sctp_delivery.proofs.Names.{change_where, incomplete_forwarded, length, stream_forwarded, unassembled_forwarded, with_tsn, ChunkForwardTsnStream}
 use Rattle.sctp_delivery.proofs.Names.{with_queue, find-append, same-yes, or-left, list_any-those}

@@ -1,5 +1,5 @@
 -- Chunks in flight of a sender that keeps what is reported, beside those that it would have if no gap ack block were taken.
-use Rattle.sctp_delivery.proofs.Names.{nat_tests, common_steps, ◌≡◌, ℕ, zero, suc, ◌+◌, Bool, true, false, List, [], ◌∷◌, ◌++◌, length, map}
+use Rattle.sctp_delivery.proofs.Names.{nat_tests, common_steps, ◌≡◌, ℕ, zero, suc, Bool, true, false, List, [], ◌∷◌, ◌++◌, length, map}
 use Rattle.sctp_delivery.proofs.Names.{take, drop, refl, ap, ap₂, sym, ◌∙◌, arith, Option, Some, None, option_map, if◌then◌else◌, ◌||◌, filter, find}
 use Rattle.sctp_delivery.proofs.Names.{change_where, list_any, negated, both, not_both, some-same, length-map, ChunkPayloadData, Sack}
 use Rattle.sctp_delivery.proofs.Names.{as_abandoned, as_acknowledged, reports_anew, tsns, at_or_before, last_of}

@@ -4,7 +4,7 @@ use Rattle.sctp_delivery.proofs.Names.{subst, ◌∙◌, arith, append-nil, appe
 use Rattle.sctp_delivery.proofs.Names.{Contains, Sack, Limits, Transmission, Drop, Session}
 use Rattle.sctp_delivery.proofs.Names.{RunsTo, at_start, bytes_written, of_receiver, of_sender, abandoned_in, tsns_given, Modes, at_first, modes_from, Write}
 use Rattle.sctp_delivery.proofs.Names.{chunk_count, is_exhausted, reads_nothing, StandAt, AreMade, AreMessages, Stand, Call, Data}
-use Rattle.sctp_delivery.proofs.Names.{data_chunk, EachOtherIsReadOnce, slice_index_or, ◌-◌, AreWrites, AreWritesOfTheirOwn, NoneIsReadTwice, AreReadInOrder}
+use Rattle.sctp_delivery.proofs.Names.{data_chunk, EachOtherIsReadOnce, slice_index_or, AreWrites, AreWritesOfTheirOwn, NoneIsReadTwice, AreReadInOrder}
 use Rattle.sctp_delivery.proofs.Names.{NoneIsRefused, NoneIsTakenTwice, EachSackTells, ◌||◌, was_passed, was_taken}
 use Rattle.std.specs.Prelude.{◌≢◌}
 use Rattle.sctp_util.specs.Serial.{distance}
