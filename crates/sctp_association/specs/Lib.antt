@@ -1,6 +1,7 @@
 pub mod Acks
 pub mod Arrivals
 pub mod Asked
+pub mod Beginnings
 pub mod Calls
 pub mod Cookies
 pub mod Counts

@@ -6,6 +6,7 @@ use Rattle.std.proofs.Math.ListN.{replicate}
 use Rattle.sctp_association.specs.declared.association.Association.{Association}
 use Rattle.sctp_association.specs.declared.config.Config.{Config}
 use Rattle.sctp_association.specs.Asked.{calls_on}
+use Rattle.sctp_association.specs.Beginnings.{HasAsked, IsUnbegun}
 use Rattle.sctp_association.specs.Halves.{fragment_size}
 use Rattle.sctp_association.specs.HostCalls.{Log, asked_of, host_of}
 use Rattle.sctp_association.specs.Hosts.{Act, ArePlainMoves, Host, IsFit, Move, MovesTo, Way, asks, bytes_of, handles, hosts, one_acts, other_acts, polls}
@@ -34,6 +35,10 @@ pub record BeginLinked (forth back : Way) (one other : Party) : Type 0 where
   pub link : AreLinked forth back one other
   pub plain : IsPlainLink forth back one other link
   pub fit : IsFit forth × IsFit back
+
+-- the first one has asked the peer for an association, and the second one was not begun: an INIT begins it
+abbrev pub FirstHasAsked : (one other : Association) → Type 0
+FirstHasAsked one other = HasAsked one × IsUnbegun other
 
 -- ## Calls of one
 

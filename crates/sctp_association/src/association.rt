@@ -10,7 +10,7 @@ mod stats;
 mod timeouts;
 mod unknown;
 
-ghost use Rattle.std.specs.Prelude.{◌≡◌, IfSome, None, Some, ◌≢◌, ◌≤◌, ◌+◌, ◌*◌, option_map, true, false, IfErr, IfOk, IsOk, OnErr};
+ghost use Rattle.std.specs.Prelude.{◌≡◌, IfSome, None, Some, ◌≢◌, ◌≤◌, ◌+◌, ◌*◌, option_map, true, false, IfErr, IfOk, IsOk, OnErr, OnOk};
 ghost use Rattle.std.proofs.Props.{props};
 ghost use Rattle.sctp_association.specs.Events.{IsTold};
 ghost use Rattle.sctp_association.specs.declared.fault.Fault.TheVariants.{BadConfig, WrongState};
@@ -126,6 +126,7 @@ fn outbound_config(config: &Config, first_tsn: u32) -> OutboundConfig
 }
 
 impl Association {
+    ghost use Rattle.sctp_association.specs.Beginnings.{HasAsked, IsUnbegun};
     ghost use Rattle.sctp_association.specs.Halves.{HalvesAlike, first_halves, halves_of};
     ghost use Rattle.sctp_association.specs.Held.{HoldsFewChunks, OfReceiver, OpensFewStreams, held_by};
     ghost use Rattle.sctp_association.specs.Reads.{AreReadOff, IsSameBeside, length_of, message_in};
@@ -135,6 +136,7 @@ impl Association {
         ensures mtu { IfOk result (λ a. a.draft.limit ≡ config.mtu) }
         ensures halves { IfOk result (λ a. halves_of a
             ≡ first_halves secrets.first_tsn config.mtu config.max_message_size) }
+        ensures unbegun { IfOk result IsUnbegun }
         ensures refused { IfErr result (λ e. e ≡ BadConfig) }
     {
         if secrets.tag == 0 || !config.is_usable() {
@@ -168,11 +170,12 @@ impl Association {
         })
     }
 
-    /// Asks the peer for an association (RFC 9260 5.1 A): an INIT is due. Both sides may (5.2.1). Refuses with `WrongState`, where one is
-    /// there, or was.
+    /// Asks the peer for an association (RFC 9260 5.1 A): an INIT is due. Both sides may (5.2.1). Refuses with `WrongState`, exactly where one
+    /// is there, or was.
     pub fn connect(&mut self, now: u64) -> Result<(), Fault>
-        ensures accepted { IsOk result
-            → (self.old.is_over ≡ false) × (self.old.machine.state ≡ Closed) }
+        ensures accepted { IsOk result → IsUnbegun self.old }
+        ensures unbegun { IsUnbegun self.old → IsOk result }
+        ensures asked { OnOk result (HasAsked self.new) }
         ensures refused { IfErr result (λ e. e ≡ WrongState) }
         ensures halves { HalvesAlike self.old self.new }
         ensures err { OnErr result (self.new ≡ self.old) }

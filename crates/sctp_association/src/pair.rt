@@ -2,13 +2,16 @@
 //!
 //! Each call says which moves it is (`specs/Hosts`), and what the caller's logs of the two have then, whatever became of both before. So a caller
 //! of its own puts such calls together as `deliver` does, and loses, keeps and repeats datagrams as its network does.
+//!
+//! `now` is a moment in nanoseconds, by the caller's clock.
 
-ghost use Rattle.std.specs.Prelude.{◌≡◌, ◌⊎◌, ℕ, ◌<◌, All, IfOk, IfSome, OnErr, OnOk, length};
+ghost use Rattle.std.specs.Prelude.{◌≡◌, ◌⊎◌, ℕ, ◌<◌, All, IfErr, IfOk, IfSome, OnErr, OnOk, length};
 ghost use Rattle.sctp_association.specs.HostCalls.{Leads, Log, acts_of_read, host_of, no_log, sent_of};
 ghost use Rattle.sctp_association.specs.Hosts.{MovesTo, hosts};
 ghost use Rattle.sctp_association.specs.Links.{party};
+ghost use Rattle.sctp_association.specs.declared.fault.Fault.TheVariants.{BadConfig};
 ghost use Rattle.sctp_delivery.specs.SenderCalls.{writes, written_after};
-ghost use Rattle.sctp_association.specs.Pairs.{BeginLinked, Comes, Delivers, DeliversOne, Exchanges, Transfers, acts_of_write, answer_of, passes, way_between, write_of};
+ghost use Rattle.sctp_association.specs.Pairs.{BeginLinked, Comes, Delivers, DeliversOne, Exchanges, FirstHasAsked, Transfers, acts_of_write, answer_of, passes, way_between, write_of};
 
 use crate::association::Association;
 use crate::config::{Config, Secrets};
@@ -19,7 +22,8 @@ use sctp_data::chunk::chunk_payload_data::PayloadProtocolIdentifier;
 use sctp_reassembly::Chunks;
 use std::alloc::Global;
 
-/// Two new associations, by their configs and secrets: they are linked, and the first one has asked for the association.
+/// Answers two new associations, by their configs and secrets. They are linked. The first one has asked for the association at `now`, in
+/// nanoseconds: its INIT is due. The second one waits for that. Refuses with `BadConfig`, where a tag is 0 or a config is out of range.
 pub fn begin(
     alloc: Global,
     config: Config,
@@ -28,10 +32,12 @@ pub fn begin(
     peer_secrets: Secrets,
     now: u64,
 ) -> Result<(Association, Association), Fault>
-    ensures { IfOk result (λ two. BeginLinked
+    ensures linked { IfOk result (λ two. BeginLinked
         (way_between secrets.first_tsn config peer_config)
         (way_between peer_secrets.first_tsn peer_config config)
         (party two.0 no_log) (party two.1 no_log)) }
+    ensures asked { IfOk result (λ two. FirstHasAsked two.0 two.1) }
+    ensures refused { IfErr result (λ e. e ≡ BadConfig) }
 {
     each_call_is_what_a_host_does();
     two_associations_go_on();
@@ -46,7 +52,8 @@ pub fn begin(
     }
 }
 
-/// Writes a message.
+/// Writes a message to a stream, as `Association::write` does. It takes no `now`: what waits leaves with the next `pass`. Refuses with
+/// `WrongState`, `NoSuchStream`, `Resetting`, `Full`, `MessageTooLarge`, in this order, or `OutOfMemory`, and nothing has changed then.
 pub fn send(
     one: &mut Association,
     stream: u16,
@@ -62,7 +69,8 @@ pub fn send(
     one.write(stream, ppi, bytes)
 }
 
-/// Reads the next message of a stream, if one is there.
+/// Answers the next message of a stream, as `Association::read` does at `now`, in nanoseconds: None, where no complete message is there. It is
+/// never refused.
 pub fn take(one: &mut Association, stream: u16, now: u64) -> Option<Chunks>
     ensures { (l : Log) → Leads one.old l (acts_of_read stream one.old.inbound)
         one.new (answer_of stream result l) }
@@ -75,7 +83,8 @@ pub fn take(one: &mut Association, stream: u16, now: u64) -> Option<Chunks>
     }
 }
 
-/// Hands a datagram over, so many times: one that the peer has written, however long ago. Refuses for memory, after some times.
+/// Hands a datagram over, so many times, each at `now`, in nanoseconds: one that the peer has written, however long ago. One that is dropped
+/// is no error. Refuses as `Association::handle_datagram` does, for memory: then it was handed over fewer times, or the last time in part.
 pub fn hand_over(
     other: &mut Association,
     datagram: &Bytes,
@@ -92,7 +101,8 @@ pub fn hand_over(
     Ok(())
 }
 
-/// Passes the next datagram of the one to the other, so many times: 0 where it is lost. Answers whether there was one.
+/// Passes the next datagram that the one has due at `now`, in nanoseconds, to the other, so many times: 0 where it is lost. Answers whether
+/// there was one. Refuses for memory, as `Association::poll_transmit` and `hand_over` do: then the datagram may count as lost.
 pub fn pass(
     alloc: Global,
     one: &mut Association,
@@ -116,7 +126,8 @@ pub fn pass(
     Ok(true)
 }
 
-/// Passes datagrams both ways, one each way in each of so many rounds. Whatever it answers, they did nothing else.
+/// Passes datagrams both ways, one each way in each of so many rounds, all at `now`, in nanoseconds. No timer runs out meanwhile, and of a
+/// round without a datagram nothing is told. Refuses as `pass` does, for memory. Whatever it answers, they did nothing else.
 pub fn exchange(
     alloc: Global,
     one: &mut Association,
@@ -133,9 +144,10 @@ pub fn exchange(
     Ok(())
 }
 
-/// Writes a message to the one, passes datagrams both ways in so many rounds, and answers what is read of the other then. That is a message that
-/// was written to the stream, with its payload type and bytes, in order, and none that was read before, where datagrams are plain
-/// (`specs/Hosts`) and fewer than 2^31 - 1 bytes are written.
+/// Writes a message to the one, passes datagrams both ways in so many rounds, all at `now`, in nanoseconds, and answers what is read of the other
+/// then: None, where no complete message is there. That is a message that was written to the stream, with its payload type and bytes, in order,
+/// and none that was read before, where datagrams are plain (`specs/Hosts`) and fewer than 2^31 - 1 bytes are written. Refuses as `send` does,
+/// where nothing was written, or as `exchange` does, where nothing was read.
 pub fn deliver(
     alloc: Global,
     one: &mut Association,
@@ -159,8 +171,9 @@ pub fn deliver(
     Ok(take(other, stream, now))
 }
 
-/// Delivers messages one after another, each in so many rounds, and answers them: where nothing was written or read before, the same messages in
-/// the same order, if none is unordered. Answers None where one has not come after its rounds.
+/// Delivers messages one after another, each in so many rounds, all at `now`, in nanoseconds, and answers them: where nothing was written or read
+/// before, the same messages in the same order, if none is unordered. Answers None where one has not come after its rounds. Refuses as
+/// `deliver` does, or for memory: what was read until then is dropped.
 /// Precondition: each has some bytes.
 pub fn transfer(
     alloc: Global,

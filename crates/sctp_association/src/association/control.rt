@@ -2,8 +2,10 @@
 
 ghost use Rattle.std.specs.Prelude.{◌≡◌, ◌+◌, ◌≤◌, true, None, Some};
 ghost use Rattle.sctp_association.specs.Arrivals.{Begins, BeginsBy};
+ghost use Rattle.sctp_association.specs.Beginnings.{OwesInit};
 ghost use Rattle.sctp_association.specs.Failing.{IsGuarded};
 ghost use Rattle.sctp_association.specs.Halves.{HalvesAlike, halves_of};
+ghost use Rattle.sctp_handshake.specs.declared.answer.Reply.TheVariants.{Init};
 
 use super::{Association, outbound_config};
 use crate::due::{Alone, AloneKind};
@@ -38,6 +40,7 @@ impl Association {
         ensures machine { self.new.machine ≡ self.old.machine }
         ensures quiet { answer.told ≡ None → HalvesAlike self.old self.new }
         ensures begun { BeginsBy answer.told (halves_of self.old) (halves_of self.new) }
+        ensures init { answer.reply ≡ Some Init → answer.told ≡ None → OwesInit self.new }
     {
         let is_silent = answer.reply.is_none() && answer.told.is_none();
         if !is_silent || self.machine.state() != before {
@@ -51,6 +54,7 @@ impl Association {
         ensures machine { self.new.machine ≡ self.old.machine }
         ensures quiet { answer.told ≡ None → HalvesAlike self.old self.new }
         ensures begun { BeginsBy answer.told (halves_of self.old) (halves_of self.new) }
+        ensures init { answer.reply ≡ Some Init → answer.told ≡ None → OwesInit self.new }
     {
         let state = self.machine.state();
         if state != before {
@@ -110,7 +114,8 @@ impl Association {
 
     /// A reply is due. `tag` is that of whom it answers, where it is not the association's peer.
     pub(super) fn owe(&mut self, reply: Reply, tag: u32)
-        ensures { self.new ≡ record self.old { due = self.new.due } }
+        ensures init { reply ≡ Init → OwesInit self.new }
+        ensures rest { self.new ≡ record self.old { due = self.new.due } }
     {
         match reply {
             Reply::Init => self.owe_alone(0, AloneKind::Init),

@@ -5,8 +5,8 @@ use Rattle.sctp_association.specs.Links.{party}
 use Rattle.sctp_association.specs.Pairs.{way_between}
 use Rattle.sctp_association.proofs.pair.begin.Goals as goal
 
-pub returns-in-Ok : goal.returns-in-Ok
-returns-in-Ok c =
+pub returns-in-Ok-clause-linked : goal.returns-in-Ok-clause-linked
+returns-in-Ok-clause-linked c =
     let law = c.each_call_is_what_a_host_does.ensures in
     let forth = way_between c.args.secrets.first_tsn c.args.config c.args.peer_config in
     let back = way_between c.args.peer_secrets.first_tsn c.args.peer_config c.args.config in
