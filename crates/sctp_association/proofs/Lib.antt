@@ -1,4 +1,5 @@
 pub mod First
+pub mod Firsts
 pub mod Stale
 pub mod Opened
 pub mod Unopened

@@ -14,7 +14,7 @@ use Rattle.sctp_handshake.specs.declared.ticket.Ticket.{Ticket}
 use Rattle.sctp_handshake.specs.Cookies.{row_of, renewal_row, repeat_row, unless_stale, cookie_step, on_cookie_echo}
 use Rattle.sctp_handshake.specs.Machines.{Step}
 
-abbrev is_stale_reply : Option Reply → Bool
+abbrev pub is_stale_reply : Option Reply → Bool
 is_stale_reply None = false
 is_stale_reply (Some reply.StaleCookie) = true
 is_stale_reply (Some _) = false

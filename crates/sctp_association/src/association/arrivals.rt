@@ -3,6 +3,7 @@
 ghost use Rattle.std.specs.Prelude.{◌≡◌, ◌≤◌, Ok, IfOk, IfSome, OnErr, true, false, drop, length};
 ghost use Rattle.std.specs.List.{AllByRecursion};
 ghost use Rattle.sctp_association.specs.Arrivals.{Arrives, BeginsBy};
+ghost use Rattle.sctp_association.specs.Beginnings.{BeginsByDatagram, BeginsByTicket};
 ghost use Rattle.sctp_association.specs.Cookies.{IsAlive, IsSealed, cookie_in};
 ghost use Rattle.sctp_association.specs.Halves.{HalvesAlike, halves_of};
 ghost use Rattle.sctp_association.specs.Reached.{most_user_data};
@@ -94,6 +95,10 @@ impl Association {
         // Where no association stands one begins only by a cookie of this side that is not too old (RFC 9260 5.1 D, 5.1.5).
         ensures begun { self.old.machine.state ≡ Closed → (self.new.machine.state ≡ Closed → ⊥)
             → BeginsByCookie datagram.now self.old.key now self.old.config.cookie_life }
+        // Its receiver begins with the first TSN of the INIT from which the cookie was made, and by the config.
+        ensures first { self.old.machine.state ≡ Closed → (self.new.machine.state ≡ Closed → ⊥)
+            → BeginsByDatagram datagram.now self.old.key self.old.config
+            (halves_of self.old) (halves_of self.new) }
     {
         let zero = if self.config.zero_checksum {
             ZeroChecksum::Allowed
@@ -160,6 +165,9 @@ impl Association {
         ensures begun { self.old.machine.state ≡ Closed → (self.new.machine.state ≡ Closed → ⊥)
             → FirstIsAlive datagram.now chunks.entry.left
             self.old.key now self.old.config.cookie_life }
+        ensures first { self.old.machine.state ≡ Closed → (self.new.machine.state ≡ Closed → ⊥)
+            → BeginsByDatagram datagram.now self.old.key self.old.config
+            (halves_of self.old) (halves_of self.new) }
     {
         let mut chunks = chunks;
         let tag = chunks.header().verification_tag;
@@ -213,6 +221,9 @@ impl Association {
         ensures closed_next { self.old.machine.state ≡ Closed → result ≡ Ok step.Next
             → (chunk.typ ≡ 10) × IsAlive now self.old.config.cookie_life
             self.old.key tag (cookie_in datagram.now chunk) }
+        ensures closed_first { self.old.machine.state ≡ Closed → result ≡ Ok step.Next
+            → BeginsByTicket self.old.key tag (cookie_in datagram.now chunk) self.old.config
+            (halves_of self.old) (halves_of self.new) }
         ensures closed_else { self.old.machine.state ≡ Closed → (result ≡ Ok step.Next → ⊥)
             → self.new.machine ≡ self.old.machine }
     {
@@ -303,6 +314,9 @@ impl Association {
         ensures closed_next { self.old.machine.state ≡ Closed → result ≡ Ok step.Next
             → (chunk.typ ≡ 10) × IsAlive now self.old.config.cookie_life
             self.old.key tag (cookie_in datagram.now chunk) }
+        ensures closed_first { self.old.machine.state ≡ Closed → result ≡ Ok step.Next
+            → BeginsByTicket self.old.key tag (cookie_in datagram.now chunk) self.old.config
+            (halves_of self.old) (halves_of self.new) }
         ensures closed_else { self.old.machine.state ≡ Closed → (result ≡ Ok step.Next → ⊥)
             → self.new.machine ≡ self.old.machine }
     {

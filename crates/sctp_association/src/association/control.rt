@@ -1,11 +1,12 @@
 //! What the state machine is answered and tells.
 
-ghost use Rattle.std.specs.Prelude.{◌≡◌, ◌+◌, ◌≤◌, true, None, Some};
-ghost use Rattle.sctp_association.specs.Arrivals.{Begins, BeginsBy};
-ghost use Rattle.sctp_association.specs.Beginnings.{OwesInit};
+ghost use Rattle.std.specs.Prelude.{◌≡◌, ◌+◌, ◌≤◌, true, None, Some, IfSome};
+ghost use Rattle.sctp_association.specs.Arrivals.{Begins, BeginsBy, Does};
+ghost use Rattle.sctp_association.specs.Beginnings.{OwesInit, begins_by};
 ghost use Rattle.sctp_association.specs.Failing.{IsGuarded};
 ghost use Rattle.sctp_association.specs.Halves.{HalvesAlike, halves_of};
 ghost use Rattle.sctp_handshake.specs.declared.answer.Reply.TheVariants.{Init};
+ghost use Rattle.sctp_handshake.specs.declared.answer.Told.TheVariants.{Connected};
 
 use super::{Association, outbound_config};
 use crate::due::{Alone, AloneKind};
@@ -41,6 +42,8 @@ impl Association {
         ensures quiet { answer.told ≡ None → HalvesAlike self.old self.new }
         ensures begun { BeginsBy answer.told (halves_of self.old) (halves_of self.new) }
         ensures init { answer.reply ≡ Some Init → answer.told ≡ None → OwesInit self.new }
+        ensures first { answer.told ≡ Some Connected → IfSome self.old.machine.peer (λ peer.
+            Does (begins_by peer self.old.config) (halves_of self.old) (halves_of self.new)) }
     {
         let is_silent = answer.reply.is_none() && answer.told.is_none();
         if !is_silent || self.machine.state() != before {
@@ -55,6 +58,8 @@ impl Association {
         ensures quiet { answer.told ≡ None → HalvesAlike self.old self.new }
         ensures begun { BeginsBy answer.told (halves_of self.old) (halves_of self.new) }
         ensures init { answer.reply ≡ Some Init → answer.told ≡ None → OwesInit self.new }
+        ensures first { answer.told ≡ Some Connected → IfSome self.old.machine.peer (λ peer.
+            Does (begins_by peer self.old.config) (halves_of self.old) (halves_of self.new)) }
     {
         let state = self.machine.state();
         if state != before {
@@ -71,6 +76,7 @@ impl Association {
     /// The timer of the state runs from now on, if it has one.
     pub(super) fn run_control(&mut self, now: u64)
         ensures machine { self.new.machine ≡ self.old.machine }
+        ensures config { self.new.config ≡ self.old.config }
         ensures halves { HalvesAlike self.old self.new }
     {
         match self.machine.state().timer() {
@@ -140,6 +146,8 @@ impl Association {
     fn tell(&mut self, told: Told, now: u64)
         ensures machine { self.new.machine ≡ self.old.machine }
         ensures begun { BeginsBy (Some told) (halves_of self.old) (halves_of self.new) }
+        ensures first { told ≡ Connected → IfSome self.old.machine.peer (λ peer.
+            Does (begins_by peer self.old.config) (halves_of self.old) (halves_of self.new)) }
     {
         match told {
             Told::Connected => {
@@ -164,6 +172,9 @@ impl Association {
     fn begin(&mut self, now: u64)
         ensures machine { self.new.machine ≡ self.old.machine }
         ensures begun { Begins (halves_of self.old) (halves_of self.new) }
+        // The receiver has the first TSN of the peer's offer.
+        ensures first { IfSome self.old.machine.peer (λ peer.
+            Does (begins_by peer self.old.config) (halves_of self.old) (halves_of self.new)) }
     {
         let (Some(peer), Some(agreed)) = (self.machine.peer(), self.machine.agreed()) else {
             return;

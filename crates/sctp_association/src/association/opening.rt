@@ -2,6 +2,7 @@
 
 ghost use Rattle.std.specs.Prelude.{◌≡◌, ◌≢◌, Ok, IfOk, OnErr, true};
 ghost use Rattle.sctp_association.specs.Arrivals.{Arrives};
+ghost use Rattle.sctp_association.specs.Beginnings.{BeginsByTicket};
 ghost use Rattle.sctp_association.specs.Cookies.{IsAlive, IsSealed, cookie_in};
 ghost use Rattle.sctp_association.specs.Halves.{HalvesAlike, halves_of};
 ghost use Rattle.sctp_association.specs.Reports.{EndsWithoutCookie};
@@ -146,6 +147,10 @@ impl Association {
         ensures alive { self.old.machine.state ≡ Closed → result ≡ Ok step.Next
             → IsAlive now self.old.config.cookie_life
             self.old.key tag (cookie_in datagram.now chunk) }
+        // The receiver begins with the first TSN of the INIT from which the cookie was made.
+        ensures first { self.old.machine.state ≡ Closed → result ≡ Ok step.Next
+            → BeginsByTicket self.old.key tag (cookie_in datagram.now chunk) self.old.config
+            (halves_of self.old) (halves_of self.new) }
         // A cookie that is too old begins nothing (RFC 9260 5.1.5).
         ensures stale { result ≡ Ok step.Stop → self.new.machine ≡ self.old.machine }
     {

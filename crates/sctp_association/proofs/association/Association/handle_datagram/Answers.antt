@@ -24,6 +24,7 @@ returns-in-Err c = record {
   foreign = λ other. refl;
   init = λ begun. refl;
   begun = λ closed stands. absurd (stands closed);
+  first = λ closed stands. absurd (stands closed);
 }
 
 pub returns-in-Err-ErrOutOfMemory-clause-came : goal.returns-in-Err-ErrOutOfMemory-clause-came

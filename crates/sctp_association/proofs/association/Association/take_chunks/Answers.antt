@@ -1,7 +1,9 @@
-use Rattle.std.proofs.Common.{ap, refl, rules, ◌∙◌}
+use Rattle.std.proofs.Common.{Ok, ap, refl, rules, ◌≡◌, ◌∙◌}
 use Rattle.sctp_association.proofs.Arrived.{came_alike, came_same, came_then}
 use Rattle.sctp_association.proofs.First.{unless_admitted}
+use Rattle.sctp_association.proofs.Firsts.{by_datagram}
 use Rattle.sctp_association.specs.Tags.{AdmitsFirst}
+use Rattle.sctp_association.specs.declared.association.arrivals.Step.TheVariants as step
 use Rattle.sctp_util.specs.Field.{u32_at}
 use Rattle.sctp_association.proofs.Carrying.{all_own, next_own}
 use Rattle.sctp_association.proofs.association.Association.take_chunks.Goals as goal
@@ -57,3 +59,20 @@ pub returns-clause-foreign : goal.returns-clause-foreign
 returns-clause-foreign c other =
     let admits : AdmitsFirst c.args.datagram.now c.args.chunks.left c.args.self.now.key c.args.self.now.machine = search rules in
     absurd (other admits)
+
+-- from Closed an association stands only behind a first chunk that begins it
+pub returns-in_err-taken-clause-first : goal.returns-in_err-taken-clause-first
+returns-in_err-taken-clause-first c closed stands =
+    let next : c.take_first.result ≡ Ok step.Next = search rules in
+    by_datagram _ _ _ _ _ _ _ (next_own _ _ _ _ c.in-Some.ensures.place (all_own _ _ c.requires.all)).0 (c.take_first.ensures.closed_next closed next).0 _
+    (c.header-tag.ensures.verification_tag ∙ ap (λ l. u32_at l 4) c.requires.whole) (c.take_first.ensures.closed_first closed next)
+    (came_then _ _ _ _ c.take_others-taken.ensures.came (came_alike _ _ _ c.datagram_ended.ensures.halves))
+
+pub returns-clause-first : goal.returns-clause-first
+returns-clause-first c closed stands =
+    let next : c.take_first.result ≡ Ok step.Next = search rules in
+    by_datagram _ _ _ _ _ _ _ (next_own _ _ _ _ c.in-Some.ensures.place (all_own _ _ c.requires.all)).0 (c.take_first.ensures.closed_next closed next).0 _
+    (c.header-tag.ensures.verification_tag ∙ ap (λ l. u32_at l 4) c.requires.whole) (c.take_first.ensures.closed_first closed next)
+    (came_then _ _ _ _ c.take_others-taken.ensures.came (
+    came_then _ _ _ _ (came_alike _ _ _ c.datagram_ended.ensures.halves) (came_alike _ _ _ c.settle.ensures.halves)
+    ))

@@ -1,9 +1,11 @@
 use Rattle.std.proofs.Common.{rules, ◌≡◌, ap, refl, sym, ◌∙◌}
-use Rattle.std.specs.Prelude.{Some}
+use Rattle.std.specs.Prelude.{Some, false}
 use Rattle.sctp_association.proofs.Arrived.{came_same}
 use Rattle.sctp_association.proofs.Begun.{cookie_came}
+use Rattle.sctp_association.proofs.Firsts.{begins_by_ticket}
 use Rattle.sctp_association.proofs.Kept.{same_machine}
-use Rattle.sctp_association.proofs.Stale.{stale_keeps}
+use Rattle.sctp_association.proofs.Stale.{is_stale_reply, stale_keeps}
+use Rattle.sctp_association.specs.Cookies.{IsSealedAt, cookie_in}
 use Rattle.sctp_association.proofs.association.Association.take_cookie.Goals as goal
 use Rattle.sctp_handshake.specs.declared.answer.Reply.TheVariants as reply
 
@@ -44,6 +46,18 @@ returns-then-is_none-2-clause-refused c =
 pub returns-in_default-reply : goal.returns-in_default-reply
 returns-in_default-reply c = record {
   came = cookie_came _ _ c.requires.own _ _ c.cookie_echo-answer.result c.follow.ensures.begun c.requires.typ;
+  first = λ closed next.
+      let made : IsSealedAt c.in-Some.moment c.args.self.now.key c.args.tag (cookie_in c.args.datagram.now c.args.chunk) = record {
+        payload = c.in-Some.payload.now;
+        ticket = c.in-Ok.ticket;
+        code = search rules;
+        holds = search rules;
+        own = search rules;
+      } in
+      let is = c.in_default-reply.is in
+      let fresh : is_stale_reply c.cookie_echo-answer.result.reply ≡ false = search rules in
+      begins_by_ticket _ _ _ _ _ _ _ made _ c.args.self.now.machine c.cookie_echo-answer.new.self c.cookie_echo-answer.result closed
+      c.cookie_echo-answer.ensures.takes fresh c.follow.ensures.first;
   refused = search rules;
   err = search rules;
   sealed = search rules;
