@@ -32,9 +32,9 @@ fn is_read(alloc: Global, one: &mut Association, other: &mut Association) -> Res
 
 /// Whether what is read is what was written.
 pub(crate) fn is_well(alloc: Global) -> Result<bool, Fault> {
-    let config = Config::default();
     let (first, second) = (secrets(1, u32::MAX), secrets(2, 7));
-    let (mut one, mut other) = begin(alloc, config, first, config, second, 0)?;
+    let (config, peer_config) = (Config::default(), Config::default());
+    let (mut one, mut other) = begin(alloc, config, first, peer_config, second, 0)?;
     let is_read = is_read(alloc, &mut one, &mut other);
     drop(one);
     drop(other);
