@@ -72,6 +72,7 @@ impl Model for PayloadQueue {
 fn latest_place(held: &Held, tsn: u32) -> usize
     requires { IsSerial held.now.chunks }
     ensures latest { IsLatestPlace held.now.chunks tsn result }
+    ensures small { result < 2 ^ 32 }
     ensures fits { tsn < 2 ^ 32 }
 {
     match held.front_tsn() {
@@ -135,7 +136,7 @@ fn free_place(held: &Held, tsn: u32, turns: &mut Turns) -> Option<usize>
     searched_place(held, tsn, turns)
 }
 
-// The same by a search. It stands apart, so that a push behind the last stays small.
+// The same by a search of TSNs alone, none behind the latest place. It stands apart, so that a push behind the last stays small.
 #[inline(never)]
 fn searched_place(held: &Held, tsn: u32, turns: &mut Turns) -> Option<usize>
     requires { IsSerial held.now.chunks }
@@ -145,10 +146,22 @@ fn searched_place(held: &Held, tsn: u32, turns: &mut Turns) -> Option<usize>
     ensures not_back { turns.old ≤ turns.new }
     ensures cost { IsWithinDigits (length held.now.chunks) (turns.new - turns.old) }
 {
-    match search(held, tsn, turns) {
-        Ok(_) => None,
-        Err(place) => Some(place),
+    let tsns = held.tsns();
+    let mut low = 0;
+    let mut high = held.len().min(latest_place(held, tsn) + 1);
+    while low < high {
+        let middle = (low + high) / 2;
+        let here = tsns.tsn_at(middle, turns);
+        if here == tsn {
+            return None;
+        }
+        if sna32lt(here, tsn) {
+            low = middle + 1;
+        } else {
+            high = middle;
+        }
     }
+    Some(low)
 }
 
 // The place of the first chunk after the cumulative TSN, from where on each is farther after it.

@@ -1,10 +1,11 @@
 //! Held chunks: a slab of them, and a deque of their TSNs and keys in order, so that a search reads TSNs alone and an edit moves no chunk.
 //! `look`, `see`, `tsn_at`, `tsn_or`, `mark` and `take_back` take a turn each, and `settle_earliest` one for each chunk. `front_tsn` takes
-//! none, nor do `insert` and the removals of what was looked at; `tsns` hands out no TSN but by `tsn_or`.
+//! none, nor do `insert` and the removals of what was looked at; `tsns` hands out no TSN but by `tsn_or` and `tsn_at`.
 
 ghost use Rattle.std.specs.Prelude.{◌≡◌, ◌==◌, ◌+◌, ◌-◌, ◌^◌, ◌<◌, ◌≤◌, [], ◌∷◌, false, length, map, max, min, insert, remove, slice_get, slice_index_or, slice_set, OnOk, OnErr, IfSome, IfNone, IsOk, IsOkUnless};
 ghost use Rattle.std.specs.Option.{option_map};
 ghost use Rattle.std.specs.VecDeque.{deque_capacity, deque_len};
+ghost use Rattle.slab.specs.Slab.{HasRoomFor};
 ghost use Rattle.sctp_util.specs.declared.error.Error.TheVariants.{ErrOutOfMemory};
 ghost use Rattle.sctp_outbound.specs.Outstanding.{HasRoom, IsRecounted};
 ghost use Rattle.sctp_outbound.specs.Stored.{IsNotBefore, NoneBefore};
@@ -22,9 +23,6 @@ use std::marker::Model;
 // Lists with memory for more than so many chunks give memory back when they get empty. Others keep theirs, so that few chunks at a
 // time take no memory over and over.
 pub(crate) const MUCH: usize = 64;
-
-// For how many chunks they keep memory then.
-pub(crate) const KEPT: usize = 16;
 
 /// What is noted of a chunk in flight, for its sender alone.
 #[derive(Clone, Copy, PartialEq, Eq)]
@@ -180,6 +178,21 @@ impl<'a> Tsns<'a> {
             return self.back[behind].tsn;
         }
         none
+    }
+
+    /// The same where the place has one.
+    /// Precondition: it has.
+    #[inline(always)]
+    pub(crate) fn tsn_at(&self, place: usize, turns: &mut Turns) -> u32
+        requires { place < length self.now }
+        ensures value { result ≡ slice_index_or self.now place result }
+        ensures turn { turns.new ≡ turns.old + 1 }
+    {
+        turns.tick();
+        if place < self.front.len() {
+            return self.front[place].tsn;
+        }
+        self.back[place - self.front.len()].tsn
     }
 }
 
@@ -353,7 +366,7 @@ impl Held {
             return Ok(());
         }
         self.places.reserve(additional)?;
-        self.slab.reserve(additional)?;
+        reserve_in(&mut self.slab, additional)?;
         self.room = additional;
         Ok(())
     }
@@ -410,7 +423,7 @@ impl Held {
         }
     }
 
-    // Gives back memory: all of the slab, and all but that for `KEPT` places.
+    // Gives back all memory: a small list that stayed would stand in the way of lists that grow.
     // Precondition: there is no chunk, and no room.
     #[cold]
     #[inline(never)]
@@ -419,7 +432,7 @@ impl Held {
         requires room { self.old.room ≡ 0 }
         ensures { self.new ≡ self.old }
     {
-        self.places.shrink_to(KEPT);
+        self.places.shrink_to_fit();
         self.slab.clear();
         self.slab.shrink_to_fit();
     }
@@ -491,6 +504,22 @@ impl Held {
         self.outstanding = outstanding;
         had
     }
+}
+
+// Makes room for so many more chunks. It asks here whether there is, so that mostly nothing is called.
+#[inline(always)]
+fn reserve_in(slab: &mut Slab<ChunkPayloadData>, additional: usize) -> Result<()>
+    ensures room { OnOk result (HasRoomFor slab.new additional) }
+    ensures succeeds { HasRoomFor slab.old additional → IsOk result }
+    ensures memory { IsOkUnless result ErrOutOfMemory }
+    ensures capacity { slab.old.capacity ≤ slab.new.capacity }
+    ensures rest_kept { slab.new ≡ record slab.old { capacity = slab.new.capacity } }
+{
+    if slab.capacity() - slab.len() >= additional {
+        return Ok(());
+    }
+    slab.reserve(additional)?;
+    Ok(())
 }
 
 // Puts a place before the one at an index, mostly behind the last.

@@ -12,7 +12,7 @@ ghost use Rattle.sctp_outbound.specs.pending_queue.PendingQueue.{removed_bytes, 
 ghost use Rattle.sctp_outbound.specs.pending_queue.Whole.{AreWhole, NumbersAscend, begins_with, begun, stand_in_front, until_end};
 ghost use Rattle.sctp_serial.specs.DataChunks.{bytes_of, is_on};
 
-use crate::payload_queue::held::{KEPT, MUCH};
+use crate::payload_queue::held::MUCH;
 use sctp_data::chunk::chunk_payload_data::{
     ChunkPayloadData, PayloadProtocolIdentifier, ReliabilityType,
 };
@@ -20,6 +20,9 @@ use sctp_util::error::Result;
 use std::alloc::Global;
 use std::collections::VecDeque;
 use std::marker::Model;
+
+// For how many chunks a line keeps memory when it gives back much.
+const KEPT: usize = 16;
 
 /// Chunks in the order in which they came. The next `room` pushes take no memory.
 #[derive(Drop)]

@@ -1,9 +1,10 @@
 -- A binary search for a number.
-use Rattle.std.proofs.Common.{◌≡◌, ◌≢◌, ℕ, ◌+◌, ◌-◌, ◌^◌, ◌<◌, ◌≤◌, false, IsTrue, List, length, get_or, ◌∙◌, inl, inr, sym, ap, subst, arith}
+use Rattle.std.proofs.Common.{◌≡◌, ◌≢◌, ℕ, ◌+◌, ◌-◌, ◌^◌, ◌<◌, ◌≤◌, false, IsTrue, List, length, map, min, get_or, ◌∙◌, inl, inr, sym, ap, subst, arith}
 use Rattle.std.specs.Prelude.{Some, unwrap_or}
 use Rattle.std.specs.List.{All, slice_get}
 use Rattle.std.specs.Option.{option_map}
 use Rattle.std.proofs.lemmas.Option.{slice_get-get_or}
+use Rattle.std.proofs.lemmas.List.{get_or-map}
 use Rattle.std.proofs.lemmas.Bool.{cases_lt, false≢true, false_from_ne_true}
 use Rattle.sctp_data.specs.declared.chunk.chunk_payload_data.ChunkPayloadData.{ChunkPayloadData}
 use Rattle.sctp_util.specs.Serial.{comes_before, distance}
@@ -18,6 +19,12 @@ pub seen_tsn : (chunks : List ChunkPayloadData) (place tsn : ℕ) → option_map
     → place < length chunks → (d : ChunkPayloadData) → (get_or chunks place d).tsn ≡ tsn
 seen_tsn chunks place tsn e lt d =
     ap (λ o. unwrap_or o tsn) (ap (option_map (λ (c : ChunkPayloadData). c.tsn)) (sym (slice_get-get_or chunks place d lt)) ∙ e)
+
+-- the TSN that was read at a place
+pub read_tsn : (chunks : List ChunkPayloadData) (tsns : List ℕ) (place here : ℕ) → tsns ≡ map (λ (c : ChunkPayloadData). c.tsn) chunks
+    → here ≡ get_or tsns place here → place < length chunks → (d : ChunkPayloadData) → (get_or chunks place d).tsn ≡ here
+read_tsn chunks tsns place here same e lt d =
+    sym (get_or-map (λ (c : ChunkPayloadData). c.tsn) chunks place d here lt) ∙ ap (λ ns. get_or ns place here) (sym same) ∙ sym e
 
 -- what is left of the search
 pub record Narrowed (chunks : List ChunkPayloadData) (tsn low high : ℕ) : Type 0 where
@@ -154,3 +161,33 @@ before_latest chunks tsn latest place here is number h short le = elim (cases_lt
   | inr at ↦ absurd (false≢true (sym (is (omega arith) any_chunk) ∙ subst (λ t. IsTrue (comes_before t tsn))
       (sym (number any_chunk) ∙ ap (λ i. (get_or chunks i any_chunk).tsn) (omega arith)) h))
 ]
+
+-- what lies behind the latest place comes after the TSN
+module _ (chunks : List ChunkPayloadData) (serial : IsSerial chunks) (tsn latest : ℕ) (fits : tsn < 2 ^ 32) (is : IsLatestPlace chunks tsn latest) where
+  stays : (k : ℕ) (d : ChunkPayloadData) → latest < k → k < length chunks → IsTrue (comes_before (get_or chunks latest d).tsn tsn) → ⊥
+  stays k d lt short h = false≢true (sym (is (omega arith) d) ∙ h)
+
+  differs_behind : (k : ℕ) (d : ChunkPayloadData) → latest < k → k < length chunks → (get_or chunks k d).tsn ≢ tsn
+  differs_behind k d lt short same = stays k d lt short
+      (subst (λ t. IsTrue (comes_before (get_or chunks latest d).tsn t)) same (serial.ascending latest k d lt short))
+
+  comes_behind : (b : ℕ) → IsWindow b chunks tsn → (k : ℕ) (d : ChunkPayloadData) → latest < k → k < length chunks
+      → IsTrue (comes_before tsn (get_or chunks k d).tsn)
+  comes_behind b w k d lt short =
+      let here = (get_or chunks k d).tsn in
+      let near = w.held k d short in
+      let at = w.held latest d (omega arith) in
+      before_total b here tsn w.base_in_range (serial.in_range k d short) fits near.0 near.1 w.number.0 w.number.1 (differs_behind k d lt short)
+      (false_from_ne_true (comes_before here tsn) (λ h. stays k d lt short (before_trans b (get_or chunks latest d).tsn here tsn w.base_in_range
+      (serial.in_range latest d (omega arith)) (serial.in_range k d short) fits at.0 at.1 near.0 near.1 w.number.0 w.number.1
+      (serial.ascending latest k d lt short) h)))
+
+  pub narrowed_latest : (high : ℕ) → high ≡ min (length chunks) (latest + 1) → Narrowed chunks tsn 0 high
+  narrowed_latest high e = record {
+    ordered = omega arith;
+    in_range = omega arith;
+    none_left = λ k d lt. absurd (omega arith);
+    none_right = λ k d le short. differs_behind k d (omega arith) short;
+    left = λ b w k d lt. absurd (omega arith);
+    right = λ b w k d le short. comes_behind b w k d (omega arith) short;
+  }
