@@ -136,7 +136,7 @@ impl Sender {
     ghost use Rattle.sctp_sender.specs.Flight.{with_queue, with_room, resent, message_to_abandon, has_tail_at};
     ghost use Rattle.sctp_sender.specs.Abandonment.{abandon_refusal};
     ghost use Rattle.sctp_sender.specs.Calls.{Acknowledges, Acks, AcksInFlight, CountsAcked, CountsSack, Expires, ExpiresTail, SendsTsn};
-    ghost use Rattle.sctp_sender.specs.Numbers.{send_refusal, tsn_refusal};
+    ghost use Rattle.sctp_sender.specs.Numbers.{refusal_of, send_refusal, tsn_refusal};
     ghost use Rattle.sctp_sender.specs.Outgoing.{fragments_with_mode};
     ghost use Rattle.sctp_sender.specs.Sender.{with_nothing, with_reported, stream_of, is_open, open_stream, close_stream, with_mode_on, with_flight, write_refusal, written_to, after_send, after_abandon, after_expire_run};
     ghost use Rattle.sctp_sender.specs.Thresholds.{fell};
@@ -301,7 +301,6 @@ impl Sender {
         ensures idle { next_pending self.old.flight.queue.pending ≡ None → IsOk result }
         ensures err { OnErr result (self.new ≡ self.old) }
     {
-        self.test_next()?;
         let Some(mut chunk) = self.copy_next()? else {
             self.send_next_tsn_unbounded(now)?;
             return Ok(None);
@@ -323,9 +322,19 @@ impl Sender {
         ensures accepted { OnOk result (send_refusal self.now.flight ≡ None) }
         ensures refused { IfErr result (λ e. send_refusal self.now.flight ≡ Some e) }
     {
-        let Some(chunk) = self.flight.queue().peek_pending() else {
-            return Ok(());
-        };
+        match self.flight.queue().peek_pending() {
+            Some(chunk) => self.test(chunk),
+            None => Ok(()),
+        }
+    }
+
+    // Whether a fragment may be sent.
+    #[inline(always)]
+    fn test(&self, chunk: &ChunkPayloadData) -> Result<(), SenderRefusal>
+        ensures accepted { OnOk result (refusal_of (Some chunk.now) self.now.flight ≡ None) }
+        ensures refused { IfErr result
+            (λ e. refusal_of (Some chunk.now) self.now.flight ≡ Some e) }
+    {
         if !self.flight.may_send() {
             return Err(SenderRefusal::TsnsUsedUp);
         }
@@ -335,16 +344,21 @@ impl Sender {
         Ok(())
     }
 
-    // A copy of the fragment that is next; None where nothing waits.
+    // A copy of the fragment that is next, if it may be sent; None where nothing waits.
+    #[inline(always)]
     fn copy_next(&self) -> Result<Option<ChunkPayloadData>, SenderRefusal>
         ensures ok { IfOk result (λ copied. copied
             ≡ next_pending self.now.flight.queue.pending) }
-        ensures memory { IfErr result (λ e. e ≡ OutOfMemory) }
+        ensures accepted { OnOk result (send_refusal self.now.flight ≡ None) }
+        ensures refused { IfErr result
+            (λ e. ((e ≡ OutOfMemory) × (send_refusal self.now.flight ≡ None))
+            ⊎ (send_refusal self.now.flight ≡ Some e)) }
         ensures idle { next_pending self.now.flight.queue.pending ≡ None → IsOk result }
     {
         let Some(waiting) = self.flight.queue().peek_pending() else {
             return Ok(None);
         };
+        self.test(waiting)?;
         Ok(Some(waiting.try_clone()?))
     }
 
@@ -375,6 +389,7 @@ impl Sender {
     /// As `send_next_tsn`, however far the numbers of ordered messages go: for a caller that sees to it that its receiver can still tell
     /// them apart. Refuses, only where something waits, with `TsnsUsedUp`, where 2^31 - 1 chunks are in flight, and for memory, but not
     /// within the room of `reserve`. The sender is as it was then.
+    #[inline(always)]
     pub(crate) fn send_next_tsn_unbounded(&mut self, now: u64) -> Result<Option<u32>, SenderRefusal>
         ensures { SendsTsn (tsn_refusal self.old.flight) now self.old self.new result }
     {

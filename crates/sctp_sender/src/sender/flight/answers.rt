@@ -226,6 +226,7 @@ pub(super) fn acknowledge_answered(
 /// Notes of each chunk that was told of whether all of its message is acknowledged. A message is looked at once for chunks of it
 /// that are told one after another: its own chunks in flight, and at most one on each side. Turns: at most two for each chunk that was
 /// told of, and one for each chunk in flight of their messages.
+#[inline(always)]
 pub(super) fn judge_each(
     queue: &OutboundQueue,
     acked_tsn: u32,

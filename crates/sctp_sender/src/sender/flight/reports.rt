@@ -321,6 +321,7 @@ fn partial_of(queue: &OutboundQueue) -> Option<u64>
 }
 
 // Takes so many chunks from the front, which have TSNs one after another, a turn for each.
+#[inline(always)]
 fn pop_run(queue: &mut OutboundQueue, first: u32, count: usize, turns: &mut Turns)
     requires run { tsns queue.old.inflight.chunks
         ≡ tsns_from first (length queue.old.inflight.chunks) }
