@@ -223,13 +223,7 @@ module _ (first n : ℕ) (few : n < 2 ^ 31) (old new : Session) (ns : List Numbe
           whole = tt;
           some = tt;
         };
-        tidy = record {
-          sets = tt;
-          whole = tt;
-          unassembled = tt;
-          kinds = tt;
-          none = λ g m run. omega arith;
-        };
+        tidy = record { sets = tt; rest = record { whole = tt; unassembled = tt; kinds = tt; none = λ g m run. omega arith } };
         orderly = refl;
       }
 
@@ -612,7 +606,7 @@ module _ (first n : ℕ) (few : n < 2 ^ 31) (old new : Session) (ns : List Numbe
                 gone-unassembled ns first sent line i.spread.holds.held.stands.queued.indexed joined n i.spread.long few gone cut old i.spread.holds.made
                     made i.spread.step.taken.apart whole st a k l e
                     pass.passed pass.part pass.ends pass.came y sent'
-                    (every-at IsUnordered xs x c lt h.tidy.kinds) (some-of y.tsn xs (list_any_at (has_tsn y.tsn) xs x c lt (same-yes y.tsn)))
+                    (every-at IsUnordered xs x c lt h.tidy.rest.kinds) (some-of y.tsn xs (list_any_at (has_tsn y.tsn) xs x c lt (same-yes y.tsn)))
                     (ap (at_or_before y.tsn) (sym pass.is) ∙ b),
                 passes-it y b,
               ),
@@ -728,7 +722,7 @@ module _ (first n : ℕ) (few : n < 2 ^ 31) (old new : Session) (ns : List Numbe
                 floor = passed-to (s.lost ++ front) (every-of Goes (λ c. is_upto p m c.tsn ≡ true) (λ c g. g.1) (s.lost ++ front) all)
                     (subst (IsPast first sent st m) (sym is) (subst (Every (λ c. is_upto p m c.tsn ≡ false)) (sym left)
                     (subst (λ u. Every (λ c. is_upto p m c.tsn ≡ false) (after_leading (λ x. at_or_before x.tsn u) l.queue.held.unassembled)) (sym pass.is)
-                    (past-left p n few m least 0 l.queue.held.unassembled h.tidy.unassembled))))
+                    (past-left p n few m least 0 l.queue.held.unassembled h.tidy.rest.unassembled))))
                     (subst (IsPast first sent st k.floor.floor) (sym is) (subst (Every (λ c. is_upto p k.floor.floor c.tsn ≡ false)) (sym left)
                     (leading-each (λ c. is_upto p k.floor.floor c.tsn ≡ false) (λ x. at_or_before x.tsn t) l.queue.held.unassembled
                     (subst (IsPast first sent st k.floor.floor) e k.floor.past))));

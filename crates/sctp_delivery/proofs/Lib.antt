@@ -46,6 +46,7 @@ pub mod EveryEnds
 pub mod EveryShadows
 pub mod EveryHeld
 pub mod EverySettled
+pub mod EveryKept
 pub mod EveryMessages
 pub mod EveryExamples
 pub mod ReopenedExamples
@@ -76,6 +77,7 @@ pub mod UnwrappedArrived
 pub mod MessagePlaces
 pub mod KeptOrGone
 pub mod UnassembledGone
+pub mod UnorderedGone
 pub mod Unassembled
 pub mod KeptCalls
 pub mod KeptSessions
