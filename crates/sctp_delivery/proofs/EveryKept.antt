@@ -24,8 +24,8 @@ use Rattle.sctp_delivery.proofs.Calls.{numbered_after}
 use Rattle.sctp_delivery.proofs.Cases.{at-if, at-test, by-test}
 use Rattle.sctp_delivery.proofs.Delivered.{EachSent, each-sent-on, found-sent-on, next_tsn, single-on}
 use Rattle.sctp_delivery.proofs.Every.{Every, every-at, every-contained, every-of-all}
-use Rattle.sctp_delivery.proofs.EveryHeld as held
-use Rattle.sctp_delivery.proofs.EveryHeld.{Fits, IsEven, Leaves, Puts, even-of, lonely, lonely-kind, lonely-less, lonely-light, sets-light}
+use Rattle.sctp_delivery.proofs.Even as held
+use Rattle.sctp_delivery.proofs.Even.{Fits, IsEven, Leaves, Puts, even-of, lonely, lonely-kind, lonely-less, lonely-light, sets-light}
 use Rattle.sctp_delivery.proofs.EveryRuns.{discard-arrived}
 use Rattle.sctp_delivery.proofs.EverySettled.{found-read}
 use Rattle.sctp_delivery.proofs.InTheEnd.{some-of, unread-of}
@@ -107,20 +107,17 @@ known_so p gone sent s t = was_taken t s || gone_at gone sent (distance (tsn p 0
 
 module _ (ws : List Numbered) (first : ℕ) (sent : List Entry) (line : IsLine ws first sent) (n : ℕ) (long : length sent ≡ n) (few : n < 2 ^ 31)
     (gone : List ℕ) (s : Session) where
-  abbrev p : ℕ
-  p = base first
-
-  place-of : (k : ℕ) → k ≤ n → distance (tsn p 0) (tsn p k) ≡ k
-  place-of k le = distance-tsn p 0 k (omega arith) (omega (arith, le, few)) ∙ (let e : k - 0 ≡ k = omega arith in e)
+  place-of : (k : ℕ) → k ≤ n → distance (tsn (base first) 0) (tsn (base first) k) ≡ k
+  place-of k le = distance-tsn (base first) 0 k (omega arith) (omega (arith, le, few)) ∙ (let e : k - 0 ≡ k = omega arith in e)
 
   number : (d : Data) (w : Numbered) (after : List ℕ) (xs : List Entry) → IsPart (fragment d w after ∷ xs) sent
-      → (d.tsn ≡ tsn p (length xs + 1)) × (length xs + 1 ≤ n)
+      → (d.tsn ≡ tsn (base first) (length xs + 1)) × (length xs + 1 ≤ n)
   number d w after xs q = (
     let e = (part-line ws first sent (fragment d w after ∷ xs) q line).0.number in omega (arith, e),
     let l = part-length sent (fragment d w after ∷ xs) q in omega (arith, l, long),
   )
 
-  gone-of : (x : Entry) (xs : List Entry) → IsPart (x ∷ xs) sent → gone_at gone sent (distance (tsn p 0) (tsn p (length xs + 1))) ≡ is_gone_entry gone x
+  gone-of : (x : Entry) (xs : List Entry) → IsPart (x ∷ xs) sent → gone_at gone sent (distance (tsn (base first) 0) (tsn (base first) (length xs + 1))) ≡ is_gone_entry gone x
   gone-of x xs q =
       let l = part-length sent (x ∷ xs) q in
       let plus : length xs + 1 ≡ length (x ∷ xs) = omega arith in
@@ -129,20 +126,20 @@ module _ (ws : List Numbered) (first : ℕ) (sent : List Entry) (line : IsLine w
 
   -- a fragment at a known place
   pub known-entry : (d : Data) (w : Numbered) (after : List ℕ) (xs : List Entry) → IsPart (fragment d w after ∷ xs) sent
-      → known_so p gone sent s (tsn p (length xs + 1)) ≡ true → (was_taken d.tsn s || is_gone gone w.place) ≡ true
+      → known_so (base first) gone sent s (tsn (base first) (length xs + 1)) ≡ true → (was_taken d.tsn s || is_gone gone w.place) ≡ true
   known-entry d w after xs q e =
-      let t = tsn p (length xs + 1) in
-      elim (or-split (was_taken t s) (gone_at gone sent (distance (tsn p 0) t)) e) [
+      let t = tsn (base first) (length xs + 1) in
+      elim (or-split (was_taken t s) (gone_at gone sent (distance (tsn (base first) 0) t)) e) [
         | inl h ↦ or-left (was_taken d.tsn s) (is_gone gone w.place) (ap (λ u. was_taken u s) (number d w after xs q).0 ∙ h)
         | inr h ↦ or-right (was_taken d.tsn s) (is_gone gone w.place) (sym (gone-of (fragment d w after) xs q) ∙ h)
       ]
 
   -- where all fragments up to a place were taken, or are gone
-  pub known-upto : (zs : List Entry) → IsPart zs sent → AreTakenOrGone gone s zs → (k : ℕ) → k ≤ length zs → known_so p gone sent s (tsn p k) ≡ true
+  pub known-upto : (zs : List Entry) → IsPart zs sent → AreTakenOrGone gone s zs → (k : ℕ) → k ≤ length zs → known_so (base first) gone sent s (tsn (base first) k) ≡ true
   known-upto [] q c k le =
       let zero' : k ≡ 0 = omega (arith, le) in
-      or-right (was_taken (tsn p k) s) (gone_at gone sent (distance (tsn p 0) (tsn p k)))
-      (subst (λ j. gone_at gone sent (distance (tsn p 0) (tsn p j)) ≡ true) (sym zero') (ap (gone_at gone sent) (place-of 0 (omega arith)) ∙ at-zero sent))
+      or-right (was_taken (tsn (base first) k) s) (gone_at gone sent (distance (tsn (base first) 0) (tsn (base first) k)))
+      (subst (λ j. gone_at gone sent (distance (tsn (base first) 0) (tsn (base first) j)) ≡ true) (sym zero') (ap (gone_at gone sent) (place-of 0 (omega arith)) ∙ at-zero sent))
     where
       at-zero : (xs : List Entry) → gone_at gone xs 0 ≡ true
       at-zero [] = refl
@@ -153,21 +150,21 @@ module _ (ws : List Numbered) (first : ℕ) (sent : List Entry) (line : IsLine w
     | inl lt ↦ known-upto zs (tail-part sent zs z q) (rest z c) k (omega (arith, lt))
     | inr ge ↦
         let it : length zs + 1 ≡ k = omega (arith, ge, le) in
-        subst (λ j. known_so p gone sent s (tsn p j) ≡ true) it (here z q c)
+        subst (λ j. known_so (base first) gone sent s (tsn (base first) j) ≡ true) it (here z q c)
   ]
     where
       rest : (z : Entry) → AreTakenOrGone gone s (z ∷ zs) → AreTakenOrGone gone s zs
       rest terminal c = c
       rest (fragment d w after) c = c.1
 
-      here : (z : Entry) → IsPart (z ∷ zs) sent → AreTakenOrGone gone s (z ∷ zs) → known_so p gone sent s (tsn p (length zs + 1)) ≡ true
+      here : (z : Entry) → IsPart (z ∷ zs) sent → AreTakenOrGone gone s (z ∷ zs) → known_so (base first) gone sent s (tsn (base first) (length zs + 1)) ≡ true
       here terminal q c =
-          or-right (was_taken (tsn p (length zs + 1)) s) (gone_at gone sent (distance (tsn p 0) (tsn p (length zs + 1)))) (gone-of terminal zs q)
+          or-right (was_taken (tsn (base first) (length zs + 1)) s) (gone_at gone sent (distance (tsn (base first) 0) (tsn (base first) (length zs + 1)))) (gone-of terminal zs q)
       here (fragment d w after) q c =
-          let t = tsn p (length zs + 1) in
+          let t = tsn (base first) (length zs + 1) in
           elim (or-split (was_taken d.tsn s) (is_gone gone w.place) c.0) [
-            | inl h ↦ or-left (was_taken t s) (gone_at gone sent (distance (tsn p 0) t)) (ap (λ u. was_taken u s) (sym (number d w after zs q).0) ∙ h)
-            | inr h ↦ or-right (was_taken t s) (gone_at gone sent (distance (tsn p 0) t)) (gone-of (fragment d w after) zs q ∙ h)
+            | inl h ↦ or-left (was_taken t s) (gone_at gone sent (distance (tsn (base first) 0) t)) (ap (λ u. was_taken u s) (sym (number d w after zs q).0) ∙ h)
+            | inr h ↦ or-right (was_taken t s) (gone_at gone sent (distance (tsn (base first) 0) t)) (gone-of (fragment d w after) zs q ∙ h)
           ]
 
 -- the message of a chunk in flight, by its TSN
@@ -537,7 +534,7 @@ module _ (on dropped : ℕ → Bool) (st first n : ℕ) (few : n < 2 ^ 31) (old 
                 let v = one t in
                 let h' = subst (held.Sorted st (IsGone gone sent) (IsNeat p n)) e h.even.sorted in
                 let empty = ap (λ us. sum_by (set_weight (lonely v)) us) (none-complete q (unread-of st r.streams l unread e)) in
-                let left = elim (cases_lt 0 (sum_by v q.unassembled)) [
+                let left : sum_by v q.unassembled ≤ 0 = elim (cases_lt 0 (sum_by v q.unassembled)) [
                   | inl lt ↦
                       let le = within in
                       absurd (unordered_gone.none-alive ns first sent line joined n i.long few gone cut old was-made made i.step.taken.apart st whole h.even l e sent

@@ -9,7 +9,8 @@ use Rattle.sctp_delivery.specs.EveryEnd.{IsReadOn}
 use Rattle.sctp_delivery.proofs.Cases.{at-test, by-test}
 use Rattle.sctp_delivery.proofs.Delivered.{found-sent-on}
 use Rattle.sctp_delivery.proofs.Every.{Every}
-use Rattle.sctp_delivery.proofs.EveryHeld.{IsEvenBut, lonely, lonely-less, lonely-light}
+use Rattle.sctp_delivery.proofs.Even.{lonely, lonely-less, lonely-light}
+use Rattle.sctp_delivery.proofs.EveryHeld.{IsEvenBut}
 use Rattle.sctp_delivery.proofs.InTheEnd.{all-every}
 use Rattle.sctp_delivery.proofs.Kept.{held-weighs}
 use Rattle.sctp_delivery.proofs.KeptSessions.{idle-of}

@@ -240,11 +240,11 @@ wider gone answered others k e = elim (or-split (is_gone gone k) (is_gone others
 ]
 
 -- what the receiver was called for
-record IsCalled (first : ℕ) (y : receiver_runs.Stand) : Type 0 where
-  most : ℕ
-  limits : Option Limits
-  calls : List receiver_runs.Call
-  run : receiver_runs.RunsTo (receiver_runs.at_start first most limits) calls y
+pub record IsCalled (first : ℕ) (y : receiver_runs.Stand) : Type 0 where
+  pub most : ℕ
+  pub limits : Option Limits
+  pub calls : List receiver_runs.Call
+  pub run : receiver_runs.RunsTo (receiver_runs.at_start first most limits) calls y
 
 called-then : (first : ℕ) (c : receiver_runs.Call) (y z : receiver_runs.Stand) → IsCalled first y → receiver_runs.Follows c y z → IsCalled first z
 called-then first c y z h f = record {

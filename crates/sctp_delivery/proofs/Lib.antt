@@ -44,6 +44,7 @@ pub mod EveryTurns
 pub mod EveryFronts
 pub mod EveryEnds
 pub mod EveryShadows
+pub mod Even
 pub mod EveryHeld
 pub mod EverySettled
 pub mod EveryKept

@@ -6,7 +6,7 @@ use Rattle.sctp_delivery.proofs.Names.{InboundStream, stream_of, is_one_message,
 use Rattle.sctp_delivery.proofs.Names.{◌&&◌, Message, completes, suc, slice_index_or}
 use Rattle.sctp_delivery.proofs.Delivered.{AreInner, EachSent, found-sent, follows, inner-of}
 use Rattle.sctp_delivery.proofs.Every.{Every, every-of, every-of-all}
-use Rattle.sctp_delivery.proofs.EveryHeld.{IsEven, Sorted}
+use Rattle.sctp_delivery.proofs.Even.{IsEven, Sorted}
 use Rattle.sctp_delivery.proofs.FragmentPlaces.{at_place}
 use Rattle.sctp_delivery.proofs.InTheEnd.{all-every, none-data}
 use Rattle.sctp_delivery.proofs.KeptOrGone.{HeldWell, IsHeldWell, IsKeptBut, IsLate, IsPassedBy}
@@ -66,7 +66,7 @@ module _ (ws : List Numbered) (first : ℕ) (sent : List Entry) (line : IsLine w
           (follows ws first sent (omega (arith, long, few)) line indexed c cs w.0.0 w.0.1 w.0.2 w.0.3 (both c.beginning_fragment (completes c cs) e).1 w.1
           (inner-of c cs o)).2
 
-  light : IsEven st (IsGone gone sent) (IsNeat p n) s.receiving
+  abbrev light : IsEven st (IsGone gone sent) (IsNeat p n) s.receiving
   light = record {
     lost = k.lost;
     spent = every-of (IsPassedBy gone sent s.made) (IsGone gone sent) (λ c g. g.0) k.lost k.of-gone;

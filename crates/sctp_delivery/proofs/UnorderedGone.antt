@@ -11,7 +11,7 @@ use Rattle.sctp_receiver.proofs.CompleteMessages.{pushed-complete, rest-complete
 use Rattle.sctp_delivery.proofs.Cases.{at-if, at-test, by-test}
 use Rattle.sctp_delivery.proofs.Delivered.{EachSent}
 use Rattle.sctp_delivery.proofs.Every.{Every, every-of, every-joined, every-passing}
-use Rattle.sctp_delivery.proofs.EveryHeld.{AreOrdered, IsEven, IsKeptByCalls, Sorted, lonely, lonely-kind, lonely-less, lonely-light, lonely-sets, sets-light}
+use Rattle.sctp_delivery.proofs.Even.{AreOrdered, IsEven, IsKeptByCalls, Sorted, lonely, lonely-kind, lonely-less, lonely-light, lonely-sets, sets-light}
 use Rattle.sctp_delivery.proofs.FragmentPlaces.{Shows, at_place, shown}
 use Rattle.sctp_delivery.proofs.InTheEnd.{all-every, any-of, none-data, some-of}
 use Rattle.sctp_delivery.proofs.KeptSets.{IsUnorderedTidy, IsUnordered, IsWhole, OnlyFirst, pushed-rest, read-rest}
@@ -99,7 +99,7 @@ module _ (p n : ℕ) (few : n < 2 ^ 31) where
   pub neat-more : (m : ℕ) (q : Reassembly) → n ≤ m → IsNeat p n q → IsNeat p m q
   neat-more m q le e = record { rest = rest-more p n few m q le e.rest; complete = e.complete; single = e.single }
 
-  abbrev pub neat-kept : IsKeptByCalls (IsNeat p n)
+  pub neat-kept : IsKeptByCalls (IsNeat p n)
   neat-kept = record {
     fresh = λ s max. record { rest = record { whole = tt; unassembled = tt; kinds = tt; none = λ g m run. omega arith }; complete = refl; single = tt };
     read = λ q h. record { rest = read-rest p n few q h.rest; complete = rest-complete q h.complete; single = rest-single q h.single };
