@@ -1,26 +1,24 @@
 -- Sessions of every call, on a stream that goes on: each TSN that came was taken, or is of a message that is gone; and what is lost of unordered
 -- messages is of such. A message is gone that was abandoned, or of which a chunk was dropped.
-use Rattle.sctp_delivery.proofs.Names.{◌≡◌, ℕ, suc, ◌+◌, ◌-◌, ◌<◌, ◌≤◌, ◌^◌, Bool, true, false, List, [], ◌∷◌, ◌++◌, length, map, Option, Some, None, inl, inr}
+use Rattle.sctp_delivery.proofs.Names.{◌≡◌, ℕ, suc, ◌+◌, ◌-◌, ◌<◌, ◌≤◌, ◌^◌, Bool, true, false, List, [], ◌∷◌, length, map, Option, Some, None, inl, inr}
 use Rattle.sctp_delivery.proofs.Names.{refl, ap, sym, subst, ◌∙◌, arith, ◌||◌, ◌==◌, if◌then◌else◌, nat_eq, filter, list_any, list_any_at, list_all, sum_by}
-use Rattle.sctp_delivery.proofs.Names.{nat_tests, cases_lt, or-left, or-right, or-split, same-is, same-yes, both, fails, not_both, eq-eqb, at_or_before, tsn}
+use Rattle.sctp_delivery.proofs.Names.{nat_tests, cases_lt, or-left, or-right, or-split, same-is, same-yes, not_both, eq-eqb, at_or_before, tsn}
 use Rattle.sctp_delivery.proofs.Names.{distance, distance-tsn, ChunkPayloadData, Data, data_of, data_chunk, forward_tsn, ForwardTsn, New, has_tsn, has_come}
-use Rattle.sctp_delivery.proofs.Names.{filter_of, with_filter, with_tsn, Reassembly, ReassemblyState, InboundStream, stream_of, Reception, Stand, Message}
-use Rattle.sctp_delivery.proofs.Names.{held_weight, is_on, Pushes, completes, is_complete, is_one_message, was_taken, Contains, Limits, Session, SenderCall}
+use Rattle.sctp_delivery.proofs.Names.{filter_of, with_filter, with_tsn, Reassembly, InboundStream, stream_of, Reception, Stand, Message}
+use Rattle.sctp_delivery.proofs.Names.{held_weight, is_on, is_complete, is_one_message, was_taken, Contains, Limits, Session, SenderCall}
 use Rattle.sctp_delivery.proofs.Names.{SenderFollows, ReceiverCall, ReceiverFollows, IsRunFrom, AllPass-from_list_all, slice_index_or, AreMade, AreMessages}
 use Rattle.sctp_delivery.proofs.Names.{made_after, after_forward_tsn, at_start, reads_nothing, message_read, none-some, ChunkSet, set_weight}
 use Rattle.sctp_reassembly.specs.reassembly_queue.ReassemblyQueue.{message_among}
 use Rattle.sctp_receiver.specs.Inbound.{numbers_of}
 use Rattle.sctp_receiver.specs.Receiver.{after_discard, close_stream, repeat_tsn}
 use Rattle.sctp_receiver.specs.Resets.{reset_stream}
-use Rattle.sctp_receiver.specs.ReceiverRuns as receiver_runs
 use Rattle.sctp_receiver.proofs.StreamCosts.{are_apart}
 use Rattle.sctp_delivery.specs.EveryCall.{ReceiverDoes, ReceiverOther, as_receiver_run, closes_incoming, discards, of_receiving, passes_over, resets_incoming}
 use Rattle.sctp_delivery.specs.EveryEnd.{IsReadOn, dropped_by}
 use Rattle.sctp_delivery.specs.EveryOrder.{breaks}
 use Rattle.sctp_delivery.specs.ReceiverCalls as incoming
-use Rattle.sctp_delivery.proofs.AbandonedMessages.{AreAmong, AreMarkedGone, flight_of, marked-later}
+use Rattle.sctp_delivery.proofs.AbandonedMessages.{AreAmong, AreMarkedGone, flight_of}
 use Rattle.sctp_delivery.proofs.ArrivedTsns.{IsArrived}
-use Rattle.sctp_delivery.proofs.Calls.{numbered_after}
 use Rattle.sctp_delivery.proofs.Cases.{at-if, at-test, by-test}
 use Rattle.sctp_delivery.proofs.Delivered.{EachSent, each-sent-on, found-sent-on, next_tsn, single-on}
 use Rattle.sctp_delivery.proofs.Every.{Every, every-at, every-contained, every-of-all}
@@ -50,8 +48,7 @@ use Rattle.sctp_delivery.proofs.Sessions.{IsTakenMade}
 use Rattle.sctp_delivery.proofs.SpreadCalls.{IsSpreadOn, SpreadsOn}
 use Rattle.sctp_delivery.proofs.SpreadEntries.{IsFor, IsPlacedOn}
 use Rattle.sctp_delivery.proofs.TakenCalls.{follows-arrived, fresh-new, hears, more-arrived, not-among}
-use Rattle.sctp_delivery.proofs.TakenTsns.{come}
-use Rattle.sctp_delivery.proofs.TsnPlaces.{base, IsGiven, same-place, upto-is, upto-yes}
+use Rattle.sctp_delivery.proofs.TsnPlaces.{base, IsGiven, same-place, upto-yes}
 use Rattle.sctp_delivery.proofs.UnwrappedSessions.{IsAnswered}
 use Rattle.sctp_delivery.proofs.Whole.{AreWholeOn, IsWholeOn}
 
@@ -557,6 +554,12 @@ module _ (on dropped : ℕ → Bool) (st first n : ℕ) (few : n < 2 ^ 31) (old 
             let x = found-read st t old.receiving.read (omega (arith, on', law, none, none-held)) in
             let gave = (every-contained (IsWholeOn sent st) old.receiving.read x.0 x.1 whole x.2).2 in
             let was = every-contained (λ (c : ChunkPayloadData). WasSent sent (data_of c)) x.0.fragments x.3 x.4 gave in
-            let few' = i.long in
-            (x.0, x.1, x.2, x.3, x.4, same-tsn ns first sent (omega (arith, few', few)) line (data_of x.3) d was (w, after, xs, part)
-            (same-is x.3.tsn t x.5 ∙ sym is))
+            let few' = i.long in (
+              x.0,
+              x.1,
+              x.2,
+              x.3,
+              x.4,
+              same-tsn ns first sent (omega (arith, few', few)) line (data_of x.3) d was (w, after, xs, part)
+                  (same-is x.3.tsn t x.5 ∙ sym is),
+            )

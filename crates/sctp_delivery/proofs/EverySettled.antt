@@ -1,5 +1,5 @@
 -- Sessions of every call: where nothing waits or is in flight, each unordered chunk of a stream that goes on was read, or is held.
-use Rattle.sctp_delivery.proofs.Names.{◌≡◌, ℕ, suc, ◌<◌, ◌≤◌, ◌^◌, Bool, true, false, List, [], ◌∷◌, ◌++◌, length, inl, inr, refl, ap, sym, subst, ◌∙◌}
+use Rattle.sctp_delivery.proofs.Names.{◌≡◌, ℕ, suc, ◌<◌, ◌^◌, Bool, true, false, List, [], ◌∷◌, ◌++◌, length, inl, inr, refl, ap, sym, subst, ◌∙◌}
 use Rattle.sctp_delivery.proofs.Names.{arith, All, Contains, if◌then◌else◌, ◌==◌, ◌||◌, filter, list_any, sum_by, sum_by-cons, sum_by-append, eq-eqb, ◌⊎◌}
 use Rattle.sctp_delivery.proofs.Names.{or-split, same-is, fails, not_both, tsn, ChunkPayloadData, Data, data_of, data_chunk, has_tsn, is_on, passes, Message}
 use Rattle.sctp_delivery.proofs.Names.{fragments_read, fragments_held, is_all_acknowledged, stream_of, was_passed, was_taken, AreMade, Session}

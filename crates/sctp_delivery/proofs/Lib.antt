@@ -51,6 +51,7 @@ pub mod EveryKept
 pub mod EveryMessages
 pub mod EveryExamples
 pub mod ReopenedExamples
+pub mod DroppedExamples
 pub mod StandsAny
 pub mod DiscardRuns
 pub mod DiscardExamples

@@ -1,7 +1,7 @@
 -- Fragments of unordered messages that are held: none is of a message of which all fragments were taken, so one that a FORWARD-TSN takes out is of a
 -- message that is gone. Of unordered chunks alone it is said how many were taken, read, and are held.
 use Rattle.sctp_delivery.proofs.Names.{◌≡◌, ℕ, zero, suc, ◌+◌, ◌<◌, ◌≤◌, ◌^◌, Bool, true, false, List, [], ◌∷◌, ◌++◌, length, Some, inl, inr, refl, ap, sym}
-use Rattle.sctp_delivery.proofs.Names.{subst, ◌∙◌, arith, ⊤, ◌||◌, ◌==◌, if◌then◌else◌, filter, list_all, list_any, sum_by, cases_lt, eq-eqb, Contains, Option, None}
+use Rattle.sctp_delivery.proofs.Names.{subst, ◌∙◌, arith, ◌||◌, ◌==◌, if◌then◌else◌, filter, list_all, list_any, sum_by, cases_lt, eq-eqb, Contains, Option, None}
 use Rattle.sctp_delivery.proofs.Names.{sum_by-cons, nat_tests, common_steps, at_or_before, or-split, same-is, both, fails, not_both, tsn, ChunkPayloadData}
 use Rattle.sctp_delivery.proofs.Names.{ChunkSet, Data, data_of, data_chunk, is_complete, Reassembly, ReassemblyState, InboundStream, stream_of, fragments_read}
 use Rattle.sctp_delivery.proofs.Names.{held_weight, set_weight, has_tsn, is_on, are_apart, was_taken, Session, Message, all_complete, take, drop, slice_index_or}
@@ -9,7 +9,6 @@ use Rattle.sctp_delivery.proofs.Names.{Pushes, PushesAs, BecomesComplete, insert
 use Rattle.sctp_delivery.proofs.Names.{rest_among, front_readable, after_read}
 use Rattle.sctp_receiver.proofs.CompleteMessages.{pushed-complete, rest-complete}
 use Rattle.sctp_delivery.proofs.Cases.{at-if, at-test, by-test}
-use Rattle.sctp_delivery.proofs.Delivered.{EachSent}
 use Rattle.sctp_delivery.proofs.Every.{Every, every-of, every-joined, every-passing}
 use Rattle.sctp_delivery.proofs.Even.{AreOrdered, IsEven, IsKeptByCalls, Sorted, lonely, lonely-kind, lonely-less, lonely-light, lonely-sets, sets-light}
 use Rattle.sctp_delivery.proofs.FragmentPlaces.{Shows, at_place, shown}
