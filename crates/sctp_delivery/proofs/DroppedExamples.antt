@@ -1,6 +1,6 @@
 -- A small session in which an unordered message is not read, though nothing was abandoned: the receiver drops its chunk. So the law on what is read in
 -- the end needs the messages of which chunks are dropped.
-use Rattle.sctp_delivery.proofs.Names.{◌≡◌, true, List, [], ◌∷◌, refl, arith, ℕ, StandAt, Contains, Binary, Reliable, ChunkPayloadData, Transmission, OutboundStream}
+use Rattle.sctp_delivery.proofs.Names.{◌≡◌, true, List, [], ◌∷◌, refl, arith, ℕ, StandAt, Contains, Binary, Reliable, ChunkPayloadData, OutboundStream}
 use Rattle.sctp_delivery.proofs.Names.{sends, writes, written_to, Session, ReceiverFollows, SenderFollows, of_receiver, of_sender, is_exhausted, after_acked}
 use Rattle.sctp_data.specs.ChunkSet.{fresh}
 use Rattle.sctp_sender.specs.Outgoing.{with_mode}

@@ -17,7 +17,7 @@ use Rattle.sctp_delivery.specs.EveryCall.{AfterEachAny, AnyCall, AreSingle, AreS
 use Rattle.sctp_delivery.specs.EveryCall.{makes, of_receiving, of_sending, renews, SenderDoes, takes_back, AreToldApart, is_single, is_steady, single_messages}
 use Rattle.sctp_delivery.specs.EveryCall.{tsns_given_any, was_dropped}
 use Rattle.sctp_receiver.specs.ReceiverRuns.{AreComplete, AreOfOneMessage}
-use Rattle.sctp_delivery.specs.EveryEnd.{IsLeftOn, IsOrderedReadInTheEnd, IsReadOn, IsSentReadInTheEnd, IsUnorderedReadInTheEnd, IsUnorderedReadOrHeld}
+use Rattle.sctp_delivery.specs.EveryEnd.{IsLeftOn, IsOrderedReadInTheEnd, IsReadOn, IsSentReadInTheEnd, IsUnorderedReadInTheEnd, IsUnorderedReadOrHeld, IsUnorderedSentReadInTheEnd}
 use Rattle.sctp_delivery.specs.EveryEnd.{abandoned_any, dropped_any, is_unnamed}
 use Rattle.sctp_delivery.specs.EveryOrder.{AreSingleReadAsWritten, AreSingleReadInOrder, breaks, goes_on, is_unbroken, opens_incoming, plain_calls}
 use Rattle.sctp_delivery.specs.Messages.{AreParts, AreSame}
@@ -580,6 +580,12 @@ module _ (reported : Reported) (first size max most : ℕ) (limits : Option Limi
     own-apart,
     λ st c k left. placed exhausted st c true (gone ++ others) (gone-left gone others) (read-unordered exhausted st c) k left,
   )
+
+  -- and so was what was made of it unordered, where no message was lost
+  pub unordered-sent-read : IsUnorderedSentReadInTheEnd (gone ++ others) cs s
+  unordered-sent-read none exhausted st c d in' on' kind =
+      let w = found-sent-on (is_steady cs) i.sent s.made d made in' in
+      read-unordered exhausted st c d w.0 w.1 w.2 w.3 on' kind (ap (list_any (nat_eq w.0.place)) none)
 
   -- what was made of it unordered was read, or is held, if it was neither dropped nor passed
   pub unordered-read : IsUnorderedReadOrHeld cs s

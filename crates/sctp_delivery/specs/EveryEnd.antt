@@ -137,6 +137,14 @@ IsUnorderedReadInTheEnd lost calls s =
     × ((stream : ℕ) → is_unbroken calls stream ≡ true
     → (k : ℕ) → IsLeftOn true stream lost calls s k → Contains places k)
 
+-- there each unordered DATA chunk that was made on such a stream was read, where no message was lost so
+abbrev pub IsUnorderedSentReadInTheEnd : List ℕ → List AnyCall → Session → Type 0
+IsUnorderedSentReadInTheEnd lost calls s =
+    lost ≡ [] → is_exhausted s.sending.sender s.receiving.receiver ≡ true
+    → (stream : ℕ) → is_unbroken calls stream ≡ true
+    → (d : Data) → Contains s.made (data_chunk d) → d.stream_identifier ≡ stream
+    → d.unordered ≡ true → IsReadOn stream d s.receiving.read
+
 -- ## Unordered chunks
 
 -- on a stream that goes on: however chunks are weighed, where ordered ones weigh nothing, those that were taken there weigh as much as the fragments

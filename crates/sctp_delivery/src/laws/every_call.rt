@@ -7,7 +7,7 @@
 //! Not said here: that ordered messages of a stream that a FORWARD-TSN names are read in the end; and that a chunk in flight is not refused.
 
 ghost use Rattle.sctp_delivery.specs.EveryCall.{AcknowledgedArrived, AfterEachAny, AfterEachAnyOfFewBytes, AfterEachAnyOfFewTsns, AreSingle, AreSingleWhereSteady, AreSingleWritesOfTheirOwn, AreToldApart, AreWritesWhereSingle, LeftArrived, ReleasedArrived, ReportWhatArrived};
-ghost use Rattle.sctp_delivery.specs.EveryEnd.{AfterEachAnyOfLost, AfterEachAnyOfMessages, IsOrderedReadInTheEnd, IsSentReadInTheEnd, IsUnorderedHeldReadOrPassed, IsUnorderedReadInTheEnd, IsUnorderedReadOrHeld};
+ghost use Rattle.sctp_delivery.specs.EveryEnd.{AfterEachAnyOfLost, AfterEachAnyOfMessages, IsOrderedReadInTheEnd, IsSentReadInTheEnd, IsUnorderedHeldReadOrPassed, IsUnorderedReadInTheEnd, IsUnorderedReadOrHeld, IsUnorderedSentReadInTheEnd};
 ghost use Rattle.sctp_delivery.specs.EveryOrder.{AreReadInTurnWhereUnbroken, AreSingleReadAsWritten, AreSingleReadInOrder};
 ghost use Rattle.sctp_delivery.specs.Messages.{AreParts, AreSame, NoneIsReadTwice};
 ghost use Rattle.sctp_delivery.specs.Returns.{IsAccountedSo, NoneIsRefusedSo};
@@ -57,9 +57,10 @@ pub fn whatever_is_called_what_is_ordered_is_read_in_the_end()
 
 /// With so few TSNs and bytes: where nothing waits to be sent, nothing is in flight, and on no stream is a message to read, take a stream that goes
 /// on, whatever FORWARD-TSNs name. Each unordered write on it was read exactly once, unless a call abandoned its message, let it expire, or the
-/// receiver dropped one of its chunks, which had not come.
+/// receiver dropped one of its chunks, which had not come. Where no message was lost so, each unordered DATA chunk that was made was read.
 pub fn whatever_is_called_what_is_unordered_is_read_in_the_end()
     ensures writes { AfterEachAnyOfLost IsUnorderedReadInTheEnd }
+    ensures chunks { AfterEachAnyOfLost IsUnorderedSentReadInTheEnd }
 {}
 
 /// On a stream that goes on, each unordered DATA chunk that was taken was read, is held, or is one that a FORWARD-TSN passed, and counts once in
