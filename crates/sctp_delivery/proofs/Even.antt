@@ -1,30 +1,29 @@
 -- On a stream that goes on: of unordered chunks, how many were taken, read, are held or are lost, whatever the receiver is called for.
 use Rattle.sctp_delivery.proofs.Names.{◌≡◌, ℕ, ◌+◌, ◌≤◌, Bool, true, false, not, List, [], ◌∷◌, ◌++◌, Option, Some, None, refl, ap, sym, subst, ◌∙◌, arith, ⊤}
-use Rattle.sctp_delivery.proofs.Names.{if◌then◌else◌, ◌==◌, option_map, option_or, filter, list_any, sum_by, sum_by-cons, sum_by-append, sum_by-inserted}
-use Rattle.sctp_delivery.proofs.Names.{find-append, insert_before, at_or_before, comes_before16, after_leading, cannot_complete, is_passed}
+use Rattle.sctp_delivery.proofs.Names.{if◌then◌else◌, ◌==◌, option_map, filter, list_any, sum_by, sum_by-cons, sum_by-append, sum_by-inserted}
+use Rattle.sctp_delivery.proofs.Names.{insert_before, at_or_before, comes_before16, after_leading, cannot_complete, is_passed}
 use Rattle.sctp_delivery.proofs.Names.{ChunkPayloadData, ChunkSet, New, Pushes, PushesAs, Reassembly, ReassemblyState, sets_with}
-use Rattle.sctp_delivery.proofs.Names.{InboundStream, new_stream, stream_read, skipped_each, ssns_of, Accepts, Reception, stream_of, Stand}
+use Rattle.sctp_delivery.proofs.Names.{InboundStream, new_stream, skipped_each, ssns_of, Accepts, Reception, stream_of, Stand}
 use Rattle.sctp_delivery.proofs.Names.{fragments_read, held_weight, set_weight, weight, has_tsn, has_ssn, is_on, held_after_unordered_skip}
-use Rattle.sctp_delivery.proofs.Names.{same-is, has_come, filter_of, with_filter, with_tsn, after_forward_tsn}
+use Rattle.sctp_delivery.proofs.Names.{has_come, filter_of, with_filter, with_tsn, after_forward_tsn}
 use Rattle.sctp_receiver.specs.Inbound.{stream_forwarded, unassembled_forwarded}
-use Rattle.sctp_receiver.specs.Receiver.{open_stream, repeat_tsn}
+use Rattle.sctp_receiver.specs.Receiver.{repeat_tsn}
 use Rattle.sctp_receiver.specs.Skips.{incomplete_forwarded}
-use Rattle.sctp_delivery.proofs.Names.{rest_read, message_on, new_set, set_before, chunk_before, ForwardTsn, is_stale}
+use Rattle.sctp_delivery.proofs.Names.{rest_read, new_set, set_before, chunk_before, ForwardTsn, is_stale}
 use Rattle.sctp_reassembly.specs.reassembly_queue.Fragments.{with_chunk}
 use Rattle.sctp_reassembly.specs.reassembly_queue.ReassemblyQueue.{after_ordered_skip}
 use Rattle.sctp_reassembly.specs.reassembly_queue.Skips.{held_after_incomplete_skip}
-use Rattle.sctp_receiver.specs.Inbound.{has_number, numbers_of}
-use Rattle.sctp_receiver.specs.Receiver.{after_read as after_reading, message_of}
+use Rattle.sctp_receiver.specs.Inbound.{numbers_of}
 use Rattle.sctp_receiver.specs.ReceiverRuns as receiver_runs
 use Rattle.sctp_receiver.specs.Resets.{stream_reset}
 use Rattle.sctp_receiver.proofs.Closed.{others-left}
-use Rattle.sctp_receiver.proofs.Handed.{read-more, taken-more}
 use Rattle.sctp_receiver.proofs.StreamCosts.{are_apart}
 use Rattle.sctp_receiver.proofs.Weights as weights
 use Rattle.sctp_receiver.proofs.Weights.{message_weight}
 use Rattle.sctp_delivery.proofs.Cases.{at-if, at-test, by-test}
 use Rattle.sctp_delivery.proofs.Every.{Every, every-inserted, every-joined, every-of, every-passing}
-use Rattle.sctp_delivery.proofs.Kept.{accepted-on, changed-elsewhere, changed-here}
+use Rattle.sctp_delivery.proofs.Kept as streams
+use Rattle.sctp_delivery.proofs.Kept.{IsSo, changed-elsewhere}
 use Rattle.sctp_delivery.proofs.KeptSets.{IsOrdered, IsUnordered, IsWhole, every-first, pushed-sets, read-sets}
 use Rattle.sctp_delivery.proofs.Unassembled.{each-leading, leading, leading-split}
 use Rattle.sctp_delivery.proofs.UnwrappedCalls.{found-after, stale-same}
@@ -111,9 +110,7 @@ module _ (st : ℕ) (P : ChunkPayloadData → Type 0) (L : Reassembly → Type 0
   pub record IsEven (s : Stand) : Type 0 where
     pub lost : List ChunkPayloadData
     pub spent : Every P lost
-    pub weighs : (w : ChunkPayloadData → ℕ) → IsLight w → sum_by w (filter (is_on st) s.accepted)
-        ≡ sum_by w (fragments_read st s.read) + held_weight w (stream_of st s.receiver) + sum_by w lost
-    pub sorted : Sorted (stream_of st s.receiver)
+    pub so : IsSo st IsLight Sorted lost s
 
   -- ## A chunk is taken
 
@@ -166,89 +163,24 @@ module _ (st : ℕ) (P : ChunkPayloadData → Type 0) (L : Reassembly → Type 0
       abbrev now : Option InboundStream
       now = stream_of st new.receiver
 
-      -- no chunk is taken or read, and as much is held
-      quiet : new.accepted ≡ old.accepted → new.read ≡ old.read
-          → ((w : ChunkPayloadData → ℕ) → held_weight w now ≡ held_weight w (stream_of st r)) × Sorted now → IsEven new
-      quiet a e same = record {
-        lost = i.lost;
-        spent = i.spent;
-        weighs = λ w h.
-            omega (arith, i.weighs w h, ap (λ cs. sum_by w (filter (is_on st) cs)) a, ap (λ ms. sum_by w (fragments_read st ms)) e, same.0 w);
-        sorted = same.1;
-      }
+      -- what is lost stays so
+      made-of : IsSo st IsLight Sorted i.lost new → IsEven new
+      made-of x = record { lost = i.lost; spent = i.spent; so = x }
 
       still : new.accepted ≡ old.accepted → new.read ≡ old.read → now ≡ stream_of st r → IsEven new
-      still a e same = quiet a e (λ w. ap (held_weight w) same, subst Sorted (sym same) i.sorted)
-
-      opened : (stream : ℕ) → new.receiver ≡ open_stream stream r → new.accepted ≡ old.accepted → new.read ≡ old.read → IsEven new
-      opened stream f a e =
-          let x = new_stream stream r.max_message_size in
-          quiet a e (subst (λ o. ((w : ChunkPayloadData → ℕ) → held_weight w o ≡ held_weight w (stream_of st r)) × Sorted o)
-          (sym (ap (stream_of st) f ∙ find-append (has_number st) r.streams (x ∷ []))) (by (stream_of st r) (stream == st) i.sorted))
-        where
-          by : (o : Option InboundStream) (b : Bool) → Sorted o → ((w : ChunkPayloadData → ℕ)
-              → held_weight w (option_or o (if b then Some (new_stream stream r.max_message_size) else None)) ≡ held_weight w o)
-              × Sorted (option_or o (if b then Some (new_stream stream r.max_message_size) else None))
-          by None true h = (λ w. omega arith, (tt, kept.fresh stream r.max_message_size))
-          by None false h = (λ w. refl, h)
-          by (Some l) b h = (λ w. refl, h)
+      still a e same = made-of (streams.still st IsLight Sorted i.lost old new i.so a e same)
 
       taken : (c : ChunkPayloadData) (said : Bool) → Puts c said (stream_of st r) → Accepts c said r new.receiver → new.accepted ≡ c ∷ old.accepted
           → new.read ≡ old.read → IsEven new
-      taken c said put acc a e = record {
-        lost = i.lost;
-        spent = i.spent;
-        weighs = λ w h.
-            let m = more w h in
-            let t = taken-more w st c old.accepted (is_on st c) refl in
-            omega (arith, i.weighs w h, m, t, ap (λ cs. sum_by w (filter (is_on st) cs)) a, ap (λ ms. sum_by w (fragments_read st ms)) e);
-        sorted = accepted-on c said r new.receiver acc st Sorted (λ _. i.sorted)
-            (λ on there.
-            let h = subst Sorted there i.sorted in (
+      taken c said put acc a e = made-of (streams.taken st IsLight Sorted i.lost old new i.so c said acc (λ on there.
+          let h = subst Sorted there i.so.holds in
+          record {
+            weighs = λ w v. pushed-weighs c said acc.stream.queue acc.queue acc.pushed h.0 w v;
+            holds = (
               pushed-sorted c said acc.stream.queue acc.queue acc.pushed h.0,
               subst (Puts c said) there put on acc.queue acc.pushed h.1,
-            ));
-      }
-        where
-          more : (w : ChunkPayloadData → ℕ) → IsLight w → held_weight w now ≡ (if is_on st c then w c else 0) + held_weight w (stream_of st r)
-          more w h = accepted-on c said r new.receiver acc st (λ o. held_weight w o ≡ (if is_on st c then w c else 0) + held_weight w (stream_of st r))
-              (λ off. let z = ap (λ b. if b then w c else 0) off in omega (arith, z))
-              (λ on there.
-              let z = ap (λ b. if b then w c else 0) on in
-              let x = pushed-weighs c said acc.stream.queue acc.queue acc.pushed (subst Sorted there i.sorted).0 w h in
-              omega (arith, z, x, ap (held_weight w) there))
-
-      reads : (stream : ℕ) → new.receiver ≡ after_reading stream r → new.accepted ≡ old.accepted
-          → new.read ≡ receiver_runs.with_message stream (message_on stream r) old.read → IsEven new
-      reads stream f a e = record {
-        lost = i.lost;
-        spent = i.spent;
-        weighs = λ w h.
-            let l = less.0 w in
-            let m = read-more w st stream (message_on stream r) old.read in
-            omega (arith, i.weighs w h, l, m, ap (λ cs. sum_by w (filter (is_on st) cs)) a, ap (λ ms. sum_by w (fragments_read st ms)) e);
-        sorted = less.1;
-      }
-        where
-          Less : Bool → Option InboundStream → Type 0
-          Less b o = ((w : ChunkPayloadData → ℕ) → (if b then message_weight w (message_on stream r) else 0) + held_weight w o ≡ held_weight w (stream_of st r))
-              × Sorted o
-
-          here : (o : Option InboundStream) → Sorted o
-              → ((w : ChunkPayloadData → ℕ) → message_weight w (message_of o) + held_weight w (option_map stream_read o) ≡ held_weight w o)
-              × Sorted (option_map stream_read o)
-          here None h = (λ w. omega arith, tt)
-          here (Some l) h = (λ w. weights.read w l.queue.held, (read-sets (λ (x : ChunkSet). Every IsOrdered x.chunks) l.queue.held h.0, kept.read l.queue.held h.1))
-
-          by : (b : Bool) → (stream == st) ≡ b → Less b (stream_of st (after_reading stream r))
-          by false g = subst (Less false) (sym (changed-elsewhere stream stream_read (λ l h. refl) r.streams st g)) (λ w. omega arith, i.sorted)
-          by true g =
-              let h = here (stream_of st r) i.sorted in
-              subst (Less true) (sym (changed-here stream stream_read (λ l k. refl) r.streams st g))
-              (λ w. let x = h.0 w in let m = ap (λ n. message_weight w (message_of (stream_of n r))) (same-is stream st g) in omega (arith, x, m), h.1)
-
-          less : Less (stream == st) now
-          less = subst (λ (q : Reception). Less (stream == st) (stream_of st q)) (sym f) (by (stream == st) refl)
+            );
+          }) a e)
 
       -- a FORWARD-TSN comes
       module _ (g : ForwardTsn) where
@@ -269,7 +201,7 @@ module _ (st : ℕ) (P : ChunkPayloadData → Type 0) (L : Reassembly → Type 0
                 → now ≡ option_map (λ l. incomplete_forwarded t (unassembled_forwarded t (stream_forwarded g.streams l))) o → IsEven new
             by None is to = still a e (to ∙ sym is)
             by (Some l) is to =
-                let h = subst Sorted is i.sorted in
+                let h = subst Sorted is i.so.holds in
                 let x = named (ssns_of l.queue.si g.streams) l.queue h.0 in
                 let q = (skipped_each (ssns_of l.queue.si g.streams) l.queue).held in
                 let after = every-passing (λ (s : ChunkSet). Every IsOrdered s.chunks) (λ s. not (cannot_complete t s)) q.ordered x.ordered in
@@ -277,37 +209,41 @@ module _ (st : ℕ) (P : ChunkPayloadData → Type 0) (L : Reassembly → Type 0
                   lost = leading goes l.queue.held.unassembled ++ i.lost;
                   spent = every-joined P (leading goes l.queue.held.unassembled) i.lost
                       (each-leading P goes l.queue.held.unassembled (subst (Leaves g) is left)) i.spent;
-                  weighs = λ w k.
-                      let none = sets-light w k _ after in
-                      let some = sets-light w k l.queue.held.ordered h.0 in
-                      let us = ap (sum_by (set_weight w)) x.unordered in
-                      let left = ap (λ xs. sum_by w (after_leading goes xs)) x.unassembled in
-                      omega (
-                        arith,
-                        i.weighs w k,
-                        ap (λ cs. sum_by w (filter (is_on st) cs)) a,
-                        ap (λ ms. sum_by w (fragments_read st ms)) e,
-                        ap (held_weight w) to,
-                        ap (held_weight w) is,
-                        none,
-                        some,
-                        us,
-                        left,
-                        leading-split goes w l.queue.held.unassembled,
-                        sum_by-append w (leading goes l.queue.held.unassembled) i.lost,
-                      );
-                  sorted = subst Sorted (sym to) (
-                    after,
-                    kept.alike (held_after_unordered_skip t q) (held_after_incomplete_skip t (held_after_unordered_skip t q)) refl refl
-                        (kept.left t q (kept.alike l.queue.held q x.unordered x.unassembled h.1)),
-                  );
+                  so = record {
+                    weighs = λ w k.
+                        let none = sets-light w k _ after in
+                        let some = sets-light w k l.queue.held.ordered h.0 in
+                        let us = ap (sum_by (set_weight w)) x.unordered in
+                        let left = ap (λ xs. sum_by w (after_leading goes xs)) x.unassembled in
+                        omega (
+                          arith,
+                          i.so.weighs w k,
+                          ap (λ cs. sum_by w (filter (is_on st) cs)) a,
+                          ap (λ ms. sum_by w (fragments_read st ms)) e,
+                          ap (held_weight w) to,
+                          ap (held_weight w) is,
+                          none,
+                          some,
+                          us,
+                          left,
+                          leading-split goes w l.queue.held.unassembled,
+                          sum_by-append w (leading goes l.queue.held.unassembled) i.lost,
+                        );
+                    holds = subst Sorted (sym to) (
+                      after,
+                      kept.alike (held_after_unordered_skip t q) (held_after_incomplete_skip t (held_after_unordered_skip t q)) refl refl
+                          (kept.left t q (kept.alike l.queue.held q x.unordered x.unassembled h.1)),
+                    );
+                  };
                 }
 
     -- ## Each call
 
     pub step : (c : receiver_runs.Call) (old new : Stand) → are_apart (numbers_of old.receiver.streams) ≡ true → Fits c (stream_of st old.receiver)
         → receiver_runs.Follows c old new → IsEven old → IsEven new
-    step (receiver_runs.opens stream) old new apart k f i = opened old new i stream f.receiver.1 f.accepted f.read
+    step (receiver_runs.opens stream) old new apart k f i =
+        made-of old new i (streams.opened st IsLight Sorted i.lost old new i.so stream f.receiver.1 f.accepted f.read
+        (λ e. (tt, kept.fresh stream old.receiver.max_message_size)))
     step (receiver_runs.closes s) old new apart k f i =
         still old new i f.accepted f.read (ap (stream_of st) f.receiver ∙ others-left s st k old.receiver.streams apart)
     step (receiver_runs.resets s last) old new apart k f i =
@@ -317,7 +253,10 @@ module _ (st : ℕ) (P : ChunkPayloadData → Type 0) (L : Reassembly → Type 0
         still old new i f.accepted f.read (ap (stream_of st) f.receiver
         ∙ at-test (λ b. stream_of st (if b then repeat_tsn t old.receiver else with_filter (with_tsn t (filter_of old.receiver)) old.receiver)
         ≡ stream_of st old.receiver) (has_come t (filter_of old.receiver)) (λ e. refl) (λ e. refl))
-    step (receiver_runs.reads stream) old new apart k f i = reads old new i stream f.receiver f.accepted f.read
+    step (receiver_runs.reads stream) old new apart k f i =
+        made-of old new i (streams.reads st IsLight Sorted i.lost old new i.so stream f.receiver f.accepted f.read (λ l e.
+        let h = subst Sorted e i.so.holds in
+        (read-sets (λ (x : ChunkSet). Every IsOrdered x.chunks) l.queue.held h.0, kept.read l.queue.held h.1)))
     step (receiver_runs.forwards g) old new apart k f i = forwards old new i g k f.receiver f.accepted f.read
     step (receiver_runs.forwards_by_names g) old new apart k f i = absurd k
     step c old new apart k f i = still old new i f.accepted f.read (ap (stream_of st) f.receiver)
@@ -328,8 +267,7 @@ pub even-of : (st : ℕ) (P Q : ChunkPayloadData → Type 0) (L M : Reassembly �
 even-of st P Q L M s f g i = record {
   lost = i.lost;
   spent = every-of P Q f i.lost i.spent;
-  weighs = i.weighs;
-  sorted = by (stream_of st s.receiver) i.sorted;
+  so = record { weighs = i.so.weighs; holds = by (stream_of st s.receiver) i.so.holds };
 }
   where
     by : (o : Option InboundStream) → Sorted st P L o → Sorted st Q M o

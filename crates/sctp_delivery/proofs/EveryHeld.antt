@@ -117,12 +117,12 @@ module _ (st : ℕ) where
 pub even : AfterEachAny (λ cs s. (st : ℕ) → is_unbroken cs st ≡ true → IsEvenBut st s.made s.receiving)
 even reported first size max most limits cs s r st on =
     even-run st false cs (at_start_with reported first size max most limits) s r on refl
-    (record { lost = []; spent = tt; weighs = λ w h. omega arith; sorted = tt })
+    (record { lost = []; spent = tt; so = record { weighs = λ w h. omega arith; holds = tt } })
 
 pub held-or-read : AfterEachAny IsUnorderedHeldReadOrPassed
 held-or-read reported first size max most limits cs s r st on =
     let x = even reported first size max most limits cs s r st on in (
       x.lost,
       all-of-every (λ c. was_passed c.tsn s ≡ true) x.lost x.spent,
-      λ w h. omega (arith, x.weighs w h, held-weighs w (stream_of st s.receiving.receiver)),
+      λ w h. omega (arith, x.so.weighs w h, held-weighs w (stream_of st s.receiving.receiver)),
     )

@@ -220,7 +220,7 @@ pub told-first : (st first size max most : ℕ) (limits : Option Limits) (gone :
 told-first st first size max most limits gone small = record {
   known = record { place = 0; within = omega arith; is = omega (arith, small); so_far = λ k pos le. absurd (omega (arith, pos, le)); each = tt };
   passing = tt;
-  even = record { lost = []; spent = tt; weighs = λ w h. omega arith; sorted = tt };
+  even = record { lost = []; spent = tt; so = record { weighs = λ w h. omega arith; holds = tt } };
 }
 
 -- what was read on a stream whose numbers go on
@@ -337,7 +337,7 @@ module _ (on dropped : ℕ → Bool) (st first n : ℕ) (few : n < 2 ^ 31) (old 
     joined = i.holds.held.stands.queued.joined
 
     neat-of : (l : InboundStream) → o ≡ Some l → IsNeat p n l.queue.held
-    neat-of l found = (subst (held.Sorted st (IsGone gone sent) (IsNeat p n)) found h.even.sorted).1
+    neat-of l found = (subst (held.Sorted st (IsGone gone sent) (IsNeat p n)) found h.even.so.holds).1
 
     -- of a TSN that was not taken no unordered fragment is unassembled
     fresh : (t : ℕ) → list_any (has_tsn t) old.receiving.accepted ≡ false → (l : InboundStream) → o ≡ Some l
@@ -347,7 +347,7 @@ module _ (on dropped : ℕ → Bool) (st first n : ℕ) (few : n < 2 ^ 31) (old 
         let z = none-count t old.receiving.accepted off in
         let fewer = read_once.fewer t (is_on st) old.receiving.accepted in
         let less = lonely-less v (filter (is_on st) old.receiving.accepted) in
-        let law = h.even.weighs (lonely v) (lonely-light v) in
+        let law = h.even.so.weighs (lonely v) (lonely-light v) in
         let is = ap (held_weight (lonely v)) found in
         let x = lonely-kind v l.queue.held.unassembled (neat-of l found).rest.kinds in
         count-none t l.queue.held.unassembled (omega (arith, z, fewer, less, law, is, x))
@@ -529,7 +529,7 @@ module _ (on dropped : ℕ → Bool) (st first n : ℕ) (few : n < 2 ^ 31) (old 
             by (Some l) e =
                 let q = l.queue.held in
                 let v = one t in
-                let h' = subst (held.Sorted st (IsGone gone sent) (IsNeat p n)) e h.even.sorted in
+                let h' = subst (held.Sorted st (IsGone gone sent) (IsNeat p n)) e h.even.so.holds in
                 let empty = ap (λ us. sum_by (set_weight (lonely v)) us) (none-complete q (unread-of st r.streams l unread e)) in
                 let left : sum_by v q.unassembled ≤ 0 = elim (cases_lt 0 (sum_by v q.unassembled)) [
                   | inl lt ↦

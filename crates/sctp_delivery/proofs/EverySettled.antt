@@ -109,7 +109,7 @@ module _ (first n : ℕ) (few : n < 2 ^ 31) (on dropped : ℕ → Bool) (s : Ses
       let x = found-read st d.tsn s.receiving.read (omega (
         arith,
         some,
-        even.weighs w (lonely-light (one d.tsn)),
+        even.so.weighs w (lonely-light (one d.tsn)),
         more,
         held-weighs w (stream_of st s.receiving.receiver),
         held,

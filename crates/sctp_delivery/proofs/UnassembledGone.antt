@@ -70,8 +70,7 @@ module _ (ws : List Numbered) (first : ℕ) (sent : List Entry) (line : IsLine w
   light = record {
     lost = k.lost;
     spent = every-of (IsPassedBy gone sent s.made) (IsGone gone sent) (λ c g. g.0) k.lost k.of-gone;
-    weighs = λ w h. k.weighs w;
-    sorted = by (stream_of st s.receiving.receiver) k.holds;
+    so = record { weighs = λ w h. k.weighs w; holds = by (stream_of st s.receiving.receiver) k.holds };
   }
     where
       by : (o : Option InboundStream) → HeldWell first sent st n a (IsLate first sent st s.receiving.receiver.cumulative_tsn s.receiving.receiver.beyond) o

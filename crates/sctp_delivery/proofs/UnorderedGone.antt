@@ -227,7 +227,7 @@ module _ (ws : List Numbered) (first : ℕ) (sent : List Entry) (line : IsLine w
     pub law : taken-on t ≡ R t + held_weight (lonely (one t)) (stream_of st s.receiving.receiver) + sum_by (one t) k.lost
     law = omega (
       arith,
-      k.weighs (lonely (one t)) (lonely-light (one t)),
+      k.so.weighs (lonely (one t)) (lonely-light (one t)),
       owns (filter (is_on st) s.receiving.accepted) (every-passing Was (is_on st) s.receiving.accepted was-taken),
       owns (fragments_read st s.receiving.read) (was-read s.receiving.read whole),
       owns k.lost (every-of (IsGone gone sent) Was (λ c g. (g.1, g.2.after, g.2.entries, g.2.part)) k.lost k.spent),
@@ -246,7 +246,7 @@ module _ (ws : List Numbered) (first : ℕ) (sent : List Entry) (line : IsLine w
     A t = sum_by (one t) q.unassembled
 
     held : AreOrdered q.ordered × IsNeat p n q
-    held = subst (Sorted st (IsGone gone sent) (IsNeat p n)) found k.sorted
+    held = subst (Sorted st (IsGone gone sent) (IsNeat p n)) found k.so.holds
 
     neat : IsNeat p n q
     neat = held.1
@@ -258,7 +258,7 @@ module _ (ws : List Numbered) (first : ℕ) (sent : List Entry) (line : IsLine w
         let v = sessions.fails (sessions.made_among s.made) in
         let z = sessions.none-fails (sessions.made_among s.made) (is_on st) s.receiving.accepted made in
         let less = lonely-less v (filter (is_on st) s.receiving.accepted) in
-        let law = k.weighs (lonely v) (lonely-light v) in
+        let law = k.so.weighs (lonely v) (lonely-light v) in
         let is = ap (held_weight (lonely v)) found in
         let x = lonely-kind v q.unassembled neat.rest.kinds in
         let y = lonely-sets v q.unordered neat.rest.whole in
