@@ -99,12 +99,15 @@ at-later gone more a sent xs (inr x) y h = subst (λ zs. gone_at more zs y ≡ t
 
 -- ## What is known of a TSN: it was taken, or is of a message that is gone
 
+abbrev pub place_in : ℕ → ℕ → ℕ
+place_in first t = distance (tsn (base first) 0) t
+
 abbrev pub known_so : ℕ → List ℕ → List Entry → Session → ℕ → Bool
-known_so p gone sent s t = was_taken t s || gone_at gone sent (distance (tsn p 0) t)
+known_so first gone sent s t = was_taken t s || gone_at gone sent (place_in first t)
 
 module _ (ws : List Numbered) (first : ℕ) (sent : List Entry) (line : IsLine ws first sent) (n : ℕ) (long : length sent ≡ n) (few : n < 2 ^ 31)
     (gone : List ℕ) (s : Session) where
-  place-of : (k : ℕ) → k ≤ n → distance (tsn (base first) 0) (tsn (base first) k) ≡ k
+  place-of : (k : ℕ) → k ≤ n → place_in first (tsn (base first) k) ≡ k
   place-of k le = distance-tsn (base first) 0 k (omega arith) (omega (arith, le, few)) ∙ (let e : k - 0 ≡ k = omega arith in e)
 
   number : (d : Data) (w : Numbered) (after : List ℕ) (xs : List Entry) → IsPart (fragment d w after ∷ xs) sent
@@ -114,7 +117,7 @@ module _ (ws : List Numbered) (first : ℕ) (sent : List Entry) (line : IsLine w
     let l = part-length sent (fragment d w after ∷ xs) q in omega (arith, l, long),
   )
 
-  gone-of : (x : Entry) (xs : List Entry) → IsPart (x ∷ xs) sent → gone_at gone sent (distance (tsn (base first) 0) (tsn (base first) (length xs + 1))) ≡ is_gone_entry gone x
+  gone-of : (x : Entry) (xs : List Entry) → IsPart (x ∷ xs) sent → gone_at gone sent (place_in first (tsn (base first) (length xs + 1))) ≡ is_gone_entry gone x
   gone-of x xs q =
       let l = part-length sent (x ∷ xs) q in
       let plus : length xs + 1 ≡ length (x ∷ xs) = omega arith in
@@ -123,20 +126,22 @@ module _ (ws : List Numbered) (first : ℕ) (sent : List Entry) (line : IsLine w
 
   -- a fragment at a known place
   pub known-entry : (d : Data) (w : Numbered) (after : List ℕ) (xs : List Entry) → IsPart (fragment d w after ∷ xs) sent
-      → known_so (base first) gone sent s (tsn (base first) (length xs + 1)) ≡ true → (was_taken d.tsn s || is_gone gone w.place) ≡ true
+      → known_so first gone sent s (tsn (base first) (length xs + 1)) ≡ true → (was_taken d.tsn s || is_gone gone w.place) ≡ true
   known-entry d w after xs q e =
       let t = tsn (base first) (length xs + 1) in
-      elim (or-split (was_taken t s) (gone_at gone sent (distance (tsn (base first) 0) t)) e) [
+      elim (or-split (was_taken t s) (gone_at gone sent (place_in first t)) e) [
         | inl h ↦ or-left (was_taken d.tsn s) (is_gone gone w.place) (ap (λ u. was_taken u s) (number d w after xs q).0 ∙ h)
         | inr h ↦ or-right (was_taken d.tsn s) (is_gone gone w.place) (sym (gone-of (fragment d w after) xs q) ∙ h)
       ]
 
   -- where all fragments up to a place were taken, or are gone
-  pub known-upto : (zs : List Entry) → IsPart zs sent → AreTakenOrGone gone s zs → (k : ℕ) → k ≤ length zs → known_so (base first) gone sent s (tsn (base first) k) ≡ true
+  pub known-upto : (zs : List Entry) → IsPart zs sent → AreTakenOrGone gone s zs → (k : ℕ) → k ≤ length zs
+      → known_so first gone sent s (tsn (base first) k) ≡ true
   known-upto [] q c k le =
       let zero' : k ≡ 0 = omega (arith, le) in
-      or-right (was_taken (tsn (base first) k) s) (gone_at gone sent (distance (tsn (base first) 0) (tsn (base first) k)))
-      (subst (λ j. gone_at gone sent (distance (tsn (base first) 0) (tsn (base first) j)) ≡ true) (sym zero') (ap (gone_at gone sent) (place-of 0 (omega arith)) ∙ at-zero sent))
+      or-right (was_taken (tsn (base first) k) s) (gone_at gone sent (place_in first (tsn (base first) k)))
+      (subst (λ j. gone_at gone sent (place_in first (tsn (base first) j)) ≡ true) (sym zero')
+      (ap (gone_at gone sent) (place-of 0 (omega arith)) ∙ at-zero sent))
     where
       at-zero : (xs : List Entry) → gone_at gone xs 0 ≡ true
       at-zero [] = refl
@@ -147,21 +152,22 @@ module _ (ws : List Numbered) (first : ℕ) (sent : List Entry) (line : IsLine w
     | inl lt ↦ known-upto zs (tail-part sent zs z q) (rest z c) k (omega (arith, lt))
     | inr ge ↦
         let it : length zs + 1 ≡ k = omega (arith, ge, le) in
-        subst (λ j. known_so (base first) gone sent s (tsn (base first) j) ≡ true) it (here z q c)
+        subst (λ j. known_so first gone sent s (tsn (base first) j) ≡ true) it (here z q c)
   ]
     where
       rest : (z : Entry) → AreTakenOrGone gone s (z ∷ zs) → AreTakenOrGone gone s zs
       rest terminal c = c
       rest (fragment d w after) c = c.1
 
-      here : (z : Entry) → IsPart (z ∷ zs) sent → AreTakenOrGone gone s (z ∷ zs) → known_so (base first) gone sent s (tsn (base first) (length zs + 1)) ≡ true
+      here : (z : Entry) → IsPart (z ∷ zs) sent → AreTakenOrGone gone s (z ∷ zs) → known_so first gone sent s (tsn (base first) (length zs + 1)) ≡ true
       here terminal q c =
-          or-right (was_taken (tsn (base first) (length zs + 1)) s) (gone_at gone sent (distance (tsn (base first) 0) (tsn (base first) (length zs + 1)))) (gone-of terminal zs q)
+          or-right (was_taken (tsn (base first) (length zs + 1)) s) (gone_at gone sent (place_in first (tsn (base first) (length zs + 1))))
+          (gone-of terminal zs q)
       here (fragment d w after) q c =
           let t = tsn (base first) (length zs + 1) in
           elim (or-split (was_taken d.tsn s) (is_gone gone w.place) c.0) [
-            | inl h ↦ or-left (was_taken t s) (gone_at gone sent (distance (tsn (base first) 0) t)) (ap (λ u. was_taken u s) (sym (number d w after zs q).0) ∙ h)
-            | inr h ↦ or-right (was_taken t s) (gone_at gone sent (distance (tsn (base first) 0) t)) (gone-of (fragment d w after) zs q ∙ h)
+            | inl h ↦ or-left (was_taken t s) (gone_at gone sent (place_in first t)) (ap (λ u. was_taken u s) (sym (number d w after zs q).0) ∙ h)
+            | inr h ↦ or-right (was_taken t s) (gone_at gone sent (place_in first t)) (gone-of (fragment d w after) zs q ∙ h)
           ]
 
 -- the message of a chunk in flight, by its TSN
@@ -179,10 +185,12 @@ flight-tells on first n sent long few a (c ∷ cs) total run placed d w after xs
   | inr ge ↦
       let at : a + 1 ≡ length xs + 1 = omega (arith, lt, ge) in
       let i = placed.0 in
-      let same = passing_calls.entry-at on first n sent long few c (a + 1) i r.0 (omega arith) (omega (arith, total)) (fragment d w after ∷ xs) q (omega (arith, at)) in
+      let same = passing_calls.entry-at on first n sent long few c (a + 1) i r.0 (omega arith) (omega (arith, total)) (fragment d w after ∷ xs) q
+      (omega (arith, at)) in
       let message : w.place ≡ c.message_id = own i.entry i.entries i.for' same in
       let there : has_tsn d.tsn c ≡ true = eq-eqb c.tsn d.tsn (r.0 ∙ ap (tsn (base first)) at ∙ sym is) in
-      subst (λ b. is_gone (map (λ (c : ChunkPayloadData). c.message_id) (if b then c ∷ filter (has_tsn d.tsn) cs else filter (has_tsn d.tsn) cs)) w.place ≡ true)
+      subst (λ b. is_gone (map (λ (c : ChunkPayloadData). c.message_id) (if b then c ∷ filter (has_tsn d.tsn) cs else filter (has_tsn d.tsn) cs))
+      w.place ≡ true)
       (sym there)
       (or-left (nat_eq w.place c.message_id) (is_gone (map (λ (c : ChunkPayloadData). c.message_id) (filter (has_tsn d.tsn) cs)) w.place)
       (subst (λ m. (w.place == m) ≡ true) message (same-yes w.place)))
@@ -199,7 +207,7 @@ flight-tells on first n sent long few a (c ∷ cs) total run placed d w after xs
 
 -- where these messages are gone
 pub record IsTold (st first n : ℕ) (gone : List ℕ) (s : Session) (sent : List Entry) : Type 0 where
-  pub known : IsArrived (base first) n (known_so (base first) gone sent s) s.receiving.receiver.cumulative_tsn s.receiving.receiver.beyond
+  pub known : IsArrived (base first) n (known_so first gone sent s) s.receiving.receiver.cumulative_tsn s.receiving.receiver.beyond
   pub passing : ArePassing (base first) gone s sent
   pub even : IsEven st (IsGone gone sent) (IsNeat (base first) n) s.receiving
 
@@ -207,7 +215,7 @@ pub record IsTold (st first n : ℕ) (gone : List ℕ) (s : Session) (sent : Lis
 pub told-beside : (st first n : ℕ) (gone : List ℕ) (s t : Session) (sent : List Entry) → t.receiving ≡ s.receiving → t.made ≡ s.made
     → IsTold st first n gone s sent → IsTold st first n gone t sent
 told-beside st first n gone s t sent same made h = record {
-  known = subst (λ (y : Stand). IsArrived (base first) n (λ u. list_any (has_tsn u) y.accepted || gone_at gone sent (distance (tsn (base first) 0) u))
+  known = subst (λ (y : Stand). IsArrived (base first) n (λ u. list_any (has_tsn u) y.accepted || gone_at gone sent (place_in first u))
       y.receiver.cumulative_tsn y.receiver.beyond) (sym same) h.known;
   passing = subst (Every (IsMadePassing (base first) gone t sent)) (sym made)
       (passing-later (base first) gone gone s t sent sent (λ m e. e) (λ k e. ap (λ (y : Stand). list_any (has_tsn k) y.accepted) same ∙ e) (inl refl) s.made
@@ -284,9 +292,10 @@ module _ (on dropped : ℕ → Bool) (st first n : ℕ) (few : n < 2 ^ 31) (old 
       let same : new.receiving ≡ old.receiving = ap (λ (s : Session). s.receiving) f.after in
       let before = passing-later p gone more old old sent sent later (λ k e. e) (inl refl) old.made h.passing in
       record {
-        known = subst (λ (y : Stand). IsArrived p m (λ u. list_any (has_tsn u) y.accepted || gone_at more x.more (distance (tsn p 0) u))
+        known = subst (λ (y : Stand). IsArrived p m (λ u. list_any (has_tsn u) y.accepted || gone_at more x.more (place_in first u))
             y.receiver.cumulative_tsn y.receiver.beyond) (sym same)
-            (more-arrived p n m (known_so p gone sent old) (known_so p more x.more old) r.cumulative_tsn r.beyond (omega arith) (grows x.more x.once) h.known);
+            (more-arrived p n m (known_so first gone sent old) (known_so first more x.more old) r.cumulative_tsn r.beyond (omega arith) (grows x.more x.once)
+            h.known);
         passing = subst (Every (IsMadePassing p more new x.more)) (sym (ap (λ (s : Session). s.made) f.after))
             (passing-later p more more old new sent x.more (λ k e. e) (λ k e. ap (λ (y : Stand). list_any (has_tsn k) y.accepted) same ∙ e) x.once
             (made_after call old.sending.sender old.made)
@@ -303,9 +312,9 @@ module _ (on dropped : ℕ → Bool) (st first n : ℕ) (few : n < 2 ^ 31) (old 
         | inr k ↦ or-right (was_taken d.tsn old) (is_gone more w.place) (later w.place k)
       ]
 
-      grows : (xs : List Entry) → IsOnceMore sent xs → (t : ℕ) → known_so p gone sent old t ≡ true → known_so p more xs old t ≡ true
+      grows : (xs : List Entry) → IsOnceMore sent xs → (t : ℕ) → known_so first gone sent old t ≡ true → known_so first more xs old t ≡ true
       grows xs once t e =
-          let y = distance (tsn p 0) t in
+          let y = place_in first t in
           elim (or-split (was_taken t old) (gone_at gone sent y) e) [
             | inl k ↦ or-left (was_taken t old) (gone_at more xs y) k
             | inr k ↦ or-right (was_taken t old) (gone_at more xs y) (at-later gone more later sent xs once y k)
@@ -383,7 +392,7 @@ module _ (on dropped : ℕ → Bool) (st first n : ℕ) (few : n < 2 ^ 31) (old 
 
     -- all up to a FORWARD-TSN is known
     passed-known : (g : ForwardTsn) → Contains old.made (forward_tsn g) → (v : IsGiven p n g.new_cumulative_tsn) (k : ℕ) → k ≤ v.place
-        → known_so p gone sent old (tsn p k) ≡ true
+        → known_so first gone sent old (tsn p k) ≡ true
     passed-known g in' v k le =
         let pass = every-contained (IsMadePassing p gone old sent) old.made (forward_tsn g) in' h.passing in
         let l = part-length sent pass.passed pass.part in
@@ -394,16 +403,17 @@ module _ (on dropped : ℕ → Bool) (st first n : ℕ) (few : n < 2 ^ 31) (old 
 
     module _ (new : Session) (apart : are_apart (numbers_of r.streams) ≡ true) where
       -- what is known stays so
-      stays : ((t : ℕ) → was_taken t old ≡ true → was_taken t new ≡ true) → (t : ℕ) → known_so p gone sent old t ≡ true → known_so p gone sent new t ≡ true
+      stays : ((t : ℕ) → was_taken t old ≡ true → was_taken t new ≡ true) → (t : ℕ) → known_so first gone sent old t ≡ true
+          → known_so first gone sent new t ≡ true
       stays grows t e =
-          let y = distance (tsn p 0) t in
+          let y = place_in first t in
           elim (or-split (was_taken t old) (gone_at gone sent y) e) [
             | inl k ↦ or-left (was_taken t new) (gone_at gone sent y) (grows t k)
             | inr k ↦ or-right (was_taken t new) (gone_at gone sent y) k
           ]
 
       after : new.made ≡ old.made → ((t : ℕ) → was_taken t old ≡ true → was_taken t new ≡ true)
-          → IsArrived p n (known_so p gone sent new) new.receiving.receiver.cumulative_tsn new.receiving.receiver.beyond
+          → IsArrived p n (known_so first gone sent new) new.receiving.receiver.cumulative_tsn new.receiving.receiver.beyond
           → IsEven st (IsGone gone sent) (IsNeat p n) new.receiving → IsTold st first n gone new sent
       after same grows known even = record {
         known = known;
@@ -421,26 +431,27 @@ module _ (on dropped : ℕ → Bool) (st first n : ℕ) (few : n < 2 ^ 31) (old 
       receiver-told call f =
           let grows = more-accepted call old new f in
           after (ap (λ (s : Session). s.made) f.after) grows
-          (hears p n (known_so p gone sent old) (known_so p gone sent new) old new few i.step.made (stays grows)
-          (λ t e. or-left (was_taken t new) (gone_at gone sent (distance (tsn p 0) t)) e) h.known call f
+          (hears p n (known_so first gone sent old) (known_so first gone sent new) old new few i.step.made (stays grows)
+          (λ t e. or-left (was_taken t new) (gone_at gone sent (place_in first t)) e) h.known call f
           (λ g in' same v k le. stays grows (tsn p k) (passed-known g in' v k le)))
-          (held.step st (IsGone gone sent) (IsNeat p n) (neat-kept p n few) (incoming.as_run call) old.receiving new.receiving apart (fits call f) f.step h.even)
+          (held.step st (IsGone gone sent) (IsNeat p n) (neat-kept p n few) (incoming.as_run call) old.receiving new.receiving apart (fits call f) f.step
+          h.even)
 
       -- where no chunk is taken
       quiet : (call : ReceiverOther) → ReceiverDoes call old new → new.receiving.accepted ≡ old.receiving.accepted
           → Fits st (IsGone gone sent) (IsNeat p n) (as_receiver_run call) o → (q : Reception) → new.receiving.receiver ≡ q
-          → IsArrived p n (known_so p gone sent old) q.cumulative_tsn q.beyond → IsTold st first n gone new sent
+          → IsArrived p n (known_so first gone sent old) q.cumulative_tsn q.beyond → IsTold st first n gone new sent
       quiet call f same fit q is arrived =
           let grows : (t : ℕ) → was_taken t old ≡ true → was_taken t new ≡ true = λ t e. ap (list_any (has_tsn t)) same ∙ e in
           after (ap (λ (s : Session). s.made) f.after) grows
-          (more-arrived p n n (known_so p gone sent old) (known_so p gone sent new) new.receiving.receiver.cumulative_tsn new.receiving.receiver.beyond
+          (more-arrived p n n (known_so first gone sent old) (known_so first gone sent new) new.receiving.receiver.cumulative_tsn new.receiving.receiver.beyond
           (omega arith) (stays grows)
-          (subst (λ (z : Reception). IsArrived p n (known_so p gone sent old) z.cumulative_tsn z.beyond) (sym is) arrived))
+          (subst (λ (z : Reception). IsArrived p n (known_so first gone sent old) z.cumulative_tsn z.beyond) (sym is) arrived))
           (held.step st (IsGone gone sent) (IsNeat p n) (neat-kept p n few) (as_receiver_run call) old.receiving new.receiving apart fit f.step h.even)
 
       -- a chunk that is dropped is of a message that is gone
       dropped-known : (c : ChunkPayloadData) → Contains old.made (data_chunk (data_of c)) → has_come c.tsn (filter_of r) ≡ false
-          → ((m : ℕ) → is_gone (dropped_by (discards c) old) m ≡ true → is_gone gone m ≡ true) → known_so p gone sent old c.tsn ≡ true
+          → ((m : ℕ) → is_gone (dropped_by (discards c) old) m ≡ true → is_gone gone m ≡ true) → known_so first gone sent old c.tsn ≡ true
       dropped-known c in' new' covers =
           let w = was-made (data_of c) in' in
           let num = number ns first sent line n i.long few gone old (data_of c) w.0 w.1 w.2 w.3 in
@@ -458,8 +469,8 @@ module _ (on dropped : ℕ → Bool) (st first n : ℕ) (few : n < 2 ^ 31) (old 
           (omega (arith, far, least)) (omega (arith, all, num.1)) in
           let dead = covers w.0.place (ap (λ b. is_gone (if b then [] else map (λ (d : ChunkPayloadData). d.message_id)
           (filter (has_tsn c.tsn) (flight_of old).queue.inflight.chunks)) w.0.place) new' ∙ tells) in
-          or-right (was_taken c.tsn old) (gone_at gone sent (distance (tsn p 0) c.tsn))
-          (ap (λ t. gone_at gone sent (distance (tsn p 0) t)) num.0 ∙ gone-of ns first sent line n i.long few gone old (fragment (data_of c) w.0 w.1) w.2 w.3
+          or-right (was_taken c.tsn old) (gone_at gone sent (place_in first c.tsn))
+          (ap (λ t. gone_at gone sent (place_in first t)) num.0 ∙ gone-of ns first sent line n i.long few gone old (fragment (data_of c) w.0 w.1) w.2 w.3
           ∙ dead)
 
       pub other-told : (opened : Bool) (call : ReceiverOther) → ReceiverDoes call old new → breaks opened st (of_receiving call) ≡ false
@@ -471,15 +482,15 @@ module _ (on dropped : ℕ → Bool) (st first n : ℕ) (few : n < 2 ^ 31) (old 
           (λ e.
           let given = every-contained (IsMadeGiven p n) old.made (data_chunk (data_of c)) f.handed i.step.made in
           quiet (discards c) f f.step.accepted tt (after_discard c.tsn r) f.step.receiver
-          (discard-arrived p n (known_so p gone sent old) r few c.tsn given h.known (dropped-known c f.handed e covers)))
+          (discard-arrived p n (known_so first gone sent old) r few c.tsn given h.known (dropped-known c f.handed e covers)))
       other-told opened (closes_incoming stream) f off covers =
           quiet (closes_incoming stream) f f.step.accepted off (close_stream stream r) f.step.receiver h.known
       other-told opened (resets_incoming stream last) f off covers =
           quiet (resets_incoming stream last) f f.step.accepted off (reset_stream stream last r) f.step.receiver h.known
       other-told opened (passes_over g) f off covers =
           quiet (passes_over g) f f.step.accepted (leaves g f.handed) (after_forward_tsn g r) f.step.receiver
-          (follows-arrived p n (known_so p gone sent old) (known_so p gone sent old) old old few i.step.made (λ t e. e)
-          (λ t e. or-left (was_taken t old) (gone_at gone sent (distance (tsn p 0) t)) e) h.known g f.handed (passed-known g f.handed))
+          (follows-arrived p n (known_so first gone sent old) (known_so first gone sent old) old old few i.step.made (λ t e. e)
+          (λ t e. or-left (was_taken t old) (gone_at gone sent (place_in first t)) e) h.known g f.handed (passed-known g f.handed))
 
     -- ## In the end: nothing is in flight, no message is partially sent, and nothing is to be read
 
@@ -534,7 +545,8 @@ module _ (on dropped : ℕ → Bool) (st first n : ℕ) (few : n < 2 ^ 31) (old 
                 let left : sum_by v q.unassembled ≤ 0 = elim (cases_lt 0 (sum_by v q.unassembled)) [
                   | inl lt ↦
                       let le = within in
-                      absurd (unordered_gone.none-alive ns first sent line joined n i.long few gone cut old was-made made i.step.taken.apart st whole h.even l e sent
+                      absurd (unordered_gone.none-alive ns first sent line joined n i.long few gone cut old was-made made i.step.taken.apart st whole h.even l e
+                      sent
                       (part-itself sent) (ends (omega (arith, le))) all-came y d w it (omega (arith, le, i.long)) kind alive lt)
                   | inr ge ↦ ge
                 ] in
@@ -548,9 +560,11 @@ module _ (on dropped : ℕ → Bool) (st first n : ℕ) (few : n < 2 ^ 31) (old 
 
         pub ended-read : IsReadOn st d old.receiving.read
         ended-read =
-            let on' = unordered_gone.taken-there ns first sent line joined n i.long few gone cut old was-made made i.step.taken.apart st whole h.even y d w it there taken in
+            let on' = unordered_gone.taken-there ns first sent line joined n i.long few gone cut old was-made made i.step.taken.apart st whole h.even y d w
+            it there taken in
             let law = unordered_gone.law ns first sent line joined n i.long few gone cut old was-made made i.step.taken.apart st whole h.even y d w it kind in
-            let none = unordered_gone.none-lost ns first sent line joined n i.long few gone cut old was-made made i.step.taken.apart st whole h.even y d w it alive in
+            let none = unordered_gone.none-lost ns first sent line joined n i.long few gone cut old was-made made i.step.taken.apart st whole h.even y d w
+            it alive in
             let x = found-read st t old.receiving.read (omega (arith, on', law, none, none-held)) in
             let gave = (every-contained (IsWholeOn sent st) old.receiving.read x.0 x.1 whole x.2).2 in
             let was = every-contained (λ (c : ChunkPayloadData). WasSent sent (data_of c)) x.0.fragments x.3 x.4 gave in

@@ -631,7 +631,8 @@ module _ (reported : Reported) (first size max most : ℕ) (limits : Option Limi
   -- no way from the TSN that is next to itself
   pub same-way : distance (next_tsn s) (next_tsn s) ≡ 0
   same-way =
-      no-way (next_tsn s) (small-next first (every (is_steady cs) (was_dropped cs) (is_unbroken cs) (Some others) (steady-there false cs) first) s.sending.sender s n gone
+      no-way (next_tsn s) (small-next first (every (is_steady cs) (was_dropped cs) (is_unbroken cs) (Some others) (steady-there false cs) first)
+      s.sending.sender s n gone
       modes few beside)
 
   -- what `acked` makes of the sender is two calls

@@ -555,7 +555,8 @@ module _ (on dropped calm : ℕ → Bool) (lost : Option (List ℕ)) (sub : (st 
               beside-played d e n gone m refl refl refl i spread
               (λ st c. other-answered st first on dropped (sub st c) n d i.numbered i.sent i.spread few e (opened st)
               (λ o. subst (λ (y : receiver_runs.Stand). is_open st y.receiver ≡ true) (sym x.receiving) (ready.open' st c o))
-              (subst (λ (y : receiver_runs.Stand). are_apart (numbers_of y.receiver.streams) ≡ true) (sym x.receiving) ready.apart) call f' (unbroken st c) spread
+              (subst (λ (y : receiver_runs.Stand). are_apart (numbers_of y.receiver.streams) ≡ true) (sym x.receiving) ready.apart) call f'
+              (unbroken st c) spread
               (i.answered st c))
               (λ st c none. other-up st first on dropped (sub st c) n d i.numbered i.sent i.spread few e (i.answered st c).0 (i.up st c none) (opened st)
               (subst (λ (y : receiver_runs.Stand). are_apart (numbers_of y.receiver.streams) ≡ true) (sym x.receiving) ready.apart) call f' (unbroken st c)

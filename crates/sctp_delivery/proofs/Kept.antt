@@ -259,7 +259,8 @@ kept-on call old new st reliable made apart f k =
     other (incoming.follows g) e = absurd (not_both e)
     other call e = tt
 
-    put : (c : ChunkPayloadData) (said : Bool) (f : ReceiverFollows (incoming.takes c (New said)) old new) → Puts st AnyWeight InTurn [] old.receiving new.receiving k c said f.step.receiver
+    put : (c : ChunkPayloadData) (said : Bool) (f : ReceiverFollows (incoming.takes c (New said)) old new)
+        → Puts st AnyWeight InTurn [] old.receiving new.receiving k c said f.step.receiver
     put c said f on there =
         let a = f.step.receiver in
         let short : IsShort c = every-contained IsShortMade old.made (data_chunk (data_of c)) f.handed made in

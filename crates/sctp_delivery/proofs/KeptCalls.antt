@@ -381,7 +381,8 @@ module _ (first n : ℕ) (few : n < 2 ^ 31) (old new : Session) (ns : List Numbe
     passed-by : (call : ReceiverCall) → IsOther call → ReceiverFollows call old new → Passed k.lost new.receiving
     passed-by call o f =
         let floor = k.floor.floor in
-        passed-still call f k (after-call st AnyWeight Past k.lost old new (record { weighs = λ w v. k.weighs w; holds = k.floor.past }) call o f (λ stream e. tt) put-past
+        passed-still call f k (after-call st AnyWeight Past k.lost old new (record { weighs = λ w v. k.weighs w; holds = k.floor.past }) call o f
+        (λ stream e. tt) put-past
         (λ l e. subst (Every Later) (sym (read-unassembled l.queue.held)) (subst Past e k.floor.past))).holds
         (hears p n (known_past first sent st floor old.receiving) (known_past first sent st floor new.receiving) old new few i.spread.step.made
         (known-more call f floor floor (omega arith)) (known-taken floor) k.floor.arrived call f (λ g in' same. absurd (subst IsOther same o)))

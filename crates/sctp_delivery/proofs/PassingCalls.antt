@@ -155,7 +155,8 @@ placed-each on first sent cs k = every-of (IsKnownOn on first sent) (IsPlacedOn 
 
 module _ (on : ℕ → Bool) (first n : ℕ) (sent : List Entry) (long : length sent ≡ n) (few : n < 2 ^ 31) where
   -- the entry of a chunk is the last of as many entries
-  pub entry-at : (c : ChunkPayloadData) (place : ℕ) (i : IsPlacedOn on first sent c) → c.tsn ≡ tsn (base first) place → 0 < place → place ≤ n → (ys : List Entry)
+  pub entry-at : (c : ChunkPayloadData) (place : ℕ) (i : IsPlacedOn on first sent c) → c.tsn ≡ tsn (base first) place → 0 < place → place ≤ n
+      → (ys : List Entry)
       → IsPart ys sent → length ys ≡ place → i.entry ∷ i.entries ≡ ys
   entry-at c place i is some le ys p same =
       same-parts sent (i.entry ∷ i.entries) ys i.part p (omega (arith, part-length sent (i.entry ∷ i.entries) i.part, is, some, le, same, long, few))

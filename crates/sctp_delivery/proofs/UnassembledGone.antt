@@ -30,7 +30,8 @@ inner-none : (c : ChunkPayloadData) (cs : List ChunkPayloadData) → AreInner c 
 inner-none c [] a u = tt
 inner-none c (d ∷ ds) a u = (fails d.beginning_fragment (λ b. not_both (sym (a.0 b).0 ∙ u.0)), inner-none d ds a.1 u.1)
 
-singles : (ss : List ChunkSet) → list_all (λ (x : ChunkSet). is_one_message x.chunks) ss ≡ true → Every IsWhole ss → Every (λ (x : ChunkSet). OnlyFirst x.chunks) ss
+singles : (ss : List ChunkSet) → list_all (λ (x : ChunkSet). is_one_message x.chunks) ss ≡ true → Every IsWhole ss
+    → Every (λ (x : ChunkSet). OnlyFirst x.chunks) ss
 singles [] o w = tt
 singles (x ∷ xs) o w =
     let b = both (is_one_message x.chunks) (list_all (λ (x : ChunkSet). is_one_message x.chunks) xs) o in

@@ -390,7 +390,8 @@ module _ (ws : List Numbered) (first : ℕ) (sent : List Entry) (line : IsLine w
       end : EndsAt sent m
       end = (passed, part, refl, ends)
 
-      pub none-alive : (y : ℕ) (d : Data) (w : Numbered) → IsEntryAt sent y d w → y ≤ m → d.unordered ≡ true → is_gone gone w.place ≡ false → 0 < A (tsn p y) → ⊥
+      pub none-alive : (y : ℕ) (d : Data) (w : Numbered) → IsEntryAt sent y d w → y ≤ m → d.unordered ≡ true → is_gone gone w.place ≡ false
+          → 0 < A (tsn p y) → ⊥
       none-alive y d w i upto unordered alive here =
           let g = span-of ws first sent line joined f show m least end (λ v z. is_gone gone v.place ≡ false) (λ v z h. h)
           (λ z e v o b lt h. next-of ws first sent line joined z e v o b (omega (arith, lt, least))
