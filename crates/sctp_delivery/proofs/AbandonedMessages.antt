@@ -17,12 +17,12 @@ use Rattle.sctp_delivery.proofs.Cases.{all_streams}
 use Rattle.sctp_delivery.proofs.Every.{Every, every-changed, every-inserted, every-joined, every-left, every-of, every-passing, every-taken}
 use Rattle.sctp_delivery.proofs.PassedMessages.{AreCutGone, EndsGone, is_gone}
 use Rattle.sctp_delivery.proofs.Calls.{sent_by, numbered_after}
-use Rattle.sctp_delivery.proofs.Delivered.{Holds, HoldsOn}
+use Rattle.sctp_delivery.proofs.Delivered.{HoldsOn}
 use Rattle.sctp_delivery.proofs.Numbers.{number_of}
 use Rattle.sctp_delivery.proofs.Queues.{Abandons, IsEnded, Stands, StandsOn, abandoned, nowhere-none, IsOnceMore, started}
 use Rattle.sctp_delivery.proofs.SackSteps.{message-inflight, sack-next}
 use Rattle.sctp_delivery.proofs.Senders.{IsMoreBy}
-use Rattle.sctp_delivery.proofs.Sending.{Queued}
+use Rattle.sctp_delivery.proofs.Sending.{QueuedOn}
 use Rattle.sctp_delivery.proofs.Sent.{Entry, Numbered, fragment, terminal}
 use Rattle.sctp_delivery.proofs.ValidMarks.{IsUnmarked, IsValid, started-valid}
 use Rattle.sctp_delivery.proofs.Waiting.{between}
@@ -167,9 +167,10 @@ open-gone : (gone : List ℕ) (m : ℕ) (sent : List Entry) → is_gone gone m �
 open-gone gone m sent h4 h5 = grind (arith, nat_tests)
 
 -- the last entry is of the message that is partially sent
-partial-entry : (ws : List Numbered) (first : ℕ) (number : ℕ → ℕ) (q : Pending) (sent : List Entry) (m : ℕ) → Queued ws first number q sent
+partial-entry : (on : ℕ → Bool) (ws : List Numbered) (first : ℕ) (number : ℕ → ℕ) (q : Pending) (sent : List Entry) (m : ℕ)
+    → QueuedOn on ws first number q sent
     → partially_sent q ≡ Some m → EndsOpen m sent
-partial-entry ws first number q sent m h e = grind (arith, nat_tests, between, none-some, nowhere-none, some-same)
+partial-entry on ws first number q sent m h e = grind (arith, nat_tests, between, none-some, nowhere-none, some-same)
 
 -- where the next TSN stays, no entry is more
 ended-same : (first next : ℕ) (sent more : List Entry) → next ≡ (first + length sent) % 2 ^ 32 → next ≡ (first + length more) % 2 ^ 32
@@ -177,12 +178,12 @@ ended-same : (first next : ℕ) (sent more : List Entry) → next ≡ (first + l
 ended-same first next sent more a b (inl e) = e
 ended-same first next sent more a b (inr e) = let n = ap length e in absurd (omega (arith, a, b, n))
 
-module _ (gone : List ℕ) (ws : List Numbered) (first : ℕ) (number : ℕ → ℕ) (sent : List Entry) where
+module _ (on : ℕ → Bool) (gone : List ℕ) (ws : List Numbered) (first : ℕ) (number : ℕ → ℕ) (sent : List Entry) where
   -- the next TSN stays, or the last entry leaves off within a message that is gone
   abbrev EndsOrSame : Flight → Flight → Type 0
   EndsOrSame f g = (g.next_tsn ≡ f.next_tsn) ⊎ EndsGone gone sent
 
-  abandon-cut : (o : Option ℕ) (f : Flight) → Stands ws first number f.queue f.next_tsn sent
+  abandon-cut : (o : Option ℕ) (f : Flight) → StandsOn on ws first number f.queue f.next_tsn sent
       → ((m : ℕ) → o ≡ Some m → waits m f.queue.pending ≡ true → partially_sent f.queue.pending ≡ Some m)
       → ((m : ℕ) → o ≡ Some m → is_gone gone m ≡ true) → EndsOrSame f (after_abandonment o f)
   abandon-cut None f s partial g = inl refl
@@ -190,11 +191,11 @@ module _ (gone : List ℕ) (ws : List Numbered) (first : ℕ) (number : ℕ → 
     where
       by : (b : Bool) → waits m f.queue.pending ≡ b
           → ((if b then following_tsn f.next_tsn else f.next_tsn) ≡ f.next_tsn) ⊎ EndsGone gone sent
-      by true e = inr (open-gone gone m sent (g m refl) (partial-entry ws first number f.queue.pending sent m s.queued (partial m refl e)))
+      by true e = inr (open-gone gone m sent (g m refl) (partial-entry on ws first number f.queue.pending sent m s.queued (partial m refl e)))
       by false e = inl refl
 
   -- of one message after another
-  each-cut : (tsns : List ℕ) (f : Flight) → Stands ws first number f.queue f.next_tsn sent → AreAmong (numbers (leaving_each tsns f)) gone
+  each-cut : (tsns : List ℕ) (f : Flight) → StandsOn on ws first number f.queue f.next_tsn sent → AreAmong (numbers (leaving_each tsns f)) gone
       → EndsOrSame f (abandoned_each tsns f)
   each-cut [] f s a = inl refl
   each-cut (tsn ∷ tsns) f s a = by (abandon-cut (message_to_abandon tsn f) f s partial (among-first tsn tsns f gone a))
@@ -203,15 +204,15 @@ module _ (gone : List ℕ) (ws : List Numbered) (first : ℕ) (number : ℕ → 
       partial : (m : ℕ) → message_to_abandon tsn f ≡ Some m → waits m f.queue.pending ≡ true → partially_sent f.queue.pending ≡ Some m
       partial = found-partial f.queue s.sendable tsn (find (has_tsn tsn) f.queue.inflight.chunks) refl
 
-      x : Abandons all_streams ws first number sent f.queue (abandoned_at tsn f).queue (abandoned_at tsn f).next_tsn
-      x = abandoned all_streams ws first number f.queue f.next_tsn sent s (message_to_abandon tsn f) partial
+      x : Abandons on ws first number sent f.queue (abandoned_at tsn f).queue (abandoned_at tsn f).next_tsn
+      x = abandoned on ws first number f.queue f.next_tsn sent s (message_to_abandon tsn f) partial
 
-      by : EndsOrSame f (abandoned_at tsn f) → (Stands ws first number (abandoned_at tsn f).queue (abandoned_at tsn f).next_tsn sent
+      by : EndsOrSame f (abandoned_at tsn f) → (StandsOn on ws first number (abandoned_at tsn f).queue (abandoned_at tsn f).next_tsn sent
           → EndsOrSame (abandoned_at tsn f) (abandoned_each tsns (abandoned_at tsn f))) → EndsOrSame f (abandoned_each (tsn ∷ tsns) f)
       by (inr e) ih = inr e
       by (inl e) ih =
           let same = ended-same first f.next_tsn sent x.more s.counted (sym e ∙ x.stands.counted) x.ended in
-          onward (ih (subst (Stands ws first number (abandoned_at tsn f).queue (abandoned_at tsn f).next_tsn) same x.stands))
+          onward (ih (subst (StandsOn on ws first number (abandoned_at tsn f).queue (abandoned_at tsn f).next_tsn) same x.stands))
         where
           onward : EndsOrSame (abandoned_at tsn f) (abandoned_each tsns (abandoned_at tsn f)) → EndsOrSame f (abandoned_each (tsn ∷ tsns) f)
           onward (inl g) = inl (g ∙ e)
@@ -226,26 +227,27 @@ cut-later gone more a (terminal ∷ xs) c = (by xs c.0, cut-later gone more a xs
 cut-later gone more a (fragment d w after ∷ xs) c = cut-later gone more a xs c
 
 -- after a call
-module _ (gone : List ℕ) (first : ℕ) (old new : Session) (ns : List Numbered) (sent more : List Entry) (i : Holds first old ns sent)
+module _ (on : ℕ → Bool) (gone : List ℕ) (first : ℕ) (old new : Session) (ns : List Numbered) (sent more : List Entry)
+    (i : HoldsOn on first old ns sent)
     (counted : (flight_of new).next_tsn ≡ (first + length more) % 2 ^ 32) (h : AreCutGone gone sent) where
   abbrev Cuts : Type 0
-  Cuts = EndsOrSame gone ns first (λ s. number_of s old.sending.sender.streams) sent (flight_of old) (flight_of new)
+  Cuts = EndsOrSame on gone ns first (λ s. number_of s old.sending.sender.streams) sent (flight_of old) (flight_of new)
 
   cuts : IsEnded sent more → Cuts → AreCutGone gone more
   cuts h1 h2 = grind (arith, nat_tests)
 
   changed-cuts : (call : SenderCall) → AreAmong (abandoned_by call old.sending.sender) gone → (c : Change call old.sending.sender)
-      → EndsOrSame gone ns first (λ s. number_of s old.sending.sender.streams) sent (flight_of old) (flight_after call old.sending.sender c)
+      → EndsOrSame on gone ns first (λ s. number_of s old.sending.sender.streams) sent (flight_of old) (flight_after call old.sending.sender c)
   changed-cuts call a nothing = inl refl
   changed-cuts call a (all_start now) = inl refl
   changed-cuts call a (more_room count) = inl refl
   changed-cuts call a (some_marked p f k) = inl refl
   changed-cuts call a (some_missed count) = inl refl
   changed-cuts call a (one_leaves o e found) =
-      abandon-cut gone ns first (λ s. number_of s old.sending.sender.streams) sent o (flight_of old) i.held.stands
+      abandon-cut on gone ns first (λ s. number_of s old.sending.sender.streams) sent o (flight_of old) i.held.stands
       (partial-found old.sending.sender i.held.stands.sendable o found) (λ m k. a m (ap (λ ms. is_gone ms m) e ∙ one-gone m o k))
   changed-cuts call a (each_leaves ts short e) =
-      each-cut gone ns first (λ s. number_of s old.sending.sender.streams) sent ts (flight_of old) i.held.stands (subst (λ ms. AreAmong ms gone) e a)
+      each-cut on gone ns first (λ s. number_of s old.sending.sender.streams) sent ts (flight_of old) i.held.stands (subst (λ ms. AreAmong ms gone) e a)
   changed-cuts call a (front_expires now c found e) = inl refl
   changed-cuts call a (acknowledges k answered e) = inl (sack-next k (flight_of old))
 
@@ -257,7 +259,7 @@ module _ (gone : List ℕ) (first : ℕ) (old new : Session) (ns : List Numbered
       cuts g (inl (ap (λ (u : Transmission). u.flight.next_tsn) (f.exact.1 (omega arith) l.0 l.1)))
   stays-cut call a f g =
       let x = changes old.sending.sender new.sending.sender call refl f.step.sender f.exact in
-      cuts g (subst (EndsOrSame gone ns first (λ s. number_of s old.sending.sender.streams) sent (flight_of old)) (sym x.flight)
+      cuts g (subst (EndsOrSame on gone ns first (λ s. number_of s old.sending.sender.streams) sent (flight_of old)) (sym x.flight)
       (changed-cuts call a x.change))
 
 -- # No write is lost before its first fragment is sent, whatever is abandoned: that was sent, or it waits, or the message was abandoned

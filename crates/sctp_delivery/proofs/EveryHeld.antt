@@ -1,26 +1,13 @@
 -- Sessions of every call: on a stream that goes on each unordered chunk that was taken is held, was read, or is passed by a FORWARD-TSN.
-use Rattle.sctp_delivery.proofs.Names.{◌≡◌, ℕ, ◌+◌, Bool, true, false, not, List, [], ◌∷◌, ◌++◌, Option, Some, None, refl, ap, sym, subst, ◌∙◌, arith, ⊤}
-use Rattle.sctp_delivery.proofs.Names.{if◌then◌else◌, ◌==◌, option_map, option_or, filter, list_any, sum_by, sum_by-cons, sum_by-append, sum_by-inserted}
-use Rattle.sctp_delivery.proofs.Names.{find-append, insert_before, at_or_before, comes_before16, Contains, after_leading, cannot_complete, is_passed}
-use Rattle.sctp_delivery.proofs.Names.{ChunkPayloadData, ChunkSet, New, Pushes, PushesAs, BecomesComplete, Reassembly, ReassemblyState, sets_with}
-use Rattle.sctp_delivery.proofs.Names.{InboundStream, new_stream, stream_read, skipped_each, ssns_of, Accepts, Reception, stream_of, Stand}
-use Rattle.sctp_delivery.proofs.Names.{fragments_read, held_weight, set_weight, weight, has_tsn, has_ssn, is_on, is_readable, front_readable, after_read, rest_among}
-use Rattle.sctp_delivery.proofs.Names.{same-is, has_come, filter_of, with_filter, with_tsn, after_forward_tsn}
-use Rattle.sctp_receiver.specs.Inbound.{stream_forwarded, unassembled_forwarded}
-use Rattle.sctp_receiver.specs.Receiver.{open_stream, repeat_tsn}
-use Rattle.sctp_receiver.specs.Skips.{incomplete_forwarded}
-use Rattle.sctp_delivery.proofs.Names.{rest_read, message_on, new_set, set_before, chunk_before, passes, Made, forward_tsn, ForwardTsn, is_stale, list_any_at}
-use Rattle.sctp_reassembly.specs.reassembly_queue.Fragments.{with_chunk}
-use Rattle.sctp_reassembly.specs.reassembly_queue.ReassemblyQueue.{after_ordered_skip, without_first}
-use Rattle.sctp_receiver.specs.Inbound.{has_number, numbers_of}
-use Rattle.sctp_receiver.specs.Receiver.{after_read as after_reading, message_of}
+use Rattle.sctp_delivery.proofs.Names.{◌≡◌, ℕ, Bool, true, false, not, List, [], ◌∷◌, Option, Some, None, refl, ap, sym, subst, ◌∙◌, arith, ⊤}
+use Rattle.sctp_delivery.proofs.Names.{list_any}
+use Rattle.sctp_delivery.proofs.Names.{at_or_before, Contains}
+use Rattle.sctp_delivery.proofs.Names.{ChunkPayloadData, New, Reassembly}
+use Rattle.sctp_delivery.proofs.Names.{InboundStream, stream_of, Stand}
+use Rattle.sctp_delivery.proofs.Names.{passes, Made, forward_tsn, ForwardTsn, list_any_at}
+use Rattle.sctp_receiver.specs.Inbound.{numbers_of}
 use Rattle.sctp_receiver.specs.ReceiverRuns as receiver_runs
-use Rattle.sctp_receiver.specs.Resets.{stream_reset}
-use Rattle.sctp_receiver.proofs.Closed.{others-left}
-use Rattle.sctp_receiver.proofs.Handed.{read-more, taken-more}
 use Rattle.sctp_receiver.proofs.StreamCosts.{are_apart}
-use Rattle.sctp_receiver.proofs.Weights as weights
-use Rattle.sctp_receiver.proofs.Weights.{message_weight}
 use Rattle.sctp_delivery.proofs.Names.{Session, both, negated, ◌||◌, of_sender, of_receiver, ReceiverCall, was_passed}
 use Rattle.sctp_delivery.specs.EveryCall.{AfterEachAny, AnyCall, FollowsAny, IsMadeChunk, ReceiverOther, RunsAny, as_receiver_run, closes_incoming, discards}
 use Rattle.sctp_delivery.specs.EveryCall.{makes, of_receiving, of_sending, passes_over, resets_incoming}
@@ -31,276 +18,9 @@ use Rattle.sctp_delivery.specs.Returns.{at_start_with}
 use Rattle.sctp_delivery.specs.Session.{IsSent}
 use Rattle.sctp_receiver.proofs.Closed.{stays-apart}
 use Rattle.sctp_delivery.proofs.Stands.{more-made}
-use Rattle.sctp_delivery.proofs.Cases.{at-if, at-test, by-test}
-use Rattle.sctp_delivery.proofs.Every.{Every, all-of-every, every-inserted, every-joined, every-of, every-passing, every-all}
-use Rattle.sctp_delivery.proofs.Kept.{accepted-on, changed-elsewhere, changed-here, held-weighs}
-use Rattle.sctp_delivery.proofs.KeptSets.{IsOrdered, every-first}
-use Rattle.sctp_delivery.proofs.Unassembled.{each-leading, leading, leading-split}
-use Rattle.sctp_delivery.proofs.UnwrappedCalls.{found-after, stale-same}
-
--- ## Sets of ordered chunks
-
-abbrev AreOrdered : List ChunkSet → Type 0
-AreOrdered ss = Every (λ (x : ChunkSet). Every IsOrdered x.chunks) ss
-
--- a weight that ordered chunks do not have
-abbrev pub IsLight : (ChunkPayloadData → ℕ) → Type 0
-IsLight w = (c : ChunkPayloadData) → c.unordered ≡ false → w c ≡ 0
-
-chunks-light : (w : ChunkPayloadData → ℕ) → IsLight w → (cs : List ChunkPayloadData) → Every IsOrdered cs → sum_by w cs ≡ 0
-chunks-light w h [] e = refl
-chunks-light w h (c ∷ cs) e = omega (arith, sum_by-cons w c cs, h c e.0, chunks-light w h cs e.1)
-
-sets-light : (w : ChunkPayloadData → ℕ) → IsLight w → (ss : List ChunkSet) → AreOrdered ss → sum_by (set_weight w) ss ≡ 0
-sets-light w h [] e = refl
-sets-light w h (s ∷ ss) e = omega (arith, sum_by-cons (set_weight w) s ss, chunks-light w h s.chunks e.0, sets-light w h ss e.1)
-
-sets-ordered : (x : ChunkPayloadData) → IsOrdered x → (ss : List ChunkSet) → AreOrdered ss → AreOrdered (sets_with x ss)
-sets-ordered x kind ss e = at-if AreOrdered (list_any (has_ssn x.stream_sequence_number) ss)
-    (λ _. every-first (λ (s : ChunkSet). Every IsOrdered s.chunks) (has_ssn x.stream_sequence_number) (with_chunk x) ss
-    (every-of (λ (s : ChunkSet). Every IsOrdered s.chunks) _ (λ s o. (o, λ _. put s o)) ss e))
-    (λ _. every-inserted (λ (s : ChunkSet). Every IsOrdered s.chunks) set_before (new_set x) ss (kind, tt) e)
-  where
-    put : (s : ChunkSet) → Every IsOrdered s.chunks → Every IsOrdered (with_chunk x s).chunks
-    put s o = at-if (Every IsOrdered) (list_any (has_tsn x.tsn) s.chunks) (λ _. o) (λ _. every-inserted IsOrdered chunk_before x s.chunks kind o)
-
-read-ordered : (q : Reassembly) → AreOrdered q.ordered → AreOrdered (rest_read q).ordered
-read-ordered q e = by q.unordered
-  where
-    front : (ss : List ChunkSet) → q.ordered ≡ ss → AreOrdered (after_read (front_readable q.next_ssn ss) q).ordered
-    front [] is = e
-    front (s ∷ ss) is = at-if (λ z. AreOrdered (after_read z q).ordered) (is_readable q.next_ssn s)
-        (λ _. subst (λ o. AreOrdered (without_first o)) (sym is) (subst AreOrdered is e).1) (λ _. e)
-
-    by : (us : List ChunkSet) → AreOrdered (rest_among us q).ordered
-    by [] = front q.ordered refl
-    by (u ∷ us) = e
-
--- a skip by names drops of these alone
-record IsNamed (q r : Reassembly) : Type 0 where
-  unordered : r.unordered ≡ q.unordered
-  unassembled : r.unassembled ≡ q.unassembled
-  ordered : AreOrdered r.ordered
-
-named : (ssns : List ℕ) (q : ReassemblyState) → AreOrdered q.held.ordered → IsNamed q.held (skipped_each ssns q).held
-named [] q e = record { unordered = refl; unassembled = refl; ordered = e }
-named (ssn ∷ ssns) q e =
-    let x = named ssns (after_ordered_skip ssn q)
-    (every-passing (λ (s : ChunkSet). Every IsOrdered s.chunks) (λ s. not (is_passed ssn s)) q.held.ordered e) in
-    record { unordered = x.unordered; unassembled = x.unassembled; ordered = x.ordered }
-
--- ## A stream
-
-module _ (st : ℕ) (ms : List Made) where
-  abbrev Sorted : Option InboundStream → Type 0
-  Sorted None = ⊤
-  Sorted (Some l) = AreOrdered l.queue.held.ordered
-
-  abbrev IsSpent : ChunkPayloadData → Type 0
-  IsSpent c = list_any (passes c.tsn) ms ≡ true
-
-  -- however unordered chunks are weighed
-  pub record IsEven (s : Stand) : Type 0 where
-    pub lost : List ChunkPayloadData
-    pub spent : Every IsSpent lost
-    pub weighs : (w : ChunkPayloadData → ℕ) → IsLight w → sum_by w (filter (is_on st) s.accepted)
-        ≡ sum_by w (fragments_read st s.read) + held_weight w (stream_of st s.receiver) + sum_by w lost
-    pub sorted : Sorted (stream_of st s.receiver)
-
-  -- ## A chunk is taken
-
-  pushed-sorted : (c : ChunkPayloadData) (said : Bool) (q r : ReassemblyState) → Pushes c said q r → AreOrdered q.held.ordered → AreOrdered r.held.ordered
-  pushed-sorted c said q r p e = at-test (λ b. PushesAs b c said q r → AreOrdered r.held.ordered) c.unordered
-      (λ u x. at-test (λ k. BecomesComplete (insert_before chunk_before c q.held.unassembled) q.held r.held k → AreOrdered r.held.ordered) said
-      (λ _ t. subst (λ (z : Reassembly). AreOrdered z.ordered) (sym t.moved) e)
-      (λ _ t. subst (λ (z : Reassembly). AreOrdered z.ordered) (sym t.1) e) x.0)
-      (λ u x. subst (λ (z : ReassemblyState). AreOrdered z.held.ordered) (sym x.0)
-      (at-if (λ (z : Reassembly). AreOrdered z.ordered) (comes_before16 c.stream_sequence_number q.held.next_ssn) (λ _. e)
-      (λ _. sets-ordered c u q.held.ordered e))) p
-
-  pushed-weighs : (c : ChunkPayloadData) (said : Bool) (q r : ReassemblyState) → Pushes c said q r → AreOrdered q.held.ordered
-      → (w : ChunkPayloadData → ℕ) → IsLight w → weight w r.held ≡ w c + weight w q.held
-  pushed-weighs c said q r p e w h = by-test c.unordered
-      (λ u.
-      let b = (subst (λ k. PushesAs k c said q r) u p).0 in
-      let x = weights.becomes w (insert_before chunk_before c q.held.unassembled) q.held r.held said b in
-      omega (arith, x, sum_by-inserted w chunk_before c q.held.unassembled))
-      (λ u.
-      let x = (subst (λ k. PushesAs k c said q r) u p).0 in
-      let none = sets-light w h r.held.ordered (pushed-sorted c said q r p e) in
-      let before = sets-light w h q.held.ordered e in
-      let us = ap (λ (z : ReassemblyState). sum_by (set_weight w) z.held.unordered) x
-      ∙ at-if (λ (z : Reassembly). sum_by (set_weight w) z.unordered ≡ sum_by (set_weight w) q.held.unordered)
-      (comes_before16 c.stream_sequence_number q.held.next_ssn) (λ _. refl) (λ _. refl) in
-      let left = ap (λ (z : ReassemblyState). sum_by w z.held.unassembled) x
-      ∙ at-if (λ (z : Reassembly). sum_by w z.unassembled ≡ sum_by w q.held.unassembled)
-      (comes_before16 c.stream_sequence_number q.held.next_ssn) (λ _. refl) (λ _. refl) in
-      omega (arith, none, before, us, left, h c u))
-
-  module _ (old new : Stand) (i : IsEven old) where
-    abbrev r : Reception
-    r = old.receiver
-
-    abbrev now : Option InboundStream
-    now = stream_of st new.receiver
-
-    -- no chunk is taken or read, and as much is held
-    quiet : new.accepted ≡ old.accepted → new.read ≡ old.read
-        → ((w : ChunkPayloadData → ℕ) → held_weight w now ≡ held_weight w (stream_of st r)) × Sorted now → IsEven new
-    quiet a e same = record {
-      lost = i.lost;
-      spent = i.spent;
-      weighs = λ w h.
-          omega (arith, i.weighs w h, ap (λ cs. sum_by w (filter (is_on st) cs)) a, ap (λ ms. sum_by w (fragments_read st ms)) e, same.0 w);
-      sorted = same.1;
-    }
-
-    still : new.accepted ≡ old.accepted → new.read ≡ old.read → now ≡ stream_of st r → IsEven new
-    still a e same = quiet a e (λ w. ap (held_weight w) same, subst Sorted (sym same) i.sorted)
-
-    opened : (stream : ℕ) → new.receiver ≡ open_stream stream r → new.accepted ≡ old.accepted → new.read ≡ old.read → IsEven new
-    opened stream f a e =
-        let x = new_stream stream r.max_message_size in
-        quiet a e (subst (λ o. ((w : ChunkPayloadData → ℕ) → held_weight w o ≡ held_weight w (stream_of st r)) × Sorted o)
-        (sym (ap (stream_of st) f ∙ find-append (has_number st) r.streams (x ∷ []))) (by (stream_of st r) (stream == st) i.sorted))
-      where
-        by : (o : Option InboundStream) (b : Bool) → Sorted o → ((w : ChunkPayloadData → ℕ)
-            → held_weight w (option_or o (if b then Some (new_stream stream r.max_message_size) else None)) ≡ held_weight w o)
-            × Sorted (option_or o (if b then Some (new_stream stream r.max_message_size) else None))
-        by None true h = (λ w. omega arith, tt)
-        by None false h = (λ w. refl, h)
-        by (Some l) b h = (λ w. refl, h)
-
-    taken : (c : ChunkPayloadData) (said : Bool) → Accepts c said r new.receiver → new.accepted ≡ c ∷ old.accepted → new.read ≡ old.read → IsEven new
-    taken c said acc a e = record {
-      lost = i.lost;
-      spent = i.spent;
-      weighs = λ w h.
-          let m = more w h in
-          let t = taken-more w st c old.accepted (is_on st c) refl in
-          omega (arith, i.weighs w h, m, t, ap (λ cs. sum_by w (filter (is_on st) cs)) a, ap (λ ms. sum_by w (fragments_read st ms)) e);
-      sorted = accepted-on c said r new.receiver acc st Sorted (λ _. i.sorted)
-          (λ on there. pushed-sorted c said acc.stream.queue acc.queue acc.pushed (subst Sorted there i.sorted));
-    }
-      where
-        more : (w : ChunkPayloadData → ℕ) → IsLight w → held_weight w now ≡ (if is_on st c then w c else 0) + held_weight w (stream_of st r)
-        more w h = accepted-on c said r new.receiver acc st (λ o. held_weight w o ≡ (if is_on st c then w c else 0) + held_weight w (stream_of st r))
-            (λ off. let z = ap (λ b. if b then w c else 0) off in omega (arith, z))
-            (λ on there.
-            let z = ap (λ b. if b then w c else 0) on in
-            let x = pushed-weighs c said acc.stream.queue acc.queue acc.pushed (subst Sorted there i.sorted) w h in
-            omega (arith, z, x, ap (held_weight w) there))
-
-    reads : (stream : ℕ) → new.receiver ≡ after_reading stream r → new.accepted ≡ old.accepted
-        → new.read ≡ receiver_runs.with_message stream (message_on stream r) old.read → IsEven new
-    reads stream f a e = record {
-      lost = i.lost;
-      spent = i.spent;
-      weighs = λ w h.
-          let l = less.0 w in
-          let m = read-more w st stream (message_on stream r) old.read in
-          omega (arith, i.weighs w h, l, m, ap (λ cs. sum_by w (filter (is_on st) cs)) a, ap (λ ms. sum_by w (fragments_read st ms)) e);
-      sorted = less.1;
-    }
-      where
-        Less : Bool → Option InboundStream → Type 0
-        Less b o = ((w : ChunkPayloadData → ℕ) → (if b then message_weight w (message_on stream r) else 0) + held_weight w o ≡ held_weight w (stream_of st r))
-            × Sorted o
-
-        here : (o : Option InboundStream) → Sorted o
-            → ((w : ChunkPayloadData → ℕ) → message_weight w (message_of o) + held_weight w (option_map stream_read o) ≡ held_weight w o)
-            × Sorted (option_map stream_read o)
-        here None h = (λ w. omega arith, tt)
-        here (Some l) h = (λ w. weights.read w l.queue.held, read-ordered l.queue.held h)
-
-        by : (b : Bool) → (stream == st) ≡ b → Less b (stream_of st (after_reading stream r))
-        by false g = subst (Less false) (sym (changed-elsewhere stream stream_read (λ l h. refl) r.streams st g)) (λ w. omega arith, i.sorted)
-        by true g =
-            let h = here (stream_of st r) i.sorted in
-            subst (Less true) (sym (changed-here stream stream_read (λ l k. refl) r.streams st g))
-            (λ w. let x = h.0 w in let m = ap (λ n. message_weight w (message_of (stream_of n r))) (same-is stream st g) in omega (arith, x, m), h.1)
-
-        less : Less (stream == st) now
-        less = subst (λ (q : Reception). Less (stream == st) (stream_of st q)) (sym f) (by (stream == st) refl)
-
-    -- a FORWARD-TSN comes
-    module _ (g : ForwardTsn) (in' : Contains ms (forward_tsn g)) where
-      abbrev t : ℕ
-      t = g.new_cumulative_tsn
-
-      abbrev goes : ChunkPayloadData → Bool
-      goes x = at_or_before x.tsn t
-
-      passed : (x : ChunkPayloadData) → goes x ≡ true → IsSpent x
-      passed x h = list_any_at (passes x.tsn) ms in'.0 (forward_tsn g) in'.1 (ap (passes x.tsn) in'.2 ∙ h)
-
-      forwards : new.receiver ≡ after_forward_tsn g r → new.accepted ≡ old.accepted → new.read ≡ old.read
-          → IsEven new
-      forwards f a e = by-test (is_stale g r)
-          (λ s. still a e (ap (stream_of st)
-          (stale-same 0 st 0 (λ k. 0) (λ k. false) (λ c. ⊤) (omega arith) (λ j k le. omega arith) g old new f s)))
-          (λ s. by (stream_of st r) refl (found-after 0 st 0 (λ k. 0) (λ k. false) (λ c. ⊤) (omega arith) (λ j k le. omega arith) g old new f s))
-        where
-          by : (o : Option InboundStream) → stream_of st r ≡ o
-              → now ≡ option_map (λ l. incomplete_forwarded t (unassembled_forwarded t (stream_forwarded g.streams l))) o → IsEven new
-          by None is to = still a e (to ∙ sym is)
-          by (Some l) is to =
-              let before = subst Sorted is i.sorted in
-              let x = named (ssns_of l.queue.si g.streams) l.queue before in
-              let after = every-passing (λ (s : ChunkSet). Every IsOrdered s.chunks) (λ s. not (cannot_complete t s))
-              (skipped_each (ssns_of l.queue.si g.streams) l.queue).held.ordered x.ordered in
-              record {
-                lost = leading goes l.queue.held.unassembled ++ i.lost;
-                spent = every-joined IsSpent (leading goes l.queue.held.unassembled) i.lost
-                    (each-leading IsSpent goes l.queue.held.unassembled (every-all (λ c. goes c ≡ true → IsSpent c) passed l.queue.held.unassembled)) i.spent;
-                weighs = λ w h.
-                    let none = sets-light w h _ after in
-                    let some = sets-light w h l.queue.held.ordered before in
-                    let us = ap (sum_by (set_weight w)) x.unordered in
-                    let left = ap (λ xs. sum_by w (after_leading goes xs)) x.unassembled in
-                    omega (
-                      arith,
-                      i.weighs w h,
-                      ap (λ cs. sum_by w (filter (is_on st) cs)) a,
-                      ap (λ ms. sum_by w (fragments_read st ms)) e,
-                      ap (held_weight w) to,
-                      ap (held_weight w) is,
-                      none,
-                      some,
-                      us,
-                      left,
-                      leading-split goes w l.queue.held.unassembled,
-                      sum_by-append w (leading goes l.queue.held.unassembled) i.lost,
-                    );
-                sorted = subst Sorted (sym to) after;
-              }
-
-  -- ## Each call
-
-  -- by it no stream with the number is closed or reset; and a FORWARD-TSN that it follows was made
-  abbrev Fits : receiver_runs.Call → Type 0
-  Fits (receiver_runs.closes s) = (s == st) ≡ false
-  Fits (receiver_runs.resets s last) = (s == st) ≡ false
-  Fits (receiver_runs.forwards g) = Contains ms (forward_tsn g)
-  Fits (receiver_runs.forwards_by_names g) = ⊥
-  Fits call = ⊤
-
-  pub step : (c : receiver_runs.Call) (old new : Stand) → are_apart (numbers_of old.receiver.streams) ≡ true → Fits c → receiver_runs.Follows c old new
-      → IsEven old → IsEven new
-  step (receiver_runs.opens stream) old new apart k f i = opened old new i stream f.receiver.1 f.accepted f.read
-  step (receiver_runs.closes s) old new apart k f i =
-      still old new i f.accepted f.read (ap (stream_of st) f.receiver ∙ others-left s st k old.receiver.streams apart)
-  step (receiver_runs.resets s last) old new apart k f i =
-      still old new i f.accepted f.read (ap (stream_of st) f.receiver ∙ changed-elsewhere s (stream_reset last) (λ l h. refl) old.receiver.streams st k)
-  step (receiver_runs.takes c (New said)) old new apart k f i = taken old new i c said f.receiver f.accepted f.read
-  step (receiver_runs.discards t) old new apart k f i =
-      still old new i f.accepted f.read (ap (stream_of st) f.receiver
-      ∙ at-test (λ b. stream_of st (if b then repeat_tsn t old.receiver else with_filter (with_tsn t (filter_of old.receiver)) old.receiver)
-      ≡ stream_of st old.receiver) (has_come t (filter_of old.receiver)) (λ e. refl) (λ e. refl))
-  step (receiver_runs.reads stream) old new apart k f i = reads old new i stream f.receiver f.accepted f.read
-  step (receiver_runs.forwards g) old new apart k f i = forwards old new i g k f.receiver f.accepted f.read
-  step (receiver_runs.forwards_by_names g) old new apart k f i = absurd k
-  step c old new apart k f i = still old new i f.accepted f.read (ap (stream_of st) f.receiver)
+use Rattle.sctp_delivery.proofs.Every.{all-of-every, every-all}
+use Rattle.sctp_delivery.proofs.Kept.{held-weighs}
+use Rattle.sctp_delivery.proofs.Even.{Fits, IsEven, IsKeptByCalls, Leaves, Puts, step}
 
 -- # A session
 
@@ -317,52 +37,92 @@ made-stays (of_sending call ∷ cs) old new r m c =
 made-stays (of_receiving call ∷ cs) old new r m c =
     made-stays cs r.0 new r.1.1 m (subst (λ ms. Contains ms m) (sym (ap (λ (s : Session). s.made) r.1.0.after)) c)
 
-module _ (st : ℕ) where
-  -- a call of the receiver, in a session that goes on to where these are made
-  plain-fits : (ms : List Made) (call : ReceiverCall) (s : Session) → IsSent call s → ((m : Made) → Contains s.made m → Contains ms m)
-      → Fits st ms (incoming.as_run call)
-  plain-fits ms (incoming.follows g) s h stays = stays (forward_tsn g) h
-  plain-fits ms call s h stays = tt
+-- one of these FORWARD-TSNs passes it
+abbrev pub IsSpent : List Made → ChunkPayloadData → Type 0
+IsSpent ms c = list_any (passes c.tsn) ms ≡ true
 
-  other-fits : (ms : List Made) (opened : Bool) (call : ReceiverOther) (s : Session) → breaks opened st (of_receiving call) ≡ false → IsMadeChunk call s
-      → ((m : Made) → Contains s.made m → Contains ms m) → Fits st ms (as_receiver_run call)
-  other-fits ms opened (discards c) s off h stays = tt
-  other-fits ms opened (closes_incoming stream) s off h stays = off
-  other-fits ms opened (resets_incoming stream last) s off h stays = off
-  other-fits ms opened (passes_over g) s off h stays = stays (forward_tsn g) h
+-- of what is unassembled nothing is said
+abbrev pub Anything : Reassembly → Type 0
+Anything q = ⊤
+
+pub any-kept : IsKeptByCalls Anything
+any-kept = record { fresh = λ s max. tt; read = λ q h. tt; left = λ t q h. tt; alike = λ q r u a h. tt }
+
+module _ (st : ℕ) where
+  abbrev pub IsEvenBut : List Made → Stand → Type 0
+  IsEvenBut ms = IsEven st (IsSpent ms) Anything
+
+  abbrev FitsBut : List Made → receiver_runs.Call → Option InboundStream → Type 0
+  FitsBut ms = Fits st (IsSpent ms) Anything
+
+  module _ (ms : List Made) (o : Option InboundStream) where
+    leaves : (g : ForwardTsn) → Contains ms (forward_tsn g) → Leaves st (IsSpent ms) Anything g o
+    leaves g in' = by o
+      where
+        passed : (x : ChunkPayloadData) → at_or_before x.tsn g.new_cumulative_tsn ≡ true → IsSpent ms x
+        passed x h = list_any_at (passes x.tsn) ms in'.0 (forward_tsn g) in'.1 (ap (passes x.tsn) in'.2 ∙ h)
+
+        by : (p : Option InboundStream) → Leaves st (IsSpent ms) Anything g p
+        by None = tt
+        by (Some l) = every-all (λ c. at_or_before c.tsn g.new_cumulative_tsn ≡ true → IsSpent ms c) passed l.queue.held.unassembled
+
+    puts : (c : ChunkPayloadData) (said : Bool) → Puts st (IsSpent ms) Anything c said o
+    puts c said = by o
+      where
+        by : (p : Option InboundStream) → Puts st (IsSpent ms) Anything c said p
+        by None = tt
+        by (Some l) = λ on q p h. tt
+
+    -- a call of the receiver, in a session that goes on to where these are made
+    plain-fits : (call : ReceiverCall) (s : Session) → IsSent call s → ((m : Made) → Contains s.made m → Contains ms m) → FitsBut ms (incoming.as_run call) o
+    plain-fits (incoming.follows g) s h stays = leaves g (stays (forward_tsn g) h)
+    plain-fits (incoming.takes c (New said)) s h stays = puts c said
+    plain-fits call s h stays = tt
+
+    other-fits : (opened : Bool) (call : ReceiverOther) (s : Session) → breaks opened st (of_receiving call) ≡ false → IsMadeChunk call s
+        → ((m : Made) → Contains s.made m → Contains ms m) → FitsBut ms (as_receiver_run call) o
+    other-fits opened (discards c) s off h stays = tt
+    other-fits opened (closes_incoming stream) s off h stays = off
+    other-fits opened (resets_incoming stream last) s off h stays = off
+    other-fits opened (passes_over g) s off h stays = leaves g (stays (forward_tsn g) h)
 
   even-run : (opened : Bool) (cs : List AnyCall) (old new : Session) (r : RunsAny old cs new) → goes_on opened st cs ≡ true
-      → are_apart (numbers_of old.receiving.receiver.streams) ≡ true → IsEven st new.made old.receiving → IsEven st new.made new.receiving
-  even-run opened [] old new r on apart i = subst (λ (s : Session). IsEven st new.made s.receiving) (sym r) i
+      → are_apart (numbers_of old.receiving.receiver.streams) ≡ true → IsEvenBut new.made old.receiving → IsEvenBut new.made new.receiving
+  even-run opened [] old new r on apart i = subst (λ (s : Session). IsEvenBut new.made s.receiving) (sym r) i
   even-run opened (c ∷ cs) old new r on apart i =
       let b = both (not (breaks opened st c)) (goes_on (opened || opens_incoming st c) st cs) on in
       let x = one c r.0 r.1.0 (made-stays (c ∷ cs) old new r) (negated (breaks opened st c) b.0) in
       even-run (opened || opens_incoming st c) cs r.0 new r.1.1 b.1 x.0 x.1
     where
-      still : (v : Session) → v.receiving ≡ old.receiving → (are_apart (numbers_of v.receiving.receiver.streams) ≡ true) × IsEven st new.made v.receiving
-      still v e = subst (λ (y : Stand). (are_apart (numbers_of y.receiver.streams) ≡ true) × IsEven st new.made y) (sym e) (apart, i)
+      o : Option InboundStream
+      o = stream_of st old.receiving.receiver
 
-      received : (c : receiver_runs.Call) (v : Session) → Fits st new.made c → receiver_runs.Follows c old.receiving v.receiving
-          → (are_apart (numbers_of v.receiving.receiver.streams) ≡ true) × IsEven st new.made v.receiving
-      received c v k f =
-          (stays-apart c old.receiving.receiver v.receiving.receiver f.receiver apart, step st new.made c old.receiving v.receiving apart k f i)
+      still : (v : Session) → v.receiving ≡ old.receiving → (are_apart (numbers_of v.receiving.receiver.streams) ≡ true) × IsEvenBut new.made v.receiving
+      still v e = subst (λ (y : Stand). (are_apart (numbers_of y.receiver.streams) ≡ true) × IsEvenBut new.made y) (sym e) (apart, i)
+
+      received : (c : receiver_runs.Call) (v : Session) → FitsBut new.made c o → receiver_runs.Follows c old.receiving v.receiving
+          → (are_apart (numbers_of v.receiving.receiver.streams) ≡ true) × IsEvenBut new.made v.receiving
+      received c v k f = (
+        stays-apart c old.receiving.receiver v.receiving.receiver f.receiver apart,
+        step st (IsSpent new.made) Anything any-kept c old.receiving v.receiving apart k f i,
+      )
 
       one : (c : AnyCall) (v : Session) → FollowsAny c old v → ((m : Made) → Contains old.made m → Contains new.made m) → breaks opened st c ≡ false
-          → (are_apart (numbers_of v.receiving.receiver.streams) ≡ true) × IsEven st new.made v.receiving
+          → (are_apart (numbers_of v.receiving.receiver.streams) ≡ true) × IsEvenBut new.made v.receiving
       one (makes (of_sender call)) v f stays off = still v (ap (λ (s : Session). s.receiving) f.after)
-      one (makes (of_receiver call)) v f stays off = received (incoming.as_run call) v (plain-fits new.made call old f.handed stays) f.step
+      one (makes (of_receiver call)) v f stays off = received (incoming.as_run call) v (plain-fits new.made o call old f.handed stays) f.step
       one (of_sending call) v f stays off = still v (ap (λ (s : Session). s.receiving) f.after)
-      one (of_receiving call) v f stays off = received (as_receiver_run call) v (other-fits new.made opened call old off f.handed stays) f.step
+      one (of_receiving call) v f stays off = received (as_receiver_run call) v (other-fits new.made o opened call old off f.handed stays) f.step
 
-pub even : AfterEachAny (λ cs s. (st : ℕ) → is_unbroken cs st ≡ true → IsEven st s.made s.receiving)
+pub even : AfterEachAny (λ cs s. (st : ℕ) → is_unbroken cs st ≡ true → IsEvenBut st s.made s.receiving)
 even reported first size max most limits cs s r st on =
     even-run st false cs (at_start_with reported first size max most limits) s r on refl
-    (record { lost = []; spent = tt; weighs = λ w h. omega arith; sorted = tt })
+    (record { lost = []; spent = tt; so = record { weighs = λ w h. omega arith; holds = tt } })
 
 pub held-or-read : AfterEachAny IsUnorderedHeldReadOrPassed
 held-or-read reported first size max most limits cs s r st on =
     let x = even reported first size max most limits cs s r st on in (
       x.lost,
       all-of-every (λ c. was_passed c.tsn s ≡ true) x.lost x.spent,
-      λ w h. omega (arith, x.weighs w h, held-weighs w (stream_of st s.receiving.receiver)),
+      λ w h. omega (arith, x.so.weighs w h, held-weighs w (stream_of st s.receiving.receiver)),
     )

@@ -5,7 +5,7 @@ use Rattle.sctp_delivery.proofs.Names.{◌≤◌, None, Released, SenderCall, Se
 use Rattle.sctp_delivery.proofs.Names.{not_both, list_any-append, ChunkPayloadData, Message, has_tsn, is_complete, is_one_message, is_on}
 use Rattle.sctp_delivery.proofs.Names.{data_of, data_chunk, StandAt, fragments_of_all, are_apart, AreMade, AreMessages, Session, Write, Limits, Transmission}
 use Rattle.sctp_delivery.proofs.Names.{Modes, Stand, Data, Pending, Unknown, nat_eq, or-split, ◌-◌, if◌then◌else◌, inl, inr, is_all_acknowledged, reads_nothing}
-use Rattle.sctp_delivery.proofs.Names.{at_first, modes_from, AllPairs}
+use Rattle.sctp_delivery.proofs.Names.{at_first, modes_from, AllPairs, Some, some-same}
 use Rattle.std.proofs.Common.{◌≢◌}
 use Rattle.sctp_delivery.proofs.Names.{Sack, IsAccounted, bytes_written, held_by_sender, total_bytes, with_inflight, sum_by, ◌||◌, ap₂}
 use Rattle.sctp_sender.specs.declared.sender.Reported.{Reported}
@@ -17,11 +17,13 @@ use Rattle.sctp_delivery.specs.EveryCall.{AfterEachAny, AnyCall, AreSingle, AreS
 use Rattle.sctp_delivery.specs.EveryCall.{makes, of_receiving, of_sending, renews, SenderDoes, takes_back, AreToldApart, is_single, is_steady, single_messages}
 use Rattle.sctp_delivery.specs.EveryCall.{tsns_given_any, was_dropped}
 use Rattle.sctp_receiver.specs.ReceiverRuns.{AreComplete, AreOfOneMessage}
-use Rattle.sctp_delivery.specs.EveryEnd.{IsLeftOn, IsOrderedReadInTheEnd, IsReadOn, IsSentReadInTheEnd, IsUnorderedReadOrHeld, abandoned_any, is_unnamed}
+use Rattle.sctp_delivery.specs.EveryEnd.{IsLeftOn, IsOrderedReadInTheEnd, IsReadOn, IsSentReadInTheEnd, IsUnorderedReadInTheEnd, IsUnorderedReadOrHeld, IsUnorderedSentReadInTheEnd}
+use Rattle.sctp_delivery.specs.EveryEnd.{abandoned_any, dropped_any, is_unnamed}
 use Rattle.sctp_delivery.specs.EveryOrder.{AreSingleReadAsWritten, AreSingleReadInOrder, breaks, goes_on, is_unbroken, opens_incoming, plain_calls}
 use Rattle.sctp_delivery.specs.Messages.{AreParts, AreSame}
 use Rattle.sctp_delivery.specs.Returns.{NoneIsRefusedSo, after_return, at_start_with}
 use Rattle.sctp_delivery.specs.SenderCalls.{TakesBackAndSack, takes_sack}
+use Rattle.sctp_delivery.proofs.AbandonedMessages.{cut-later, gone-left}
 use Rattle.sctp_delivery.proofs.Begun.{AreOnce, begins, was_begun}
 use Rattle.sctp_delivery.proofs.Calls.{at-forgotten, contains-forgotten, forget, forgotten, length-forgotten}
 use Rattle.sctp_delivery.proofs.Cases.{at-if}
@@ -33,9 +35,10 @@ use Rattle.sctp_delivery.specs.Order.{is_ordered_on, places_where}
 use Rattle.sctp_delivery.proofs.EveryEnds.{all-up, was-read}
 use Rattle.sctp_delivery.proofs.EveryFronts.{HasRead}
 use Rattle.sctp_delivery.proofs.EveryHeld.{even}
+use Rattle.sctp_delivery.proofs.EveryKept.{ended-read, whole-on}
 use Rattle.sctp_delivery.proofs.EverySettled as every_settled
 use Rattle.sctp_delivery.proofs.EveryRuns as runs
-use Rattle.sctp_delivery.proofs.EveryShadows.{every, HasBeside, IsPlayed, has-beside, played-accounted}
+use Rattle.sctp_delivery.proofs.EveryShadows.{every, HasBesideSo, IsPlayedSo, has-beside-so, played-accounted}
 use Rattle.sctp_delivery.proofs.Every.{Every, every-contained, every-of-all}
 use Rattle.sctp_delivery.proofs.OnceWritten.{EachRead, apart, places, stand}
 use Rattle.sctp_delivery.proofs.InTheEnd.{none-selected}
@@ -43,9 +46,10 @@ use Rattle.sctp_delivery.proofs.KeptSessions.{IsIdle, begun-part, idle-of, same-
 use Rattle.sctp_delivery.proofs.ModeSessions.{kind-at, starts-ordered}
 use Rattle.sctp_delivery.proofs.Numbers.{number_of}
 use Rattle.sctp_delivery.proofs.AllBegun.{begins_in}
-use Rattle.sctp_delivery.proofs.OrderedEntries.{AreIndexedOn}
+use Rattle.sctp_delivery.proofs.OrderedEntries.{AreIndexedOn, IsOpen}
 use Rattle.sctp_delivery.proofs.OrderedPlaces.{place-at}
 use Rattle.sctp_delivery.proofs.OrderedMessages.{is_in_order}
+use Rattle.sctp_delivery.proofs.PassedMessages.{EndsMessage}
 use Rattle.sctp_delivery.proofs.PlainHolds.{held-like}
 use Rattle.sctp_delivery.proofs.PlainReturns.{back-fits, back-more}
 use Rattle.sctp_delivery.proofs.Plain.{are-long}
@@ -53,7 +57,7 @@ use Rattle.sctp_delivery.proofs.PlainSessions.{as_plain, kept_of, small-next}
 use Rattle.sctp_delivery.proofs.OneRead.{no-way}
 use Rattle.sctp_delivery.proofs.Stands.{one-given}
 use Rattle.sctp_delivery.proofs.Senders.{AreSentOn, IsHeldOn}
-use Rattle.sctp_delivery.proofs.Sent.{Entry, IsLine, IsPart, Numbered, WasSent, contains-more, fragment, part-line, same-tsn}
+use Rattle.sctp_delivery.proofs.Sent.{Entry, IsLine, IsPart, Numbered, WasSent, contains-more, fragment, part-line, same-tsn, terminal}
 use Rattle.sctp_delivery.proofs.SpreadEntries.{begun_to, is_at, to-up}
 use Rattle.sctp_delivery.proofs.TsnPlaces.{base}
 use Rattle.sctp_delivery.proofs.UnwrappedHolds.{AreInTurn, Fits, Where as Turns, turn-more}
@@ -228,12 +232,16 @@ module _ (reported : Reported) (first size max most : ℕ) (limits : Option Limi
   abbrev pub gone : List ℕ
   gone = abandoned_any (at_start_with reported first size max most limits) cs s r
 
-  beside : HasBeside (is_steady cs) (was_dropped cs) (is_unbroken cs) (steady-there false cs) first s n gone modes
-  beside =
-      has-beside (is_steady cs) (was_dropped cs) (is_unbroken cs) (steady-there false cs) first reported size max most limits cs s r small some few short
-      (λ t e. e) (λ q e. ap not e) (λ q e. e)
+  -- of what chunks were dropped
+  abbrev pub others : List ℕ
+  others = dropped_any (at_start_with reported first size max most limits) cs s r
 
-  i : IsPlayed (is_steady cs) (was_dropped cs) (is_unbroken cs) (steady-there false cs) first beside.other n gone modes
+  beside : HasBesideSo (is_steady cs) (was_dropped cs) (is_unbroken cs) (Some others) (steady-there false cs) first s n gone modes
+  beside =
+      has-beside-so (is_steady cs) (was_dropped cs) (is_unbroken cs) (Some others) (steady-there false cs) first reported size max most limits cs s r small
+      some few short (λ t e. e) (λ q e. ap not e) (λ q e. e) (λ ms is k e. subst (λ xs. list_any (nat_eq k) xs ≡ true) (some-same is) e)
+
+  i : IsPlayedSo (is_steady cs) (was_dropped cs) (is_unbroken cs) (Some others) (steady-there false cs) first beside.other n gone modes
   i = beside.plays few
 
   on-each : sessions.AreOn s
@@ -356,9 +364,8 @@ module _ (reported : Reported) (first size max most : ℕ) (limits : Option Limi
 
   -- ## In the end
 
-  -- nothing waits, is in flight, or is to be read: on a stream that goes on, and that no FORWARD-TSN names, each ordered message was read
-  module _ (exhausted : is_exhausted s.sending.sender s.receiving.receiver ≡ true) (st : ℕ) (c : is_unbroken cs st ≡ true)
-      (unnamed : is_unnamed st s.made ≡ true) where
+  -- nothing waits, is in flight, or is to be read
+  module _ (exhausted : is_exhausted s.sending.sender s.receiving.receiver ≡ true) (st : ℕ) (c : is_unbroken cs st ≡ true) where
     abbrev q : Session
     q = beside.other
 
@@ -375,37 +382,79 @@ module _ (reported : Reported) (first size max most : ℕ) (limits : Option Limi
     none-left [] e = refl
     none-left (d ∷ ds) e = absurd (omega (arith, e))
 
-    all-messages : (j : ℕ) → j < begun_to st n i.sent → HasRead st first n i.sent j q.receiving.read
-    all-messages j lt =
+    landed : q.sending.sender.flight.queue.inflight.chunks ≡ []
+    landed =
         let x = beside.shadow in
-        let up = i.up st c (subst (λ ms. is_unnamed st ms ≡ true) (sym x.made) unnamed) in
-        let all = all-up st first (is_steady cs) (was_dropped cs) steady n q i.numbered i.sent i.spread few (i.answered st c).0 up
-        (bare (λ u. u.flight.queue.inflight.chunks)
+        bare (λ u. u.flight.queue.inflight.chunks)
         ∙ none-left x.chunks (sym (are-long (kept_of s.sending.sender.kept) s.sending.sender.flight.queue.inflight.chunks x.chunks x.like)
-        ∙ ap length idle.inflight))
-        (none-selected (is_steady cs) i.numbered first (λ r. number_of r q.sending.sender.streams) q.sending.sender.flight.queue.pending i.sent
-        i.spread.holds.held.stands.queued (bare (λ u. u.flight.queue.pending.ordered) ∙ idle.ordered)
-        (bare (λ u. u.flight.queue.pending.unordered) ∙ idle.unordered))
-        (ap (λ (y : Stand). reads_nothing y.receiver) x.receiving
-        ∙ (both (is_all_acknowledged s.sending.sender) (reads_nothing s.receiving.receiver) exhausted).1) in
-        up.read j (omega (arith, lt, all))
+        ∙ ap length idle.inflight)
 
-    -- of which it has each fragment
-    read-part : (d : Data) (w : Numbered) (after : List ℕ) (xs : List Entry) → IsPart (fragment d w after ∷ xs) i.sent → d.stream_identifier ≡ st
-        → d.unordered ≡ false → IsReadOn st d s.receiving.read
-    read-part d w after xs part on' kind =
+    unbegun : q.sending.sender.flight.queue.pending.selected ≡ None
+    unbegun = none-selected (is_steady cs) i.numbered first (λ r. number_of r q.sending.sender.streams) q.sending.sender.flight.queue.pending i.sent
+        i.spread.holds.held.stands.queued (bare (λ u. u.flight.queue.pending.ordered) ∙ idle.ordered)
+        (bare (λ u. u.flight.queue.pending.unordered) ∙ idle.unordered)
+
+    unread : reads_nothing q.receiving.receiver ≡ true
+    unread = ap (λ (y : Stand). reads_nothing y.receiver) beside.shadow.receiving
+        ∙ (both (is_all_acknowledged s.sending.sender) (reads_nothing s.receiving.receiver) exhausted).1
+
+    -- what was made and read there is what was made and read here
+    made-there : AreMade q
+    made-there =
+        subst (λ ms. All (λ m. All (λ k. Contains ms (data_chunk (data_of k))) m.fragments) q.receiving.read) (sym beside.shadow.made)
+        (subst (λ (y : Stand). All (λ m. All (λ k. Contains s.made (data_chunk (data_of k))) m.fragments) y.read) (sym beside.shadow.receiving)
+        (runs.made reported first size max most limits cs s r))
+
+    whole-there : AreMessages q
+    whole-there =
+        subst (λ y. AreComplete y × AreOfOneMessage y) (sym beside.shadow.receiving) (runs.messages reported first size max most limits cs s r)
+
+    -- ## Ordered ones, where no FORWARD-TSN names the stream
+
+    module _ (unnamed : is_unnamed st s.made ≡ true) where
+      all-messages : (j : ℕ) → j < begun_to st n i.sent → HasRead st first n i.sent j q.receiving.read
+      all-messages j lt =
+          let x = beside.shadow in
+          let up = i.up st c (subst (λ ms. is_unnamed st ms ≡ true) (sym x.made) unnamed) in
+          let all = all-up st first (is_steady cs) (was_dropped cs) steady n q i.numbered i.sent i.spread few (i.answered st c).0 up landed unbegun unread in
+          up.read j (omega (arith, lt, all))
+
+      -- of which it has each fragment
+      read-part : (d : Data) (w : Numbered) (after : List ℕ) (xs : List Entry) → IsPart (fragment d w after ∷ xs) i.sent → d.stream_identifier ≡ st
+          → d.unordered ≡ false → IsReadOn st d s.receiving.read
+      read-part d w after xs part on' kind =
+          subst (λ (y : Stand). IsReadOn st d y.read) beside.shadow.receiving
+          (was-read st first (is_steady cs) (was_dropped cs) steady n q i.numbered i.sent i.spread few whole-there made-there
+          d w after xs part on' kind all-messages)
+
+    -- ## Unordered ones, of messages that are not lost
+
+    read-unordered : (d : Data) (w : Numbered) (after : List ℕ) (xs : List Entry) → IsPart (fragment d w after ∷ xs) i.sent → d.stream_identifier ≡ st
+        → d.unordered ≡ true → list_any (nat_eq w.place) (gone ++ others) ≡ false → IsReadOn st d s.receiving.read
+    read-unordered d w after xs part on' kind alive =
         let x = beside.shadow in
+        let all = i.taken in
         subst (λ (y : Stand). IsReadOn st d y.read) x.receiving
-        (was-read st first (is_steady cs) (was_dropped cs) steady n q i.numbered i.sent i.spread few
-        (subst (λ y. AreComplete y × AreOfOneMessage y) (sym x.receiving) (runs.messages reported first size max most limits cs s r))
-        (subst (λ ms. All (λ m. All (λ k. Contains ms (data_chunk (data_of k))) m.fragments) q.receiving.read) (sym x.made)
-        (subst (λ (y : Stand). All (λ m. All (λ k. Contains s.made (data_chunk (data_of k))) m.fragments) y.read) (sym x.receiving)
-        (runs.made reported first size max most limits cs s r)))
-        d w after xs part on' kind all-messages)
+        (ended-read (is_steady cs) (was_dropped cs) st first n few q i.numbered i.sent i.spread (gone ++ others) (i.answered st c) (i.told others refl st c)
+        (cut-later gone (gone ++ others) (gone-left gone others) i.sent i.cut) i.taken
+        (whole-on (is_steady cs) first q i.numbered i.sent st steady (let a = i.spread.long in omega (arith, a, few))
+        i.spread.holds.held.stands.queued.line i.spread.holds.held.stands.queued.indexed i.spread.holds.made whole-there made-there
+        (ap (λ (y : Stand). list_all (λ m. list_all (is_on m.stream) m.fragments) y.read) x.receiving ∙ on-each))
+        landed (λ lt. ends i.sent (subst (IsOpen i.sent) unbegun i.spread.holds.held.stands.queued.open') i.spread.long lt) unread d w after xs part on' kind
+        alive)
+      where
+        ends : (xs : List Entry) → IsOpen xs None → length xs ≡ n → 0 < n → EndsMessage xs
+        ends [] e l lt = absurd (omega (arith, lt, l))
+        ends (terminal ∷ xs) e l lt = tt
+        ends (fragment d w after ∷ xs) e l lt = e
 
     -- ## Each write
 
-    module _ (k : ℕ) (left : IsLeftOn st gone cs s k) where
+    -- where its first fragment was read
+    module _ (unordered : Bool) (gone' : List ℕ) (among : (m : ℕ) → list_any (nat_eq m) gone ≡ true → list_any (nat_eq m) gone' ≡ true)
+        (reads : (d : Data) (w : Numbered) (after : List ℕ) (xs : List Entry) → IsPart (fragment d w after ∷ xs) i.sent → d.stream_identifier ≡ st
+        → d.unordered ≡ unordered → list_any (nat_eq w.place) gone' ≡ false → IsReadOn st d s.receiving.read)
+        (k : ℕ) (left : IsLeftOn unordered st gone' cs s k) where
       total : length s.written ≡ length i.numbered
       total = sym (ap length writes) ∙ length-forgotten i.numbered
 
@@ -421,10 +470,12 @@ module _ (reported : Reported) (first size max most : ℕ) (limits : Option Limi
       at : w.place + k + 1 ≡ length i.numbered
       at = place-at i.numbered k w i.spread.holds.placed lt (slice-itself i.numbered k w none_written lt)
 
+      alive : list_any (nat_eq w.place) gone' ≡ false
+      alive = let is : w.place ≡ length s.written - (k + 1) = omega (arith, at, total) in ap (λ m. list_any (nat_eq m) gone') is ∙ left.left
+
       begun : was_begun w.place i.sent ≡ true
       begun =
-          let is : w.place ≡ length s.written - (k + 1) = omega (arith, at, total) in
-          let off = ap (λ m. list_any (nat_eq m) gone) is ∙ left.left in
+          let off = fails (list_any (nat_eq w.place) gone) (λ e. not_both (sym alive ∙ among w.place e)) in
           elim (or-split (was_begun w.place i.sent) (begins_in w.place p) (i.begun w.place (omega (arith, at)) off)) [
             | inl e ↦ e
             | inr e ↦ elim (or-split (list_any (begins w.place) p.ordered) (list_any (begins w.place) p.unordered) e) [
@@ -459,14 +510,15 @@ module _ (reported : Reported) (first size max most : ℕ) (limits : Option Limi
           l.0.stream ∙ sym (ap (λ (y : Write). y.stream) is) ∙ ap (λ j. (slice_index_or s.written j (forget v)).stream) (same-place' v written_at first_part.6)
           ∙ left.on (forget v)
 
-      ordered : first_part.0.unordered ≡ false
-      ordered =
+      of-kind : first_part.0.unordered ≡ unordered
+      of-kind =
           sym (kind-at modes q i.numbered i.sent i.said i.spread.holds.placed first_part.0 v first_part.2 first_part.3 written_at first_part.4 unknown)
-          ∙ ap (λ j. (slice_index_or modes.of_writes j unknown).mode.unordered) (same-place' v written_at first_part.6) ∙ left.ordered
+          ∙ ap (λ j. (slice_index_or modes.of_writes j unknown).mode.unordered) (same-place' v written_at first_part.6) ∙ left.kind
 
       placed : Contains own-places k
       placed =
-          let m = read-part first_part.0 v first_part.2 first_part.3 first_part.4 on-stream ordered in
+          let m = reads first_part.0 v first_part.2 first_part.3 first_part.4 on-stream of-kind
+          (ap (λ j. list_any (nat_eq j) gone') first_part.6 ∙ alive) in
           let alone : is_single m.0.fragments ≡ true =
           subst (λ (x : Message). is_steady cs x.stream ≡ true → is_single x.fragments ≡ true) m.1.2 (are-single m.1.0 m.0 m.1.1)
           (ap (is_steady cs) m.2 ∙ steady) in
@@ -512,7 +564,28 @@ module _ (reported : Reported) (first size max most : ℕ) (limits : Option Limi
 
   -- and what was written on it
   pub ordered-read : IsOrderedReadInTheEnd gone cs s
-  ordered-read exhausted = (own-places, own-stand, own-apart, λ st c unnamed k left. placed exhausted st c unnamed k left)
+  ordered-read exhausted = (
+    own-places,
+    own-stand,
+    own-apart,
+    λ st c unnamed k left.
+        placed exhausted st c false gone (λ m e. e) (λ d w after xs part on' kind off. read-part exhausted st c unnamed d w after xs part on' kind) k left,
+  )
+
+  -- whatever FORWARD-TSNs name
+  pub unordered-written-read : IsUnorderedReadInTheEnd (gone ++ others) cs s
+  unordered-written-read exhausted = (
+    own-places,
+    own-stand,
+    own-apart,
+    λ st c k left. placed exhausted st c true (gone ++ others) (gone-left gone others) (read-unordered exhausted st c) k left,
+  )
+
+  -- and so was what was made of it unordered, where no message was lost
+  pub unordered-sent-read : IsUnorderedSentReadInTheEnd (gone ++ others) cs s
+  unordered-sent-read none exhausted st c d in' on' kind =
+      let w = found-sent-on (is_steady cs) i.sent s.made d made in' in
+      read-unordered exhausted st c d w.0 w.1 w.2 w.3 on' kind (ap (list_any (nat_eq w.0.place)) none)
 
   -- what was made of it unordered was read, or is held, if it was neither dropped nor passed
   pub unordered-read : IsUnorderedReadOrHeld cs s
@@ -535,7 +608,7 @@ module _ (reported : Reported) (first size max most : ℕ) (limits : Option Limi
     where
       beside-accounted : IsAccounted beside.other
       beside-accounted =
-          played-accounted (is_steady cs) (was_dropped cs) (is_unbroken cs) (steady-there false cs) first beside.other n gone modes i
+          played-accounted (is_steady cs) (was_dropped cs) (is_unbroken cs) (Some others) (steady-there false cs) first beside.other n gone modes i
 
   -- the sender holds what got TSNs, too; so a call of it gives out one at most
   holds : HoldsOn (is_steady cs) first s i.numbered i.sent
@@ -558,7 +631,8 @@ module _ (reported : Reported) (first size max most : ℕ) (limits : Option Limi
   -- no way from the TSN that is next to itself
   pub same-way : distance (next_tsn s) (next_tsn s) ≡ 0
   same-way =
-      no-way (next_tsn s) (small-next first (every (is_steady cs) (was_dropped cs) (is_unbroken cs) (steady-there false cs) first) s.sending.sender s n gone
+      no-way (next_tsn s) (small-next first (every (is_steady cs) (was_dropped cs) (is_unbroken cs) (Some others) (steady-there false cs) first)
+      s.sending.sender s n gone
       modes few beside)
 
   -- what `acked` makes of the sender is two calls

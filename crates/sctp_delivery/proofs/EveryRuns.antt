@@ -45,7 +45,7 @@ use Rattle.sctp_delivery.proofs.ValidMarks.{IsRight, IsValid}
 -- ## A chunk is dropped
 
 module _ (p n : ℕ) (kn : ℕ → Bool) (r : Reception) (few : n < 2 ^ 31) (t : ℕ) (g : IsGiven p n t) (h : IsArrived p n kn r.cumulative_tsn r.beyond) where
-  discard-arrived : kn t ≡ true → IsArrived p n kn (after_discard t r).cumulative_tsn (after_discard t r).beyond
+  pub discard-arrived : kn t ≡ true → IsArrived p n kn (after_discard t r).cumulative_tsn (after_discard t r).beyond
   discard-arrived so = at-test (λ b. IsArrived p n kn (if b then repeat_tsn t r else with_filter (with_tsn t (filter_of r)) r).cumulative_tsn
       (if b then repeat_tsn t r else with_filter (with_tsn t (filter_of r)) r).beyond) (has_come t (filter_of r))
       (λ e. h)
@@ -323,7 +323,7 @@ accounted reported tsn size max most limits cs s r =
 
 -- ## Messages
 
-takes-made : (c : AnyCall) (old new : Session) → FollowsAny c old new → IsTakenMade old → IsTakenMade new
+pub takes-made : (c : AnyCall) (old new : Session) → FollowsAny c old new → IsTakenMade old → IsTakenMade new
 takes-made (makes (of_sender call)) old new f h = sent-made call old new f h
 takes-made (makes (of_receiver call)) old new f h = taken-made call old new f h
 takes-made (of_sending call) old new f h =

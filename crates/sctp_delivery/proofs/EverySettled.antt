@@ -1,5 +1,5 @@
 -- Sessions of every call: where nothing waits or is in flight, each unordered chunk of a stream that goes on was read, or is held.
-use Rattle.sctp_delivery.proofs.Names.{◌≡◌, ℕ, suc, ◌<◌, ◌≤◌, ◌^◌, Bool, true, false, List, [], ◌∷◌, ◌++◌, length, inl, inr, refl, ap, sym, subst, ◌∙◌}
+use Rattle.sctp_delivery.proofs.Names.{◌≡◌, ℕ, suc, ◌<◌, ◌^◌, Bool, true, false, List, [], ◌∷◌, ◌++◌, length, inl, inr, refl, ap, sym, subst, ◌∙◌}
 use Rattle.sctp_delivery.proofs.Names.{arith, All, Contains, if◌then◌else◌, ◌==◌, ◌||◌, filter, list_any, sum_by, sum_by-cons, sum_by-append, eq-eqb, ◌⊎◌}
 use Rattle.sctp_delivery.proofs.Names.{or-split, same-is, fails, not_both, tsn, ChunkPayloadData, Data, data_of, data_chunk, has_tsn, is_on, passes, Message}
 use Rattle.sctp_delivery.proofs.Names.{fragments_read, fragments_held, is_all_acknowledged, stream_of, was_passed, was_taken, AreMade, Session}
@@ -9,7 +9,8 @@ use Rattle.sctp_delivery.specs.EveryEnd.{IsReadOn}
 use Rattle.sctp_delivery.proofs.Cases.{at-test, by-test}
 use Rattle.sctp_delivery.proofs.Delivered.{found-sent-on}
 use Rattle.sctp_delivery.proofs.Every.{Every}
-use Rattle.sctp_delivery.proofs.EveryHeld.{IsEven}
+use Rattle.sctp_delivery.proofs.Even.{lonely, lonely-less, lonely-light}
+use Rattle.sctp_delivery.proofs.EveryHeld.{IsEvenBut}
 use Rattle.sctp_delivery.proofs.InTheEnd.{all-every}
 use Rattle.sctp_delivery.proofs.Kept.{held-weighs}
 use Rattle.sctp_delivery.proofs.KeptSessions.{idle-of}
@@ -20,9 +21,24 @@ use Rattle.sctp_delivery.proofs.Sent.{Entry, IsLine, Numbered, WasSent, contains
 use Rattle.sctp_delivery.proofs.Sessions.{IsTakenMade, found-made, made_among}
 use Rattle.sctp_delivery.proofs.TsnPlaces.{base, same-place}
 
+-- of a TSN that was read on the stream, a message and its fragment
+pub found-read : (st t : ℕ) (ms : List Message) → 0 < sum_by (one t) (fragments_read st ms)
+    → (m : Message) × Contains ms m × (m.stream ≡ st) × (c : ChunkPayloadData) × Contains m.fragments c × (has_tsn t c ≡ true)
+found-read st t [] lt = absurd (omega (arith, lt))
+found-read st t (m ∷ ms) lt = at-test (λ b. 0 < sum_by (one t) (if b then m.fragments ++ fragments_read st ms else fragments_read st ms)
+    → (x : Message) × Contains (m ∷ ms) x × (x.stream ≡ st) × (c : ChunkPayloadData) × Contains x.fragments c × (has_tsn t c ≡ true)) (m.stream == st)
+    (λ e more. by-test (list_any (has_tsn t) m.fragments)
+    (λ h. let a = Any-from_list_any (has_tsn t) m.fragments h in (m, (0, omega arith, refl), same-is m.stream st e, a.1, (a.0, a.2, a.3), a.4))
+    (λ h. later (found-read st t ms (omega (arith, more, sum_by-append (one t) m.fragments (fragments_read st ms), none-count t m.fragments h)))))
+    (λ e more. later (found-read st t ms more)) lt
+  where
+    later : (x : Message) × Contains ms x × (x.stream ≡ st) × (c : ChunkPayloadData) × Contains x.fragments c × (has_tsn t c ≡ true)
+        → (x : Message) × Contains (m ∷ ms) x × (x.stream ≡ st) × (c : ChunkPayloadData) × Contains x.fragments c × (has_tsn t c ≡ true)
+    later x = (x.0, contains-more m ms x.0 x.1, x.2, x.3, x.4, x.5)
+
 module _ (first n : ℕ) (few : n < 2 ^ 31) (on dropped : ℕ → Bool) (s : Session) (ns : List Numbered) (sent : List Entry) (long : length sent ≡ n)
     (line : IsLine ns first sent) (sent-made : AreSentOn on sent s.made) (step : IsInStepBut dropped (base first) n s) (taken-made : IsTakenMade s)
-    (read-made : AreMade s) (st : ℕ) (even : IsEven st s.made s.receiving) (acknowledged : is_all_acknowledged s.sending.sender ≡ true) (d : Data)
+    (read-made : AreMade s) (st : ℕ) (even : IsEvenBut st s.made s.receiving) (acknowledged : is_all_acknowledged s.sending.sender ≡ true) (d : Data)
     (in' : Contains s.made (data_chunk d)) (there : d.stream_identifier ≡ st) (kind : d.unordered ≡ true) (undropped : dropped d.tsn ≡ false)
     (unpassed : was_passed d.tsn s ≡ false) where
   was : WasSent sent d
@@ -57,16 +73,7 @@ module _ (first n : ℕ) (few : n < 2 ^ 31) (on dropped : ℕ → Bool) (s : Ses
   -- ## It weighs something
 
   abbrev w : ChunkPayloadData → ℕ
-  w c = if c.unordered then one d.tsn c else 0
-
-  light : (c : ChunkPayloadData) → c.unordered ≡ false → w c ≡ 0
-  light c e = ap (λ b. if b then one d.tsn c else 0) e
-
-  less : (cs : List ChunkPayloadData) → sum_by w cs ≤ sum_by (one d.tsn) cs
-  less [] = omega arith
-  less (c ∷ cs) =
-      let x : w c ≤ one d.tsn c = at-test (λ b. (if b then one d.tsn c else 0) ≤ one d.tsn c) c.unordered (λ _. omega arith) (λ _. omega arith) in
-      omega (arith, x, less cs, sum_by-cons w c cs, sum_by-cons (one d.tsn) c cs)
+  w = lonely (one d.tsn)
 
   none : (cs : List ChunkPayloadData) → Every (λ c. list_any (passes c.tsn) s.made ≡ true) cs → sum_by w cs ≡ 0
   none [] e = refl
@@ -91,31 +98,19 @@ module _ (first n : ℕ) (few : n < 2 ^ 31) (on dropped : ℕ → Bool) (s : Ses
 
   -- ## So it was read, if it is not held
 
-  found : (ms : List Message) → 0 < sum_by w (fragments_read st ms)
-      → (m : Message) × Contains ms m × (m.stream ≡ st) × (c : ChunkPayloadData) × Contains m.fragments c × (has_tsn d.tsn c ≡ true)
-  found [] lt = absurd (omega (arith, lt))
-  found (m ∷ ms) lt = at-test (λ b. 0 < sum_by w (if b then m.fragments ++ fragments_read st ms else fragments_read st ms)
-      → (x : Message) × Contains (m ∷ ms) x × (x.stream ≡ st) × (c : ChunkPayloadData) × Contains x.fragments c × (has_tsn d.tsn c ≡ true)) (m.stream == st)
-      (λ e more. by-test (list_any (has_tsn d.tsn) m.fragments)
-      (λ h. let a = Any-from_list_any (has_tsn d.tsn) m.fragments h in (m, (0, omega arith, refl), same-is m.stream st e, a.1, (a.0, a.2, a.3), a.4))
-      (λ h. later (found ms (omega (arith, more, sum_by-append w m.fragments (fragments_read st ms), less m.fragments, none-count d.tsn m.fragments h)))))
-      (λ e more. later (found ms more)) lt
-    where
-      later : (x : Message) × Contains ms x × (x.stream ≡ st) × (c : ChunkPayloadData) × Contains x.fragments c × (has_tsn d.tsn c ≡ true)
-          → (x : Message) × Contains (m ∷ ms) x × (x.stream ≡ st) × (c : ChunkPayloadData) × Contains x.fragments c × (has_tsn d.tsn c ≡ true)
-      later x = (x.0, contains-more m ms x.0 x.1, x.2, x.3, x.4, x.5)
-
   unheld : list_any (has_tsn d.tsn) (fragments_held st s.receiving.receiver) ≡ false → IsReadOn st d s.receiving.read
   unheld off =
       let all = all-every (made_among s.made) (λ c. Contains s.made (data_chunk (data_of c))) (λ c h. found-made s.made (data_of c) h) s.receiving.accepted
       taken-made in
       let some = among s.receiving.accepted all came in
-      let held = less (fragments_held st s.receiving.receiver) in
+      let held = lonely-less (one d.tsn) (fragments_held st s.receiving.receiver) in
+      let more = lonely-less (one d.tsn) (fragments_read st s.receiving.read) in
       let empty = none-count d.tsn (fragments_held st s.receiving.receiver) off in
-      let x = found s.receiving.read (omega (
+      let x = found-read st d.tsn s.receiving.read (omega (
         arith,
         some,
-        even.weighs w light,
+        even.so.weighs w (lonely-light (one d.tsn)),
+        more,
         held-weighs w (stream_of st s.receiving.receiver),
         held,
         empty,

@@ -3,7 +3,8 @@ use Rattle.sctp_delivery.proofs.Names.{◌≡◌, ℕ, ◌+◌, ◌<◌, ◌^◌
 use Rattle.sctp_delivery.proofs.Names.{◌∙◌, arith, distance, not_both, or-left, or-right, filter, change_where, Limits, Modes, OutboundStream}
 use Rattle.sctp_delivery.proofs.Names.{Call, Follows, Session, bytes_written, of_receiver, of_sender, at_first, has_number, Transmission}
 use Rattle.sctp_delivery.proofs.Names.{abandoned_by, append-nil, append_assoc, SenderCall, Made, ForwardTsn, fails, is_pair_of, list_any_at, made_after}
-use Rattle.sctp_delivery.proofs.Names.{stream_of, ◌||◌, Mode, both, inl, inr, is_open, modes_from, negated, or-split}
+use Rattle.sctp_delivery.proofs.Names.{stream_of, ◌||◌, Mode, both, inl, inr, is_open, modes_from, negated, or-split, Some, None, none-some, nat_eq, list_any-append, ChunkPayloadData}
+use Rattle.sctp_delivery.proofs.Names.{has_come, has_tsn, filter_of}
 use Rattle.sctp_delivery.proofs.Names.{IsAccounted, Contains, at_start, list_any, same-yes, sum_by, Write, data_chunk, forward_tsn, data_of, if◌then◌else◌}
 use Rattle.sctp_receiver.specs.ReceiverRuns as receiver_runs
 use Rattle.sctp_sender.specs.declared.sender.Reported.{Reported}
@@ -22,33 +23,40 @@ use Rattle.std.specs.List.{AllByRecursion, slice_rotate_right}
 use Rattle.sctp_delivery.specs.EveryCall.{AnyCall, FollowsAny, IsMadeChunk, IsReceiverTaken, ReceiverDoes, ReceiverOther, RunsAny, SenderDoes, SenderOther}
 use Rattle.sctp_delivery.specs.EveryCall.{as_receiver_run, closes, closes_incoming, discards, drops, makes, of_receiving, of_sending, passes_over, renews}
 use Rattle.sctp_delivery.specs.EveryCall.{resets, resets_incoming, takes_back, tsns_given_any}
-use Rattle.sctp_delivery.specs.EveryEnd.{abandoned_any, is_naming, is_unnamed}
+use Rattle.sctp_delivery.specs.EveryEnd.{abandoned_any, dropped_any, dropped_by, is_naming, is_unnamed}
 use Rattle.sctp_delivery.specs.EveryOrder.{breaks, goes_on, is_unbroken, opens_incoming, plain_calls}
 use Rattle.sctp_delivery.specs.ReceiverCalls as incoming
 use Rattle.sctp_delivery.specs.Returns.{at_start_with}
 use Rattle.sctp_delivery.specs.SenderCalls as outgoing
-use Rattle.sctp_delivery.proofs.AbandonedMessages.{AreBegunOrGone, begun-later, gone-left, gone-right, stays-begun-or-gone}
+use Rattle.sctp_delivery.proofs.AbandonedMessages.{AreAmong, AreBegunOrGone, AreMarkedGone, begun-later, cut-later, flight_of, gone-left, gone-right}
+use Rattle.sctp_delivery.proofs.AbandonedMessages.{marked-later, stays-begun-or-gone, stays-cut, stays-marked}
 use Rattle.sctp_delivery.proofs.Calls.{numbered_after}
 use Rattle.sctp_delivery.proofs.Cases.{at-test}
 use Rattle.sctp_delivery.proofs.Delivered.{next_tsn}
 use Rattle.sctp_delivery.proofs.EveryFronts.{IsReadUp, other-up, receiver-up, sender-up}
+use Rattle.sctp_delivery.proofs.EveryKept.{IsTold, other-told, receiver-told, sender-told, told-beside, told-first, whole-on}
 use Rattle.sctp_delivery.proofs.EveryRuns as runs
 use Rattle.sctp_delivery.proofs.EveryTurns.{open-after, open-after-other, opens-it, other-answered}
 use Rattle.sctp_delivery.proofs.ModeSessions.{AreInModes, IsAsSaid, IsInModes, changed-in, said-after, said-beside, said-first}
 use Rattle.sctp_delivery.proofs.Numbers.{all-open, apart-changed, apart-closed, number-elsewhere, number_of, numbers-closed, sized-changed, sized-closed}
 use Rattle.sctp_delivery.proofs.Numbers.{there-changed, there-closed}
+use Rattle.sctp_delivery.proofs.PassedMessages.{AreCutGone, is_gone}
+use Rattle.sctp_delivery.proofs.Plain.{are-plain, plain}
 use Rattle.sctp_delivery.proofs.PlainCalls.{sender-goes}
 use Rattle.sctp_delivery.proofs.PlainRuns.{returns-goes, unmoved}
-use Rattle.sctp_delivery.proofs.PlainSessions.{Goes, IsThere, Others, gone_by, modes_by, receives-too}
+use Rattle.sctp_delivery.proofs.PlainSessions.{Goes, IsThere, Others, Shadows, gone_by, kept_of, modes_by, receives-too}
 use Rattle.sctp_delivery.proofs.PlainStreams.{AreAlike, bare, both-changed}
 use Rattle.sctp_delivery.proofs.Every.{Every}
 use Rattle.sctp_delivery.proofs.SackLaws as sacks
+use Rattle.sctp_delivery.proofs.SackSteps.{came_in, passed_in}
 use Rattle.sctp_delivery.proofs.Senders.{IsHeldOn, renumbered}
 use Rattle.sctp_delivery.proofs.Sent.{Entry, Numbered}
-use Rattle.sctp_delivery.proofs.Sessions.{IsCounted, more-made, sender-counts}
+use Rattle.sctp_delivery.proofs.Sessions as made_in
+use Rattle.sctp_delivery.proofs.Sessions.{IsCounted, IsTakenMade, more-made, sender-counts}
 use Rattle.sctp_delivery.proofs.SpreadCalls.{IsSpreadOn, beside-spreads, receiver-spreads-on, sender-spreads-on, spread-first-on}
 use Rattle.sctp_delivery.proofs.TsnPlaces.{base}
 use Rattle.sctp_delivery.proofs.UnwrappedSessions.{IsAnswered, answered-first, receiver-answered-on, sender-answered-on}
+use Rattle.sctp_delivery.proofs.Whole.{AreWholeOn}
 
 -- ## What a sender does by its calls, and one more
 
@@ -190,12 +198,74 @@ gone-on (makes (of_receiver call)) cs s new r = refl
 gone-on (of_sending call) cs s new r = refl
 gone-on (of_receiving call) cs s new r = refl
 
+-- of which messages the call drops a chunk
+abbrev dropped_of : AnyCall → Session → List ℕ
+dropped_of (makes call) s = []
+dropped_of (of_sending call) s = []
+dropped_of (of_receiving call) s = dropped_by call s
+
+dropped-on : (c : AnyCall) (cs : List AnyCall) (s new : Session) (r : RunsAny s (c ∷ cs) new)
+    → dropped_of c s ++ dropped_any r.0 cs new r.1.1 ≡ dropped_any s (c ∷ cs) new r
+dropped-on (makes call) cs s new r = refl
+dropped-on (of_sending call) cs s new r = refl
+dropped-on (of_receiving call) cs s new r = refl
+
+-- what is alike is of the same messages
+same-numbers : (t : ℕ) (cs : List ChunkPayloadData) → map (λ c. c.message_id) (filter (has_tsn t) (map plain cs))
+    ≡ map (λ c. c.message_id) (filter (has_tsn t) cs)
+same-numbers t [] = refl
+same-numbers t (c ∷ cs) = at-test (λ b. map (λ (x : ChunkPayloadData). x.message_id) (if b then plain c ∷ filter (has_tsn t) (map plain cs)
+    else filter (has_tsn t) (map plain cs)) ≡ map (λ (x : ChunkPayloadData). x.message_id) (if b then c ∷ filter (has_tsn t) cs else filter (has_tsn t) cs))
+    (has_tsn t c) (λ _. ap (λ ms. c.message_id ∷ ms) (same-numbers t cs)) (λ _. same-numbers t cs)
+
+same-dropped : (call : ReceiverOther) (s d : Session) → Shadows s.sending.sender s d → dropped_by call d ≡ dropped_by call s
+same-dropped (discards c) s d x =
+    let cs = s.sending.sender.flight.queue.inflight.chunks in
+    let is : d.sending.sender.flight.queue.inflight.chunks ≡ x.chunks = ap (λ (u : Transmission). u.flight.queue.inflight.chunks) x.sender in
+    let alike = sym (same-numbers c.tsn x.chunks) ∙ ap (λ ds. map (λ (y : ChunkPayloadData). y.message_id) (filter (has_tsn c.tsn) ds))
+    (sym (are-plain (kept_of s.sending.sender.kept) cs x.chunks x.like)) ∙ same-numbers c.tsn cs in
+    ap (λ (y : receiver_runs.Stand). if has_come c.tsn (filter_of y.receiver) then [] else map (λ (z : ChunkPayloadData). z.message_id)
+    (filter (has_tsn c.tsn) d.sending.sender.flight.queue.inflight.chunks)) x.receiving
+    ∙ ap (λ ms. if has_come c.tsn (filter_of s.receiving.receiver) then [] else ms)
+    (ap (λ ds. map (λ (z : ChunkPayloadData). z.message_id) (filter (has_tsn c.tsn) ds)) is ∙ alike)
+same-dropped (closes_incoming st) s d x = refl
+same-dropped (resets_incoming st last) s d x = refl
+same-dropped (passes_over g) s d x = refl
+
+-- what is gone stays so
+wider : (gone answered others : List ℕ) → AreAmong (gone ++ others) ((gone ++ answered) ++ others)
+wider gone answered others k e = elim (or-split (is_gone gone k) (is_gone others k) (sym (list_any-append (nat_eq k) gone others) ∙ e)) [
+  | inl h ↦ gone-left (gone ++ answered) others k (gone-left gone answered k h)
+  | inr h ↦ gone-right (gone ++ answered) others k h
+]
+
+-- what the receiver was called for
+pub record IsCalled (first : ℕ) (y : receiver_runs.Stand) : Type 0 where
+  pub most : ℕ
+  pub limits : Option Limits
+  pub calls : List receiver_runs.Call
+  pub run : receiver_runs.RunsTo (receiver_runs.at_start first most limits) calls y
+
+called-then : (first : ℕ) (c : receiver_runs.Call) (y z : receiver_runs.Stand) → IsCalled first y → receiver_runs.Follows c y z → IsCalled first z
+called-then first c y z h f = record {
+  most = h.most;
+  limits = h.limits;
+  calls = h.calls ++ c ∷ [];
+  run = more-run h.calls (receiver_runs.at_start first h.most h.limits) y h.run f;
+}
+  where
+    more-run : (cs : List receiver_runs.Call) (a b : receiver_runs.Stand) → receiver_runs.RunsTo a cs b → receiver_runs.Follows c b z
+        → receiver_runs.RunsTo a (cs ++ c ∷ []) z
+    more-run [] a b r g = (z, (subst (λ l. receiver_runs.Follows c l z) r g, refl))
+    more-run (d ∷ cs) a b r g = (r.0, (r.1.0, more-run cs r.0 b r.1.1 g))
+
 -- # The session beside it
 
--- numbers go on on some streams; on some of these the receiver goes on, too
-module _ (on dropped calm : ℕ → Bool) (sub : (st : ℕ) → calm st ≡ true → on st ≡ true) (first : ℕ) where
+-- numbers go on on some streams; on some of these the receiver goes on, too. Where it is said of which messages the receiver drops chunks, it is told
+-- what becomes of the others
+module _ (on dropped calm : ℕ → Bool) (lost : Option (List ℕ)) (sub : (st : ℕ) → calm st ≡ true → on st ≡ true) (first : ℕ) where
   -- what stays true of it after n TSNs were given out
-  pub record IsPlayed (d : Session) (n : ℕ) (gone : List ℕ) (m : Modes) : Type 0 where
+  pub record IsPlayedSo (d : Session) (n : ℕ) (gone : List ℕ) (m : Modes) : Type 0 where
     pub numbered : List Numbered
     pub sent : List Entry
     pub spread : IsSpreadOn on dropped first n d numbered sent
@@ -209,17 +279,35 @@ module _ (on dropped calm : ℕ → Bool) (sub : (st : ℕ) → calm st ≡ true
     pub max : ℕ
     pub calls : List sender_runs.Call
     pub ran : sender_runs.RunsTo (sender_runs.at_start first size max) calls d.sending
+    pub taken : IsTakenMade d
+    pub called : IsCalled first d.receiving
+    pub apart : are_apart (numbers_of d.receiving.receiver.streams) ≡ true
+    pub marked : AreMarkedGone gone (flight_of d).queue.inflight.chunks
+    pub cut : AreCutGone gone sent
+    pub told : (others : List ℕ) → lost ≡ Some others → (st : ℕ) → calm st ≡ true → IsTold st first n (gone ++ others) d sent
+
+  -- what was read on such a stream
+  whole : (d : Session) (n : ℕ) (gone : List ℕ) (m : Modes) (p : IsPlayedSo d n gone m) → n < 2 ^ 31 → (st : ℕ) → calm st ≡ true
+      → AreWholeOn p.sent st d.receiving.read
+  whole d n gone m p few st c =
+      let h = p.called in
+      let long = p.spread.long in
+      whole-on on first d p.numbered p.sent st (sub st c) (omega (arith, long, few)) p.spread.holds.held.stands.queued.line
+      p.spread.holds.held.stands.queued.indexed p.spread.holds.made (made_in.messages-so first h.most h.limits h.calls d h.run)
+      (made_in.made-so first h.most h.limits h.calls d h.run p.taken) (made_in.read-on-so first h.most h.limits h.calls d h.run)
 
   abbrev PlaysSo : Session → ℕ → List ℕ → Modes → Type 0
-  PlaysSo d n gone m = n < 2 ^ 31 → IsPlayed d n gone m
+  PlaysSo d n gone m = n < 2 ^ 31 → IsPlayedSo d n gone m
 
   -- where its sender stays as it is
   beside-played : (d e : Session) (n : ℕ) (gone : List ℕ) (m : Modes) → (same : e.sending ≡ d.sending) → (made : e.made ≡ d.made)
-      → (written : e.written ≡ d.written) → (p : IsPlayed d n gone m) → (spread : IsSpreadOn on dropped first n e p.numbered p.sent)
+      → (written : e.written ≡ d.written) → (p : IsPlayedSo d n gone m) → (spread : IsSpreadOn on dropped first n e p.numbered p.sent)
       → ((st : ℕ) → calm st ≡ true → IsAnswered st first n p.sent spread.step.numbered.acked e)
       → ((st : ℕ) → calm st ≡ true → is_unnamed st d.made ≡ true
-      → IsReadUp st first n p.sent (stream_of st e.receiving.receiver) e.receiving.read) → IsPlayed e n gone m
-  beside-played d e n gone m same made written p spread answered up = record {
+      → IsReadUp st first n p.sent (stream_of st e.receiving.receiver) e.receiving.read)
+      → IsTakenMade e → IsCalled first e.receiving → are_apart (numbers_of e.receiving.receiver.streams) ≡ true
+      → ((others : List ℕ) → lost ≡ Some others → (st : ℕ) → calm st ≡ true → IsTold st first n (gone ++ others) e p.sent) → IsPlayedSo e n gone m
+  beside-played d e n gone m same made written p spread answered up taken called apart told = record {
     numbered = p.numbered;
     sent = p.sent;
     spread = spread;
@@ -236,20 +324,30 @@ module _ (on dropped calm : ℕ → Bool) (sub : (st : ℕ) → calm st ≡ true
     max = p.max;
     calls = p.calls;
     ran = subst (λ l. sender_runs.RunsTo (sender_runs.at_start first p.size p.max) p.calls l) (sym same) p.ran;
+    taken = taken;
+    called = called;
+    apart = apart;
+    marked = subst (λ (l : sender_runs.Ledger). AreMarkedGone gone l.sender.flight.queue.inflight.chunks) (sym same) p.marked;
+    cut = p.cut;
+    told = told;
   }
 
   pub onward : (d e : Session) (n : ℕ) (gone : List ℕ) (m : Modes) → PlaysSo d n gone m → (c : Call) → Follows c d e
       → PlaysSo e (n + distance (next_tsn d) (next_tsn e)) (gone ++ gone_by c d) (modes_by c m)
   onward d e n gone m p (of_sender call) f few =
-      let i = p (omega (arith, few)) in
+      let small : n < 2 ^ 31 = omega (arith, few) in
+      let i = p small in
       let x = sender-spreads-on on dropped first n call d e i.numbered i.sent i.spread few f in
+      let answered = abandoned_by call d.sending.sender in
+      let more = gone ++ answered in
+      let same : e.receiving ≡ d.receiving = ap (λ (s : Session). s.receiving) f.after in
+      let chunks = (flight_of d).queue.inflight.chunks in
       record {
         numbered = numbered_after call i.numbered;
         sent = x.more;
         spread = x.spread;
         said = said-after call d e m i.numbered i.sent x.more f x.grown i.spread.holds.held.sized i.said;
         begun =
-            let answered = abandoned_by call d.sending.sender in
             stays-begun-or-gone on (gone ++ answered) first d e i.numbered i.sent x.more i.spread.holds x.once
             (begun-later gone (gone ++ answered) (gone-left gone answered) (length i.numbered) i.sent d.sending.sender.flight.queue.pending i.begun) call
             (gone-right gone answered) f x.grown;
@@ -263,20 +361,34 @@ module _ (on dropped calm : ℕ → Bool) (sub : (st : ℕ) → calm st ≡ true
         max = i.max;
         calls = i.calls ++ outgoing.as_run call ∷ [];
         ran = ran-then i.calls (outgoing.as_run call) (sender_runs.at_start first i.size i.max) d.sending e.sending i.ran f.step;
+        taken = made_in.sent-made call d e f i.taken;
+        called = subst (IsCalled first) (sym same) i.called;
+        apart = subst (λ (y : receiver_runs.Stand). are_apart (numbers_of y.receiver.streams) ≡ true) (sym same) i.apart;
+        marked = stays-marked more d e (came_in dropped d) (passed_in d.made) i.spread.step.valid
+            (marked-later gone more (gone-left gone answered) chunks i.marked) call (gone-right gone answered) f;
+        cut = stays-cut on more first d e i.numbered i.sent x.more i.spread.holds x.spread.holds.held.stands.counted
+            (cut-later gone more (gone-left gone answered) i.sent i.cut) call (gone-right gone answered) f x.grown;
+        told = λ others is st c. sender-told on dropped st first n small d i.numbered i.sent i.spread (gone ++ others) (i.answered st c) (i.told others is st c)
+            call e few f x (more ++ others) (wider gone answered others)
+            (marked-later gone (more ++ others) (λ k g. gone-left more others k (gone-left gone answered k g)) chunks i.marked);
       }
   onward d e n gone m p (of_receiver call) f few =
       let small : n < 2 ^ 31 = omega (arith, few) in
       let i = p small in
       let none = sacks.no-move (base first) n d e (ap (λ (s : Session). s.sending) f.after) i.spread.step.numbered in
       let spread = receiver-spreads-on on dropped first n call d e i.numbered i.sent small f i.spread in
-      subst (λ k. IsPlayed e k (gone ++ []) m) {x = n} {y = n + distance (next_tsn d) (next_tsn e)} (omega (arith, none))
-      (subst (λ xs. IsPlayed e n xs m) (sym (append-nil gone))
+      subst (λ k. IsPlayedSo e k (gone ++ []) m) {x = n} {y = n + distance (next_tsn d) (next_tsn e)} (omega (arith, none))
+      (subst (λ xs. IsPlayedSo e n xs m) (sym (append-nil gone))
       (beside-played d e n gone m (ap (λ (s : Session). s.sending) f.after) (ap (λ (s : Session). s.made) f.after) (ap (λ (s : Session). s.written) f.after)
       i spread (λ st c. receiver-answered-on st first on dropped (sub st c) n call d e i.numbered i.sent i.spread small f spread (i.answered st c))
       (λ st c none. receiver-up st first on dropped (sub st c) n d i.numbered i.sent i.spread small e (i.answered st c).0 (i.up st c none) call f
-      (λ g h. unnamed-of st d.made g none h))))
+      (λ g h. unnamed-of st d.made g none h)) (made_in.taken-made call d e f i.taken)
+      (called-then first (incoming.as_run call) d.receiving e.receiving i.called f.step)
+      (stays-apart (incoming.as_run call) d.receiving.receiver e.receiving.receiver f.step.receiver i.apart)
+      (λ others is st c. receiver-told on dropped st first n small d i.numbered i.sent i.spread (gone ++ others) (i.answered st c) (i.told others is st c)
+      (cut-later gone (gone ++ others) (gone-left gone others) i.sent i.cut) i.taken (whole d n gone m i small st c) e i.apart call f)))
 
-  pub played-accounted : (d : Session) (n : ℕ) (gone : List ℕ) (m : Modes) → IsPlayed d n gone m → IsAccounted d
+  pub played-accounted : (d : Session) (n : ℕ) (gone : List ℕ) (m : Modes) → IsPlayedSo d n gone m → IsAccounted d
   played-accounted d n gone m i =
       let law = accounts.accounted first i.size i.max Drop i.calls d.sending i.ran in
       let w = i.counted.written in
@@ -286,7 +398,7 @@ module _ (on dropped calm : ℕ → Bool) (sub : (st : ℕ) → calm st ≡ true
   abbrev pub every : Others first
   every = record {
     dropped = dropped;
-    Plays = λ d n gone m. n < 2 ^ 31 → IsPlayed d n gone m;
+    Plays = λ d n gone m. n < 2 ^ 31 → IsPlayedSo d n gone m;
     onward = onward;
     step = λ d n gone m few p. (p few).spread.step;
     accounted = λ d n gone m few p. played-accounted d n gone m (p few);
@@ -296,9 +408,9 @@ module _ (on dropped calm : ℕ → Bool) (sub : (st : ℕ) → calm st ≡ true
 
   -- the sender has other streams
   with-streams : (d : Session) (n : ℕ) (gone : List ℕ) (m : Modes) (ls : List OutboundStream) (c : sender_runs.Call)
-      → sender_runs.Follows c d.sending (record d.sending { sender = with_streams ls d.sending.sender }) → (i : IsPlayed d n gone m)
+      → sender_runs.Follows c d.sending (record d.sending { sender = with_streams ls d.sending.sender }) → (i : IsPlayedSo d n gone m)
       → IsHeldOn on i.numbered first (with_streams ls d.sending.sender) i.sent → AreInModes m.of_streams ls
-      → IsPlayed (with_sender (with_streams ls d.sending.sender) d) n gone m
+      → IsPlayedSo (with_sender (with_streams ls d.sending.sender) d) n gone m
   with-streams d n gone m ls c f i h modes = record {
     numbered = i.numbered;
     sent = i.sent;
@@ -334,6 +446,13 @@ module _ (on dropped calm : ℕ → Bool) (sub : (st : ℕ) → calm st ≡ true
     max = i.max;
     calls = i.calls ++ c ∷ [];
     ran = ran-then i.calls c (sender_runs.at_start first i.size i.max) d.sending (record d.sending { sender = with_streams ls d.sending.sender }) i.ran f;
+    taken = i.taken;
+    called = i.called;
+    apart = i.apart;
+    marked = i.marked;
+    cut = i.cut;
+    told = λ others is st k.
+        told-beside st first n (gone ++ others) d (with_sender (with_streams ls d.sending.sender) d) i.sent refl refl (i.told others is st k);
   }
 
   module _ (s v : Session) (n : ℕ) (gone : List ℕ) (m : Modes) (g : Goes first every s.sending.sender s n gone m) where
@@ -342,7 +461,7 @@ module _ (on dropped calm : ℕ → Bool) (sub : (st : ℕ) → calm st ≡ true
 
     -- so has the one beside it
     restreams : (call : SenderOther) → SenderDoes call s v → (us ls : List OutboundStream) → v.sending.sender ≡ with_streams us s.sending.sender
-        → AreAlike us ls → (n < 2 ^ 31 → IsPlayed (with_sender (with_streams ls g.other.sending.sender) g.other) n gone m)
+        → AreAlike us ls → (n < 2 ^ 31 → IsPlayedSo (with_sender (with_streams ls g.other.sending.sender) g.other) n gone m)
         → Goes first every v.sending.sender v n gone m
     restreams call f us ls e alike p = subst (λ (t : Transmission). Goes first every t v n gone m) (sym e) (record {
       other = with_sender (with_streams ls d.sending.sender) d;
@@ -404,9 +523,10 @@ module _ (on dropped calm : ℕ → Bool) (sub : (st : ℕ) → calm st ≡ true
 
     other-receives : (opened : ℕ → Bool) → IsReady calm opened s → (call : ReceiverOther)
         → ((t : ℕ) → drops t (of_receiving call) ≡ true → dropped t ≡ true)
-        → ((st : ℕ) → calm st ≡ true → breaks (opened st) st (of_receiving call) ≡ false) → ReceiverDoes call s v
+        → ((st : ℕ) → calm st ≡ true → breaks (opened st) st (of_receiving call) ≡ false)
+        → ((others : List ℕ) → lost ≡ Some others → AreAmong (dropped_by call s) others) → ReceiverDoes call s v
         → Goes first every v.sending.sender v n gone m
-    other-receives opened ready call so whole f =
+    other-receives opened ready call so unbroken covers f =
         let x = g.shadow in
         let e : Session = record d { receiving = v.receiving } in
         let f' : ReceiverDoes call d e = record {
@@ -435,45 +555,52 @@ module _ (on dropped calm : ℕ → Bool) (sub : (st : ℕ) → calm st ≡ true
               beside-played d e n gone m refl refl refl i spread
               (λ st c. other-answered st first on dropped (sub st c) n d i.numbered i.sent i.spread few e (opened st)
               (λ o. subst (λ (y : receiver_runs.Stand). is_open st y.receiver ≡ true) (sym x.receiving) (ready.open' st c o))
-              (subst (λ (y : receiver_runs.Stand). are_apart (numbers_of y.receiver.streams) ≡ true) (sym x.receiving) ready.apart) call f' (whole st c) spread
+              (subst (λ (y : receiver_runs.Stand). are_apart (numbers_of y.receiver.streams) ≡ true) (sym x.receiving) ready.apart) call f'
+              (unbroken st c) spread
               (i.answered st c))
               (λ st c none. other-up st first on dropped (sub st c) n d i.numbered i.sent i.spread few e (i.answered st c).0 (i.up st c none) (opened st)
-              (subst (λ (y : receiver_runs.Stand). are_apart (numbers_of y.receiver.streams) ≡ true) (sym x.receiving) ready.apart) call f' (whole st c)
-              (λ g h. unnamed-of st d.made g none h));
+              (subst (λ (y : receiver_runs.Stand). are_apart (numbers_of y.receiver.streams) ≡ true) (sym x.receiving) ready.apart) call f' (unbroken st c)
+              (λ g h. unnamed-of st d.made g none h)) (runs.takes-made (of_receiving call) d e f' i.taken)
+              (called-then first (as_receiver_run call) d.receiving e.receiving i.called f'.step)
+              (stays-apart (as_receiver_run call) d.receiving.receiver e.receiving.receiver f'.step.receiver i.apart)
+              (λ others is st c. other-told on dropped st first n few d i.numbered i.sent i.spread (gone ++ others) (i.answered st c) (i.told others is st c)
+              (cut-later gone (gone ++ others) (gone-left gone others) i.sent i.cut) i.taken (whole d n gone m i few st c) e i.apart (opened st) call f'
+              (unbroken st c) (λ k g. gone-right gone others k (covers others is k (subst (λ xs. is_gone xs k ≡ true) (same-dropped call s d x) g))));
         })
 
   -- ## Every call
 
   -- there is such a session
-  abbrev pub HasBeside : Session → ℕ → List ℕ → Modes → Type 0
-  HasBeside s n gone m = Goes first every s.sending.sender s n gone m
+  abbrev pub HasBesideSo : Session → ℕ → List ℕ → Modes → Type 0
+  HasBesideSo s n gone m = Goes first every s.sending.sender s n gone m
 
   one-any : (opened : ℕ → Bool) (c : AnyCall) (s v : Session) (n : ℕ) (gone : List ℕ) (m : Modes) → FollowsAny c s v
       → n + distance (next_tsn s) (next_tsn v) < 2 ^ 31
       → bytes_written v < 2 ^ 64 → ((t : ℕ) → drops t c ≡ true → dropped t ≡ true) → ((r : ℕ) → renews r c ≡ true → on r ≡ false)
-      → ((st : ℕ) → calm st ≡ true → breaks (opened st) st c ≡ false) → IsReady calm opened s → HasBeside s n gone m
-      → HasBeside v (n + distance (next_tsn s) (next_tsn v)) (gone ++ gone_any c s) (modes_from m (plain_calls (c ∷ [])))
-  one-any opened (makes (of_sender call)) s v n gone m f few short so off whole ready h =
+      → ((st : ℕ) → calm st ≡ true → breaks (opened st) st c ≡ false) → ((others : List ℕ) → lost ≡ Some others → AreAmong (dropped_of c s) others)
+      → IsReady calm opened s → HasBesideSo s n gone m
+      → HasBesideSo v (n + distance (next_tsn s) (next_tsn v)) (gone ++ gone_any c s) (modes_from m (plain_calls (c ∷ [])))
+  one-any opened (makes (of_sender call)) s v n gone m f few short so off whole covers ready h =
       sender-goes first every s v n gone m (omega (arith, few)) h call short few f
-  one-any opened (makes (of_receiver call)) s v n gone m f few short so off whole ready h =
+  one-any opened (makes (of_receiver call)) s v n gone m f few short so off whole covers ready h =
       unmoved first every s v n gone m (ap (λ (y : Session). next_tsn y) f.after) few h
       (receives-too first every call s v n gone m (omega (arith, few)) h f)
-  one-any opened (of_sending call) s v n gone m f few short so off whole ready h =
+  one-any opened (of_sending call) s v n gone m f few short so off whole covers ready h =
       unmoved first every s v n gone m (runs.next-same call s v f) few h (other-goes s v n gone m h call off f)
-  one-any opened (of_receiving call) s v n gone m f few short so off whole ready h =
+  one-any opened (of_receiving call) s v n gone m f few short so off whole covers ready h =
       unmoved first every s v n gone m (ap (λ (y : Session). next_tsn y) f.after) few h
-      (other-receives s v n gone m h opened ready call so whole f)
+      (other-receives s v n gone m h opened ready call so whole covers f)
 
   all-any : (opened : ℕ → Bool) (cs : List AnyCall) (s new : Session) (n : ℕ) (gone : List ℕ) (m : Modes) (r : RunsAny s cs new)
       → n + tsns_given_any s cs new r < 2 ^ 31
       → bytes_written new < 2 ^ 64 → ((t : ℕ) → list_any (drops t) cs ≡ true → dropped t ≡ true)
       → ((q : ℕ) → list_any (renews q) cs ≡ true → on q ≡ false) → ((q : ℕ) → calm q ≡ true → goes_on (opened q) q cs ≡ true)
-      → IsReady calm opened s → HasBeside s n gone m
-      → HasBeside new (n + tsns_given_any s cs new r) (gone ++ abandoned_any s cs new r) (modes_from m (plain_calls cs))
-  all-any opened [] s new n gone m r few short so off whole ready h =
-      subst (λ k. HasBeside new k (gone ++ []) m) {x = n} {y = n + 0} (omega arith)
-      (subst (λ xs. HasBeside new n xs m) (sym (append-nil gone)) (subst (λ x. HasBeside x n gone m) (sym r) h))
-  all-any opened (c ∷ cs) s new n gone m r few short so off whole ready h =
+      → ((others : List ℕ) → lost ≡ Some others → AreAmong (dropped_any s cs new r) others) → IsReady calm opened s → HasBesideSo s n gone m
+      → HasBesideSo new (n + tsns_given_any s cs new r) (gone ++ abandoned_any s cs new r) (modes_from m (plain_calls cs))
+  all-any opened [] s new n gone m r few short so off whole covers ready h =
+      subst (λ k. HasBesideSo new k (gone ++ []) m) {x = n} {y = n + 0} (omega arith)
+      (subst (λ xs. HasBesideSo new n xs m) (sym (append-nil gone)) (subst (λ x. HasBesideSo x n gone m) (sym r) h))
+  all-any opened (c ∷ cs) s new n gone m r few short so off whole covers ready h =
       let d = distance (next_tsn s) (next_tsn r.0) in
       let rest = tsns_given_any r.0 cs new r.1.1 in
       let bytes = runs.grows cs r.0 new r.1.1 in
@@ -483,21 +610,24 @@ module _ (on dropped calm : ℕ → Bool) (sub : (st : ℕ) → calm st ≡ true
       (negated (breaks (opened q) q c) b.0, b.1) in
       let left : (gone ++ gone_any c s) ++ abandoned_any r.0 cs new r.1.1 ≡ gone ++ abandoned_any s (c ∷ cs) new r =
       append_assoc gone (gone_any c s) (abandoned_any r.0 cs new r.1.1) ∙ ap (λ xs. gone ++ xs) (gone-on c cs s new r) in
-      subst (λ k. HasBeside new k (gone ++ abandoned_any s (c ∷ cs) new r) (modes_from m (plain_calls (c ∷ cs)))) sum
-      (subst (λ xs. HasBeside new ((n + d) + rest) xs (modes_from m (plain_calls (c ∷ cs)))) left
-      (subst (HasBeside new ((n + d) + rest) ((gone ++ gone_any c s) ++ abandoned_any r.0 cs new r.1.1)) (modes-on c cs m)
+      subst (λ k. HasBesideSo new k (gone ++ abandoned_any s (c ∷ cs) new r) (modes_from m (plain_calls (c ∷ cs)))) sum
+      (subst (λ xs. HasBesideSo new ((n + d) + rest) xs (modes_from m (plain_calls (c ∷ cs)))) left
+      (subst (HasBesideSo new ((n + d) + rest) ((gone ++ gone_any c s) ++ abandoned_any r.0 cs new r.1.1)) (modes-on c cs m)
       (all-any (λ q. opened q || opens_incoming q c) cs r.0 new (n + d) (gone ++ gone_any c s) (modes_from m (plain_calls (c ∷ []))) r.1.1
       (omega (arith, few)) short
       (λ t e. so t (or-right (drops t c) (list_any (drops t) cs) e)) (λ q e. off q (or-right (renews q c) (list_any (renews q) cs) e))
-      (λ q e. (one q e).1) (ready-after calm opened c s r.0 r.1.0 (λ q e. (one q e).0) ready)
+      (λ q e. (one q e).1) (λ others is k g. covers others is k (subst (λ xs. is_gone xs k ≡ true) (dropped-on c cs s new r)
+      (gone-right (dropped_of c s) (dropped_any r.0 cs new r.1.1) k g))) (ready-after calm opened c s r.0 r.1.0 (λ q e. (one q e).0) ready)
       (one-any opened c s r.0 n gone m r.1.0 (omega (arith, few)) (omega (arith, bytes, short)) (λ t e. so t (or-left (drops t c) (list_any (drops t) cs) e))
-      (λ q e. off q (or-left (renews q c) (list_any (renews q) cs) e)) (λ q e. (one q e).0) ready h))))
+      (λ q e. off q (or-left (renews q c) (list_any (renews q) cs) e)) (λ q e. (one q e).0)
+      (λ others is k g. covers others is k (subst (λ xs. is_gone xs k ≡ true) (dropped-on c cs s new r)
+      (gone-left (dropped_of c s) (dropped_any r.0 cs new r.1.1) k g))) ready h))))
 
   begins : (reported : Reported) (size max most : ℕ) (limits : Option Limits) → first < 2 ^ 32 → 0 < size
-      → HasBeside (at_start_with reported first size max most limits) 0 [] at_first
+      → HasBesideSo (at_start_with reported first size max most limits) 0 [] at_first
   begins reported size max most limits small some = by reported
     where
-      p : IsPlayed (at_start first size max most limits) 0 [] at_first
+      p : IsPlayedSo (at_start first size max most limits) 0 [] at_first
       p = record {
         numbered = [];
         sent = [];
@@ -512,9 +642,15 @@ module _ (on dropped calm : ℕ → Bool) (sub : (st : ℕ) → calm st ≡ true
         max = max;
         calls = [];
         ran = refl;
+        taken = refl;
+        called = record { most = most; limits = limits; calls = []; run = refl };
+        apart = refl;
+        marked = tt;
+        cut = tt;
+        told = λ others is st c. told-first st first size max most limits others small;
       }
 
-      by : (k : Reported) → HasBeside (at_start_with k first size max most limits) 0 [] at_first
+      by : (k : Reported) → HasBesideSo (at_start_with k first size max most limits) 0 [] at_first
       by Drop = record {
         other = at_start first size max most limits;
         shadow = record { streams = []; chunks = []; sender = refl; alike = refl; like = tt; receiving = refl; made = refl; written = refl; sacks = tt };
@@ -526,16 +662,39 @@ module _ (on dropped calm : ℕ → Bool) (sub : (st : ℕ) → calm st ≡ true
         plays = λ few. p;
       }
 
-  pub has-beside : (reported : Reported) (size max most : ℕ) (limits : Option Limits) (cs : List AnyCall) (s : Session)
+  pub has-beside-so : (reported : Reported) (size max most : ℕ) (limits : Option Limits) (cs : List AnyCall) (s : Session)
       → (r : RunsAny (at_start_with reported first size max most limits) cs s) → first < 2 ^ 32 → 0 < size
       → tsns_given_any (at_start_with reported first size max most limits) cs s r < 2 ^ 31 → bytes_written s < 2 ^ 64
       → ((t : ℕ) → list_any (drops t) cs ≡ true → dropped t ≡ true) → ((q : ℕ) → list_any (renews q) cs ≡ true → on q ≡ false)
       → ((q : ℕ) → calm q ≡ true → is_unbroken cs q ≡ true)
-      → HasBeside s (tsns_given_any (at_start_with reported first size max most limits) cs s r)
+      → ((others : List ℕ) → lost ≡ Some others → AreAmong (dropped_any (at_start_with reported first size max most limits) cs s r) others)
+      → HasBesideSo s (tsns_given_any (at_start_with reported first size max most limits) cs s r)
       (abandoned_any (at_start_with reported first size max most limits) cs s r) (modes_from at_first (plain_calls cs))
-  has-beside reported size max most limits cs s r small some few short so off whole =
+  has-beside-so reported size max most limits cs s r small some few short so off whole covers =
       let n = tsns_given_any (at_start_with reported first size max most limits) cs s r in
-      subst (λ k. HasBeside s k (abandoned_any (at_start_with reported first size max most limits) cs s r) (modes_from at_first (plain_calls cs)))
+      subst (λ k. HasBesideSo s k (abandoned_any (at_start_with reported first size max most limits) cs s r) (modes_from at_first (plain_calls cs)))
       {x = 0 + n} {y = n} (omega arith)
-      (all-any (λ q. false) cs (at_start_with reported first size max most limits) s 0 [] at_first r (omega (arith, few)) short so off whole
+      (all-any (λ q. false) cs (at_start_with reported first size max most limits) s 0 [] at_first r (omega (arith, few)) short so off whole covers
       (ready-first calm reported first size max most limits) (begins reported size max most limits small some))
+
+-- ## Where it is not said of which messages chunks are dropped
+
+abbrev pub IsPlayed : (on dropped calm : ℕ → Bool) (sub : (st : ℕ) → calm st ≡ true → on st ≡ true) (first : ℕ)
+    → Session → ℕ → List ℕ → Modes → Type 0
+IsPlayed on dropped calm sub first d n gone m = IsPlayedSo on dropped calm None sub first d n gone m
+
+abbrev pub HasBeside : (on dropped calm : ℕ → Bool) (sub : (st : ℕ) → calm st ≡ true → on st ≡ true) (first : ℕ)
+    → Session → ℕ → List ℕ → Modes → Type 0
+HasBeside on dropped calm sub first s n gone m = HasBesideSo on dropped calm None sub first s n gone m
+
+pub has-beside : (on dropped calm : ℕ → Bool) (sub : (st : ℕ) → calm st ≡ true → on st ≡ true) (first : ℕ) (reported : Reported) (size max most : ℕ)
+    (limits : Option Limits) (cs : List AnyCall) (s : Session)
+    → (r : RunsAny (at_start_with reported first size max most limits) cs s) → first < 2 ^ 32 → 0 < size
+    → tsns_given_any (at_start_with reported first size max most limits) cs s r < 2 ^ 31 → bytes_written s < 2 ^ 64
+    → ((t : ℕ) → list_any (drops t) cs ≡ true → dropped t ≡ true) → ((q : ℕ) → list_any (renews q) cs ≡ true → on q ≡ false)
+    → ((q : ℕ) → calm q ≡ true → is_unbroken cs q ≡ true)
+    → HasBeside on dropped calm sub first s (tsns_given_any (at_start_with reported first size max most limits) cs s r)
+    (abandoned_any (at_start_with reported first size max most limits) cs s r) (modes_from at_first (plain_calls cs))
+has-beside on dropped calm sub first reported size max most limits cs s r small some few short so off whole =
+    has-beside-so on dropped calm None sub first reported size max most limits cs s r small some few short so off whole
+    (λ others is. absurd (none-some others is))

@@ -249,7 +249,7 @@ module _ (first size max most : ℕ) (limits : Option Limits) (cs : List Call) (
       all-assembled = by q.unassembled refl
           (unassembled.was-unassembled ns first sent line k.unwrapped.spread.holds.held.stands.queued.indexed joined n long few gone k.passed.cut s
           k.unwrapped.spread.holds.made made
-          k.unwrapped.spread.step.taken.apart whole st a (k.kept st) l found) well.tidy.kinds (subst (IsPast first sent st to.floor) found to.past)
+          k.unwrapped.spread.step.taken.apart whole st a (k.kept st) l found) well.tidy.rest.kinds (subst (IsPast first sent st to.floor) found to.past)
         where
           by : (cs : List ChunkPayloadData) → q.unassembled ≡ cs → Every (λ c. WasSent sent (data_of c)) cs → Every (λ c. c.unordered ≡ true) cs
               → Every (λ c. is_upto p to.floor c.tsn ≡ false) cs → cs ≡ []

@@ -1,11 +1,11 @@
 -- What is so in the end: where nothing waits, no message is partially sent; and where nothing is to be read, no stream has a message.
-use Rattle.sctp_delivery.proofs.Names.{◌≡◌, ℕ, ◌<◌, Bool, true, false, not, List, [], ◌∷◌, Option, Some, None, is_some, refl, sym, ◌∙◌, arith, find, list_all}
-use Rattle.sctp_delivery.proofs.Names.{list_any, sum_by, cases_lt, list_all-append, sum_by-cons, none-some, nat_tests, some-same, both, not_both}
-use Rattle.sctp_delivery.proofs.Names.{ChunkPayloadData, ChunkSet, Data, Pending, message_read, InboundStream, set_weight, has_tsn, fragments_of_sets}
+use Rattle.sctp_delivery.proofs.Names.{◌≡◌, ℕ, ◌<◌, Bool, true, not, List, [], ◌∷◌, Option, Some, None, is_some, refl, arith, find, list_all}
+use Rattle.sctp_delivery.proofs.Names.{list_any, sum_by, cases_lt, none-some, nat_tests, some-same, both, not_both}
+use Rattle.sctp_delivery.proofs.Names.{ChunkPayloadData, ChunkSet, Data, Pending, message_read, InboundStream, has_tsn}
 use Rattle.sctp_receiver.specs.Inbound.{has_number}
 use Rattle.sctp_sender.proofs.Runs.{any_chunk}
 use Rattle.sctp_data.specs.PayloadData.{data_of}
-use Rattle.sctp_delivery.proofs.Every.{Every, one-of}
+use Rattle.sctp_delivery.proofs.Every.{Every}
 use Rattle.sctp_delivery.proofs.ReadOnce.{count-none, none-count, one}
 use Rattle.sctp_delivery.proofs.Sending.{QueuedOn}
 use Rattle.sctp_delivery.proofs.Sent.{Entry, Numbered}
@@ -22,25 +22,6 @@ any-of t cs lt = grind (arith, nat_tests, none-count)
 
 pub some-of : (t : ℕ) (cs : List ChunkPayloadData) → list_any (has_tsn t) cs ≡ true → 0 < sum_by (one t) cs
 some-of t cs e = grind (arith, nat_tests, cases_lt, count-none, not_both)
-
--- among the chunks of these sets one has the TSN
-pub in-sets : (P : ChunkSet → ChunkPayloadData → Type 0) (t : ℕ) (ss : List ChunkSet) → Every (λ s. Every (P s) s.chunks) ss
-    → 0 < sum_by (set_weight (one t)) ss → (s : ChunkSet) × (c : ChunkPayloadData) × (has_tsn t c ≡ true) × P s c
-in-sets P t [] e lt = absurd (omega (arith, lt))
-in-sets P t (s ∷ ss) e lt = by (list_any (has_tsn t) s.chunks) refl (in-sets P t ss e.1)
-  where
-    by : (b : Bool) → list_any (has_tsn t) s.chunks ≡ b → (0 < sum_by (set_weight (one t)) ss → (x : ChunkSet) × (c : ChunkPayloadData)
-        × (has_tsn t c ≡ true) × P x c) → (x : ChunkSet) × (c : ChunkPayloadData) × (has_tsn t c ≡ true) × P x c
-    by true h ih = let o = one-of (P s) (has_tsn t) s.chunks h e.0 in (s, o.0, o.1, o.2)
-    by false h ih =
-        let z = none-count t s.chunks h in
-        let m = sum_by-cons (set_weight (one t)) s ss in
-        ih (omega (arith, z, m, lt))
-
-pub sets-all : (t : ChunkPayloadData → Bool) (ss : List ChunkSet) → list_all t (fragments_of_sets ss) ≡ true → Every (λ s. list_all t s.chunks ≡ true) ss
-sets-all t [] e = tt
-sets-all t (s ∷ ss) e = let b = both (list_all t s.chunks) (list_all t (fragments_of_sets ss))
-    (sym (list_all-append t s.chunks (fragments_of_sets ss)) ∙ e) in (b.0, sets-all t ss b.1)
 
 -- ## The sender's side
 

@@ -10,7 +10,8 @@ use Rattle.sctp_delivery.proofs.Names.{AfterEachReliableSession, fragments_of_se
 use Rattle.sctp_delivery.proofs.Names.{are_apart, data_chunk}
 use Rattle.std.specs.Prelude.{not}
 use Rattle.sctp_receiver.specs.Inbound.{has_number}
-use Rattle.sctp_receiver.specs.Receiver.{after_read, message_of}
+use Rattle.sctp_receiver.specs.Receiver.{after_read, message_of, open_stream}
+use Rattle.sctp_receiver.specs.ReceiverRuns as receiver_runs
 use Rattle.sctp_receiver.proofs.Handed.{found-changed, read-more, taken-more}
 use Rattle.sctp_receiver.proofs.Weights as weights
 use Rattle.sctp_receiver.proofs.Weights.{message_weight}
@@ -71,75 +72,74 @@ abbrev pub IsOther : ReceiverCall → Type 0
 IsOther (incoming.follows g) = ⊥
 IsOther call = ⊤
 
--- P: what is so of the stream
-module _ (st : ℕ) (P : Option InboundStream → Type 0) where
+-- any weight of chunks
+abbrev pub AnyWeight : (ChunkPayloadData → ℕ) → Type 0
+AnyWeight w = ⊤
+
+-- W: how chunks are weighed; P: what is so of the stream
+module _ (st : ℕ) (W : (ChunkPayloadData → ℕ) → Type 0) (P : Option InboundStream → Type 0) where
   -- so much more is held
   pub record IsMore (more : (ChunkPayloadData → ℕ) → ℕ) (old new : Option InboundStream) : Type 0 where
-    pub weighs : (w : ChunkPayloadData → ℕ) → held_weight w new ≡ more w + held_weight w old
+    pub weighs : (w : ChunkPayloadData → ℕ) → W w → held_weight w new ≡ more w + held_weight w old
     pub holds : P new
 
   same-more : (o : Option InboundStream) → P o → IsMore (λ w. 0) o o
-  same-more o h = record { weighs = λ w. omega arith; holds = h }
+  same-more o h = record { weighs = λ w v. omega arith; holds = h }
 
-  -- however chunks are weighed: those that were taken weigh as much as those that were read, those that are held, and those that are lost
+  -- however chunks are weighed so: those that were taken weigh as much as those that were read, those that are held, and those that are lost
   pub record IsSo (lost : List ChunkPayloadData) (s : Stand) : Type 0 where
-    pub weighs : (w : ChunkPayloadData → ℕ) → sum_by w (filter (is_on st) s.accepted)
+    pub weighs : (w : ChunkPayloadData → ℕ) → W w → sum_by w (filter (is_on st) s.accepted)
         ≡ sum_by w (fragments_read st s.read) + held_weight w (stream_of st s.receiver) + sum_by w lost
     pub holds : P (stream_of st s.receiver)
 
   -- none of what is held has a TSN that was not taken
-  pub none-held : (lost : List ChunkPayloadData) (s : Stand) → IsSo lost s → (t : ℕ) → list_any (has_tsn t) s.accepted ≡ false
+  pub none-held : (lost : List ChunkPayloadData) (s : Stand) → IsSo lost s → (t : ℕ) → W (one t) → list_any (has_tsn t) s.accepted ≡ false
       → held_weight (one t) (stream_of st s.receiver) ≡ 0
-  none-held lost s k t e =
-      omega (arith, k.weighs (one t), weights.fewer (one t) (one t) (is_on st) s.accepted, none-count t s.accepted e)
+  none-held lost s k t v e =
+      omega (arith, k.weighs (one t) v, weights.fewer (one t) (one t) (is_on st) s.accepted, none-count t s.accepted e)
 
-  module _ (lost : List ChunkPayloadData) (old new : Session) (k : IsSo lost old.receiving) where
+  module _ (lost : List ChunkPayloadData) (old new : Stand) (k : IsSo lost old) where
     abbrev r : Reception
-    r = old.receiving.receiver
+    r = old.receiver
 
     abbrev now : Option InboundStream
-    now = stream_of st new.receiving.receiver
+    now = stream_of st new.receiver
 
-    quiet : new.receiving.accepted ≡ old.receiving.accepted → new.receiving.read ≡ old.receiving.read → IsMore (λ w. 0) (stream_of st r) now
-        → IsSo lost new.receiving
+    quiet : new.accepted ≡ old.accepted → new.read ≡ old.read → IsMore (λ w. 0) (stream_of st r) now → IsSo lost new
     quiet a e m = record {
-      weighs = λ w.
-          omega (arith, k.weighs w, m.weighs w, ap (λ cs. sum_by w (filter (is_on st) cs)) a, ap (λ ms. sum_by w (fragments_read st ms)) e);
+      weighs = λ w v.
+          omega (arith, k.weighs w v, m.weighs w v, ap (λ cs. sum_by w (filter (is_on st) cs)) a, ap (λ ms. sum_by w (fragments_read st ms)) e);
       holds = m.holds;
     }
 
-    pub still : new.receiving.accepted ≡ old.receiving.accepted → new.receiving.read ≡ old.receiving.read
-        → new.receiving.receiver.streams ≡ r.streams → IsSo lost new.receiving
-    still a e same =
-        quiet a e (subst (λ ls. IsMore (λ w. 0) (stream_of st r) (find (has_number st) ls)) (sym same) (same-more (stream_of st r) k.holds))
+    pub still : new.accepted ≡ old.accepted → new.read ≡ old.read → now ≡ stream_of st r → IsSo lost new
+    still a e same = quiet a e (subst (IsMore (λ w. 0) (stream_of st r)) (sym same) (same-more (stream_of st r) k.holds))
 
-    opened : (stream : ℕ) → ReceiverFollows (incoming.opens stream) old new
-        → (stream_of st r ≡ None → P (Some (new_stream stream r.max_message_size))) → IsSo lost new.receiving
-    opened stream f fresh =
-        quiet f.step.accepted f.step.read (subst (IsMore (λ w. 0) (stream_of st r)) (sym is) (by (stream_of st r) refl (stream == st)))
+    pub opened : (stream : ℕ) → new.receiver ≡ open_stream stream r → new.accepted ≡ old.accepted → new.read ≡ old.read
+        → (stream_of st r ≡ None → P (Some (new_stream stream r.max_message_size))) → IsSo lost new
+    opened stream f a e fresh = quiet a e (subst (IsMore (λ w. 0) (stream_of st r)) (sym is) (by (stream_of st r) refl (stream == st)))
       where
         is : now ≡ option_or (stream_of st r) (if stream == st then Some (new_stream stream r.max_message_size) else None)
-        is = ap (stream_of st) f.step.receiver.1 ∙ find-append (has_number st) r.streams (new_stream stream r.max_message_size ∷ [])
+        is = ap (stream_of st) f ∙ find-append (has_number st) r.streams (new_stream stream r.max_message_size ∷ [])
 
         by : (o : Option InboundStream) → stream_of st r ≡ o → (b : Bool)
             → IsMore (λ w. 0) o (option_or o (if b then Some (new_stream stream r.max_message_size) else None))
-        by None e true = record { weighs = λ w. omega arith; holds = fresh e }
+        by None e true = record { weighs = λ w v. omega arith; holds = fresh e }
         by None e false = same-more None (subst P e k.holds)
         by (Some l) e b = same-more (Some l) (subst P e k.holds)
 
     -- the chunk is put into its queue
-    abbrev pub Puts : (c : ChunkPayloadData) (said : Bool) → ReceiverFollows (incoming.takes c (New said)) old new → Type 0
-    Puts c said f =
-        is_on st c ≡ true → stream_of st r ≡ Some f.step.receiver.stream
-        → IsMore (λ w. w c) (Some f.step.receiver.stream) (Some (with_queue f.step.receiver.queue f.step.receiver.stream))
+    abbrev pub Puts : (c : ChunkPayloadData) (said : Bool) → Accepts c said r new.receiver → Type 0
+    Puts c said acc = is_on st c ≡ true → stream_of st r ≡ Some acc.stream → IsMore (λ w. w c) (Some acc.stream) (Some (with_queue acc.queue acc.stream))
 
-    taken : (c : ChunkPayloadData) (said : Bool) (f : ReceiverFollows (incoming.takes c (New said)) old new) → Puts c said f → IsSo lost new.receiving
-    taken c said f put = record {
-      weighs = λ w.
-          let h = k.weighs w in
-          let m = more.weighs w in
-          let t = taken-more w st c old.receiving.accepted (is_on st c) refl in
-          omega (arith, h, m, t, ap (λ cs. sum_by w (filter (is_on st) cs)) f.step.accepted, ap (λ ms. sum_by w (fragments_read st ms)) f.step.read);
+    pub taken : (c : ChunkPayloadData) (said : Bool) (acc : Accepts c said r new.receiver) → Puts c said acc → new.accepted ≡ c ∷ old.accepted
+        → new.read ≡ old.read → IsSo lost new
+    taken c said acc put a e = record {
+      weighs = λ w v.
+          let h = k.weighs w v in
+          let m = more.weighs w v in
+          let t = taken-more w st c old.accepted (is_on st c) refl in
+          omega (arith, h, m, t, ap (λ cs. sum_by w (filter (is_on st) cs)) a, ap (λ ms. sum_by w (fragments_read st ms)) e);
       holds = more.holds;
     }
       where
@@ -147,19 +147,20 @@ module _ (st : ℕ) (P : Option InboundStream → Type 0) where
         After b o = IsMore (λ w. if b then w c else 0) (stream_of st r) o
 
         more : After (is_on st c) now
-        more = accepted-on c said r new.receiving.receiver f.step.receiver st (After (is_on st c))
-            (λ e. subst (λ b. After b (stream_of st r)) (sym e) (same-more (stream_of st r) k.holds))
-            (λ e there. subst (λ b. After b (Some (with_queue f.step.receiver.queue f.step.receiver.stream))) (sym e)
-            (subst (λ o. IsMore (λ w. w c) o (Some (with_queue f.step.receiver.queue f.step.receiver.stream))) (sym there) (put e there)))
+        more = accepted-on c said r new.receiver acc st (After (is_on st c))
+            (λ f. subst (λ b. After b (stream_of st r)) (sym f) (same-more (stream_of st r) k.holds))
+            (λ f there. subst (λ b. After b (Some (with_queue acc.queue acc.stream))) (sym f)
+            (subst (λ o. IsMore (λ w. w c) o (Some (with_queue acc.queue acc.stream))) (sym there) (put f there)))
 
-    reads : (stream : ℕ) → ReceiverFollows (incoming.reads stream) old new → ((l : InboundStream) → stream_of st r ≡ Some l → P (Some (stream_read l)))
-        → IsSo lost new.receiving
-    reads stream f read = record {
-      weighs = λ w.
-          let h = k.weighs w in
+    pub reads : (stream : ℕ) → new.receiver ≡ after_read stream r → new.accepted ≡ old.accepted
+        → new.read ≡ receiver_runs.with_message stream (message_on stream r) old.read
+        → ((l : InboundStream) → stream_of st r ≡ Some l → P (Some (stream_read l))) → IsSo lost new
+    reads stream f a g read = record {
+      weighs = λ w v.
+          let h = k.weighs w v in
           let l = less.0 w in
-          let m = read-more w st stream (message_on stream r) old.receiving.read in
-          omega (arith, h, l, m, ap (λ cs. sum_by w (filter (is_on st) cs)) f.step.accepted, ap (λ ms. sum_by w (fragments_read st ms)) f.step.read);
+          let m = read-more w st stream (message_on stream r) old.read in
+          omega (arith, h, l, m, ap (λ cs. sum_by w (filter (is_on st) cs)) a, ap (λ ms. sum_by w (fragments_read st ms)) g);
       holds = less.1;
     }
       where
@@ -181,17 +182,23 @@ module _ (st : ℕ) (P : Option InboundStream → Type 0) where
             (λ w. let x = h.0 w in let m = ap (λ n. message_weight w (message_of (stream_of n r))) (same-is stream st e) in omega (arith, x, m), h.1)
 
         less : Less (stream == st) now
-        less = subst (λ (q : Reception). Less (stream == st) (stream_of st q)) (sym f.step.receiver) (by (stream == st) refl)
+        less = subst (λ (q : Reception). Less (stream == st) (stream_of st q)) (sym f) (by (stream == st) refl)
 
-    pub after-call : (call : ReceiverCall) → IsOther call → ReceiverFollows call old new
-        → ((stream : ℕ) → stream_of st r ≡ None → P (Some (new_stream stream r.max_message_size)))
-        → ((c : ChunkPayloadData) (said : Bool) (f : ReceiverFollows (incoming.takes c (New said)) old new) → Puts c said f)
-        → ((l : InboundStream) → stream_of st r ≡ Some l → P (Some (stream_read l))) → IsSo lost new.receiving
-    after-call (incoming.opens stream) o f fresh put read = opened stream f (fresh stream)
-    after-call (incoming.takes c (New said)) o f fresh put read = taken c said f (put c said f)
-    after-call (incoming.follows g) o f fresh put read = absurd o
-    after-call (incoming.reads stream) o f fresh put read = reads stream f read
-    after-call call o f fresh put read = still f.step.accepted f.step.read (ap (λ (x : Reception). x.streams) f.step.receiver)
+  pub after-call : (lost : List ChunkPayloadData) (old new : Session) (k : IsSo lost old.receiving) (call : ReceiverCall) → IsOther call
+      → ReceiverFollows call old new
+      → ((stream : ℕ) → stream_of st old.receiving.receiver ≡ None → P (Some (new_stream stream old.receiving.receiver.max_message_size)))
+      → ((c : ChunkPayloadData) (said : Bool) (f : ReceiverFollows (incoming.takes c (New said)) old new)
+      → Puts lost old.receiving new.receiving k c said f.step.receiver)
+      → ((l : InboundStream) → stream_of st old.receiving.receiver ≡ Some l → P (Some (stream_read l))) → IsSo lost new.receiving
+  after-call lost old new k (incoming.opens stream) o f fresh put read =
+      opened lost old.receiving new.receiving k stream f.step.receiver.1 f.step.accepted f.step.read (fresh stream)
+  after-call lost old new k (incoming.takes c (New said)) o f fresh put read =
+      taken lost old.receiving new.receiving k c said f.step.receiver (put c said f) f.step.accepted f.step.read
+  after-call lost old new k (incoming.follows g) o f fresh put read = absurd o
+  after-call lost old new k (incoming.reads stream) o f fresh put read =
+      reads lost old.receiving new.receiving k stream f.step.receiver f.step.accepted f.step.read read
+  after-call lost old new k call o f fresh put read =
+      still lost old.receiving new.receiving k f.step.accepted f.step.read (ap (stream_of st) f.step.receiver)
 
 -- # In a reliable session nothing that was taken is dropped: it is held, or it was read.
 
@@ -217,11 +224,11 @@ unordered-turn xs old new false b t = subst IsInTurn (sym b.1) (record { index =
 pushed : (st : ℕ) (c : ChunkPayloadData) (answered : Bool) (l : InboundStream) (new : ReassemblyState) → Pushes c answered l.queue new
     → (t : IsInTurn l.queue.held) → (c.unordered ≡ false → IsNear t.index c.stream_sequence_number)
     → Every (λ (s : ChunkSet). list_any (has_tsn c.tsn) s.chunks ≡ false) l.queue.held.ordered
-    → IsMore st InTurn (λ w. w c) (Some l) (Some (with_queue new l))
-pushed st c answered l new p t near fresh = at-test (λ b. PushesAs b c answered l.queue new → IsMore st InTurn (λ w. w c) (Some l)
+    → IsMore st AnyWeight InTurn (λ w. w c) (Some l) (Some (with_queue new l))
+pushed st c answered l new p t near fresh = at-test (λ b. PushesAs b c answered l.queue new → IsMore st AnyWeight InTurn (λ w. w c) (Some l)
     (Some (with_queue new l))) c.unordered
     (λ u e. record {
-      weighs = λ w.
+      weighs = λ w v.
           let h = weights.becomes w (insert_before chunk_before c l.queue.held.unassembled) l.queue.held new.held answered e.0 in
           omega (arith, h, sum_by-inserted w chunk_before c l.queue.held.unassembled);
       holds = unordered-turn (insert_before chunk_before c l.queue.held.unassembled) l.queue.held new.held answered e.0 t;
@@ -229,7 +236,7 @@ pushed st c answered l new p t near fresh = at-test (λ b. PushesAs b c answered
     (λ u e.
     let held : new.held ≡ held_after_ordered_push c l.queue.held = ap (λ (q : ReassemblyState). q.held) e.0 in
     record {
-      weighs = λ w.
+      weighs = λ w v.
           omega (arith, sets-more w c l.queue.held.ordered fresh, ap (weight w) held ∙ ap (weight w) (put-in c l.queue.held t (near u)));
       holds = subst IsInTurn (sym held) (put-in-turn c l.queue.held t (near u));
     }) p
@@ -237,12 +244,12 @@ pushed st c answered l new p t near fresh = at-test (λ b. PushesAs b c answered
 -- ## The calls
 
 abbrev pub IsKept : ℕ → Stand → Type 0
-IsKept st = IsSo st InTurn []
+IsKept st = IsSo st AnyWeight InTurn []
 
 kept-on : (call : ReceiverCall) (old new : Session) (st : ℕ) → is_reliable_at_receiver call ≡ true → Every IsShortMade old.made
     → are_apart new.receiving.accepted ≡ true → ReceiverFollows call old new → IsKept st old.receiving → IsKept st new.receiving
 kept-on call old new st reliable made apart f k =
-    after-call st InTurn [] old new k call (other call reliable) f (λ stream e. record { index = 0; next = omega arith; rise = tt }) put
+    after-call st AnyWeight InTurn [] old new k call (other call reliable) f (λ stream e. record { index = 0; next = omega arith; rise = tt }) put
     (λ l e. read-in-turn l.queue.held (subst InTurn e k.holds))
   where
     r : Reception
@@ -252,7 +259,8 @@ kept-on call old new st reliable made apart f k =
     other (incoming.follows g) e = absurd (not_both e)
     other call e = tt
 
-    put : (c : ChunkPayloadData) (said : Bool) (f : ReceiverFollows (incoming.takes c (New said)) old new) → Puts st InTurn [] old new k c said f
+    put : (c : ChunkPayloadData) (said : Bool) (f : ReceiverFollows (incoming.takes c (New said)) old new)
+        → Puts st AnyWeight InTurn [] old.receiving new.receiving k c said f.step.receiver
     put c said f on there =
         let a = f.step.receiver in
         let short : IsShort c = every-contained IsShortMade old.made (data_chunk (data_of c)) f.handed made in
@@ -260,7 +268,7 @@ kept-on call old new st reliable made apart f k =
         let all = subst (λ cs. are_apart cs ≡ true) f.step.accepted apart in
         let none = negated (list_any (has_tsn c.tsn) old.receiving.accepted)
         (both (not (list_any (has_tsn c.tsn) old.receiving.accepted)) (are_apart old.receiving.accepted) all).0 in
-        let zero = none-held st InTurn [] old.receiving k c.tsn none in
+        let zero = none-held st AnyWeight InTurn [] old.receiving k c.tsn tt none in
         let is = ap (held_weight (one c.tsn)) there in
         let t : IsInTurn a.stream.queue.held = subst InTurn there k.holds in
         let test : (not c.unordered && is_ssn_too_far c.stream_sequence_number a.stream.queue.held) ≡ false = ap (is_too_far_on c) (sym a.found) ∙ near in
@@ -332,7 +340,7 @@ pub kept : AfterEachReliableSession (λ size s. (st : ℕ) → IsKept st s.recei
 kept tsn size max most limits cs s run small few all =
     let apart = sacks.none-twice tsn size max most limits cs s run small few in
     let k = kept-after cs (at_start tsn size max most limits) s all apart run (record {
-      kept = λ st. record { weighs = λ w. refl; holds = tt };
+      kept = λ st. record { weighs = λ w v. refl; holds = tt };
       short = record { streams = tt; queue = record { ordered = tt; unordered = tt; inflight = tt } };
       made = tt;
     }) in
@@ -340,4 +348,4 @@ kept tsn size max most limits cs s run small few all =
 
 pub held-or-read : AfterEachReliableSession (λ size s. IsHeldOrRead s)
 held-or-read tsn size max most limits cs s run small few all st w =
-    omega (arith, (kept tsn size max most limits cs s run small few all st).weighs w, held-weighs w (stream_of st s.receiving.receiver))
+    omega (arith, (kept tsn size max most limits cs s run small few all st).weighs w tt, held-weighs w (stream_of st s.receiving.receiver))

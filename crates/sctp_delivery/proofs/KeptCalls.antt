@@ -18,7 +18,7 @@ use Rattle.sctp_receiver.specs.Inbound.{has_number}
 use Rattle.sctp_delivery.specs.ReceiverCalls as incoming
 use Rattle.sctp_delivery.proofs.UnwrappedHolds.{current-less, IsCurrent}
 use Rattle.sctp_delivery.proofs.InTheEnd.{some-of}
-use Rattle.sctp_delivery.proofs.Kept.{sets-fresh, IsOther, IsSo, Puts, accepted-on, after-call, none-held}
+use Rattle.sctp_delivery.proofs.Kept.{AnyWeight, sets-fresh, IsOther, IsSo, Puts, accepted-on, after-call, none-held}
 use Rattle.sctp_delivery.proofs.OrderedMessages.{not-far}
 use Rattle.sctp_delivery.proofs.ArrivedTsns.{IsArrived}
 use Rattle.sctp_delivery.proofs.SackLaws.{more-accepted}
@@ -154,10 +154,10 @@ module _ (first n : ℕ) (few : n < 2 ^ 31) (old new : Session) (ns : List Numbe
 
   -- what is so with what was to come stays so with what is to come then
   abbrev So : List ChunkPayloadData → Stand → Type 0
-  So = IsSo st (Well (Late old.receiving))
+  So = IsSo st AnyWeight (Well (Late old.receiving))
 
   before : (k : Keeps old.receiving) → So k.lost old.receiving
-  before k = record { weighs = k.weighs; holds = k.holds }
+  before k = record { weighs = λ w v. k.weighs w; holds = k.holds }
 
   abbrev Passed : List ChunkPayloadData → Stand → Type 0
   Passed = IsPassedTo first sent st n
@@ -167,7 +167,7 @@ module _ (first n : ℕ) (few : n < 2 ^ 31) (old new : Session) (ns : List Numbe
   after-so call f k s to = record {
     lost = k.lost;
     of-gone = k.of-gone;
-    weighs = s.weighs;
+    weighs = λ w. s.weighs w tt;
     holds = well-less (Late old.receiving) (Late new.receiving) (late-less call f) (stream_of st new.receiving.receiver) s.holds;
     floor = to;
   }
@@ -206,7 +206,13 @@ module _ (first n : ℕ) (few : n < 2 ^ 31) (old new : Session) (ns : List Numbe
   -- where nothing changes
   pub still : (call : ReceiverCall) → ReceiverFollows call old new → new.receiving.accepted ≡ old.receiving.accepted
       → new.receiving.read ≡ old.receiving.read → new.receiving.receiver ≡ r → Keeps old.receiving → Keeps new.receiving
-  still call f e g same k = grind (arith, nat_tests, common_steps, after-so, streams.still, before, passed-still, more-arrived, known-more)
+  still call f e g same k =
+      let floor = k.floor.floor in
+      after-so call f k (streams.still st AnyWeight (Well (Late old.receiving)) k.lost old.receiving new.receiving (before k) e g (ap (stream_of st) same))
+      (passed-still call f k (subst (λ (q : Reception). IsPast first sent st floor (stream_of st q)) (sym same) k.floor.past)
+      (subst (λ (q : Reception). IsArrived p n (known_past first sent st floor new.receiving) q.cumulative_tsn q.beyond) (sym same)
+      (more-arrived p n n (known_past first sent st floor old.receiving) (known_past first sent st floor new.receiving) r.cumulative_tsn r.beyond (omega arith)
+      (known-more call f floor floor (omega arith)) k.floor.arrived)))
 
   -- ## A stream is opened
 
@@ -223,13 +229,7 @@ module _ (first n : ℕ) (few : n < 2 ^ 31) (old new : Session) (ns : List Numbe
           whole = tt;
           some = tt;
         };
-        tidy = record {
-          sets = tt;
-          whole = tt;
-          unassembled = tt;
-          kinds = tt;
-          none = λ g m run. omega arith;
-        };
+        tidy = record { sets = tt; rest = record { whole = tt; unassembled = tt; kinds = tt; none = λ g m run. omega arith } };
         orderly = refl;
       }
 
@@ -240,7 +240,7 @@ module _ (first n : ℕ) (few : n < 2 ^ 31) (old new : Session) (ns : List Numbe
       (λ e.
       let o = one-of (HasCome p n r) (has_tsn t) old.receiving.accepted e i.spread.step.taken.each in
       ap (λ u. come u r.cumulative_tsn r.beyond) (sym (same-is o.0.tsn t o.1)) ∙ o.2.1)
-      (λ e. let z = none-held st (Well (Late old.receiving)) k.lost old.receiving (before k) t e in absurd (omega (arith, z, lt)))
+      (λ e. let z = none-held st AnyWeight (Well (Late old.receiving)) k.lost old.receiving (before k) t tt e in absurd (omega (arith, z, lt)))
 
   sets-came : (t : ℕ) (ss : List ChunkSet) → list_any (λ (s : ChunkSet). list_any (has_tsn t) s.chunks) ss ≡ true → 0 < sum_by (set_weight (one t)) ss
   sets-came t [] e = absurd (not_both e)
@@ -290,10 +290,10 @@ module _ (first n : ℕ) (few : n < 2 ^ 31) (old new : Session) (ns : List Numbe
     off = not-among p n r old.receiving.accepted c.tsn fresh i.spread.step.taken.each
 
     bare : held_weight (one c.tsn) (stream_of st r) ≡ 0
-    bare = none-held st (Well (Late old.receiving)) k.lost old.receiving (before k) c.tsn off
+    bare = none-held st AnyWeight (Well (Late old.receiving)) k.lost old.receiving (before k) c.tsn tt off
 
-    put : Puts st (Well (Late old.receiving)) k.lost old new (before k) c said f
-    put on' e = record { weighs = x.1; holds = x.0 }
+    put : Puts st AnyWeight (Well (Late old.receiving)) k.lost old.receiving new.receiving (before k) c said acc
+    put on' e = record { weighs = λ w v. x.1 w; holds = x.0 }
       where
         h : IsHeldWell first sent st n a (Late old.receiving) acc.stream.queue
         h = subst (Well (Late old.receiving)) e k.holds
@@ -369,7 +369,7 @@ module _ (first n : ℕ) (few : n < 2 ^ 31) (old new : Session) (ns : List Numbe
         ∙ k.floor.below (g.before + 1) (omega arith) le))
 
     put-past : (c : ChunkPayloadData) (said : Bool) (f : ReceiverFollows (incoming.takes c (New said)) old new)
-        → Puts st Past k.lost old new (record { weighs = k.weighs; holds = k.floor.past }) c said f
+        → Puts st AnyWeight Past k.lost old.receiving new.receiving (record { weighs = λ w v. k.weighs w; holds = k.floor.past }) c said f.step.receiver
     put-past c said f on e = record {
       weighs = (put c said f k after on e).weighs;
       holds =
@@ -381,14 +381,15 @@ module _ (first n : ℕ) (few : n < 2 ^ 31) (old new : Session) (ns : List Numbe
     passed-by : (call : ReceiverCall) → IsOther call → ReceiverFollows call old new → Passed k.lost new.receiving
     passed-by call o f =
         let floor = k.floor.floor in
-        passed-still call f k (after-call st Past k.lost old new (record { weighs = k.weighs; holds = k.floor.past }) call o f (λ stream e. tt) put-past
+        passed-still call f k (after-call st AnyWeight Past k.lost old new (record { weighs = λ w v. k.weighs w; holds = k.floor.past }) call o f
+        (λ stream e. tt) put-past
         (λ l e. subst (Every Later) (sym (read-unassembled l.queue.held)) (subst Past e k.floor.past))).holds
         (hears p n (known_past first sent st floor old.receiving) (known_past first sent st floor new.receiving) old new few i.spread.step.made
         (known-more call f floor floor (omega arith)) (known-taken floor) k.floor.arrived call f (λ g in' same. absurd (subst IsOther same o)))
 
   pub keeps-other : (call : ReceiverCall) → IsOther call → ReceiverFollows call old new → Answered new → Keeps old.receiving → Keeps new.receiving
   keeps-other call o f after k = after-so call f k
-      (after-call st (Well (Late old.receiving)) k.lost old new (before k) call o f fresh-well (λ c said g. put c said g k after) (read k))
+      (after-call st AnyWeight (Well (Late old.receiving)) k.lost old new (before k) call o f fresh-well (λ c said g. put c said g k after) (read k))
       (passed-by k after call o f)
 
   -- ## A FORWARD-TSN comes: what the receiver drops of the stream is of messages that are gone
@@ -612,7 +613,7 @@ module _ (first n : ℕ) (few : n < 2 ^ 31) (old new : Session) (ns : List Numbe
                 gone-unassembled ns first sent line i.spread.holds.held.stands.queued.indexed joined n i.spread.long few gone cut old i.spread.holds.made
                     made i.spread.step.taken.apart whole st a k l e
                     pass.passed pass.part pass.ends pass.came y sent'
-                    (every-at IsUnordered xs x c lt h.tidy.kinds) (some-of y.tsn xs (list_any_at (has_tsn y.tsn) xs x c lt (same-yes y.tsn)))
+                    (every-at IsUnordered xs x c lt h.tidy.rest.kinds) (some-of y.tsn xs (list_any_at (has_tsn y.tsn) xs x c lt (same-yes y.tsn)))
                     (ap (at_or_before y.tsn) (sym pass.is) ∙ b),
                 passes-it y b,
               ),
@@ -728,7 +729,7 @@ module _ (first n : ℕ) (few : n < 2 ^ 31) (old new : Session) (ns : List Numbe
                 floor = passed-to (s.lost ++ front) (every-of Goes (λ c. is_upto p m c.tsn ≡ true) (λ c g. g.1) (s.lost ++ front) all)
                     (subst (IsPast first sent st m) (sym is) (subst (Every (λ c. is_upto p m c.tsn ≡ false)) (sym left)
                     (subst (λ u. Every (λ c. is_upto p m c.tsn ≡ false) (after_leading (λ x. at_or_before x.tsn u) l.queue.held.unassembled)) (sym pass.is)
-                    (past-left p n few m least 0 l.queue.held.unassembled h.tidy.unassembled))))
+                    (past-left p n few m least 0 l.queue.held.unassembled h.tidy.rest.unassembled))))
                     (subst (IsPast first sent st k.floor.floor) (sym is) (subst (Every (λ c. is_upto p k.floor.floor c.tsn ≡ false)) (sym left)
                     (leading-each (λ c. is_upto p k.floor.floor c.tsn ≡ false) (λ x. at_or_before x.tsn t) l.queue.held.unassembled
                     (subst (IsPast first sent st k.floor.floor) e k.floor.past))));

@@ -256,22 +256,31 @@ IsOrdered c = c.unordered ≡ false
 abbrev pub IsUnordered : ChunkPayloadData → Type 0
 IsUnordered c = c.unordered ≡ true
 
+-- none but the first begins a message
+abbrev pub OnlyFirst : List ChunkPayloadData → Type 0
+OnlyFirst [] = ⊤
+OnlyFirst (c ∷ cs) = Every (λ (d : ChunkPayloadData). d.beginning_fragment ≡ false) cs
+
 abbrev pub IsTidySet : ℕ → ℕ → ChunkSet → Type 0
 IsTidySet p n s = Ascend p n 0 s.chunks × Every IsOrdered s.chunks
 
-abbrev IsWhole : ChunkSet → Type 0
+abbrev pub IsWhole : ChunkSet → Type 0
 IsWhole s = Every IsUnordered s.chunks
 
 -- a chunk with the TSN of a place
 abbrev pub IsFit : ℕ → ℕ → ChunkPayloadData → Type 0
 IsFit p n c = (k : ℕ) × IsPlaced p n 0 k c
 
-pub record IsTidy (p n : ℕ) (q : Reassembly) : Type 0 where
-  pub sets : Every (IsTidySet p n) q.ordered
+-- the unordered ones
+pub record IsUnorderedTidy (p n : ℕ) (q : Reassembly) : Type 0 where
   pub whole : Every IsWhole q.unordered
   pub unassembled : Ascend p n 0 q.unassembled
   pub kinds : Every IsUnordered q.unassembled
   pub none : HasNoRun q.unassembled
+
+pub record IsTidy (p n : ℕ) (q : Reassembly) : Type 0 where
+  pub sets : Every (IsTidySet p n) q.ordered
+  pub rest : IsUnorderedTidy p n q
 
 -- ## A fragment comes
 
@@ -283,6 +292,28 @@ every-first P p f (x ∷ xs) e = at-if (Every P) (p x) (λ h. (e.0.1 h, heads xs
     heads : (ys : List _) → Every (λ y. P y × (p y ≡ true → P (f y))) ys → Every P ys
     heads [] h = tt
     heads (y ∷ ys) h = (h.0.0, heads ys h.1)
+
+-- of the sets of ordered messages: an unordered fragment leaves them, and an ordered one is put in or dropped
+pub pushed-sets : (Q : List ChunkSet → Type 0) (x : ChunkPayloadData) (answered : Bool) (old new : ReassemblyState) → Pushes x answered old new
+    → (x.unordered ≡ false → Q (sets_with x old.held.ordered)) → Q old.held.ordered → Q new.held.ordered
+pushed-sets Q x answered old new p put e = at-test (λ b. PushesAs b x answered old new → Q new.held.ordered) x.unordered
+    (λ u t. at-test (λ k. BecomesComplete (insert_before chunk_before x old.held.unassembled) old.held new.held k → Q new.held.ordered) answered
+    (λ _ z. subst (λ (q : Reassembly). Q q.ordered) (sym z.moved) e)
+    (λ _ z. subst (λ (q : Reassembly). Q q.ordered) (sym z.1) e) t.0)
+    (λ u t. subst (λ (q : ReassemblyState). Q q.held.ordered) (sym t.0)
+    (at-if (λ (q : Reassembly). Q q.ordered) (comes_before16 x.stream_sequence_number old.held.next_ssn) (λ _. e) (λ _. put u))) p
+
+pub read-sets : (P : ChunkSet → Type 0) (q : Reassembly) → Every P q.ordered → Every P (rest_read q).ordered
+read-sets P q e = by q.unordered
+  where
+    front : (ss : List ChunkSet) → q.ordered ≡ ss → Every P (after_read (front_readable q.next_ssn ss) q).ordered
+    front [] is = e
+    front (s ∷ ss) is = at-if (λ z. Every P (after_read z q).ordered) (is_readable q.next_ssn s)
+        (λ _. subst (λ o. Every P (without_first o)) (sym is) (subst (Every P) is e).1) (λ _. e)
+
+    by : (us : List ChunkSet) → Every P (rest_among us q).ordered
+    by [] = front q.ordered refl
+    by (u ∷ us) = e
 
 module _ (p n : ℕ) (few : n < 2 ^ 31) where
   module _ (x : ChunkPayloadData) (k : ℕ) (at : IsPlaced p n 0 k x) where
@@ -320,22 +351,20 @@ module _ (p n : ℕ) (few : n < 2 ^ 31) where
     run-set [] e = tt
     run-set (y ∷ ys) e = e
 
-    unassembled-tidy : (old new : Reassembly) (answered : Bool) → x.unordered ≡ true → list_any (has_tsn x.tsn) old.unassembled ≡ false
-        → BecomesComplete (insert_before chunk_before x old.unassembled) old new answered → IsTidy p n old → IsTidy p n new
-    unassembled-tidy old new false u fresh b t = subst (IsTidy p n) (sym b.1) (record {
-      sets = t.sets;
+    unassembled-rest : (old new : Reassembly) (answered : Bool) → x.unordered ≡ true → list_any (has_tsn x.tsn) old.unassembled ≡ false
+        → BecomesComplete (insert_before chunk_before x old.unassembled) old new answered → IsUnorderedTidy p n old → IsUnorderedTidy p n new
+    unassembled-rest old new false u fresh b t = subst (IsUnorderedTidy p n) (sym b.1) (record {
       whole = t.whole;
       unassembled = ascend-inserted p n few 0 k x old.unassembled at fresh t.unassembled;
       kinds = every-inserted IsUnordered chunk_before x old.unassembled u t.kinds;
       none = b.0;
     })
-    unassembled-tidy old new true u fresh b t =
+    unassembled-rest old new true u fresh b t =
         let xs = insert_before chunk_before x old.unassembled in
         let i = inserted-place old.unassembled in
         let up = ascend-inserted p n few 0 k x old.unassembled at fresh t.unassembled in
         let kinds = every-inserted IsUnordered chunk_before x old.unassembled u t.kinds in
-        subst (IsTidy p n) (sym b.moved) (record {
-          sets = t.sets;
+        subst (IsUnorderedTidy p n) (sym b.moved) (record {
           whole = every-joined IsWhole old.unordered (set_of_run (take b.count (drop b.first xs)) ∷ []) t.whole
               (run-set (take b.count (drop b.first xs)) (every-taken IsUnordered b.count (drop b.first xs) (every-left IsUnordered b.first xs kinds)), tt);
           unassembled = ascend-cut p n few 0 b.first b.count xs up;
@@ -344,42 +373,34 @@ module _ (p n : ℕ) (few : n < 2 ^ 31) where
           none = flag_after_take true true xs i.0 b.first b.count i.1 (subst HasNoRun (sym i.2) t.none) (ascend-serial p n few 0 xs up) b.run.run;
         })
 
+    pub pushed-rest : (answered : Bool) (old new : ReassemblyState) → Pushes x answered old new
+        → (x.unordered ≡ true → list_any (has_tsn x.tsn) old.held.unassembled ≡ false) → IsUnorderedTidy p n old.held → IsUnorderedTidy p n new.held
+    pushed-rest answered old new h none y = at-test (λ b. PushesAs b x answered old new → IsUnorderedTidy p n new.held) x.unordered
+        (λ u e. unassembled-rest old.held new.held answered u (none u) e.0 y)
+        (λ u e. subst (λ (q : ReassemblyState). IsUnorderedTidy p n q.held) (sym e.0)
+        (at-if (IsUnorderedTidy p n) (comes_before16 x.stream_sequence_number old.held.next_ssn) (λ _. y)
+        (λ _. record { whole = y.whole; unassembled = y.unassembled; kinds = y.kinds; none = y.none }))) h
+
     pub pushed-tidy : (answered : Bool) (old new : ReassemblyState) → Pushes x answered old new
         → Every (λ (s : ChunkSet). list_any (has_tsn x.tsn) s.chunks ≡ false) old.held.ordered → list_any (has_tsn x.tsn) old.held.unassembled ≡ false
         → IsTidy p n old.held → IsTidy p n new.held
-    pushed-tidy answered old new h fresh none y = at-test (λ b. PushesAs b x answered old new → IsTidy p n new.held) x.unordered
-        (λ u e. unassembled-tidy old.held new.held answered u none e.0 y)
-        (λ u e.
-        let held : new.held ≡ held_after_ordered_push x old.held = ap (λ (q : ReassemblyState). q.held) e.0 in
-        subst (IsTidy p n) (sym held) (put-or-not u (comes_before16 x.stream_sequence_number old.held.next_ssn))) h
-      where
-        put-or-not : x.unordered ≡ false → (b : Bool) → IsTidy p n (if b then old.held else record old.held { ordered = sets_with x old.held.ordered })
-        put-or-not u true = y
-        put-or-not u false = record {
-          sets = sets-tidy u old.held.ordered fresh y.sets;
-          whole = y.whole;
-          unassembled = y.unassembled;
-          kinds = y.kinds;
-          none = y.none;
-        }
+    pushed-tidy answered old new h fresh none y = record {
+      sets = pushed-sets (Every (IsTidySet p n)) x answered old new h (λ u. sets-tidy u old.held.ordered fresh y.sets) y.sets;
+      rest = pushed-rest answered old new h (λ _. none) y.rest;
+    }
 
   -- ## A message is read
 
-  pub read-tidy : (q : Reassembly) → IsTidy p n q → IsTidy p n (rest_read q)
-  read-tidy q t = by q.unordered refl
+  pub read-rest : (q : Reassembly) → IsUnorderedTidy p n q → IsUnorderedTidy p n (rest_read q)
+  read-rest q t = by q.unordered refl
     where
-      front : (ss : List ChunkSet) → q.ordered ≡ ss → IsTidy p n (after_read (front_readable q.next_ssn ss) q)
-      front [] e = t
-      front (s ∷ ss) e = at-if (λ z. IsTidy p n (after_read z q)) (is_readable q.next_ssn s)
-          (λ h. record {
-            sets = subst (λ o. Every (IsTidySet p n) (without_first o)) (sym e) (subst (Every (IsTidySet p n)) e t.sets).1;
-            whole = t.whole;
-            unassembled = t.unassembled;
-            kinds = t.kinds;
-            none = t.none;
-          })
-          (λ e. t)
+      front : (o : Option ChunkSet) → IsUnorderedTidy p n (after_read o q)
+      front None = t
+      front (Some s) = record { whole = t.whole; unassembled = t.unassembled; kinds = t.kinds; none = t.none }
 
-      by : (us : List ChunkSet) → q.unordered ≡ us → IsTidy p n (rest_among us q)
-      by [] e = front q.ordered refl
-      by (u ∷ us) e = record { sets = t.sets; whole = (subst (Every IsWhole) e t.whole).1; unassembled = t.unassembled; kinds = t.kinds; none = t.none }
+      by : (us : List ChunkSet) → q.unordered ≡ us → IsUnorderedTidy p n (rest_among us q)
+      by [] e = front (front_readable q.next_ssn q.ordered)
+      by (u ∷ us) e = record { whole = (subst (Every IsWhole) e t.whole).1; unassembled = t.unassembled; kinds = t.kinds; none = t.none }
+
+  pub read-tidy : (q : Reassembly) → IsTidy p n q → IsTidy p n (rest_read q)
+  read-tidy q t = record { sets = read-sets (IsTidySet p n) q t.sets; rest = read-rest q t.rest }

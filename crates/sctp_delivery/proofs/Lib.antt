@@ -44,11 +44,14 @@ pub mod EveryTurns
 pub mod EveryFronts
 pub mod EveryEnds
 pub mod EveryShadows
+pub mod Even
 pub mod EveryHeld
 pub mod EverySettled
+pub mod EveryKept
 pub mod EveryMessages
 pub mod EveryExamples
 pub mod ReopenedExamples
+pub mod DroppedExamples
 pub mod StandsAny
 pub mod DiscardRuns
 pub mod DiscardExamples
@@ -76,6 +79,7 @@ pub mod UnwrappedArrived
 pub mod MessagePlaces
 pub mod KeptOrGone
 pub mod UnassembledGone
+pub mod UnorderedGone
 pub mod Unassembled
 pub mod KeptCalls
 pub mod KeptSessions

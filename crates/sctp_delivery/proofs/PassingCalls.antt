@@ -1,5 +1,5 @@
 -- In each session of few TSNs: each FORWARD-TSN passes abandoned messages, and what was taken, alone (RFC 3758 3.5).
-use Rattle.sctp_delivery.proofs.Names.{◌≡◌, ℕ, ◌+◌, ◌<◌, ◌≤◌, ◌^◌, true, not, List, [], ◌∷◌, ◌++◌, length, take, Option, Some, None, inl, inr, refl, ap, sym}
+use Rattle.sctp_delivery.proofs.Names.{◌≡◌, ℕ, ◌+◌, ◌<◌, ◌≤◌, ◌^◌, Bool, true, not, List, [], ◌∷◌, ◌++◌, length, take, Option, Some, None, inl, inr, refl, ap, sym}
 use Rattle.sctp_delivery.proofs.Names.{subst, ◌∙◌, arith, suc, ◌||◌, if◌then◌else◌, nat_le, option_map, ◌==◌, filter, list_any, cases_lt, nat_tests, none-some}
 use Rattle.sctp_delivery.proofs.Names.{common_steps, at_or_before, distance, or-left, or-right, or-split, same-is, some-same, both, not_both, tsn}
 use Rattle.sctp_delivery.proofs.Names.{ChunkPayloadData, ForwardTsn, Data, data_of, ends, has_tsn, Limits, ahead, can_skip_to, ends_in, is_end, last_end}
@@ -15,15 +15,16 @@ use Rattle.sctp_delivery.proofs.AbandonedMessages.{AreBegunOrGone, begun-later, 
 use Rattle.sctp_delivery.proofs.Calls.{numbered_after}
 use Rattle.sctp_delivery.proofs.Delivered.{next_tsn}
 use Rattle.sctp_delivery.proofs.Every.{Every, every-joined, every-of, every-taken, one-of, every-found, every-tested}
-use Rattle.sctp_delivery.proofs.InFlight.{AreKnown, IsKnown}
+use Rattle.sctp_delivery.proofs.InFlight.{AreKnownOn, IsKnownOn}
 use Rattle.sctp_delivery.proofs.Numbers.{number_of}
 use Rattle.sctp_delivery.proofs.PassedMessages.{AreCutGone, ArePassing, AreTakenOrGone, EndsMessage, IsMadePassing, IsPassing, is_gone, EndsGone}
 use Rattle.sctp_delivery.proofs.GivenTsns.{IsPassable, last-every, lead, passable-end, passable-skip, rest-run}
 use Rattle.sctp_delivery.proofs.Queues.{IsOnceMore}
 use Rattle.sctp_delivery.proofs.SackLaws.{more-accepted}
+use Rattle.sctp_delivery.proofs.SackSteps.{none_dropped}
 use Rattle.sctp_delivery.proofs.Sent.{Entry, IsPart, Numbered, fragment, part-length, part-line, same-parts, terminal, IsLine, WasSent, part-itself, tail-part}
-use Rattle.sctp_delivery.proofs.SpreadCalls.{IsSpread, Spreads}
-use Rattle.sctp_delivery.proofs.SpreadEntries.{IsFor, IsPlaced, begun_to, is_at, to-part}
+use Rattle.sctp_delivery.proofs.SpreadCalls.{IsSpread, IsSpreadOn, Spreads}
+use Rattle.sctp_delivery.proofs.SpreadEntries.{IsFor, IsPlacedOn, begun_to, is_at, to-part}
 use Rattle.sctp_delivery.proofs.TsnPlaces.{at-or-before, base, same-place}
 use Rattle.sctp_delivery.proofs.MessagePlaces.{IsEntryAt, is_of_stream, same-message}
 use Rattle.sctp_delivery.proofs.MessagePlaces as sets
@@ -148,19 +149,21 @@ module _ (first n : ℕ) (s : Session) (ns : List Numbered) (sent : List Entry) 
 
 -- ## A FORWARD-TSN is made
 
-placed-each : (first : ℕ) (sent : List Entry) (cs : List ChunkPayloadData) → AreKnown first sent cs → Every (IsPlaced first sent) cs
-placed-each first sent cs k = every-of (IsKnown first sent) (IsPlaced first sent) (λ c i. i.1) cs k
+pub placed-each : (on : ℕ → Bool) (first : ℕ) (sent : List Entry) (cs : List ChunkPayloadData) → AreKnownOn on first sent cs
+    → Every (IsPlacedOn on first sent) cs
+placed-each on first sent cs k = every-of (IsKnownOn on first sent) (IsPlacedOn on first sent) (λ c i. i.1) cs k
 
-module _ (first n : ℕ) (sent : List Entry) (long : length sent ≡ n) (few : n < 2 ^ 31) where
+module _ (on : ℕ → Bool) (first n : ℕ) (sent : List Entry) (long : length sent ≡ n) (few : n < 2 ^ 31) where
   -- the entry of a chunk is the last of as many entries
-  entry-at : (c : ChunkPayloadData) (place : ℕ) (i : IsPlaced first sent c) → c.tsn ≡ tsn (base first) place → 0 < place → place ≤ n → (ys : List Entry)
+  pub entry-at : (c : ChunkPayloadData) (place : ℕ) (i : IsPlacedOn on first sent c) → c.tsn ≡ tsn (base first) place → 0 < place → place ≤ n
+      → (ys : List Entry)
       → IsPart ys sent → length ys ≡ place → i.entry ∷ i.entries ≡ ys
   entry-at c place i is some le ys p same =
       same-parts sent (i.entry ∷ i.entries) ys i.part p (omega (arith, part-length sent (i.entry ∷ i.entries) i.part, is, some, le, same, long, few))
 
   -- what is in flight in front, up to the first that is kept, is gone
   lead-gone : (gone : List ℕ) (a : ℕ) (cs : List ChunkPayloadData) → a + length cs ≤ n → IsRunFrom (tsn (base first) (a + 1)) cs
-      → Every (IsPlaced first sent) cs → AreMarkedGone gone cs → (d : Data) (w : Numbered) (after : List ℕ) (xs : List Entry)
+      → Every (IsPlacedOn on first sent) cs → AreMarkedGone gone cs → (d : Data) (w : Numbered) (after : List ℕ) (xs : List Entry)
       → IsPart (fragment d w after ∷ xs) sent → a < length xs + 1 → length xs + 1 ≤ a + lead cs → is_gone gone w.place ≡ true
   lead-gone gone a [] total run placed marked d w after xs p lt le = absurd (omega (arith, lt, le))
   lead-gone gone a (c ∷ cs) total run placed marked d w after xs p lt le =
@@ -185,57 +188,62 @@ module _ (first n : ℕ) (sent : List Entry) (long : length sent ≡ n) (few : n
       own (fragment e v rest) ys f same = let it : v ≡ w = cc in ap (λ (u : Numbered). u.place) (sym it) ∙ f.0
 
 -- a chunk in flight has the TSN, and ends its message
-record EndsThere (first : ℕ) (sent : List Entry) (t : ℕ) : Type 0 where
+record EndsThere (on : ℕ → Bool) (first : ℕ) (sent : List Entry) (t : ℕ) : Type 0 where
   chunk : ChunkPayloadData
   is : chunk.tsn ≡ t
   ends' : chunk.ending_fragment ≡ true
-  placed : IsPlaced first sent chunk
+  placed : IsPlacedOn on first sent chunk
 
-ends-end : (first : ℕ) (sent : List Entry) (t : ℕ) (f : Flight) → is_end t f ≡ true → AreKnown first sent f.queue.inflight.chunks → EndsThere first sent t
-ends-end first sent t f e known = by (find (has_tsn t) f.queue.inflight.chunks) refl
+ends-end : (on : ℕ → Bool) (first : ℕ) (sent : List Entry) (t : ℕ) (f : Flight) → is_end t f ≡ true → AreKnownOn on first sent f.queue.inflight.chunks
+    → EndsThere on first sent t
+ends-end on first sent t f e known = by (find (has_tsn t) f.queue.inflight.chunks) refl
     (both (can_skip_to t f) (ends_in (find (has_tsn t) f.queue.inflight.chunks)) e).1
   where
-    by : (o : Option ChunkPayloadData) → find (has_tsn t) f.queue.inflight.chunks ≡ o → ends_in o ≡ true → EndsThere first sent t
+    by : (o : Option ChunkPayloadData) → find (has_tsn t) f.queue.inflight.chunks ≡ o → ends_in o ≡ true → EndsThere on first sent t
     by None h g = absurd (not_both g)
     by (Some c) h g = record {
       chunk = c;
       is = same-is c.tsn t (found-passes (has_tsn t) f.queue.inflight.chunks c h);
       ends' = g;
-      placed = (every-found (IsKnown first sent) (has_tsn t) f.queue.inflight.chunks c h known).1;
+      placed = (every-found (IsKnownOn on first sent) (has_tsn t) f.queue.inflight.chunks c h known).1;
     }
 
-ends-skip : (first : ℕ) (sent : List Entry) (t u : ℕ) (f : Flight) → Some u ≡ skip_end t f → AreKnown first sent f.queue.inflight.chunks
-    → EndsThere first sent u
-ends-skip first sent t u f is known = at-test (λ b. Some u ≡ (if b then option_map (λ (c : ChunkPayloadData). c.tsn) (last_end t f) else None) →
-    EndsThere first sent u) (can_skip_to t f)
+ends-skip : (on : ℕ → Bool) (first : ℕ) (sent : List Entry) (t u : ℕ) (f : Flight) → Some u ≡ skip_end t f → AreKnownOn on first sent f.queue.inflight.chunks
+    → EndsThere on first sent u
+ends-skip on first sent t u f is known = at-test (λ b. Some u ≡ (if b then option_map (λ (c : ChunkPayloadData). c.tsn) (last_end t f) else None) →
+    EndsThere on first sent u) (can_skip_to t f)
     (λ e i. found (last_end t f) refl i)
     (λ e i. absurd (none-some u (sym i))) is
   where
     front : List ChunkPayloadData
     front = take (ahead f t) f.queue.inflight.chunks
 
-    each : Every (λ (c : ChunkPayloadData). IsPlaced first sent c × (ends c ≡ true)) (filter ends front)
-    each = every-tested (λ c. IsPlaced first sent c × (ends c ≡ true)) ends front
-        (every-of (IsPlaced first sent) (λ c. ends c ≡ true → IsPlaced first sent c × (ends c ≡ true)) (λ c i e. (i, e)) front
-        (every-taken (IsPlaced first sent) (ahead f t) f.queue.inflight.chunks (placed-each first sent f.queue.inflight.chunks known)))
+    each : Every (λ (c : ChunkPayloadData). IsPlacedOn on first sent c × (ends c ≡ true)) (filter ends front)
+    each = every-tested (λ c. IsPlacedOn on first sent c × (ends c ≡ true)) ends front
+        (every-of (IsPlacedOn on first sent) (λ c. ends c ≡ true → IsPlacedOn on first sent c × (ends c ≡ true)) (λ c i e. (i, e)) front
+        (every-taken (IsPlacedOn on first sent) (ahead f t) f.queue.inflight.chunks (placed-each on first sent f.queue.inflight.chunks known)))
 
-    found : (o : Option ChunkPayloadData) → last_end t f ≡ o → Some u ≡ option_map (λ (c : ChunkPayloadData). c.tsn) o → EndsThere first sent u
+    found : (o : Option ChunkPayloadData) → last_end t f ≡ o → Some u ≡ option_map (λ (c : ChunkPayloadData). c.tsn) o → EndsThere on first sent u
     found None e i = absurd (none-some u (sym i))
     found (Some c) e i =
-        let x = last-every (λ (d : ChunkPayloadData). IsPlaced first sent d × (ends d ≡ true)) (filter ends front) c e each in
+        let x = last-every (λ (d : ChunkPayloadData). IsPlacedOn on first sent d × (ends d ≡ true)) (filter ends front) c e each in
         record { chunk = c; is = sym (some-same i); ends' = x.1; placed = x.0 }
 
-module _ (first n : ℕ) (s : Session) (ns : List Numbered) (sent : List Entry) (gone : List ℕ) (i : IsSpread first n s ns sent) (few : n < 2 ^ 31)
-    (passing : ArePassing (base first) gone s sent) (marked : AreMarkedGone gone (flight_of s).queue.inflight.chunks) where
+-- where what is acknowledged was taken, or is gone
+module _ (on dropped : ℕ → Bool) (first n : ℕ) (s : Session) (ns : List Numbered) (sent : List Entry) (gone : List ℕ)
+    (i : IsSpreadOn on dropped first n s ns sent) (few : n < 2 ^ 31)
+    (passing : ArePassing (base first) gone s sent) (marked : AreMarkedGone gone (flight_of s).queue.inflight.chunks)
+    (came : (d : Data) (w : Numbered) (after : List ℕ) (xs : List Entry) → IsPart (fragment d w after ∷ xs) sent → length xs + 1 ≤ i.step.numbered.acked
+    → (was_taken d.tsn s || is_gone gone w.place) ≡ true) where
   passes-gone : (g : ForwardTsn) → IsPassable (base first) n (flight_of s) i.step.numbered few g.new_cumulative_tsn
-      → EndsThere first sent g.new_cumulative_tsn → IsPassing (base first) gone s sent g
+      → EndsThere on first sent g.new_cumulative_tsn → IsPassing (base first) gone s sent g
   passes-gone g h end =
       let given = h.given in
       let le = given.within in
       let some = given.some in
       let long = i.long in
       let part = part-of-length sent given.place (omega (arith, le, long)) in
-      let same = entry-at first n sent long few end.chunk given.place end.placed (end.is ∙ given.is) some le part.0 part.1 part.2 in
+      let same = entry-at on first n sent long few end.chunk given.place end.placed (end.is ∙ given.is) some le part.0 part.1 part.2 in
       record {
         passed = part.0;
         part = part.1;
@@ -256,13 +264,13 @@ module _ (first n : ℕ) (s : Session) (ns : List Numbered) (sent : List Entry) 
       here : (d : Data) (w : Numbered) (after : List ℕ) (xs : List Entry) → IsPart (fragment d w after ∷ xs) sent → length xs + 1 ≤ h.given.place
           → (was_taken d.tsn s || is_gone gone w.place) ≡ true
       here d w after xs p most = elim (cases_lt i.step.numbered.acked (length xs + 1)) [
-        | inr le ↦ acknowledged-came first n s ns sent gone i few passing d w after xs p le
+        | inr le ↦ came d w after xs p le
         | inl lt ↦
             let total = i.step.numbered.total in
             let upto = h.upto in
             or-right (was_taken d.tsn s) (is_gone gone w.place)
-            (lead-gone first n sent i.long few gone i.step.numbered.acked (flight_of s).queue.inflight.chunks (omega (arith, total)) i.step.numbered.run
-            (placed-each first sent (flight_of s).queue.inflight.chunks i.holds.held.stands.known) marked d w after xs p lt (omega (arith, most, upto)))
+            (lead-gone on first n sent i.long few gone i.step.numbered.acked (flight_of s).queue.inflight.chunks (omega (arith, total)) i.step.numbered.run
+            (placed-each on first sent (flight_of s).queue.inflight.chunks i.holds.held.stands.known) marked d w after xs p lt (omega (arith, most, upto)))
       ]
 
   -- what a call makes
@@ -276,12 +284,12 @@ module _ (first n : ℕ) (s : Session) (ns : List Numbered) (sent : List Entry) 
   made-passing (outgoing.resends u now c) accepted = (tt, passing)
   made-passing (outgoing.forwards u g) accepted = (
     passes-gone g (passable-skip (base first) n (flight_of s) i.step.numbered few u g.new_cumulative_tsn accepted.0)
-        (ends-skip first sent u g.new_cumulative_tsn (flight_of s) accepted.0 i.holds.held.stands.known),
+        (ends-skip on first sent u g.new_cumulative_tsn (flight_of s) accepted.0 i.holds.held.stands.known),
     passing,
   )
   made-passing (outgoing.forwards_within bytes g) accepted = (
     passes-gone g (passable-end (base first) n (flight_of s) i.step.numbered few g.new_cumulative_tsn accepted.0 accepted.1)
-        (ends-end first sent g.new_cumulative_tsn (flight_of s) accepted.1 i.holds.held.stands.known),
+        (ends-end on first sent g.new_cumulative_tsn (flight_of s) accepted.1 i.holds.held.stands.known),
     passing,
   )
   made-passing call accepted = passing
@@ -311,7 +319,8 @@ sender-passes first n gone call old new ns sent i few f x h =
     let before = passing-later (base first) gone more old old sent sent later (λ k e. e) (inl refl) old.made h.passing in
     record {
       marked = stays-marked more old new (λ t. was_taken t old) (λ t. list_any (passes t) old.made) valid marked call among f;
-      cut = stays-cut more first old new ns sent x.more i.holds x.spread.holds.held.stands.counted (cut-later gone more later sent h.cut) call among f x.grown;
+      cut = stays-cut all_streams more first old new ns sent x.more i.holds x.spread.holds.held.stands.counted (cut-later gone more later sent h.cut) call
+          among f x.grown;
       begun' =
           stays-begun-or-gone all_streams more first old new ns sent x.more i.holds x.once
           (begun-later gone more later (length ns) sent (flight_of old).queue.pending h.begun') call among f x.grown;
@@ -322,7 +331,8 @@ sender-passes first n gone call old new ns sent i few f x h =
       passing =
           subst (Every (IsMadePassing (base first) more new x.more)) (sym (ap (λ (s : Session). s.made) f.after))
           (passing-later (base first) more more old new sent x.more (λ m e. e) (λ k e. ap (was_taken k) f.after ∙ e) x.once
-          (made_after call old.sending.sender old.made) (made-passing first n old ns sent more i small before marked call f.accepted));
+          (made_after call old.sending.sender old.made) (made-passing all_streams none_dropped first n old ns sent more i small before marked
+          (acknowledged-came first n old ns sent more i small before) call f.accepted));
     }
 
 pub receiver-passes : (first : ℕ) (gone : List ℕ) (call : ReceiverCall) (old new : Session) (ns : List Numbered) (sent : List Entry)

@@ -4,7 +4,7 @@ use Rattle.sctp_delivery.proofs.Names.{ap, sym, subst, ◌∙◌, arith, ⊤, �
 use Rattle.sctp_delivery.proofs.Names.{ChunkPayloadData, Data, data_of, Selected, as_sent, Pending, list_to_pop, next_pending, rest_after, rest_from, selected_after}
 use Rattle.sctp_delivery.proofs.Names.{IsSendable, IsWhole, begun, free, made}
 use Rattle.std.proofs.Common.{◌⊎◌}
-use Rattle.sctp_delivery.proofs.Cases.{Where, all_streams, where-map, where-yes}
+use Rattle.sctp_delivery.proofs.Cases.{Where, where-map, where-yes}
 use Rattle.sctp_delivery.proofs.OrderedEntries.{AreIndexedOn, AreJoined, AreRanked, AreRising, IsIndexed, IsOpen, IsUnder, Joins, begins-inner, begins-ordered}
 use Rattle.sctp_delivery.proofs.OrderedEntries.{begins-unordered, begins_on, begun_on, one, ranked-ordered, ranked-unordered, under-more}
 use Rattle.sctp_delivery.proofs.Sent.{Entry, Fits, GoesOn, IsLine, Numbered, fragment, terminal}
@@ -26,9 +26,6 @@ pub record QueuedOn (on : ℕ → Bool) (ws : List Numbered) (first : ℕ) (numb
   pub ranked : AreRanked ws q.ordered sent
   pub joined : AreJoined sent
   pub open' : IsOpen sent q.selected
-
-abbrev pub Queued : List Numbered → ℕ → (ℕ → ℕ) → Pending → List Entry → Type 0
-Queued ws first number q sent = QueuedOn all_streams ws first number q sent
 
 -- ## The places
 

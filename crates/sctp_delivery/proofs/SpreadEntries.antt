@@ -2,7 +2,7 @@
 use Rattle.sctp_delivery.proofs.Names.{◌≡◌, ℕ, ◌+◌, ◌%◌, ◌^◌, ◌<◌, ◌≤◌, Bool, true, false, not, List, [], ◌∷◌, length, inl, inr, refl, ap, sym, subst, ◌∙◌}
 use Rattle.sctp_delivery.proofs.Names.{arith, ⊤, ◌==◌, ◌&&◌, if◌then◌else◌, nat_le, cases_lt, nat_tests, negated, same-is, same-yes, and, both, not_both, tsn}
 use Rattle.sctp_delivery.proofs.Names.{ChunkPayloadData, Data, data_of, is_ordered_on}
-use Rattle.sctp_delivery.proofs.Cases.{Where, all_streams, where-is, where-map}
+use Rattle.sctp_delivery.proofs.Cases.{Where, where-is, where-map}
 use Rattle.sctp_delivery.proofs.OrderedEntries.{AreIndexedOn, AreJoined, IsIndexed, IsLatest, IsNumberOf, begins-inner, begun_on, ends_on, latest-here, one}
 use Rattle.sctp_delivery.proofs.OrderedEntries.{part-fewer, part-indexed}
 use Rattle.sctp_delivery.proofs.Sent.{Entry, IsLine, IsPart, Numbered, WasSent, fragment, part-itself, part-length, part-line, same-parts, tail-part, terminal}
@@ -32,9 +32,6 @@ pub record IsPlacedOn (on' : ℕ → Bool) (first : ℕ) (sent : List Entry) (c 
   pub step : (st : ℕ) → Where (on' st) (IsStep st (begun_on st entries) (begun_on st (entry ∷ entries)) c)
   pub on : (st : ℕ) → is_ordered_on st c ≡ ends_on st (entry ∷ entries)
   pub for' : IsFor c entry
-
-abbrev pub IsPlaced : ℕ → List Entry → ChunkPayloadData → Type 0
-IsPlaced first sent c = IsPlacedOn all_streams first sent c
 
 pub one-most : (b : Bool) → one b ≤ 1
 one-most true = omega arith

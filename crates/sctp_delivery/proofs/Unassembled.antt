@@ -10,7 +10,7 @@ use Rattle.sctp_receiver.proofs.OneMessage.{named-unmixed, unassembled-unmixed}
 use Rattle.sctp_delivery.proofs.Cases.{at-if}
 use Rattle.sctp_delivery.proofs.Every.{Every, every-inserted, every-joined, every-left, every-of, every-passing, every-taken}
 use Rattle.sctp_delivery.proofs.KeptOrGone.{is_upto, upto-place}
-use Rattle.sctp_delivery.proofs.KeptSets.{IsTidy, IsTidySet, IsUnordered}
+use Rattle.sctp_delivery.proofs.KeptSets.{IsUnorderedTidy, IsTidy, IsTidySet, IsUnordered}
 use Rattle.sctp_delivery.proofs.Rising.{Ascend, ascend-from}
 use Rattle.sctp_delivery.proofs.TsnPlaces.{past-is}
 use Rattle.sctp_delivery.proofs.UnwrappedReads.{leading-each}
@@ -47,33 +47,34 @@ module _ (p n : ℕ) (few : n < 2 ^ 31) where
   pub skipped-tidy : (last : ℕ) (q : Reassembly) → IsTidy p n q → IsTidy p n (held_after_ordered_skip last q)
   skipped-tidy last q t = record {
     sets = every-passing (IsTidySet p n) (λ s. not (is_passed last s)) q.ordered t.sets;
-    whole = t.whole;
-    unassembled = t.unassembled;
-    kinds = t.kinds;
-    none = t.none;
+    rest =
+        let l = t.rest in
+        record { whole = l.whole; unassembled = l.unassembled; kinds = l.kinds; none = l.none };
   }
 
-  pub left-tidy : (tsn : ℕ) (q : Reassembly) → IsTidy p n q → IsTidy p n (held_after_unordered_skip tsn q)
-  left-tidy tsn q t = record {
-    sets = t.sets;
+  pub left-rest : (tsn : ℕ) (q : Reassembly) → IsUnorderedTidy p n q → IsUnorderedTidy p n (held_after_unordered_skip tsn q)
+  left-rest tsn q t = record {
     whole = t.whole;
     unassembled = left-ascend 0 (λ x. at_or_before x.tsn tsn) q.unassembled t.unassembled;
     kinds = leading-each IsUnordered (λ x. at_or_before x.tsn tsn) q.unassembled t.kinds;
     none = left-none (λ x. at_or_before x.tsn tsn) q.unassembled t.none;
   }
 
+  pub left-tidy : (tsn : ℕ) (q : Reassembly) → IsTidy p n q → IsTidy p n (held_after_unordered_skip tsn q)
+  left-tidy tsn q t = record { sets = t.sets; rest = left-rest tsn q t.rest }
+
   ascend-more : (m low : ℕ) (cs : List ChunkPayloadData) → n ≤ m → Ascend p n low cs → Ascend p m low cs
   ascend-more m low [] le a = tt
   ascend-more m low (c ∷ cs) le a = let h = a.1.1 in (a.0, (a.1.0, omega (arith, h, le), a.1.2), ascend-more m (a.0 + 1) cs le a.2)
 
   -- more TSNs are given out
+  pub rest-more : (m : ℕ) (q : Reassembly) → n ≤ m → IsUnorderedTidy p n q → IsUnorderedTidy p m q
+  rest-more m q le t = record { whole = t.whole; unassembled = ascend-more m 0 q.unassembled le t.unassembled; kinds = t.kinds; none = t.none }
+
   pub tidy-more : (m : ℕ) (q : Reassembly) → n ≤ m → IsTidy p n q → IsTidy p m q
   tidy-more m q le t = record {
     sets = every-of (IsTidySet p n) (IsTidySet p m) (λ s e. (ascend-more m 0 s.chunks le e.0, e.1)) q.ordered t.sets;
-    whole = t.whole;
-    unassembled = ascend-more m 0 q.unassembled le t.unassembled;
-    kinds = t.kinds;
-    none = t.none;
+    rest = rest-more m q le t.rest;
   }
 
 pub skipped-orderly : (last : ℕ) (q : ReassemblyState) → is_orderly q ≡ true → is_orderly (after_ordered_skip last q) ≡ true

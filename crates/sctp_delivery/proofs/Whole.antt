@@ -1,14 +1,14 @@
 -- A message that was read has the whole range of places of each of its fragments.
 use Rattle.sctp_delivery.proofs.Names.{◌≡◌, ℕ, suc, ◌+◌, ◌<◌, ◌≤◌, ◌%◌, ◌^◌, true, false, List, [], ◌∷◌, ◌++◌, length, inl, inr, ap, sym, subst, ◌∙◌, arith}
-use Rattle.sctp_delivery.proofs.Names.{All, ◌==◌, if◌then◌else◌, list_any, sum_by, cases_lt, eq-eqb, sum_by-append, nat_tests, or-left, or-right, or-split}
+use Rattle.sctp_delivery.proofs.Names.{◌==◌, if◌then◌else◌, list_any, sum_by, cases_lt, eq-eqb, sum_by-append, nat_tests, or-left, or-right, or-split}
 use Rattle.sctp_delivery.proofs.Names.{same-is, both, not_both, tsn, ChunkPayloadData, Data, data_of, completes, is_complete, Message, fragments_read}
-use Rattle.sctp_delivery.proofs.Names.{is_one_message, has_tsn}
+use Rattle.sctp_delivery.proofs.Names.{has_tsn}
 use Rattle.sctp_delivery.proofs.Cases.{at-test, by-test}
-use Rattle.sctp_delivery.proofs.Delivered.{EachSent, follows, inner-of}
+use Rattle.sctp_delivery.proofs.Delivered.{EachSent}
 use Rattle.sctp_delivery.proofs.Every.{Every}
 use Rattle.sctp_delivery.proofs.FragmentPlaces.{Shows, part-place}
 use Rattle.sctp_delivery.proofs.InTheEnd.{some-of}
-use Rattle.sctp_delivery.proofs.OrderedEntries.{AreIndexed}
+use Rattle.sctp_delivery.proofs.KeptSets.{OnlyFirst}
 use Rattle.sctp_delivery.proofs.ReadOnce.{none-count, one}
 use Rattle.sctp_delivery.proofs.Sent.{Entry, IsLine, Numbered, WasSent, fragment, part-length, part-line}
 use Rattle.sctp_delivery.proofs.TsnPlaces.{base, next-place, same-place}
@@ -20,8 +20,15 @@ pub record IsOn (p n : ℕ) (f : ℕ → Data) (c : ChunkPayloadData) (j : ℕ) 
   pub is : c.tsn ≡ tsn p j
   pub data' : data_of c ≡ f j
 
+-- on the stream complete messages were read, each of one message, of fragments that got TSNs
+abbrev pub IsWholeOn : List Entry → ℕ → Message → Type 0
+IsWholeOn sent st m = m.stream ≡ st → (is_complete m.fragments ≡ true) × OnlyFirst m.fragments × EachSent sent m.fragments
+
+abbrev pub AreWholeOn : List Entry → ℕ → List Message → Type 0
+AreWholeOn sent st ms = Every (IsWholeOn sent st) ms
+
 module _ (ws : List Numbered) (first : ℕ) (sent : List Entry) (few : length sent < 2 ^ 31) (line : IsLine ws first sent)
-    (indexed : AreIndexed sent) (f : ℕ → Data) (agr : Shows f sent) where
+    (f : ℕ → Data) (agr : Shows f sent) where
   abbrev p : ℕ
   p = base first
 
@@ -94,14 +101,13 @@ module _ (ws : List Numbered) (first : ℕ) (sent : List Entry) (few : length se
   module _ (a j k : ℕ) (begins : (f a).beginning_fragment ≡ true) (upto : a ≤ j) (inner : (l : ℕ) → a < l → l ≤ j → (f l).beginning_fragment ≡ false)
       (within : j ≤ n)
       (to : a ≤ k) (open' : (l : ℕ) → a ≤ l → l < k → (f l).ending_fragment ≡ false) where
-    pub whole-of : (fs : List ChunkPayloadData) → is_complete fs ≡ true → is_one_message fs ≡ true → EachSent sent fs → list_any (has_tsn (tsn p j)) fs ≡ true
+    pub whole-of : (fs : List ChunkPayloadData) → is_complete fs ≡ true → OnlyFirst fs → EachSent sent fs → list_any (has_tsn (tsn p j)) fs ≡ true
         → list_any (has_tsn (tsn p k)) fs ≡ true
     whole-of [] e o s there = absurd (not_both there)
     whole-of (c ∷ cs) e o s there =
         let b = both c.beginning_fragment (completes c cs) e in
         let h = place-of c s.0 in
-        let none = (follows ws first sent (omega (arith, few)) line indexed c cs s.0.0 s.0.1 s.0.2 s.0.3 b.1 s.1 (inner-of c cs o)).2 in
-        let r = back c cs h.0 h.1 b.1 s.1 none j within there in
+        let r = back c cs h.0 h.1 b.1 s.1 o j within there in
         let first' : (f h.0).beginning_fragment ≡ true = ap (λ (d : Data). d.beginning_fragment) (sym h.1.data') ∙ b.0 in
         let same : h.0 ≡ a = elim (cases_lt h.0 a) [
           | inl lt ↦ absurd (not_both (sym (r.1 a lt upto) ∙ begins))
@@ -112,9 +118,8 @@ module _ (ws : List Numbered) (first : ℕ) (sent : List Entry) (few : length se
         ] in
         forth c cs a (subst (IsOn p n f c) same h.1) b.1 s.1 k to open'
 
-    -- so where one place was read, the other was
-    pub read-whole : (st : ℕ) (ms : List Message) → All (λ m. (is_complete m.fragments ≡ true) × (is_one_message m.fragments ≡ true)
-        × EachSent sent m.fragments) ms
+    -- so where one place was read on the stream, the other was
+    pub read-whole : (st : ℕ) (ms : List Message) → AreWholeOn sent st ms
         → 0 < sum_by (one (tsn p j)) (fragments_read st ms) → 0 < sum_by (one (tsn p k)) (fragments_read st ms)
     read-whole st [] all lt = absurd (omega (arith, lt))
     read-whole st (m ∷ ms) all lt = at-test (λ b. 0 < sum_by (one (tsn p j)) (if b then m.fragments ++ fragments_read st ms else fragments_read st ms)
@@ -122,12 +127,8 @@ module _ (ws : List Numbered) (first : ℕ) (sent : List Entry) (few : length se
         (λ e more.
         let x = sum_by-append (one (tsn p j)) m.fragments (fragments_read st ms) in
         let y = sum_by-append (one (tsn p k)) m.fragments (fragments_read st ms) in
+        let facts = all.0 (same-is m.stream st e) in
         by-test (list_any (has_tsn (tsn p j)) m.fragments)
         (λ h. let w = some-of (tsn p k) m.fragments (whole-of m.fragments facts.0 facts.1 facts.2 h) in omega (arith, y, w))
-        (λ h.
-        let w = (read-whole st ms (λ i d short. all (suc i) d (omega (arith, short)))) (omega (arith, x, none-count (tsn p j) m.fragments h, more)) in
-        omega (arith, y, w)))
-        (λ e more. (read-whole st ms (λ i d short. all (suc i) d (omega (arith, short)))) more) lt
-      where
-        facts : (is_complete m.fragments ≡ true) × (is_one_message m.fragments ≡ true) × EachSent sent m.fragments
-        facts = all 0 m (omega arith)
+        (λ h. let w = (read-whole st ms all.1) (omega (arith, x, none-count (tsn p j) m.fragments h, more)) in omega (arith, y, w)))
+        (λ e more. (read-whole st ms all.1) more) lt

@@ -1,9 +1,11 @@
--- What was read in the end of a session of every call (RFC 4960 6.2, 6.9): of a stream that goes on, and that no FORWARD-TSN names.
-use Rattle.std.specs.Prelude.{◌≡◌, ◌≢◌, ℕ, ◌+◌, ◌-◌, ◌^◌, ◌<◌, Bool, true, false, not, nat_eq, List, [], ◌∷◌, ◌++◌, length, slice_index_or, AllPairs, Contains}
+-- What was read in the end of a session of every call (RFC 4960 6.2, 6.9), on a stream that goes on.
+use Rattle.std.specs.Prelude.{◌≡◌, ◌≢◌, ℕ, ◌+◌, ◌-◌, ◌^◌, ◌<◌, Bool, true, false, not, nat_eq, List, [], ◌∷◌, ◌++◌, length, slice_index_or, AllPairs, Contains, if◌then◌else◌, map}
 use Rattle.std.specs.Prelude.{Option}
 use Rattle.std.specs.Prelude.{All, ◌⊎◌}
 use Rattle.std.specs.List.{filter, list_any, sum_by}
+use Rattle.sctp_receiver.specs.Receiver.{filter_of}
 use Rattle.sctp_receiver.specs.ReceiverRuns.{fragments_read}
+use Rattle.sctp_receiver.specs.TsnFilter.{has_come}
 use Rattle.sctp_serial.specs.DataChunks.{has_tsn, is_on}
 use Rattle.sctp_data.specs.declared.chunk.chunk_payload_data.ChunkPayloadData.{ChunkPayloadData}
 use Rattle.sctp_data.specs.PayloadData.{Data, data_of}
@@ -12,7 +14,8 @@ use Rattle.sctp_sender.specs.Abandonment.{is_pair_of}
 use Rattle.sctp_delivery.specs.Complete.{fragments_held, is_all_acknowledged, is_exhausted}
 use Rattle.sctp_delivery.specs.Sacks.{was_passed}
 use Rattle.sctp_delivery.specs.Abandoned.{abandoned_by}
-use Rattle.sctp_delivery.specs.EveryCall.{AnyCall, RunsAny, makes, of_receiving, of_sending, single_messages, tsns_given_any, was_dropped}
+use Rattle.sctp_delivery.specs.EveryCall.{AnyCall, ReceiverOther, RunsAny, closes_incoming, discards, makes, of_receiving, of_sending, passes_over, resets_incoming}
+use Rattle.sctp_delivery.specs.EveryCall.{single_messages, tsns_given_any, was_dropped}
 use Rattle.sctp_delivery.specs.EveryOrder.{is_unbroken, plain_calls}
 use Rattle.sctp_delivery.specs.Messages.{StandAt}
 use Rattle.sctp_delivery.specs.Modes.{sendings, unknown}
@@ -70,12 +73,13 @@ AfterEachAnyOfMessages P =
     → bytes_written s < 2 ^ 64
     → P (abandoned_any (at_start_with reported tsn size max most limits) calls s run) calls s
 
--- the write at place k is an ordered one on the stream, and its message, which has the number length s.written - (k + 1), is none of these
-pub record IsLeftOn (stream : ℕ) (gone : List ℕ) (calls : List AnyCall) (s : Session) (k : ℕ)
-    : Type 0 where
+-- the write at place k is one on the stream, unordered or not, and its message, which has the number length s.written - (k + 1), is none of these
+pub record IsLeftOn (unordered : Bool) (stream : ℕ) (gone : List ℕ) (calls : List AnyCall)
+    (s : Session) (k : ℕ) : Type 0 where
   pub inside : k < length s.written
   pub on : (w : Write) → (slice_index_or s.written k w).stream ≡ stream
-  pub ordered : (slice_index_or (sendings (plain_calls calls)) k unknown).mode.unordered ≡ false
+  pub kind : (slice_index_or (sendings (plain_calls calls)) k unknown).mode.unordered
+      ≡ unordered
   pub left : list_any (nat_eq (length s.written - (k + 1))) gone ≡ false
 
 -- where nothing waits to be sent, nothing is in flight, and nothing is to be read: each message of which no fragment but the first begins one is a
@@ -87,7 +91,59 @@ IsOrderedReadInTheEnd gone calls s =
     → (places : List ℕ) × StandAt s.written (single_messages s.receiving.read) places
     × AllPairs (λ p q. p ≢ q) places
     × ((stream : ℕ) → is_unbroken calls stream ≡ true → is_unnamed stream s.made ≡ true
-    → (k : ℕ) → IsLeftOn stream gone calls s k → Contains places k)
+    → (k : ℕ) → IsLeftOn false stream gone calls s k → Contains places k)
+
+-- ## Unordered writes
+
+-- the message of a chunk that is in flight and has not come, and that the receiver drops by the call
+abbrev pub dropped_by : ReceiverOther → Session → List ℕ
+dropped_by (discards c) s =
+    if has_come c.tsn (filter_of s.receiving.receiver) then []
+    else map (λ d. d.message_id)
+    (filter (has_tsn c.tsn) s.sending.sender.flight.queue.inflight.chunks)
+dropped_by (closes_incoming stream) s = []
+dropped_by (resets_incoming stream last) s = []
+dropped_by (passes_over f) s = []
+
+-- the messages of which it dropped a chunk so
+abbrev pub dropped_any : (old : Session) (calls : List AnyCall) (new : Session)
+    → RunsAny old calls new → List ℕ
+dropped_any old [] new run = []
+dropped_any old (makes call ∷ cs) new run = dropped_any run.0 cs new run.1.1
+dropped_any old (of_sending call ∷ cs) new run = dropped_any run.0 cs new run.1.1
+dropped_any old (of_receiving call ∷ cs) new run =
+    dropped_by call old ++ dropped_any run.0 cs new run.1.1
+
+-- P of the messages that calls abandoned, let expire, or dropped a chunk of, of the calls and of the session, after each such session
+abbrev pub AfterEachAnyOfLost : (List ℕ → List AnyCall → Session → Type 0) → Type 0
+AfterEachAnyOfLost P =
+    (reported : Reported) (tsn size max most : ℕ) (limits : Option Limits)
+    (calls : List AnyCall) (s : Session)
+    → (run : RunsAny (at_start_with reported tsn size max most limits) calls s) → tsn < 2 ^ 32
+    → 0 < size
+    → tsns_given_any (at_start_with reported tsn size max most limits) calls s run < 2 ^ 31
+    → bytes_written s < 2 ^ 64
+    → P (abandoned_any (at_start_with reported tsn size max most limits) calls s run
+    ++ dropped_any (at_start_with reported tsn size max most limits) calls s run) calls s
+
+-- where nothing waits to be sent, nothing is in flight, and nothing is to be read: each message of which no fragment but the first begins one is a
+-- write at a place of its own; and on a stream that goes on, whatever FORWARD-TSNs were made, each unordered write that was not lost so stands at
+-- one of these, so it was read exactly once
+abbrev pub IsUnorderedReadInTheEnd : List ℕ → List AnyCall → Session → Type 0
+IsUnorderedReadInTheEnd lost calls s =
+    is_exhausted s.sending.sender s.receiving.receiver ≡ true
+    → (places : List ℕ) × StandAt s.written (single_messages s.receiving.read) places
+    × AllPairs (λ p q. p ≢ q) places
+    × ((stream : ℕ) → is_unbroken calls stream ≡ true
+    → (k : ℕ) → IsLeftOn true stream lost calls s k → Contains places k)
+
+-- there each unordered DATA chunk that was made on such a stream was read, where no message was lost so
+abbrev pub IsUnorderedSentReadInTheEnd : List ℕ → List AnyCall → Session → Type 0
+IsUnorderedSentReadInTheEnd lost calls s =
+    lost ≡ [] → is_exhausted s.sending.sender s.receiving.receiver ≡ true
+    → (stream : ℕ) → is_unbroken calls stream ≡ true
+    → (d : Data) → Contains s.made (data_chunk d) → d.stream_identifier ≡ stream
+    → d.unordered ≡ true → IsReadOn stream d s.receiving.read
 
 -- ## Unordered chunks
 

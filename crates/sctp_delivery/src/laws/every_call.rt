@@ -4,11 +4,10 @@
 //! Where the sender resets or closes a stream, and the receiver does not, two messages may have one number. Where one is sent right behind
 //! the other, and the receiver has not read the first one, it reads both as one message.
 //!
-//! Not said here: that unordered messages, and ordered ones of a stream that a FORWARD-TSN names, are read in the end; and that a chunk in
-//! flight is not refused. Of unordered chunks that were taken is said where each of them is.
+//! Not said here: that ordered messages of a stream that a FORWARD-TSN names are read in the end; and that a chunk in flight is not refused.
 
 ghost use Rattle.sctp_delivery.specs.EveryCall.{AcknowledgedArrived, AfterEachAny, AfterEachAnyOfFewBytes, AfterEachAnyOfFewTsns, AreSingle, AreSingleWhereSteady, AreSingleWritesOfTheirOwn, AreToldApart, AreWritesWhereSingle, LeftArrived, ReleasedArrived, ReportWhatArrived};
-ghost use Rattle.sctp_delivery.specs.EveryEnd.{AfterEachAnyOfMessages, IsOrderedReadInTheEnd, IsSentReadInTheEnd, IsUnorderedHeldReadOrPassed, IsUnorderedReadOrHeld};
+ghost use Rattle.sctp_delivery.specs.EveryEnd.{AfterEachAnyOfLost, AfterEachAnyOfMessages, IsOrderedReadInTheEnd, IsSentReadInTheEnd, IsUnorderedHeldReadOrPassed, IsUnorderedReadInTheEnd, IsUnorderedReadOrHeld, IsUnorderedSentReadInTheEnd};
 ghost use Rattle.sctp_delivery.specs.EveryOrder.{AreReadInTurnWhereUnbroken, AreSingleReadAsWritten, AreSingleReadInOrder};
 ghost use Rattle.sctp_delivery.specs.Messages.{AreParts, AreSame, NoneIsReadTwice};
 ghost use Rattle.sctp_delivery.specs.Returns.{IsAccountedSo, NoneIsRefusedSo};
@@ -56,9 +55,17 @@ pub fn whatever_is_called_what_is_ordered_is_read_in_the_end()
     ensures chunks { AfterEachAnyOfFewBytes IsSentReadInTheEnd }
 {}
 
-/// On a stream that goes on, each unordered DATA chunk that was taken was read, is held, or is passed by a FORWARD-TSN, and that once alone.
-/// With few TSNs and bytes, where nothing waits or is in flight: each that was made was read, or is held, unless the receiver dropped it, or a
-/// FORWARD-TSN passes it.
+/// With so few TSNs and bytes: where nothing waits to be sent, nothing is in flight, and on no stream is a message to read, take a stream that goes
+/// on, whatever FORWARD-TSNs name. Each unordered write on it was read exactly once, unless a call abandoned its message, let it expire, or the
+/// receiver dropped one of its chunks, which had not come. Where no message was lost so, each unordered DATA chunk that was made was read.
+pub fn whatever_is_called_what_is_unordered_is_read_in_the_end()
+    ensures writes { AfterEachAnyOfLost IsUnorderedReadInTheEnd }
+    ensures chunks { AfterEachAnyOfLost IsUnorderedSentReadInTheEnd }
+{}
+
+/// On a stream that goes on, each unordered DATA chunk that was taken was read, is held, or is one that a FORWARD-TSN passed, and counts once in
+/// these. One that was read may be passed, too. With few TSNs and bytes, where nothing waits or is in flight: each that was made was read, or
+/// is held, unless the receiver dropped it, or a FORWARD-TSN passes it.
 pub fn whatever_is_called_what_is_unordered_is_held_or_read()
     ensures held { AfterEachAny IsUnorderedHeldReadOrPassed }
     ensures ends { AfterEachAnyOfFewBytes IsUnorderedReadOrHeld }
