@@ -1,10 +1,10 @@
 -- What comes in a datagram: calls of both halves, each for a chunk of it.
-use Rattle.std.proofs.Common.{◌≡◌, ℕ, List, [], ◌∷◌, length, drop, take, Option, Some, None, refl, ap, sym, subst, ◌∙◌, inl, inr}
+use Rattle.std.proofs.Common.{◌≡◌, ℕ, List, [], ◌∷◌, drop, take, Option, Some, None, refl, ap, sym, subst, ◌∙◌, inl, inr}
 use Rattle.std.specs.Prelude.{◌⊎◌, Contains}
 use Rattle.sctp_association.proofs.Arriving.{follows_of, follows_one, follows_same, follows_then}
-use Rattle.sctp_association.specs.Arrivals.{Arrival, Arrives, Asks, AsksFor, AsksToHear, Does, Follows, Halves}
-use Rattle.sctp_association.specs.Arrivals.{Hearing, Hears, HearsBy, IsBrought, IsReset, IsResetAt, IsRestart, ParamAsks, ParamAsksIn, Received, ReceivedIn}
-use Rattle.sctp_association.specs.Arrivals.{Receives, Steps}
+use Rattle.sctp_association.specs.Arrivals.{Arrival, Arrives, ArrivesAs, Asks, AsksFor, AsksToHear, CallsArrive, Does, Follows, Halves, HasParam}
+use Rattle.sctp_association.specs.Arrivals.{Hearing, Hears, HearsBy, IsBrought, IsBroughtAs, IsOfHalf, IsReset, IsResetAt, IsRestart, ParamAsks, ParamAsksIn}
+use Rattle.sctp_association.specs.Arrivals.{Received, ReceivedIn, Receives, Steps}
 use Rattle.sctp_association.specs.Arrivals.{by_chunk, by_param, halves, hears, receives, restarts}
 use Rattle.sctp_association.specs.declared.association.Association.{Association}
 use Rattle.sctp_association.specs.declared.inbound.Inbound.{Inbound}
@@ -13,7 +13,6 @@ use Rattle.sctp_chunks.specs.Wire.{ReadsChunk, Wire, sack_chunk}
 use Rattle.sctp_data.specs.SelectiveAck.{Sack}
 use Rattle.sctp_datagram.specs.Carried.{IsChunkOf}
 use Rattle.sctp_datagram.specs.declared.datagram.ChunkPlace.{ChunkPlace}
-use Rattle.sctp_handshake.specs.declared.answer.Told.{Told}
 use Rattle.sctp_params.specs.Param.{Parameter, outgoing_reset_request, reconfig_response}
 use Rattle.sctp_params.specs.ParamKind.{ReadsParam}
 use Rattle.sctp_params.specs.ResetRequest.{ResetRequest}
@@ -79,52 +78,65 @@ module _ (P : Hearing → Type 0) (Q : Arrival → Type 0) (asks : (h : Hearing)
 
 -- ## Of a datagram
 
-pub came_same : (d : List ℕ) (x y : Halves) → y ≡ x → Arrives d x y
-came_same d x y e = follows_same (IsBrought d) Does x y e
+-- what comes as a rule says comes
+pub arrives_of : (Rule : Arrival → Type 0) (d : List ℕ) (x y : Halves) → ArrivesAs Rule d x y → Arrives d x y
+arrives_of Rule d x y f = follows_of (IsBroughtAs Rule d) (IsBrought d) Does (λ a h. h.brought) x y f
 
-pub came_then : (d : List ℕ) (x y z : Halves) → Arrives d x y → Arrives d y z → Arrives d x z
-came_then d x y z f g = follows_then (IsBrought d) Does x y z f g
+pub arrives_same : (d : List ℕ) (x y : Halves) → y ≡ x → Arrives d x y
+arrives_same d x y e = follows_same (IsBrought d) Does x y e
+
+pub came_same : (d : List ℕ) (x y : Halves) → y ≡ x → CallsArrive d x y
+came_same d x y e = follows_same (IsBroughtAs IsOfHalf d) Does x y e
+
+pub came_then : (d : List ℕ) (x y z : Halves) → CallsArrive d x y → CallsArrive d y z → CallsArrive d x z
+came_then d x y z f g = follows_then (IsBroughtAs IsOfHalf d) Does x y z f g
 
 pub alike_halves : (a b : Association) → HalvesAlike a b → halves_of b ≡ halves_of a
 alike_halves a b h = ap (λ t. halves t (receiver_of b.inbound)) h.sender ∙ ap (λ r. halves a.outbound.sender r) h.receiver
 
-pub came_alike : (d : List ℕ) (a b : Association) → HalvesAlike a b → Arrives d (halves_of a) (halves_of b)
+pub came_alike : (d : List ℕ) (a b : Association) → HalvesAlike a b → CallsArrive d (halves_of a) (halves_of b)
 came_alike d a b h = came_same d (halves_of a) (halves_of b) (alike_halves a b h)
 
 -- each is for the chunk at a place
 module _ (d : List ℕ) (p : ChunkPlace) (own : IsChunkOf d p) (w : Wire) (reads : ReadsChunk (drop p.at d) w) where
-  brought : (a : Arrival) → Asks w a → IsBrought d a
-  brought a asks = by_chunk w (record { place = p; own = own; reads = reads }) asks
+  brought : (a : Arrival) → Asks w a → IsOfHalf a → IsBroughtAs IsOfHalf d a
+  brought a asks of = record { brought = by_chunk w (record { place = p; own = own; reads = reads }) asks; rule = of }
 
   pub receiver_came : (t : Transmission) (o k : Option Inbound) (i j : Inbound) → o ≡ Some i → k ≡ Some j → Received (AsksFor w) i.receiver j.receiver
-      → Arrives d (halves t (receiver_of o)) (halves t (receiver_of k))
+      → CallsArrive d (halves t (receiver_of o)) (halves t (receiver_of k))
   receiver_came t o k i j e f h =
-      receiver_in (AsksFor w) (IsBrought d) (λ c a. brought (receives c) a) t (receiver_of o) (receiver_of k)
+      receiver_in (AsksFor w) (IsBroughtAs IsOfHalf d) (λ c a. brought (receives c) a tt) t (receiver_of o) (receiver_of k)
       (received_in (AsksFor w) o k i j e f h)
 
-  pub sender_came : (r : Option Reception) (t u : Transmission) → HearsBy (AsksToHear w) t u → Arrives d (halves t r) (halves u r)
-  sender_came r t u h = sender_led (AsksToHear w) (IsBrought d) (λ c a. brought (hears c) a) r t u h
+  pub sender_came : (r : Option Reception) (t u : Transmission) → HearsBy (AsksToHear w) t u → CallsArrive d (halves t r) (halves u r)
+  sender_came r t u h = sender_led (AsksToHear w) (IsBroughtAs IsOfHalf d) (λ c a. brought (hears c) a tt) r t u h
 
 -- a SACK that is read where it lies
 pub sack_came : (d : List ℕ) (p : ChunkPlace) → IsChunkOf d p → (bytes : List ℕ) (s : Sack) → bytes ≡ drop p.at d → ReadsChunk bytes (sack_chunk s)
-    → (r : Option Reception) (t u : Transmission) → HearsBy (AsksToHear (sack_chunk s)) t u → Arrives d (halves t r) (halves u r)
+    → (r : Option Reception) (t u : Transmission) → HearsBy (AsksToHear (sack_chunk s)) t u → CallsArrive d (halves t r) (halves u r)
 sack_came d p own bytes s e reads r t u h =
     sender_came d p own (sack_chunk s) (subst (λ (l : List ℕ). ReadsChunk l (sack_chunk s)) e reads) r t u h
 
+-- a parameter asks for calls of halves that are there
+param-of-half : (q : Parameter) (a : Arrival) → ParamAsks q a → IsOfHalf a
+param-of-half (outgoing_reset_request r) (receives (resets stream last)) is = tt
+param-of-half (reconfig_response r) (hears (restarts stream)) is = tt
+param-of-half _ _ is = absurd is
+
 -- each is for a parameter of the chunk at a place
 module _ (d : List ℕ) (p : ChunkPlace) (own : IsChunkOf d p) (is : p.typ ≡ 130) (at : ℕ) (raw : List ℕ) (cut : raw ≡ take p.length (drop p.at d)) where
-  param-brought : (a : Arrival) → ParamAsksIn (drop at raw) a → IsBrought d a
+  param-brought : (a : Arrival) → ParamAsksIn (drop at raw) a → IsBroughtAs IsOfHalf d a
   param-brought a h =
-      by_param h.param (record {
+      let has : HasParam d h.param = record {
         place = p;
         own = own;
         is = is;
         at = at;
         reads = subst (λ (l : List ℕ). ReadsParam (drop at l) h.param) cut h.reads;
-      }) h.asks
+      } in record { brought = by_param h.param has h.asks; rule = param-of-half h.param a h.asks }
 
-  pub param_came : (x y : Halves) → Follows (ParamAsksIn (drop at raw)) Does x y → Arrives d x y
-  param_came x y f = follows_of (ParamAsksIn (drop at raw)) (IsBrought d) Does param-brought x y f
+  pub param_came : (x y : Halves) → Follows (ParamAsksIn (drop at raw)) Does x y → CallsArrive d x y
+  param_came x y f = follows_of (ParamAsksIn (drop at raw)) (IsBroughtAs IsOfHalf d) Does param-brought x y f
 
 -- ## Of a RE-CONFIG chunk
 

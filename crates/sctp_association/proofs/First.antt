@@ -1,11 +1,11 @@
 -- The first chunk of a datagram begins behind the header.
-use Rattle.std.proofs.Common.{◌≡◌, ◌⊎◌, ℕ, Bool, true, false, List, [], ◌∷◌, ◌++◌, drop, length, ap, refl, subst, sym, ◌∙◌, inl, inr}
-use Rattle.std.proofs.lemmas.Bool.{eqb-false, eqb-true}
-use Rattle.std.specs.Prelude.{◌==◌}
+use Rattle.std.proofs.Common.{◌≡◌, ◌⊎◌, ℕ, Bool, true, false, List, [], ◌∷◌, ◌++◌, drop, length, ap, arith, refl, subst, sym, ◌∙◌, inl, inr}
+use Rattle.std.proofs.lemmas.Bool.{eqb-false, eqb-true, false≢true}
+use Rattle.std.specs.Prelude.{◌==◌, Result, Ok, Err, IsOk, OnErr, is_ok}
 use Rattle.sctp_association.specs.Cookies.{cookie_in, IsAlive}
-use Rattle.sctp_association.specs.Tags.{AdmitsFirst, BeginsByCookie, FirstIs, FirstIsAlive, first_type, is_admitted}
+use Rattle.sctp_association.specs.Tags.{AdmitsFirst, BeginsAny, BeginsByCookie, EndsWithFirst, FirstIs, FirstIsAlive, first_type, is_admitted}
 use Rattle.sctp_datagram.specs.declared.datagram.ChunkPlace.{ChunkPlace}
-use Rattle.sctp_datagram.specs.Places.{IsThere, Passes, TellsAll, place_at}
+use Rattle.sctp_datagram.specs.Places.{IsThere, Passes, TellsAll, behind, place_at}
 use Rattle.sctp_handshake.specs.declared.machine.Machine.{Machine}
 use Rattle.sctp_util.specs.Field.{u32_at}
 use Rattle.sctp_datagram.specs.Types.{is_stopping}
@@ -41,6 +41,48 @@ begins d rows key now life t f = record {
   where
     place : f.first ≡ place_at d 12
     place = first_place d (f.first ∷ f.rest) (rw (sym f.are) t)
+
+-- ## A datagram of one chunk
+
+pub one_first : (x y : ChunkPlace) (xs : List ChunkPlace) → x ∷ xs ≡ y ∷ [] → (x ≡ y) × (xs ≡ [])
+one_first x y xs e = (cc, cc)
+
+pub on_err : {T E : Type 0} {X : Type 0} (r : Result T E) → X → OnErr r X
+on_err (Ok x) h = tt
+on_err (Err e) h = h
+
+pub not_ok : {T E : Type 0} (r : Result T E) (e : E) → r ≡ Err e → IsOk r → ⊥
+not_ok r e is ok = false≢true (sym (ap is_ok is) ∙ ok)
+
+-- there is none, or it is the first one
+abbrev OneRow : List ℕ → List ChunkPlace → Type 0
+OneRow d rows = ((rows ≡ []) × (drop 12 d ≡ [])) ⊎ ((first : ChunkPlace) × (rows ≡ first ∷ []) × (first.typ ≡ first_type d))
+
+none-there : (bytes : List ℕ) → bytes ≡ [] → IsThere bytes → ⊥
+none-there bytes e there = omega (arith, there.is_framed.headed, ap length e)
+
+one-row : (d : List ℕ) (rows passed : List ChunkPlace) (end : ℕ) → drop (behind d 12) d ≡ [] → Passes place_at d 12 passed end
+    → ((drop end d ≡ []) × (rows ≡ passed))
+    ⊎ (IsThere (drop end d) × (is_stopping (type_at (drop end d)) ≡ true) × (rows ≡ passed ++ place_at d end ∷ []))
+    → OneRow d rows
+one-row d rows [] end one passes (inl e) = inl (e.1, subst (λ (n : ℕ). drop n d ≡ []) (sym passes) e.0)
+one-row d rows [] end one passes (inr e) = inr (place_at d end, e.2, ap (λ n. (place_at d n).typ) (sym passes))
+one-row d rows (r ∷ []) end one passes (inl e) = inr (r, e.1, ap (λ p. p.typ) passes.0)
+one-row d rows (r ∷ []) end one passes (inr e) =
+    absurd (none-there (drop end d) (subst (λ (n : ℕ). drop n d ≡ []) passes.3 one) e.0)
+one-row d rows (r ∷ q ∷ passed) end one passes e = absurd (none-there (drop (behind d 12) d) one passes.3.1)
+
+pub unless_none : (d : List ℕ) (rows : List ChunkPlace) (R : Type 0) → TellsAll place_at d rows → EndsWithFirst d → BeginsAny (first_type d)
+    → ((first : ChunkPlace) → rows ≡ first ∷ [] → BeginsAny first.typ → R) → R
+unless_none d rows R t one is f = elim (one-row d rows t.passed t.end one t.passes t.ended) [
+  | inl e ↦ absurd (never (subst (λ (bytes : List ℕ). BeginsAny (type_at bytes)) e.1 is))
+  | inr e ↦ f e.0 e.1 (subst BeginsAny (sym e.2) is)
+]
+  where
+    never : BeginsAny (type_at []) → ⊥
+    never (inl e) = omega (arith, e)
+    never (inr (inl e)) = omega (arith, e)
+    never (inr (inr e)) = omega (arith, e)
 
 -- ## Whose datagram it is not
 

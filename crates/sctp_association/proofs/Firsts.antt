@@ -1,10 +1,9 @@
 -- In the state Closed a cookie that is not too old begins an association, and its ticket has the peer's offer.
 use Rattle.std.proofs.Common.{◌≡◌, List, ℕ, Bool, true, false, Some, Option, refl, ap, sym, subst, ◌∙◌}
 use Rattle.std.proofs.lemmas.Bool.{false≢true}
-use Rattle.std.specs.Prelude.{IfSome}
 use Rattle.sctp_association.proofs.Stale.{is_stale_reply}
-use Rattle.sctp_association.specs.Arrivals.{Arrives, Does, Halves}
-use Rattle.sctp_association.specs.Beginnings.{BeginsByDatagram, BeginsByTicket, begins_by}
+use Rattle.sctp_association.specs.Arrivals.{Arrives, Halves}
+use Rattle.sctp_association.specs.Beginnings.{Begins, BeginsBy, BeginsByDatagram, BeginsByTicket}
 use Rattle.sctp_association.specs.Cookies.{IsSealedAt, cookie_in}
 use Rattle.sctp_association.specs.declared.config.Config.{Config}
 use Rattle.sctp_datagram.specs.Carried.{IsChunkOf}
@@ -34,19 +33,14 @@ stands t stale m closed =
     subst (λ (s : State). Stands t (on_cookie_echo t stale (record m { state = s }))) (sym closed) (stands-unless stale t (record m { state = Closed }))
 
 module _ (key : List ℕ) (tag : ℕ) (cookie : List ℕ) (c : Config) (x y : Halves) where
-  abbrev Begins : Option Offer → Type 0
-  Begins o = IfSome o (λ peer. Does (begins_by peer c) x y)
-
   pub begins_by_ticket : (moment : ℕ) (made : IsSealedAt moment key tag cookie) (stale : Bool) (m n : Machine) (a : Answer) → m.state ≡ Closed
-      → Takes (on_cookie_echo made.ticket stale m) n a → is_stale_reply a.reply ≡ false → (a.told ≡ Some Connected → Begins n.peer)
-      → BeginsByTicket key tag cookie c x y
-  begins_by_ticket moment made stale m n a closed takes fresh first =
+      → Takes (on_cookie_echo made.ticket stale m) n a → is_stale_reply a.reply ≡ false → BeginsBy a.told n c x y → BeginsByTicket key tag cookie c x y
+  begins_by_ticket moment made stale m n a closed takes fresh begun =
       let all = stands made.ticket stale m closed (sym (ap (λ k. is_stale_reply k.reply) takes.answer) ∙ fresh) in
-      record {
-        moment = moment;
-        made = made;
-        begins = subst Begins (ap (λ k. k.peer) takes.machine ∙ all.1) (first (ap (λ k. k.told) takes.answer ∙ all.0));
-      }
+      let told : a.told ≡ Some Connected = ap (λ (k : Answer). k.told) takes.answer ∙ all.0 in
+      let peer : n.peer ≡ Some made.ticket.peer = ap (λ (k : Machine). k.peer) takes.machine ∙ all.1 in
+      let first : Begins n.peer c x y = subst (λ (o : Option Told). BeginsBy o n c x y) told begun in
+      record { moment = moment; made = made; begins = subst (λ (o : Option Offer). Begins o c x y) peer first }
 
 pub by_datagram : (d key : List ℕ) (c : Config) (x m y : Halves) (p : ChunkPlace) → IsChunkOf d p → p.typ ≡ 10 → (tag : ℕ) → tag ≡ u32_at d 4
     → BeginsByTicket key tag (cookie_in d p) c x m → Arrives d m y → BeginsByDatagram d key c x y

@@ -19,6 +19,9 @@ pub mod Seldom
 pub mod Arriving
 pub mod Arrived
 pub mod Begun
+pub mod Known
+pub mod Offered
+pub mod Offers
 pub mod Carrying
 pub mod Cut
 pub mod Named

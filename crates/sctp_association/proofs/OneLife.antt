@@ -19,7 +19,7 @@ use Rattle.sctp_delivery.proofs.InOrder as in_order
 use Rattle.sctp_util.proofs.More.{not_both}
 use Rattle.sctp_delivery.specs.EveryCall.{AnyCall, closes, closes_incoming, discards, makes, of_receiving, of_sending, passes_over, renews as renewed}
 use Rattle.sctp_delivery.specs.EveryCall.{resets, resets_incoming, takes_back}
-use Rattle.sctp_delivery.specs.EveryOrder.{goes_on, is_unbroken, opens_incoming}
+use Rattle.sctp_delivery.specs.EveryOrder.{goes_on, opens_incoming}
 use Rattle.sctp_delivery.specs.SenderCalls.{Write}
 use Rattle.sctp_delivery.specs.StandAny.{StandAny}
 use Rattle.sctp_receiver.specs.Receiver.{Reception}

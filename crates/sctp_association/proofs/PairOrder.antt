@@ -1,7 +1,6 @@
 -- As many ordered messages were read as were written, in order: each is the write at its place.
-use Rattle.std.proofs.Common.{◌≡◌, ◌≢◌, ℕ, zero, suc, ◌+◌, ◌<◌, ◌≤◌, Bool, true, false, List, [], ◌∷◌, ◌++◌, length, map, refl, ap, ap₂, sym, subst, ◌∙◌, arith, eq-eqb}
-use Rattle.std.specs.Prelude.{All, AllPairs, Some, ◌==◌, ◌&&◌, not, if◌then◌else◌, slice_index_or}
-use Rattle.std.specs.List.{list_all}
+use Rattle.std.proofs.Common.{◌≡◌, ℕ, suc, ◌+◌, ◌<◌, ◌≤◌, true, List, [], ◌∷◌, ◌++◌, length, map, refl, ap, ap₂, sym, subst, ◌∙◌, arith, eq-eqb}
+use Rattle.std.specs.Prelude.{All, AllPairs, Some, ◌==◌, ◌&&◌, if◌then◌else◌, slice_index_or}
 use Rattle.sctp_association.specs.Links.{AreInOrder}
 use Rattle.sctp_association.specs.Pairs.{IsOrdered, answered, read_each, written_each}
 use Rattle.sctp_data.specs.declared.chunk.chunk_payload_data.PayloadProtocolIdentifier.{PayloadProtocolIdentifier}

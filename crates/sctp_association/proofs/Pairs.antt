@@ -1,5 +1,5 @@
 -- A caller of two associations: its calls are moves of the two, one after another, and what these deliver.
-use Rattle.std.proofs.Common.{◌≡◌, ℕ, ◌+◌, ◌^◌, ◌<◌, ◌≤◌, Bool, true, false, List, [], ◌∷◌, ◌++◌, length, map, Option, Some, None, refl, ap, sym, subst, ◌∙◌, arith}
+use Rattle.std.proofs.Common.{◌≡◌, ℕ, ◌+◌, ◌<◌, Bool, true, false, List, [], ◌∷◌, ◌++◌, length, map, Option, Some, None, refl, ap, sym, subst, ◌∙◌, arith}
 use Rattle.std.proofs.Math.Seq.{take-length}
 use Rattle.std.proofs.lemmas.List.{replicate-append-replicate, take_more}
 use Rattle.std.specs.Prelude.{All, Contains, Err, Ok, OnErr, Result, option_map, slice_index_or, take, ⊤}
@@ -7,7 +7,7 @@ use Rattle.sctp_association.proofs.PairOrder.{all-same, read-more, written-more}
 use Rattle.sctp_association.proofs.Links.{each-link-delivers, each-link-is-cut}
 use Rattle.sctp_association.specs.declared.association.Association.{Association}
 use Rattle.sctp_association.specs.HostCalls.{ActsEach, Leads, Log, host_of, sent_of}
-use Rattle.sctp_association.specs.Hosts.{Act, ArePlainMoves, Host, Hosts, IsFit, Move, MovesTo, Way, first_host, handles, hosts, one_acts, other_acts, polls}
+use Rattle.sctp_association.specs.Hosts.{Act, ArePlainMoves, Host, Hosts, Move, MovesTo, Way, first_host, handles, hosts, one_acts, other_acts, polls}
 use Rattle.sctp_association.specs.Links.{AreInOrder, AreLinked, IsReadAsWritten, Party, host_at, party}
 use Rattle.sctp_association.specs.Pairs.{Comes, Delivers, DeliversOne, Exchanges, IsPlainSince, Led, Transfers, acts_of_write, answer_of, answered, comes, passes}
 use Rattle.sctp_association.specs.Pairs.{read_each, write_of, written_each}

@@ -2,10 +2,13 @@
 use Rattle.std.proofs.Common.{ℕ, List, [], ◌∷◌, refl, arith}
 use Rattle.std.proofs.lemmas.List.Elements.{Contains-append_left, Contains-append_right}
 use Rattle.std.specs.Prelude.{Contains}
-use Rattle.sctp_association.specs.Arrivals.{Arrival, Does, Halves, IsBrought, Steps, halves}
+use Rattle.sctp_association.specs.Arrivals.{Arrival, Does, Halves, IsBrought, IsBroughtAs, Steps, halves}
+use Rattle.sctp_association.specs.Beginnings.{IsBegunBy}
+use Rattle.sctp_association.specs.declared.association.Association.{Association}
+use Rattle.sctp_association.specs.Halves.{halves_of}
 use Rattle.sctp_association.specs.Hosts.{Act, Acts, AreByRule, AreMovesByRule, Host, Hosts, IsActByRule, Move, MovesTo, asks, handles, one_acts, other_acts}
 use Rattle.sctp_association.specs.Hosts.{polls, reads_on}
-use Rattle.sctp_association.specs.OneLife.{Brought, brought, brought_by, brought_in, brought_to_one, brought_to_other}
+use Rattle.sctp_association.specs.OneLife.{Brought, EachOfferedIsBrought, brought, brought_by, brought_in, brought_to_one, brought_to_other}
 
 -- ## Two rules make a third
 
@@ -69,3 +72,24 @@ module _ (ones others : List Brought) where
         act-in others h.one.sent act h.other r.0.other r.1.0.0 (λ a c. g a (Contains-append_left first rest a c)),
         moves-in ms r.0 new r.1.1 f (λ a c. g a (Contains-append_right first rest a c)),
       )
+
+-- ## Each half begins by an offer
+
+module _ (d : List ℕ) (a : Association) where
+  brought-steps : (calls : List Arrival) (x y : Halves) → Steps (IsBroughtAs (IsBegunBy d a) d) Does calls x y → Steps (IsBrought d) Does calls x y
+  brought-steps [] x y r = r
+  brought-steps (c ∷ calls) x y r = (r.0, (record { asked = r.1.0.asked.brought; does = r.1.0.does }, brought-steps calls r.0 y r.1.1))
+
+  calls-begun : (calls : List Arrival) (x y : Halves) (r : Steps (IsBroughtAs (IsBegunBy d a) d) Does calls x y)
+      → AreByRule (λ call h. IsBegunBy d a call) d calls x y (brought-steps calls x y r)
+  unfolding brought-steps
+  calls-begun [] x y r = tt
+  calls-begun (c ∷ calls) x y r = (r.1.0.asked.rule, calls-begun calls r.0 y r.1.1)
+
+pub each-offered : EachOfferedIsBrought
+each-offered d a b o =
+    let calls = o.arrives.calls in
+    let run = o.arrives.run in (
+      record { calls = calls; run = brought-steps d a calls (halves_of a) (halves_of b) run },
+      calls-begun d a calls (halves_of a) (halves_of b) run,
+    )

@@ -9,8 +9,6 @@ use Rattle.sctp_data.specs.SelectiveAck.{Sack}
 use Rattle.sctp_datagram.specs.Carried.{Carries, IsChunkOf}
 use Rattle.sctp_datagram.specs.declared.datagram.ChunkPlace.{ChunkPlace}
 use Rattle.sctp_delivery.specs.SenderCalls.{SenderMakes, TakesBackAndSack, misses, takes_sack}
-use Rattle.sctp_handshake.specs.declared.answer.Told.{Told}
-use Rattle.sctp_handshake.specs.declared.answer.Told.TheVariants.{Connected, Restarted, ShutdownBegun, Closed, Failed}
 use Rattle.sctp_params.specs.Param.{Parameter, outgoing_reset_request, reconfig_response}
 use Rattle.sctp_params.specs.ParamKind.{ReadsParam}
 use Rattle.sctp_receiver.specs.Receiver.{Reception, arrival_of, arrival_refusal, at_first, is_answered_complete}
@@ -234,29 +232,24 @@ ReceivedIn Asked None None = ⊤
 ReceivedIn Asked (Some old) (Some new) = Received Asked old new
 ReceivedIn Asked _ _ = ⊥
 
--- ## How an association begins
+-- ## Calls as a rule says
 
--- the receiver is a new one, or as it was
-pub record Begins (old new : Halves) : Type 0 where
-  pub tsn : ℕ
-  pub max : ℕ
-  pub limits : Limits
-  pub sender : new.sender ≡ old.sender
-  pub receiver : (new.receiver ≡ old.receiver)
-      ⊎ (new.receiver ≡ Some (at_first tsn max (Some limits)))
+-- it carries what asks for the call, and the rule holds of it
+pub record IsBroughtAs (Rule : Arrival → Type 0) (datagram : List ℕ) (a : Arrival) : Type 0 where
+  pub brought : IsBrought datagram a
+  pub rule : Rule a
 
--- and the sender is a new one
-pub record BeginsAnew (old new : Halves) : Type 0 where
-  pub tsn : ℕ
-  pub size : ℕ
-  pub max : ℕ
-  pub begins : Begins (halves (new_sender tsn size max) old.receiver) new
+-- so it is of each call that leads from old to new
+abbrev pub ArrivesAs : (Arrival → Type 0) → List ℕ → Halves → Halves → Type 0
+ArrivesAs Rule datagram old new = Follows (IsBroughtAs Rule datagram) Does old new
 
--- by what is told
-abbrev pub BeginsBy : Option Told → Halves → Halves → Type 0
-BeginsBy None old new = new ≡ old
-BeginsBy (Some Connected) old new = Begins old new
-BeginsBy (Some Restarted) old new = BeginsAnew old new
-BeginsBy (Some ShutdownBegun) old new = new ≡ old
-BeginsBy (Some Closed) old new = new ≡ old
-BeginsBy (Some Failed) old new = new ≡ old
+-- the call is one of a half that is there
+abbrev pub IsOfHalf : Arrival → Type 0
+IsOfHalf (receives call) = ⊤
+IsOfHalf (hears call) = ⊤
+IsOfHalf (begins tsn max limits) = ⊥
+IsOfHalf (renews tsn size max) = ⊥
+
+-- calls lead from old to new, and no half is a new one
+abbrev pub CallsArrive : List ℕ → Halves → Halves → Type 0
+CallsArrive datagram old new = ArrivesAs IsOfHalf datagram old new

@@ -1,16 +1,26 @@
--- How an association begins (RFC 9260 5.1).
-use Rattle.std.specs.Prelude.{◌≡◌, ℕ, false, List, Some}
-use Rattle.sctp_association.specs.Arrivals.{Arrival, Arrives, Does, Halves, begins}
+-- How an association begins (RFC 9260 5.1, 5.2.4).
+use Rattle.std.specs.Prelude.{◌≡◌, ◌⊎◌, ⊤, ℕ, Bool, true, false, List, drop, Option, Some, None, Ok}
+use Rattle.sctp_association.specs.Arrivals.{Arrival, Arrives, ArrivesAs, Does, Halves, begins, hears, receives, renews}
 use Rattle.sctp_association.specs.Cookies.{IsSealedAt, cookie_in}
 use Rattle.sctp_association.specs.declared.association.Association.{Association}
 use Rattle.sctp_association.specs.declared.config.Config.{Config}
 use Rattle.sctp_association.specs.declared.due.Alone.{Alone}
 use Rattle.sctp_association.specs.declared.due.AloneKind.TheVariants.{Init}
+use Rattle.sctp_association.specs.Halves.{fragment_size, halves_of}
 use Rattle.sctp_association.specs.Reached.{limits_of}
+use Rattle.sctp_chunks.specs.Framing.{value_at}
 use Rattle.sctp_datagram.specs.Carried.{IsChunkOf}
 use Rattle.sctp_datagram.specs.declared.datagram.ChunkPlace.{ChunkPlace}
+use Rattle.sctp_datagram.specs.declared.params.ParamPlace.{ParamPlace}
+use Rattle.sctp_handshake.specs.InitValues as values
+use Rattle.sctp_handshake.specs.declared.answer.Told.{Told}
+use Rattle.sctp_handshake.specs.declared.answer.Told.TheVariants as told
+use Rattle.sctp_handshake.specs.declared.machine.Machine.{Machine}
 use Rattle.sctp_handshake.specs.declared.offer.Offer.{Offer}
-use Rattle.sctp_handshake.specs.declared.state.State.TheVariants.{Closed, CookieWait}
+use Rattle.sctp_handshake.specs.declared.state.State.{State}
+use Rattle.sctp_handshake.specs.declared.state.State.TheVariants.{Closed, CookieWait, CookieEchoed, Established}
+use Rattle.sctp_handshake.specs.declared.state.State.TheVariants.{ShutdownPending, ShutdownSent, ShutdownReceived, ShutdownAckSent}
+use Rattle.sctp_handshake.specs.declared.ticket.Ticket.{Ticket}
 use Rattle.sctp_util.specs.Field.{u32_at}
 
 -- an INIT, to a peer whose tag is not known
@@ -29,13 +39,129 @@ IsUnbegun a = (a.is_over ≡ false) × (a.machine.state ≡ Closed)
 abbrev pub HasAsked : Association → Type 0
 HasAsked a = (a.machine.state ≡ CookieWait) × OwesInit a
 
--- ## With which first TSN
+-- ## Halves that are new
 
 -- the receiver is a new one, with the first TSN that the peer offers, and by the config
 abbrev pub begins_by : Offer → Config → Arrival
 begins_by peer c = begins peer.first_tsn c.max_message_size (limits_of c)
 
--- the offer is that of an INIT, from which this side sealed the cookie
+-- the sender is a new one, with this first TSN, and by the config
+abbrev pub renews_by : ℕ → Config → Arrival
+renews_by tsn c = renews tsn (fragment_size c.mtu) c.max_message_size
+
+-- the receiver is a new one, where the peer's offer is known
+abbrev pub Begins : Option Offer → Config → Halves → Halves → Type 0
+Begins None c old new = new ≡ old
+Begins (Some peer) c old new = Does (begins_by peer c) old new
+
+-- the sender is a new one, and then the receiver
+pub record BeginsAnew (m : Machine) (c : Config) (old new : Halves) : Type 0 where
+  pub middle : Halves
+  pub renewed : Does (renews_by m.own.first_tsn c) old middle
+  pub begun : Begins m.peer c middle new
+
+-- by what is told, and what the machine knows then
+abbrev pub BeginsBy : Option Told → Machine → Config → Halves → Halves → Type 0
+BeginsBy None m c old new = new ≡ old
+BeginsBy (Some told.Connected) m c old new = Begins m.peer c old new
+BeginsBy (Some told.Restarted) m c old new = BeginsAnew m c old new
+BeginsBy (Some told.ShutdownBegun) m c old new = new ≡ old
+BeginsBy (Some told.Closed) m c old new = new ≡ old
+BeginsBy (Some told.Failed) m c old new = new ≡ old
+
+-- ## By whose offer
+
+-- this side has sent an INIT, and no association stands yet
+abbrev pub is_asking : State → Bool
+is_asking Closed = false
+is_asking CookieWait = true
+is_asking CookieEchoed = true
+is_asking Established = false
+is_asking ShutdownPending = false
+is_asking ShutdownSent = false
+is_asking ShutdownReceived = false
+is_asking ShutdownAckSent = false
+
+-- a COOKIE-ECHO of the datagram has a cookie that this side has sealed under the key, over this ticket
+pub record IsEchoed (datagram key : List ℕ) (ticket : Ticket) : Type 0 where
+  pub place : ChunkPlace
+  pub own : IsChunkOf datagram place
+  pub typ : place.typ ≡ 10
+  pub moment : ℕ
+  pub made : IsSealedAt moment key ticket.own.tag (cookie_in datagram place)
+  pub is : made.ticket ≡ ticket
+
+-- an INIT ACK of the datagram makes this offer
+pub record AnswersInit (datagram : List ℕ) (offer : Offer) : Type 0 where
+  pub place : ChunkPlace
+  pub own : IsChunkOf datagram place
+  pub typ : place.typ ≡ 2
+  pub cookie : ParamPlace
+  pub reads : values.cookie_in (values.init_in (value_at (drop place.at datagram)))
+      ≡ Ok (offer, cookie)
+
+-- By this offer of the peer the association may begin when the datagram comes: it is that of a ticket that the datagram echoes; or this side has asked,
+-- and it is that of an INIT ACK of the datagram, or the one that this side keeps of an earlier INIT ACK.
+pub data IsOffered (datagram : List ℕ) (a : Association) (offer : Offer) : Type 0 where
+  by_ticket : (ticket : Ticket) → IsEchoed datagram a.key ticket → ticket.peer ≡ offer
+      → IsOffered datagram a offer
+  by_init_ack : is_asking a.machine.state ≡ true → AnswersInit datagram offer
+      → IsOffered datagram a offer
+  by_kept : is_asking a.machine.state ≡ true → a.machine.peer ≡ Some offer
+      → IsOffered datagram a offer
+
+-- the receiver begins with the first TSN of such an offer, and by the config
+pub record BeginsByOffer (datagram : List ℕ) (a : Association) (call : Arrival) : Type 0 where
+  pub peer : Offer
+  pub offered : IsOffered datagram a peer
+  pub is : call ≡ begins_by peer a.config
+
+-- the sender begins with the first TSN that this side offers in a ticket that the datagram echoes, and by the config
+pub record RenewsByTicket (datagram : List ℕ) (a : Association) (call : Arrival) : Type 0 where
+  pub ticket : Ticket
+  pub echoed : IsEchoed datagram a.key ticket
+  pub is : call ≡ renews_by ticket.own.first_tsn a.config
+
+-- a call of a half that is there, or a half begins so
+abbrev pub IsBegunBy : List ℕ → Association → Arrival → Type 0
+IsBegunBy datagram a (receives call) = ⊤
+IsBegunBy datagram a (hears call) = ⊤
+IsBegunBy datagram a (begins tsn max limits) =
+    BeginsByOffer datagram a (begins tsn max limits)
+IsBegunBy datagram a (renews tsn size max) = RenewsByTicket datagram a (renews tsn size max)
+
+-- What the datagram brings, where each half that is new begins so. The peer is the one that was known, or one by whose offer the association may
+-- begin. This side asks no peer that it did not ask before.
+pub record ArrivesAsOffered (datagram : List ℕ) (old new : Association) : Type 0 where
+  pub arrives : ArrivesAs (IsBegunBy datagram old) datagram (halves_of old) (halves_of new)
+  pub config : new.config ≡ old.config
+  pub key : new.key ≡ old.key
+  pub asking : is_asking new.machine.state ≡ true → is_asking old.machine.state ≡ true
+  pub peer : (offer : Offer) → new.machine.peer ≡ Some offer
+      → (old.machine.peer ≡ Some offer) ⊎ IsOffered datagram old offer
+
+-- ## What stays
+
+-- the machine, and what an association begins by
+pub record IsKept (old new : Association) : Type 0 where
+  pub config : new.config ≡ old.config
+  pub key : new.key ≡ old.key
+  pub machine : new.machine ≡ old.machine
+
+-- of a peer nothing new is known
+pub record KnowsNoMore (old new : Machine) : Type 0 where
+  pub asking : is_asking new.state ≡ true → is_asking old.state ≡ true
+  pub peer : (offer : Offer) → new.peer ≡ Some offer → old.peer ≡ Some offer
+
+-- the peer is the one that was known, or is forgotten
+pub record KeepsPeer (old new : Association) : Type 0 where
+  pub config : new.config ≡ old.config
+  pub key : new.key ≡ old.key
+  pub machine : KnowsNoMore old.machine new.machine
+
+-- ## From the state Closed
+
+-- the offer is that of the ticket over which this side has sealed the cookie
 pub record BeginsByTicket (key : List ℕ) (tag : ℕ) (cookie : List ℕ) (c : Config)
     (old new : Halves) : Type 0 where
   pub moment : ℕ

@@ -4,6 +4,7 @@ use Rattle.std.specs.Prelude.{◌≡◌, ◌≢◌, All, AllPairs, ⊤, ℕ, Boo
 use Rattle.std.specs.List.{filter}
 use Rattle.sctp_association.specs.declared.association.Association.{Association}
 use Rattle.sctp_association.specs.Arrivals.{Arrival, Arrives, Does, Halves, IsBrought, Steps, begins, halves, hears, receives, renews, restarts}
+use Rattle.sctp_association.specs.Beginnings.{ArrivesAsOffered, IsBegunBy}
 use Rattle.sctp_association.specs.Halves.{halves_of}
 use Rattle.sctp_association.specs.HostCalls.{ActsEach, Log, host_of}
 use Rattle.sctp_association.specs.Hosts.{Act, Acts, AreByRule, AreMovesByRule, ArePlainMoves, Host, Hosts, IsActByRule, IsFit, IsPlain, IsReceiver, Move}
@@ -295,3 +296,11 @@ EachDatagramBrings =
     → IsActByRule (IsOneLife w) peer (handles datagram) (host_of a l) (host_of b l) done)
     × (brought_by peer (handles datagram) (host_of a l) (host_of b l) done
     ≡ brought_in datagram came.calls (halves_of a) (halves_of b) came.run)
+
+-- and by whose offers halves begin, `handle_datagram` says (`offered`)
+abbrev pub EachOfferedIsBrought : Type 0
+EachOfferedIsBrought =
+    (datagram : List ℕ) (a b : Association) → ArrivesAsOffered datagram a b
+    → (came : Arrives datagram (halves_of a) (halves_of b))
+    × AreByRule (λ call found. IsBegunBy datagram a call) datagram came.calls
+    (halves_of a) (halves_of b) came.run

@@ -1,9 +1,9 @@
 -- Whose packet it is (RFC 9260 8.5, 8.5.1).
-use Rattle.std.specs.Prelude.{◌≡◌, ℕ, ◌==◌, ◌&&◌, ◌||◌, bit_and, not, Bool, true, false, if◌then◌else◌, List, [], ◌∷◌, length, drop, Option, Some, None}
+use Rattle.std.specs.Prelude.{◌≡◌, ◌⊎◌, ℕ, ◌==◌, ◌&&◌, ◌||◌, bit_and, not, Bool, true, false, if◌then◌else◌, List, [], ◌∷◌, length, drop, Option, Some, None}
 use Rattle.sctp_association.specs.Cookies.{cookie_in, IsAlive, IsSealed}
 use Rattle.sctp_chunks.specs.Framing.{type_at}
 use Rattle.sctp_util.specs.Field.{u32_at}
-use Rattle.sctp_datagram.specs.Places.{TellsAll, place_at}
+use Rattle.sctp_datagram.specs.Places.{TellsAll, behind, place_at}
 use Rattle.sctp_datagram.specs.declared.datagram.ChunkPlace.{ChunkPlace}
 use Rattle.sctp_handshake.specs.declared.machine.Machine.{Machine}
 use Rattle.sctp_handshake.specs.declared.offer.Offer.{Offer}
@@ -66,3 +66,11 @@ first_type datagram = type_at (drop 12 datagram)
 pub record BeginsByCookie (datagram : List ℕ) (key : List ℕ) (now life : ℕ) : Type 0 where
   pub typ : first_type datagram ≡ 10
   pub cookie : IsAlive now life key (u32_at datagram 4) (cookie_in datagram (place_at datagram 12))
+
+-- its first chunk is its last one
+abbrev pub EndsWithFirst : List ℕ → Type 0
+EndsWithFirst datagram = drop (behind datagram 12) datagram ≡ []
+
+-- an INIT, an INIT ACK or a COOKIE-ECHO
+abbrev pub BeginsAny : ℕ → Type 0
+BeginsAny typ = (typ ≡ 1) ⊎ (typ ≡ 2) ⊎ (typ ≡ 10)

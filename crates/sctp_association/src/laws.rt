@@ -5,7 +5,7 @@ ghost use Rattle.sctp_association.specs.Held.{CostsLittle, HoldsFewChunks, Keeps
 ghost use Rattle.sctp_association.specs.HostCalls.{EachAskActs, EachBegins, EachDatagramActs, EachOtherIsQuiet, EachPollActs, EachReadActs, EachSizeActs, EachTimeoutActs};
 ghost use Rattle.sctp_association.specs.Hosts.{EachDelivers, EachIsCut};
 ghost use Rattle.sctp_association.specs.Links.{EachLinkDelivers, EachLinkGoesOn, EachLinkIsCut, EachLinkTurns, EachTwoBegin};
-ghost use Rattle.sctp_association.specs.OneLife.{EachDatagramBrings, EachDeliversAny, EachLinkDeliversAny, EachOneLifeBegins, EachOneLifeGoesOn, EachOneLifeTurns, EachPlainIsOneLife};
+ghost use Rattle.sctp_association.specs.OneLife.{EachDatagramBrings, EachDeliversAny, EachLinkDeliversAny, EachOneLifeBegins, EachOneLifeGoesOn, EachOneLifeTurns, EachOfferedIsBrought, EachPlainIsOneLife};
 ghost use Rattle.sctp_association.specs.Sessions.{EachIsSent};
 
 /// Whatever a peer sends, and whatever calls an association had, what it holds of the peer's messages is within its `Config`. By 400 a
@@ -75,10 +75,12 @@ pub fn two_associations_go_on()
     ensures turned { EachLinkTurns }
 {}
 
-/// As `two_associations_go_on`, for `whatever_is_reset_what_is_read_was_written`: it says too what datagrams brought to each meanwhile.
+/// As `two_associations_go_on`, for `whatever_is_reset_what_is_read_was_written`: it says too what datagrams brought to each meanwhile, and
+/// by whose offers halves began, where `offered` of `handle_datagram` says that.
 pub fn two_associations_of_one_life_go_on()
     ensures begun { EachOneLifeBegins }
     ensures acts { EachOneLifeGoesOn }
     ensures turned { EachOneLifeTurns }
     ensures handled { EachDatagramBrings }
+    ensures offered { EachOfferedIsBrought }
 {}

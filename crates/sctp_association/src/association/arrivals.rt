@@ -1,14 +1,14 @@
 //! What comes in a datagram (RFC 9260 5, 6, 8.5, 9).
 
-ghost use Rattle.std.specs.Prelude.{◌≡◌, ◌≤◌, Ok, IfOk, IfSome, OnErr, true, false, drop, length};
+ghost use Rattle.std.specs.Prelude.{◌≡◌, ◌≤◌, [], ◌∷◌, Ok, IfOk, IfSome, IsOk, OnErr, true, false, drop, length};
 ghost use Rattle.std.specs.List.{AllByRecursion};
-ghost use Rattle.sctp_association.specs.Arrivals.{Arrives, BeginsBy};
-ghost use Rattle.sctp_association.specs.Beginnings.{BeginsByDatagram, BeginsByTicket};
+ghost use Rattle.sctp_association.specs.Arrivals.{Arrives, CallsArrive};
+ghost use Rattle.sctp_association.specs.Beginnings.{ArrivesAsOffered, BeginsBy, BeginsByDatagram, BeginsByTicket, IsKept, KeepsPeer};
 ghost use Rattle.sctp_association.specs.Cookies.{IsAlive, IsSealed, cookie_in};
 ghost use Rattle.sctp_association.specs.Halves.{HalvesAlike, halves_of};
 ghost use Rattle.sctp_association.specs.Reached.{most_user_data};
 ghost use Rattle.sctp_association.specs.Steps.{is_taken};
-ghost use Rattle.sctp_association.specs.Tags.{AdmitsFirst, BeginsByCookie, FirstIs, FirstIsAlive, IsFor, first_type, is_admitted};
+ghost use Rattle.sctp_association.specs.Tags.{AdmitsFirst, BeginsAny, BeginsByCookie, EndsWithFirst, FirstIs, FirstIsAlive, IsFor, first_type, is_admitted};
 ghost use Rattle.sctp_association.specs.declared.association.Reason.{Reason};
 ghost use Rattle.sctp_association.specs.declared.association.Reason.TheVariants.{Tag};
 ghost use Rattle.sctp_association.specs.declared.association.Taken.TheVariants.{Accepted, Dropped};
@@ -17,6 +17,7 @@ ghost use Rattle.sctp_chunks.specs.Wire.{ReadsChunk, data_chunk};
 ghost use Rattle.sctp_data.specs.PayloadData.{data_of};
 ghost use Rattle.sctp_datagram.specs.Carried.{IsChunkOf};
 ghost use Rattle.sctp_datagram.specs.Places.{IsPlace, TellsAll, place_at};
+ghost use Rattle.sctp_datagram.specs.declared.datagram.ChunkPlace.{ChunkPlace};
 ghost use Rattle.sctp_handshake.specs.Answers.{silent};
 ghost use Rattle.sctp_handshake.specs.declared.state.State.TheVariants.{Closed};
 
@@ -84,6 +85,8 @@ impl Association {
         ensures dropped { (r : Reason) → result ≡ Ok (Dropped r) → self.new ≡ self.old }
         // Whatever it answers: the receiver and the sender are called for chunks that the datagram carries, and for nothing else.
         ensures came { Arrives datagram.now (halves_of self.old) (halves_of self.new) }
+        // And a half is a new one only with the first TSN of a ticket that this side has sealed, or, where it has asked, of the INIT ACK.
+        ensures offered { ArrivesAsOffered datagram.now self.old self.new }
         // Whose packet it is not is not accepted, and changes nothing (RFC 9260 8.5, 5.1.5).
         ensures accepted { result ≡ Ok Accepted
             → IsFor datagram.now self.old.key self.old.machine }
@@ -95,10 +98,13 @@ impl Association {
         // Where no association stands one begins only by a cookie of this side that is not too old (RFC 9260 5.1 D, 5.1.5).
         ensures begun { self.old.machine.state ≡ Closed → (self.new.machine.state ≡ Closed → ⊥)
             → BeginsByCookie datagram.now self.old.key now self.old.config.cookie_life }
-        // Its receiver begins with the first TSN of the INIT from which the cookie was made, and by the config.
+        // Its receiver begins with the first TSN that the ticket in that cookie has of the peer, and by the config.
         ensures first { self.old.machine.state ≡ Closed → (self.new.machine.state ≡ Closed → ⊥)
             → BeginsByDatagram datagram.now self.old.key self.old.config
             (halves_of self.old) (halves_of self.new) }
+        // Where memory is wanting, a datagram of one INIT, INIT ACK or COOKIE-ECHO and no other chunk has changed nothing.
+        ensures memory { EndsWithFirst datagram.now → BeginsAny (first_type datagram.now)
+            → OnErr result (self.new ≡ self.old) }
     {
         let zero = if self.config.zero_checksum {
             ZeroChecksum::Allowed
@@ -153,7 +159,7 @@ impl Association {
     fn take_chunks(&mut self, datagram: &Bytes, chunks: Datagram, now: u64) -> Result<Taken, Fault>
         requires whole { chunks.bytes ≡ datagram.now }
         requires all { TellsAll place_at datagram.now chunks.left }
-        ensures came { Arrives datagram.now (halves_of self.old) (halves_of self.new) }
+        ensures came { ArrivesAsOffered datagram.now self.old self.new }
         ensures dropped { (r : Reason) → result ≡ Ok (Dropped r) → self.new ≡ self.old }
         ensures accepted { result ≡ Ok Accepted
             → AdmitsFirst datagram.now chunks.entry.left self.old.key self.old.machine }
@@ -168,6 +174,8 @@ impl Association {
         ensures first { self.old.machine.state ≡ Closed → (self.new.machine.state ≡ Closed → ⊥)
             → BeginsByDatagram datagram.now self.old.key self.old.config
             (halves_of self.old) (halves_of self.new) }
+        ensures memory { (first : ChunkPlace) → chunks.entry.left ≡ first ∷ []
+            → BeginsAny first.typ → OnErr result (self.new ≡ self.old) }
     {
         let mut chunks = chunks;
         let tag = chunks.header().verification_tag;
@@ -190,7 +198,7 @@ impl Association {
     // The datagram has ended: what came in it may be acknowledged.
     fn datagram_ended(&mut self, now: u64)
         ensures halves { HalvesAlike self.old self.new }
-        ensures machine { self.new.machine ≡ self.old.machine }
+        ensures kept { IsKept self.old self.new }
     {
         if let Some(inbound) = &mut self.inbound {
             inbound.datagram_ended(now);
@@ -209,7 +217,7 @@ impl Association {
     ) -> Result<Step, Fault>
         requires place { IsPlace datagram.now chunk }
         requires own { IsChunkOf datagram.now chunk }
-        ensures came { Arrives datagram.now (halves_of self.old) (halves_of self.new) }
+        ensures came { ArrivesAsOffered datagram.now self.old self.new }
         ensures refused { (r : Reason) → result ≡ Ok (step.Refused r) → self.new ≡ self.old }
         ensures foreign { is_admitted chunk tag count self.old.machine ≡ false
             → result ≡ Ok (step.Refused Tag) }
@@ -217,6 +225,8 @@ impl Association {
         ensures init_stops { chunk.typ ≡ 1 → result ≡ Ok step.Next → ⊥ }
         ensures cookie { chunk.typ ≡ 10 → IfOk result (λ s. is_taken s ≡ true
             → IsSealed self.old.key tag (cookie_in datagram.now chunk)) }
+        ensures init_err { chunk.typ ≡ 1 → OnErr result (self.new ≡ self.old) }
+        ensures ack_err { chunk.typ ≡ 2 → OnErr result (self.new ≡ self.old) }
         ensures cookie_err { chunk.typ ≡ 10 → OnErr result (self.new ≡ self.old) }
         ensures closed_next { self.old.machine.state ≡ Closed → result ≡ Ok step.Next
             → (chunk.typ ≡ 10) × IsAlive now self.old.config.cookie_life
@@ -247,7 +257,8 @@ impl Association {
     ) -> Result<(), Fault>
         requires whole { chunks.bytes ≡ datagram.now }
         requires own { AllByRecursion (IsChunkOf datagram.now) chunks.left }
-        ensures came { Arrives datagram.now (halves_of self.old) (halves_of self.new) }
+        ensures came { ArrivesAsOffered datagram.now self.old self.new }
+        ensures none { chunks.entry.left ≡ [] → IsOk result }
     {
         let mut chunks = chunks;
         let tag = chunks.header().verification_tag;
@@ -302,7 +313,7 @@ impl Association {
     ) -> Result<Step, Fault>
         requires place { IsPlace datagram.now chunk }
         requires own { IsChunkOf datagram.now chunk }
-        ensures came { Arrives datagram.now (halves_of self.old) (halves_of self.new) }
+        ensures came { ArrivesAsOffered datagram.now self.old self.new }
         ensures refused { (r : Reason) → result ≡ Ok (step.Refused r) → self.new ≡ self.old }
         ensures foreign { is_admitted chunk tag count self.old.machine ≡ false
             → result ≡ Ok (step.Refused Tag) }
@@ -310,6 +321,8 @@ impl Association {
         ensures init_stops { chunk.typ ≡ 1 → result ≡ Ok step.Next → ⊥ }
         ensures cookie { chunk.typ ≡ 10 → IfOk result (λ s. is_taken s ≡ true
             → IsSealed self.old.key tag (cookie_in datagram.now chunk)) }
+        ensures init_err { chunk.typ ≡ 1 → OnErr result (self.new ≡ self.old) }
+        ensures ack_err { chunk.typ ≡ 2 → OnErr result (self.new ≡ self.old) }
         ensures cookie_err { chunk.typ ≡ 10 → OnErr result (self.new ≡ self.old) }
         ensures closed_next { self.old.machine.state ≡ Closed → result ≡ Ok step.Next
             → (chunk.typ ≡ 10) × IsAlive now self.old.config.cookie_life
@@ -344,7 +357,8 @@ impl Association {
         requires place { IsPlace datagram.now chunk }
         requires typ { chunk.typ ≡ 0 }
         requires own { IsChunkOf datagram.now chunk }
-        ensures came { Arrives datagram.now (halves_of self.old) (halves_of self.new) }
+        ensures came { CallsArrive datagram.now (halves_of self.old) (halves_of self.new) }
+        ensures peer { KeepsPeer self.old self.new }
         ensures refused { (r : Reason) → result ≡ Ok (step.Refused r) → self.new ≡ self.old }
     {
         if !self.machine.state().takes_data() {
@@ -364,7 +378,7 @@ impl Association {
 
     // T2-shutdown begins again, where DATA is answered by a SHUTDOWN (RFC 9260 9.2).
     fn run_again(&mut self, answer: Answer, now: u64)
-        ensures machine { self.new.machine ≡ self.old.machine }
+        ensures kept { IsKept self.old self.new }
         ensures halves { HalvesAlike self.old self.new }
     {
         if answer.reply.is_some() {
@@ -377,7 +391,8 @@ impl Association {
     fn take_skip(&mut self, datagram: &Bytes, chunk: ChunkPlace, now: u64) -> Result<Step, Fault>
         requires place { IsPlace datagram.now chunk }
         requires own { IsChunkOf datagram.now chunk }
-        ensures came { Arrives datagram.now (halves_of self.old) (halves_of self.new) }
+        ensures came { CallsArrive datagram.now (halves_of self.old) (halves_of self.new) }
+        ensures peer { KeepsPeer self.old self.new }
         ensures refused { (r : Reason) → result ≡ Ok (step.Refused r) → self.new ≡ self.old }
     {
         if !self.machine.state().takes_data() {
@@ -398,6 +413,7 @@ impl Association {
     fn end_by(&mut self, followed: Followed) -> Step
         ensures never { (r : Reason) → result ≡ step.Refused r → ⊥ }
         ensures halves { HalvesAlike self.old self.new }
+        ensures peer { KeepsPeer self.old self.new }
     {
         let kind = match followed {
             Followed::Done => return Step::Next,
@@ -412,7 +428,8 @@ impl Association {
     // Takes a SACK, where SACKs are taken in this state (RFC 9260 6).
     fn take_sack(&mut self, datagram: &Bytes, chunk: ChunkPlace, now: u64) -> Result<Step, Fault>
         requires own { IsChunkOf datagram.now chunk }
-        ensures came { Arrives datagram.now (halves_of self.old) (halves_of self.new) }
+        ensures came { CallsArrive datagram.now (halves_of self.old) (halves_of self.new) }
+        ensures peer { KeepsPeer self.old self.new }
         ensures refused { (r : Reason) → result ≡ Ok (step.Refused r) → self.new ≡ self.old }
     {
         if !self.machine.state().takes_sacks() {
@@ -458,7 +475,7 @@ impl Association {
     fn take_control(&mut self, datagram: &Bytes, chunk: ChunkPlace, now: u64) -> Result<Step, Fault>
         requires place { IsPlace datagram.now chunk }
         requires own { IsChunkOf datagram.now chunk }
-        ensures came { Arrives datagram.now (halves_of self.old) (halves_of self.new) }
+        ensures came { ArrivesAsOffered datagram.now self.old self.new }
         ensures refused { (r : Reason) → result ≡ Ok (step.Refused r) → self.new ≡ self.old }
     {
         match chunk.typ {
@@ -499,7 +516,9 @@ impl Association {
     fn take_answer(&mut self, before: State, answer: Answer, tag: u32, now: u64) -> Step
         ensures refused { (r : Reason) → result ≡ step.Refused r
             → (answer ≡ silent) × (self.new ≡ self.old) }
-        ensures begun { BeginsBy answer.told (halves_of self.old) (halves_of self.new) }
+        ensures kept { IsKept self.old self.new }
+        ensures begun { BeginsBy answer.told self.old.machine self.old.config
+            (halves_of self.old) (halves_of self.new) }
     {
         if answer.reply.is_none() && answer.told.is_none() {
             return Step::Refused(Reason::Unexpected);
@@ -512,6 +531,7 @@ impl Association {
     fn take_abort(&mut self) -> Step
         ensures refused { (r : Reason) → result ≡ step.Refused r → self.new ≡ self.old }
         ensures halves { HalvesAlike self.old self.new }
+        ensures peer { KeepsPeer self.old self.new }
     {
         let answer = self.machine.abort();
         if answer.told.is_none() {
@@ -530,7 +550,8 @@ impl Association {
     ) -> Result<Step, Fault>
         requires place { IsPlace datagram.now chunk }
         requires own { IsChunkOf datagram.now chunk }
-        ensures came { Arrives datagram.now (halves_of self.old) (halves_of self.new) }
+        ensures came { CallsArrive datagram.now (halves_of self.old) (halves_of self.new) }
+        ensures peer { KeepsPeer self.old self.new }
         ensures refused { (r : Reason) → result ≡ Ok (step.Refused r) → self.new ≡ self.old }
     {
         let Some(shutdown) = self.read_chunk::<ChunkShutdown>(datagram, chunk)? else {
@@ -557,6 +578,7 @@ impl Association {
         requires place { IsPlace datagram.now chunk }
         ensures refused { (r : Reason) → result ≡ Ok (step.Refused r) → self.new ≡ self.old }
         ensures halves { HalvesAlike self.old self.new }
+        ensures kept { IsKept self.old self.new }
     {
         // Who asks answers from COOKIE-ECHOED on, who is asked once the association stands (RFC 9260 8.3).
         if self.machine.peer().is_none() {
@@ -583,6 +605,7 @@ impl Association {
         requires place { IsPlace datagram.now chunk }
         ensures refused { (r : Reason) → result ≡ Ok (step.Refused r) → self.new ≡ self.old }
         ensures halves { HalvesAlike self.old self.new }
+        ensures kept { IsKept self.old self.new }
     {
         let Some(ack) = self.read_chunk::<ChunkHeartbeatAck>(datagram, chunk)? else {
             return Ok(Step::Refused(Reason::NoPacket));
@@ -604,6 +627,7 @@ impl Association {
     // The peer answers a HEARTBEAT: one that waits for this nonce tells a round trip.
     fn heartbeat_answered(&mut self, nonce: u64, now: u64)
         ensures halves { HalvesAlike self.old self.new }
+        ensures kept { IsKept self.old self.new }
     {
         let Some(heartbeat) = &mut self.heartbeat else {
             return;
@@ -617,6 +641,7 @@ impl Association {
     fn take_error(&mut self, datagram: &Bytes, chunk: ChunkPlace, now: u64) -> Step
         ensures refused { (r : Reason) → result ≡ step.Refused r → self.new ≡ self.old }
         ensures halves { HalvesAlike self.old self.new }
+        ensures peer { KeepsPeer self.old self.new }
     {
         let end = chunk.at.saturating_add(chunk.length);
         if end > datagram.len() || chunk.at.saturating_add(8) > end {

@@ -1,12 +1,10 @@
 //! What the state machine is answered and tells.
 
-ghost use Rattle.std.specs.Prelude.{◌≡◌, ◌+◌, ◌≤◌, true, None, Some, IfSome};
-ghost use Rattle.sctp_association.specs.Arrivals.{Begins, BeginsBy, Does};
-ghost use Rattle.sctp_association.specs.Beginnings.{OwesInit, begins_by};
+ghost use Rattle.std.specs.Prelude.{◌≡◌, ◌+◌, ◌≤◌, true, None, Some};
+ghost use Rattle.sctp_association.specs.Beginnings.{Begins, BeginsBy, IsKept, KeepsPeer, OwesInit};
 ghost use Rattle.sctp_association.specs.Failing.{IsGuarded};
 ghost use Rattle.sctp_association.specs.Halves.{HalvesAlike, halves_of};
 ghost use Rattle.sctp_handshake.specs.declared.answer.Reply.TheVariants.{Init};
-ghost use Rattle.sctp_handshake.specs.declared.answer.Told.TheVariants.{Connected};
 
 use super::{Association, outbound_config};
 use crate::due::{Alone, AloneKind};
@@ -38,12 +36,11 @@ impl Association {
     /// What follows from an input to the machine, which was in the state `before`: its timer, a reply to `tag`, and what is told.
     #[inline(always)]
     pub(super) fn follow(&mut self, before: State, answer: Answer, tag: u32, now: u64)
-        ensures machine { self.new.machine ≡ self.old.machine }
+        ensures kept { IsKept self.old self.new }
         ensures quiet { answer.told ≡ None → HalvesAlike self.old self.new }
-        ensures begun { BeginsBy answer.told (halves_of self.old) (halves_of self.new) }
+        ensures begun { BeginsBy answer.told self.old.machine self.old.config
+            (halves_of self.old) (halves_of self.new) }
         ensures init { answer.reply ≡ Some Init → answer.told ≡ None → OwesInit self.new }
-        ensures first { answer.told ≡ Some Connected → IfSome self.old.machine.peer (λ peer.
-            Does (begins_by peer self.old.config) (halves_of self.old) (halves_of self.new)) }
     {
         let is_silent = answer.reply.is_none() && answer.told.is_none();
         if !is_silent || self.machine.state() != before {
@@ -54,12 +51,11 @@ impl Association {
     // The same, where something follows: seldom, and so apart.
     #[inline(never)]
     fn follow_answer(&mut self, before: State, answer: Answer, tag: u32, now: u64)
-        ensures machine { self.new.machine ≡ self.old.machine }
+        ensures kept { IsKept self.old self.new }
         ensures quiet { answer.told ≡ None → HalvesAlike self.old self.new }
-        ensures begun { BeginsBy answer.told (halves_of self.old) (halves_of self.new) }
+        ensures begun { BeginsBy answer.told self.old.machine self.old.config
+            (halves_of self.old) (halves_of self.new) }
         ensures init { answer.reply ≡ Some Init → answer.told ≡ None → OwesInit self.new }
-        ensures first { answer.told ≡ Some Connected → IfSome self.old.machine.peer (λ peer.
-            Does (begins_by peer self.old.config) (halves_of self.old) (halves_of self.new)) }
     {
         let state = self.machine.state();
         if state != before {
@@ -75,8 +71,7 @@ impl Association {
 
     /// The timer of the state runs from now on, if it has one.
     pub(super) fn run_control(&mut self, now: u64)
-        ensures machine { self.new.machine ≡ self.old.machine }
-        ensures config { self.new.config ≡ self.old.config }
+        ensures kept { IsKept self.old self.new }
         ensures halves { HalvesAlike self.old self.new }
     {
         match self.machine.state().timer() {
@@ -144,10 +139,9 @@ impl Association {
 
     // What the application is told.
     fn tell(&mut self, told: Told, now: u64)
-        ensures machine { self.new.machine ≡ self.old.machine }
-        ensures begun { BeginsBy (Some told) (halves_of self.old) (halves_of self.new) }
-        ensures first { told ≡ Connected → IfSome self.old.machine.peer (λ peer.
-            Does (begins_by peer self.old.config) (halves_of self.old) (halves_of self.new)) }
+        ensures kept { IsKept self.old self.new }
+        ensures begun { BeginsBy (Some told) self.old.machine self.old.config
+            (halves_of self.old) (halves_of self.new) }
     {
         match told {
             Told::Connected => {
@@ -170,11 +164,10 @@ impl Association {
 
     // The association stands, by what both sides offered.
     fn begin(&mut self, now: u64)
-        ensures machine { self.new.machine ≡ self.old.machine }
-        ensures begun { Begins (halves_of self.old) (halves_of self.new) }
+        ensures kept { IsKept self.old self.new }
         // The receiver has the first TSN of the peer's offer.
-        ensures first { IfSome self.old.machine.peer (λ peer.
-            Does (begins_by peer self.old.config) (halves_of self.old) (halves_of self.new)) }
+        ensures begun { Begins self.old.machine.peer self.old.config
+            (halves_of self.old) (halves_of self.new) }
     {
         let (Some(peer), Some(agreed)) = (self.machine.peer(), self.machine.agreed()) else {
             return;
@@ -204,6 +197,7 @@ impl Association {
     /// 9260 9.2).
     pub(super) fn settle(&mut self, now: u64)
         ensures halves { HalvesAlike self.old self.new }
+        ensures peer { KeepsPeer self.old self.new }
     {
         if self.wants_shutdown && self.machine.state() == State::Established {
             self.wants_shutdown = false;
@@ -215,6 +209,7 @@ impl Association {
     // Tells the machine that nothing waits or is in flight, if that is so (RFC 9260 9.2).
     fn note_drained(&mut self, now: u64)
         ensures halves { HalvesAlike self.old self.new }
+        ensures peer { KeepsPeer self.old self.new }
     {
         if !self.outbound.is_drained() {
             return;
@@ -229,6 +224,7 @@ impl Association {
         ensures over { self.new.is_over ≡ true }
         ensures outbound { self.new.outbound ≡ self.old.outbound }
         ensures halves { HalvesAlike self.old self.new }
+        ensures peer { KeepsPeer self.old self.new }
     {
         if let Some(peer) = self.machine.peer() {
             self.owe_farewell(peer.tag, kind);

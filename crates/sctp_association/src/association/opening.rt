@@ -1,8 +1,7 @@
 //! INIT, INIT ACK and the cookie (RFC 9260 5).
 
 ghost use Rattle.std.specs.Prelude.{◌≡◌, ◌≢◌, Ok, IfOk, OnErr, true};
-ghost use Rattle.sctp_association.specs.Arrivals.{Arrives};
-ghost use Rattle.sctp_association.specs.Beginnings.{BeginsByTicket};
+ghost use Rattle.sctp_association.specs.Beginnings.{ArrivesAsOffered, BeginsByTicket, KeepsPeer};
 ghost use Rattle.sctp_association.specs.Cookies.{IsAlive, IsSealed, cookie_in};
 ghost use Rattle.sctp_association.specs.Halves.{HalvesAlike, halves_of};
 ghost use Rattle.sctp_association.specs.Reports.{EndsWithoutCookie};
@@ -63,9 +62,11 @@ impl Association {
         chunk: ChunkPlace,
         now: u64,
     ) -> Result<Step, Fault>
+        requires own { IsChunkOf datagram.now chunk }
+        requires typ { chunk.typ ≡ 2 }
         ensures refused { (r : Reason) → result ≡ Ok (step.Refused r) → self.new ≡ self.old }
         ensures err { OnErr result (self.new ≡ self.old) }
-        ensures halves { HalvesAlike self.old self.new }
+        ensures came { ArrivesAsOffered datagram.now self.old self.new }
     {
         let Ok(value) = init_value(bytes_of(datagram, chunk)) else {
             return Ok(Step::Refused(Reason::NoPacket));
@@ -111,6 +112,7 @@ impl Association {
         ensures never { result ≡ step.Next → ⊥ }
         ensures refused { (r : Reason) → result ≡ step.Refused r → self.new ≡ self.old }
         ensures halves { HalvesAlike self.old self.new }
+        ensures peer { KeepsPeer self.old self.new }
     {
         let Ok(said) = Said::read_init(value) else {
             return Step::Refused(Reason::NoPacket);
@@ -139,7 +141,7 @@ impl Association {
     ) -> Result<Step, Fault>
         requires own { IsChunkOf datagram.now chunk }
         requires typ { chunk.typ ≡ 10 }
-        ensures came { Arrives datagram.now (halves_of self.old) (halves_of self.new) }
+        ensures came { ArrivesAsOffered datagram.now self.old self.new }
         ensures refused { (r : Reason) → result ≡ Ok (step.Refused r) → self.new ≡ self.old }
         ensures err { OnErr result (self.new ≡ self.old) }
         ensures sealed { IfOk result (λ s. is_taken s ≡ true
@@ -147,7 +149,7 @@ impl Association {
         ensures alive { self.old.machine.state ≡ Closed → result ≡ Ok step.Next
             → IsAlive now self.old.config.cookie_life
             self.old.key tag (cookie_in datagram.now chunk) }
-        // The receiver begins with the first TSN of the INIT from which the cookie was made.
+        // The receiver begins with the first TSN that the ticket has of the peer.
         ensures first { self.old.machine.state ≡ Closed → result ≡ Ok step.Next
             → BeginsByTicket self.old.key tag (cookie_in datagram.now chunk) self.old.config
             (halves_of self.old) (halves_of self.new) }

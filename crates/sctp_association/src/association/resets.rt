@@ -1,7 +1,8 @@
 //! Streams that are reset (RFC 6525; RFC 8831 6.7).
 
 ghost use Rattle.std.specs.Prelude.{◌≡◌, true, false, Ok, Err, IfErr, IsOk, OnOk, OnErr, drop};
-ghost use Rattle.sctp_association.specs.Arrivals.{HearsBy, Arrives, Does, Follows, IsReset, IsResetAt, IsRestart, ParamAsks, ParamAsksIn, ReceivedIn};
+ghost use Rattle.sctp_association.specs.Arrivals.{CallsArrive, HearsBy, Does, Follows, IsReset, IsResetAt, IsRestart, ParamAsks, ParamAsksIn, ReceivedIn};
+ghost use Rattle.sctp_association.specs.Beginnings.{IsKept};
 ghost use Rattle.sctp_association.specs.Calls.{is_resettable};
 ghost use Rattle.sctp_association.specs.Halves.{HalvesAlike, PutsOthers, halves_of, receiver_of};
 ghost use Rattle.sctp_association.specs.declared.fault.Fault.TheVariants.{NoSuchStream, OutOfMemory};
@@ -208,7 +209,8 @@ impl Association {
         requires place { IsPlace datagram.now chunk }
         requires own { IsChunkOf datagram.now chunk }
         requires typ { chunk.typ ≡ 130 }
-        ensures came { Arrives datagram.now (halves_of self.old) (halves_of self.new) }
+        ensures came { CallsArrive datagram.now (halves_of self.old) (halves_of self.new) }
+        ensures kept { IsKept self.old self.new }
         ensures refused { (r : Reason) → result ≡ Ok (step.Refused r) → self.new ≡ self.old }
     {
         if !self.machine.state().takes_data() && !self.machine.state().takes_sacks() {
@@ -243,6 +245,7 @@ impl Association {
     fn take_param(&mut self, raw: &Bytes, at: usize, typ: u16, now: u64) -> Result<(), Fault>
         ensures came { Follows (ParamAsksIn (drop at raw.now)) Does
             (halves_of self.old) (halves_of self.new) }
+        ensures kept { IsKept self.old self.new }
     {
         match typ {
             13 | 16 => {}
@@ -265,6 +268,7 @@ impl Association {
     // Denies a request that is not performed here (RFC 6525 4.2, 4.3, 4.5, 4.6).
     fn deny(&mut self, raw: &Bytes, at: usize)
         ensures halves { HalvesAlike self.old self.new }
+        ensures kept { IsKept self.old self.new }
     {
         let Some(peer) = &mut self.peer_requests else {
             return;
@@ -283,6 +287,7 @@ impl Association {
     fn take_request(&mut self, request: &ParamOutgoingResetRequest) -> Result<(), Fault>
         ensures came { Follows (ParamAsks (outgoing_reset_request (reset_request_of request.now)))
             Does (halves_of self.old) (halves_of self.new) }
+        ensures kept { IsKept self.old self.new }
     {
         let Some(peer) = &mut self.peer_requests else {
             return Ok(());
@@ -303,6 +308,7 @@ impl Association {
     fn perform(&mut self, request: &ParamOutgoingResetRequest) -> Result<ReconfigResult, Fault>
         ensures came { Follows (ParamAsks (outgoing_reset_request (reset_request_of request.now)))
             Does (halves_of self.old) (halves_of self.new) }
+        ensures kept { IsKept self.old self.new }
     {
         if request.stream_identifiers.is_empty() {
             return self.perform_all(request.sender_last_tsn);
@@ -323,6 +329,7 @@ impl Association {
         ensures outbound { self.new.outbound ≡ self.old.outbound }
         ensures received { ReceivedIn (IsResetAt last_tsn)
             (receiver_of self.old.inbound) (receiver_of self.new.inbound) }
+        ensures kept { IsKept self.old self.new }
     {
         let streams = match self.machine.agreed() {
             Some(agreed) => agreed.inbound_streams,
@@ -346,6 +353,7 @@ impl Association {
         ensures outbound { self.new.outbound ≡ self.old.outbound }
         ensures received { ReceivedIn (IsReset stream last_tsn)
             (receiver_of self.old.inbound) (receiver_of self.new.inbound) }
+        ensures kept { IsKept self.old self.new }
     {
         match &mut self.inbound {
             Some(inbound) => inbound.reset(stream, last_tsn, is_named, &mut self.events),
@@ -358,6 +366,7 @@ impl Association {
         ensures hearing { HearsBy IsRestart
             self.old.outbound.sender self.new.outbound.sender }
         ensures inbound { self.new.inbound ≡ self.old.inbound }
+        ensures kept { IsKept self.old self.new }
     {
         let rto = self.outbound.rto.get();
         let number = response.reconfig_response_sequence_number;

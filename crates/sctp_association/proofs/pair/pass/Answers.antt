@@ -1,4 +1,4 @@
-use Rattle.std.proofs.Common.{◌≡◌, List, rules, subst, sym, true, false, ℕ}
+use Rattle.std.proofs.Common.{◌≡◌, List, rules, subst, true, false, ℕ}
 use Rattle.sctp_association.proofs.Pairs.{Polls, by-moves, by-poll, passed, where-refused}
 use Rattle.sctp_association.specs.Halves.{is_sent}
 use Rattle.sctp_association.specs.Pairs.{Comes, passes}

@@ -1,4 +1,4 @@
-use Rattle.std.proofs.Common.{◌≡◌, ◌∷◌, ◌+◌, ◌++◌, [], Some, ap, arith, length, rules, subst, sym}
+use Rattle.std.proofs.Common.{◌≡◌, ◌∷◌, ◌+◌, ◌++◌, [], ap, arith, length, rules, subst, sym}
 use Rattle.sctp_association.proofs.Pairs.{DeliversFirst, none-first, one-first, transferred}
 use Rattle.sctp_association.specs.HostCalls.{Log}
 use Rattle.sctp_association.specs.Pairs.{DeliversOne}

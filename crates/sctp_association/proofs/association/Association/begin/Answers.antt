@@ -1,19 +1,18 @@
-use Rattle.std.proofs.Common.{ap, inr, refl}
-use Rattle.std.specs.Prelude.{Some}
-use Rattle.sctp_association.proofs.Begun.{begins_same}
+use Rattle.std.proofs.Common.{None, Some, ap, refl, rules, ◌≡◌}
+use Rattle.sctp_association.proofs.Begun.{begins_none, begins_some}
 use Rattle.sctp_association.proofs.association.Association.begin.Goals as goal
 
 pub returns-in_default-clause-begun : goal.returns-in_default-clause-begun
-returns-in_default-clause-begun c = begins_same _ _ refl
+returns-in_default-clause-begun c =
+    let none : c.args.self.now.machine.peer ≡ None = search rules in
+    begins_none _ _ _ _ none refl
 
 pub returns-in_default-2-clause-begun : goal.returns-in_default-2-clause-begun
-returns-in_default-2-clause-begun c = begins_same _ _ refl
+returns-in_default-2-clause-begun c =
+    let none : c.args.self.now.machine.peer ≡ None = search rules in
+    begins_none _ _ _ _ none refl
 
 pub returns-clause-begun : goal.returns-clause-begun
-returns-clause-begun c = record {
-  tsn = _;
-  max = _;
-  limits = _;
-  sender = ap (λ o. o.sender) c.connected.ensures.rest;
-  receiver = inr (ap Some c.new.ensures.receiver);
-}
+returns-clause-begun c =
+    let some : c.args.self.now.machine.peer ≡ Some c.in-Some-Some.peer = search rules in
+    begins_some _ _ _ _ _ some (ap (λ o. o.sender) c.connected.ensures.rest, ap Some c.new.ensures.receiver)

@@ -9,4 +9,4 @@ returns-then-not-is_silent-clause-begun c = c.follow_answer.ensures.begun
 pub returns-else-ne-clause-begun : goal.returns-else-ne-clause-begun
 returns-else-ne-clause-begun c =
     let none : c.args.answer.told ≡ None = search rules in
-    begun_none _ _ _ none refl
+    begun_none _ _ _ _ _ none refl

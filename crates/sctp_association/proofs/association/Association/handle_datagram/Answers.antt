@@ -1,7 +1,8 @@
 use Rattle.std.proofs.Common.{ap, refl, rules}
-use Rattle.sctp_association.proofs.Arrived.{came_same}
+use Rattle.sctp_association.proofs.Arrived.{arrives_of, arrives_same}
 use Rattle.sctp_association.specs.Halves.{halves_of}
-use Rattle.sctp_association.proofs.First.{begins, first_is}
+use Rattle.sctp_association.proofs.First.{begins, first_is, unless_none}
+use Rattle.sctp_association.proofs.Offered.{offered_due, offered_same}
 use Rattle.sctp_association.proofs.association.Association.handle_datagram.Goals as goal
 use Rattle.sctp_datagram.specs.Places.{TellsAll, place_at}
 
@@ -19,22 +20,44 @@ returns-clause-begun c closed stands =
 pub returns-in-Err : goal.returns-in-Err
 returns-in-Err c = record {
   dropped = λ r e. refl;
-  came = came_same _ _ _ refl;
+  came = arrives_same _ _ _ refl;
+  offered = offered_same _ _ _ refl;
   accepted = λ e. cc;
   foreign = λ other. refl;
   init = λ begun. refl;
   begun = λ closed stands. absurd (stands closed);
   first = λ closed stands. absurd (stands closed);
+  memory = λ one is. tt;
 }
 
 pub returns-in-Err-ErrOutOfMemory-clause-came : goal.returns-in-Err-ErrOutOfMemory-clause-came
-returns-in-Err-ErrOutOfMemory-clause-came c = came_same _ _ _ refl
+returns-in-Err-ErrOutOfMemory-clause-came c = arrives_same _ _ _ refl
 
 pub returns-in-Err-ErrChecksumMismatch-clause-came : goal.returns-in-Err-ErrChecksumMismatch-clause-came
-returns-in-Err-ErrChecksumMismatch-clause-came c = came_same _ _ _ refl
+returns-in-Err-ErrChecksumMismatch-clause-came c = arrives_same _ _ _ refl
 
 pub returns-then-header-self-clause-came : goal.returns-then-header-self-clause-came
-returns-then-header-self-clause-came c = came_same _ _ _ refl
+returns-then-header-self-clause-came c = arrives_same _ _ _ refl
 
 pub returns-then-self-2-clause-came : goal.returns-then-self-2-clause-came
-returns-then-self-2-clause-came c = came_same _ _ _ (ap halves_of c.take_after_end.ensures.rest)
+returns-then-self-2-clause-came c = arrives_same _ _ _ (ap halves_of c.take_after_end.ensures.rest)
+
+pub returns-clause-came : goal.returns-clause-came
+returns-clause-came c = arrives_of _ _ _ _ c.take_chunks.ensures.came.arrives
+
+pub returns-in-Err-ErrOutOfMemory-clause-offered : goal.returns-in-Err-ErrOutOfMemory-clause-offered
+returns-in-Err-ErrOutOfMemory-clause-offered c = offered_same _ _ _ refl
+
+pub returns-in-Err-ErrChecksumMismatch-clause-offered : goal.returns-in-Err-ErrChecksumMismatch-clause-offered
+returns-in-Err-ErrChecksumMismatch-clause-offered c = offered_same _ _ _ refl
+
+pub returns-then-header-self-clause-offered : goal.returns-then-header-self-clause-offered
+returns-then-header-self-clause-offered c = offered_same _ _ _ refl
+
+pub returns-then-self-2-clause-offered : goal.returns-then-self-2-clause-offered
+returns-then-self-2-clause-offered c = offered_due _ _ _ _ c.take_after_end.ensures.rest
+
+pub returns-clause-memory : goal.returns-clause-memory
+returns-clause-memory c one is =
+    let all : TellsAll place_at c.args.datagram.now c.in-Ok.chunks.left = search rules in
+    unless_none _ _ _ all one is c.take_chunks.ensures.memory

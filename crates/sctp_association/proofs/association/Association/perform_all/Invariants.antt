@@ -1,5 +1,6 @@
 use Rattle.std.proofs.Common.{◌≡◌}
 use Rattle.sctp_association.specs.Arrivals.{IsResetAt, ReceivedIn}
+use Rattle.sctp_association.specs.Beginnings.{IsKept}
 use Rattle.sctp_association.specs.Halves.{receiver_of}
 use Rattle.sctp_association.proofs.association.Association.perform_all.Given as goal
 
@@ -8,4 +9,5 @@ abbrev pub invariant-loop-stream : goal.invariant-loop-stream
 invariant-loop-stream l = record {
   outbound : l.self.outbound ≡ l.initial.self.outbound;
   received : ReceivedIn (IsResetAt l.last_tsn) (receiver_of l.initial.self.inbound) (receiver_of l.self.inbound);
+  kept : IsKept l.initial.self l.self;
 }

@@ -1,12 +1,14 @@
-use Rattle.std.proofs.Common.{Ok, ap, refl, rules, ◌≡◌, ◌∙◌}
-use Rattle.sctp_association.proofs.Arrived.{came_alike, came_same, came_then}
-use Rattle.sctp_association.proofs.First.{unless_admitted}
+use Rattle.std.proofs.Common.{Ok, ap, inl, inr, refl, rules, sym, ◌≡◌, ◌∙◌}
+use Rattle.sctp_association.proofs.Arrived.{arrives_of, came_alike}
+use Rattle.sctp_association.proofs.First.{not_ok, on_err, one_first, unless_admitted}
 use Rattle.sctp_association.proofs.Firsts.{by_datagram}
+use Rattle.sctp_association.proofs.Offered.{offered_alike, offered_kept, offered_same, offered_then}
 use Rattle.sctp_association.specs.Tags.{AdmitsFirst}
 use Rattle.sctp_association.specs.declared.association.arrivals.Step.TheVariants as step
 use Rattle.sctp_util.specs.Field.{u32_at}
 use Rattle.sctp_association.proofs.Carrying.{all_own, next_own}
 use Rattle.sctp_association.proofs.association.Association.take_chunks.Goals as goal
+use Rattle.sctp_datagram.specs.declared.datagram.ChunkPlace.{ChunkPlace}
 
 pub take_first-requires-clause-own : goal.take_first-requires-clause-own
 take_first-requires-clause-own c = (next_own _ _ _ _ c.in-Some.ensures.place (all_own _ _ c.requires.all)).0
@@ -15,7 +17,7 @@ pub take_others-taken-requires-clause-own : goal.take_others-taken-requires-clau
 take_others-taken-requires-clause-own c = (next_own _ _ _ _ c.in-Some.ensures.place (all_own _ _ c.requires.all)).1
 
 pub returns-in_default-clause-came : goal.returns-in_default-clause-came
-returns-in_default-clause-came c = came_same _ _ _ refl
+returns-in_default-clause-came c = offered_same _ _ _ refl
 
 pub returns-in_err-reason-clause-came : goal.returns-in_err-reason-clause-came
 returns-in_err-reason-clause-came c = c.take_first.ensures.came
@@ -28,13 +30,18 @@ returns-in-Stop-clause-came c = c.take_first.ensures.came
 
 pub returns-in_err-taken-clause-came : goal.returns-in_err-taken-clause-came
 returns-in_err-taken-clause-came c =
-    came_then _ _ _ _ c.take_first.ensures.came (came_then _ _ _ _ c.take_others-taken.ensures.came (came_alike _ _ _ c.datagram_ended.ensures.halves))
+    let ended = c.datagram_ended.ensures in
+    offered_then _ _ _ c.take_first.ensures.came _ (
+    offered_then _ _ _ c.take_others-taken.ensures.came _ (offered_kept _ _ _ (came_alike _ _ _ ended.halves) ended.kept)
+    )
 
 pub returns-clause-came : goal.returns-clause-came
 returns-clause-came c =
-    came_then _ _ _ _ c.take_first.ensures.came (
-    came_then _ _ _ _ c.take_others-taken.ensures.came (
-    came_then _ _ _ _ (came_alike _ _ _ c.datagram_ended.ensures.halves) (came_alike _ _ _ c.settle.ensures.halves)
+    let ended = c.datagram_ended.ensures in
+    offered_then _ _ _ c.take_first.ensures.came _ (
+    offered_then _ _ _ c.take_others-taken.ensures.came _ (
+    offered_then _ _ _ (offered_kept _ _ _ (came_alike _ _ _ ended.halves) ended.kept) _
+    (offered_alike _ _ _ c.settle.ensures.halves c.settle.ensures.peer)
     )
     )
 
@@ -63,16 +70,36 @@ returns-clause-foreign c other =
 -- from Closed an association stands only behind a first chunk that begins it
 pub returns-in_err-taken-clause-first : goal.returns-in_err-taken-clause-first
 returns-in_err-taken-clause-first c closed stands =
+    let ended = c.datagram_ended.ensures in
     let next : c.take_first.result ≡ Ok step.Next = search rules in
     by_datagram _ _ _ _ _ _ _ (next_own _ _ _ _ c.in-Some.ensures.place (all_own _ _ c.requires.all)).0 (c.take_first.ensures.closed_next closed next).0 _
     (c.header-tag.ensures.verification_tag ∙ ap (λ l. u32_at l 4) c.requires.whole) (c.take_first.ensures.closed_first closed next)
-    (came_then _ _ _ _ c.take_others-taken.ensures.came (came_alike _ _ _ c.datagram_ended.ensures.halves))
+    (arrives_of _ _ _ _ (offered_then _ _ _ c.take_others-taken.ensures.came _ (offered_kept _ _ _ (came_alike _ _ _ ended.halves) ended.kept)).arrives)
 
 pub returns-clause-first : goal.returns-clause-first
 returns-clause-first c closed stands =
+    let ended = c.datagram_ended.ensures in
     let next : c.take_first.result ≡ Ok step.Next = search rules in
     by_datagram _ _ _ _ _ _ _ (next_own _ _ _ _ c.in-Some.ensures.place (all_own _ _ c.requires.all)).0 (c.take_first.ensures.closed_next closed next).0 _
     (c.header-tag.ensures.verification_tag ∙ ap (λ l. u32_at l 4) c.requires.whole) (c.take_first.ensures.closed_first closed next)
-    (came_then _ _ _ _ c.take_others-taken.ensures.came (
-    came_then _ _ _ _ (came_alike _ _ _ c.datagram_ended.ensures.halves) (came_alike _ _ _ c.settle.ensures.halves)
-    ))
+    (arrives_of _ _ _ _ (offered_then _ _ _ c.take_others-taken.ensures.came _ (
+    offered_then _ _ _ (offered_kept _ _ _ (came_alike _ _ _ ended.halves) ended.kept) _
+    (offered_alike _ _ _ c.settle.ensures.halves c.settle.ensures.peer)
+    )).arrives)
+
+-- where memory is wanting
+pub returns-in_err-reason-clause-memory : goal.returns-in_err-reason-clause-memory
+returns-in_err-reason-clause-memory c first are is =
+    let same = one_first _ _ _ (sym c.in-Some.ensures.place ∙ are) in
+    let err = c.in_err-reason.ensures in
+    on_err _ (elim is [
+      | inl e ↦ err.init_err (ap (λ (p : ChunkPlace). p.typ) same.0 ∙ e)
+      | inr (inl e) ↦ err.ack_err (ap (λ (p : ChunkPlace). p.typ) same.0 ∙ e)
+      | inr (inr e) ↦ err.cookie_err (ap (λ (p : ChunkPlace). p.typ) same.0 ∙ e)
+    ])
+
+-- nothing stands behind the only chunk
+pub returns-in_err-taken-clause-memory : goal.returns-in_err-taken-clause-memory
+returns-in_err-taken-clause-memory c first are is =
+    let same = one_first _ _ _ (sym c.in-Some.ensures.place ∙ are) in
+    absurd (not_ok _ _ c.in_err-taken.was (c.take_others-taken.ensures.none same.1))

@@ -1,36 +1,43 @@
-use Rattle.std.proofs.Common.{ap, rules, ◌≡◌}
+use Rattle.std.proofs.Common.{rules, ◌≡◌}
 use Rattle.sctp_association.proofs.Arrived.{came_alike, came_same}
-use Rattle.sctp_association.proofs.Begun.{ack_came, quiet_complete, quiet_shutdown_ack}
-use Rattle.sctp_association.specs.Halves.{halves_of}
+use Rattle.sctp_association.proofs.Begun.{quiet_complete, quiet_shutdown_ack}
+use Rattle.sctp_association.proofs.Known.{keeps_by, knows_complete, knows_shutdown_ack}
+use Rattle.sctp_association.proofs.Offered.{offered_alike, offered_calls, offered_due, offered_kept}
+use Rattle.sctp_association.proofs.Offers.{ack_offered}
 use Rattle.sctp_association.proofs.association.Association.take_control.Goals as goal
 
 pub returns-in-4-clause-came : goal.returns-in-4-clause-came
-returns-in-4-clause-came c = came_alike _ _ _ c.take_heartbeat.ensures.halves
+returns-in-4-clause-came c = offered_kept _ _ _ (came_alike _ _ _ c.take_heartbeat.ensures.halves) c.take_heartbeat.ensures.kept
 
 pub returns-in-5-clause-came : goal.returns-in-5-clause-came
-returns-in-5-clause-came c = came_alike _ _ _ c.take_heartbeat_ack.ensures.halves
+returns-in-5-clause-came c = offered_kept _ _ _ (came_alike _ _ _ c.take_heartbeat_ack.ensures.halves) c.take_heartbeat_ack.ensures.kept
 
 pub returns-in-6-clause-came : goal.returns-in-6-clause-came
-returns-in-6-clause-came c = came_alike _ _ _ c.take_abort.ensures.halves
+returns-in-6-clause-came c = offered_alike _ _ _ c.take_abort.ensures.halves c.take_abort.ensures.peer
 
 pub returns-in-7-clause-came : goal.returns-in-7-clause-came
-returns-in-7-clause-came c = c.take_shutdown.ensures.came
+returns-in-7-clause-came c = offered_calls _ _ _ c.take_shutdown.ensures.came c.take_shutdown.ensures.peer
 
 pub returns-in-8-clause-came : goal.returns-in-8-clause-came
 returns-in-8-clause-came c =
-    came_same _ _ _ (quiet_shutdown_ack _ _ _ _ c.take_answer.ensures.begun c.shutdown_ack-answer.ensures.takes.answer)
+    let kept = c.take_answer.ensures.kept in
+    offered_calls _ _ _ (came_same _ _ _ (quiet_shutdown_ack _ _ _ _ _ _ c.take_answer.ensures.begun c.shutdown_ack-answer.ensures.takes.answer))
+    (keeps_by _ _ _ (knows_shutdown_ack _ _ _ c.shutdown_ack-answer.ensures.takes) kept.config kept.key kept.machine)
 
 pub returns-in-9-clause-came : goal.returns-in-9-clause-came
-returns-in-9-clause-came c = came_alike _ _ _ c.take_error.ensures.halves
+returns-in-9-clause-came c = offered_alike _ _ _ c.take_error.ensures.halves c.take_error.ensures.peer
 
 pub returns-in-11-clause-came : goal.returns-in-11-clause-came
 returns-in-11-clause-came c =
     let typ : c.args.chunk.typ ≡ 11 = search rules in
-    ack_came _ _ c.requires.own _ _ _ c.take_answer-in-11.ensures.begun _ c.cookie_ack-answer.ensures.takes.answer typ
+    let kept = c.take_answer-in-11.ensures.kept in
+    ack_offered _ _ c.requires.own _ _ _ _ typ c.cookie_ack-answer.ensures.takes c.take_answer-in-11.ensures.begun kept.config kept.key kept.machine
 
 pub returns-in-14-clause-came : goal.returns-in-14-clause-came
 returns-in-14-clause-came c =
-    came_same _ _ _ (quiet_complete _ _ _ _ c.take_answer-in-14.ensures.begun c.shutdown_complete-answer.ensures.takes.answer)
+    let kept = c.take_answer-in-14.ensures.kept in
+    offered_calls _ _ _ (came_same _ _ _ (quiet_complete _ _ _ _ _ _ c.take_answer-in-14.ensures.begun c.shutdown_complete-answer.ensures.takes.answer))
+    (keeps_by _ _ _ (knows_complete _ _ _ c.shutdown_complete-answer.ensures.takes) kept.config kept.key kept.machine)
 
 pub returns-in_default-clause-came : goal.returns-in_default-clause-came
-returns-in_default-clause-came c = came_same _ _ _ (ap halves_of c.note_unknown.ensures.rest)
+returns-in_default-clause-came c = offered_due _ _ _ _ c.note_unknown.ensures.rest

@@ -1,7 +1,8 @@
-use Rattle.std.proofs.Common.{refl}
+use Rattle.std.proofs.Common.{refl, ◌∙◌}
 use Rattle.sctp_association.proofs.Arrived.{came_alike, came_same, came_then, receiver_came}
 use Rattle.sctp_association.proofs.Begun.{quiet_arrived}
 use Rattle.sctp_association.proofs.Kept.{same_machine}
+use Rattle.sctp_association.proofs.Known.{keeps_by, keeps_then, knows_arrived}
 use Rattle.sctp_association.proofs.association.Association.take_data.Goals as goal
 
 pub returns-then-not-takes_data-clause-came : goal.returns-then-not-takes_data-clause-came
@@ -23,10 +24,18 @@ returns-clause-came c =
     receiver_came _ _ c.requires.own _ c.in_ok-data.ensures.found _ _ _ _ c.take_data.new.self c.in-Some.is refl c.take_data.ensures.received
     ) (
     came_then _ _ _ _ (came_alike _ _ _ c.run_again.ensures.halves) (
-    came_then _ _ _ _ (came_same _ _ _ (quiet_arrived _ _ _ _ c.follow.ensures.begun c.packet_arrived-answer.ensures.answer))
+    came_then _ _ _ _ (came_same _ _ _ (quiet_arrived _ _ _ _ _ _ c.follow.ensures.begun c.packet_arrived-answer.ensures.answer))
     (came_alike _ _ _ c.end_by.ensures.halves)
     )
     )
 
 pub returns-in_default-clause-refused : goal.returns-in_default-clause-refused
 returns-in_default-clause-refused c = λ r e. same_machine c.args.self.now c.args.self.now.machine _ refl
+
+pub returns-clause-peer : goal.returns-clause-peer
+returns-clause-peer c =
+    let again = c.run_again.ensures.kept in
+    let on = c.follow.ensures.kept in
+    keeps_then c.args.self.now c.follow.new.self _
+    (keeps_by _ _ _ (knows_arrived _ _ _ c.packet_arrived-answer.ensures) (on.config ∙ again.config) (on.key ∙ again.key) (on.machine ∙ again.machine))
+    c.end_by.ensures.peer

@@ -1,7 +1,11 @@
-use Rattle.std.proofs.Common.{ap, rules, ◌≡◌, ◌∙◌}
-use Rattle.sctp_association.proofs.Begun.{halves_alike, quiet_init_ack}
-use Rattle.sctp_association.specs.Halves.{halves_of}
+use Rattle.std.proofs.Common.{ap, refl, rules, subst, ◌≡◌, ◌∙◌}
+use Rattle.sctp_association.proofs.Arrived.{came_same}
 use Rattle.sctp_association.proofs.Kept.{same_machine}
+use Rattle.sctp_association.proofs.Offered.{offered_kept}
+use Rattle.sctp_association.proofs.Offers.{init_ack_offered}
+use Rattle.sctp_association.specs.Beginnings.{AnswersInit, BeginsBy}
+use Rattle.sctp_association.specs.declared.association.Association.{Association}
+use Rattle.sctp_association.specs.Halves.{halves_of}
 use Rattle.sctp_association.proofs.association.Association.take_init_ack.Goals as goal
 
 -- what is not answered changed nothing
@@ -10,9 +14,24 @@ returns-then-is_none-2-clause-refused c =
     let same : c.init_ack-answer.new.self ≡ c.args.self.now.machine = search rules in
     λ _ _. same_machine _ _ _ same
 
-pub returns-clause-halves : goal.returns-clause-halves
-returns-clause-halves c =
-    let quiet =
-    quiet_init_ack c.args.self.now.machine _ _ c.init_ack-answer.result c.follow.ensures.begun c.in-Ok-read_init_ack.read.0
-    c.init_ack-answer.ensures.takes.answer
-    in halves_alike _ _ (quiet ∙ ap halves_of c.note_params.ensures.rest)
+pub returns-then-is_none-2-clause-came : goal.returns-then-is_none-2-clause-came
+returns-then-is_none-2-clause-came c =
+    let same : c.init_ack-answer.new.self ≡ c.args.self.now.machine = search rules in
+    offered_kept _ _ _ (came_same _ _ _ refl) (record { config = refl; key = refl; machine = same })
+
+pub returns-clause-came : goal.returns-clause-came
+returns-clause-came c =
+    let answers : AnswersInit c.args.datagram.now c.in-Ok-read_init_ack.read.0 = record {
+      place = c.args.chunk;
+      own = c.requires.own;
+      typ = c.requires.typ;
+      cookie = c.in-Ok-read_init_ack.read.1;
+      reads = search rules;
+    } in
+    let rest = c.note_params.ensures.rest in
+    let kept = c.follow.ensures.kept in
+    let told = c.init_ack-answer.result.told in
+    let begun =
+    subst (λ (x : Association). BeginsBy told x.machine x.config (halves_of x) (halves_of c.follow.new.self)) rest c.follow.ensures.begun in
+    init_ack_offered _ _ _ _ _ _ answers c.init_ack-answer.ensures.takes begun (kept.config ∙ ap (λ (x : Association). x.config) rest)
+    (kept.key ∙ ap (λ (x : Association). x.key) rest) (kept.machine ∙ ap (λ (x : Association). x.machine) rest)

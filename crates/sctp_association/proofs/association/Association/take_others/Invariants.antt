@@ -1,7 +1,6 @@
 use Rattle.std.proofs.Common.{◌≡◌}
 use Rattle.std.specs.List.{AllByRecursion}
-use Rattle.sctp_association.specs.Arrivals.{Arrives}
-use Rattle.sctp_association.specs.Halves.{halves_of}
+use Rattle.sctp_association.specs.Beginnings.{ArrivesAsOffered}
 use Rattle.sctp_datagram.specs.Carried.{IsChunkOf}
 use Rattle.sctp_association.proofs.association.Association.take_others.Given as goal
 
@@ -10,5 +9,5 @@ abbrev pub invariant-loop : goal.invariant-loop
 invariant-loop l = record {
   bytes : l.chunks.bytes ≡ l.initial.chunks.bytes;
   own : AllByRecursion (IsChunkOf l.datagram) l.chunks.left;
-  came : Arrives l.datagram (halves_of l.initial.self) (halves_of l.self);
+  came : ArrivesAsOffered l.datagram l.initial.self l.self;
 }

@@ -1,6 +1,7 @@
 use Rattle.std.proofs.Common.{arith, refl}
 use Rattle.sctp_association.proofs.Arrived.{came_same, came_then, param_came}
 use Rattle.sctp_association.proofs.Cut.{cut_whole}
+use Rattle.sctp_association.proofs.Known.{kept_then}
 use Rattle.sctp_association.proofs.association.Association.take_reconfig.Goals as goal
 
 pub returns-then-not-takes_sacks-clause-came : goal.returns-then-not-takes_sacks-clause-came
@@ -10,30 +11,33 @@ pub returns-then-end-len-clause-came : goal.returns-then-end-len-clause-came
 returns-then-end-len-clause-came c = came_same _ _ _ refl
 
 pub loop-init : goal.loop-init
-loop-init c = came_same _ _ _ refl
+loop-init c = record { came = came_same _ _ _ refl; kept = record { config = refl; key = refl; machine = refl } }
 
 pub returns-in_err-raw-clause-came : goal.returns-in_err-raw-clause-came
-returns-in_err-raw-clause-came c = c.loop.invariant
+returns-in_err-raw-clause-came c = c.loop.invariant.came
 
 pub returns-then-at-len-clause-came : goal.returns-then-at-len-clause-came
-returns-then-at-len-clause-came c = c.loop.invariant
+returns-then-at-len-clause-came c = c.loop.invariant.came
 
 pub returns-in_default-clause-came : goal.returns-in_default-clause-came
-returns-in_default-clause-came c = c.loop.invariant
+returns-in_default-clause-came c = c.loop.invariant.came
 
 pub returns-then-has_request-clause-came : goal.returns-then-has_request-clause-came
-returns-then-has_request-clause-came c = c.loop.invariant
+returns-then-has_request-clause-came c = c.loop.invariant.came
 
 pub returns-after-loop-clause-came : goal.returns-after-loop-clause-came
-returns-after-loop-clause-came c = c.loop.invariant
+returns-after-loop-clause-came c = c.loop.invariant.came
 
 -- a parameter of the chunk came
 pub returns-in_err-take_param-clause-came : goal.returns-in_err-take_param-clause-came
 returns-in_err-take_param-clause-came c =
     let cut = cut_whole _ _ c.requires.place c.in_ok-raw.raw _ c.in_ok-raw.ensures.ok c.saturating_add-end.ensures (omega (arith, c.len.ensures)) in
-    came_then _ _ _ _ c.loop.invariant (param_came _ _ c.requires.own c.requires.typ _ _ cut _ _ c.take_param.ensures.came)
+    came_then _ _ _ _ c.loop.invariant.came (param_came _ _ c.requires.own c.requires.typ _ _ cut _ _ c.take_param.ensures.came)
 
 pub loop-preserved : goal.loop-preserved
 loop-preserved c =
     let cut = cut_whole _ _ c.requires.place c.in_ok-raw.raw _ c.in_ok-raw.ensures.ok c.saturating_add-end.ensures (omega (arith, c.len.ensures)) in
-    came_then _ _ _ _ c.loop.invariant (param_came _ _ c.requires.own c.requires.typ _ _ cut _ _ c.take_param.ensures.came)
+    record {
+      came = came_then _ _ _ _ c.loop.invariant.came (param_came _ _ c.requires.own c.requires.typ _ _ cut _ _ c.take_param.ensures.came);
+      kept = kept_then _ _ _ c.loop.invariant.kept c.take_param.ensures.kept;
+    }

@@ -2,6 +2,7 @@ use Rattle.std.proofs.Common.{drop, refl, rules}
 use Rattle.sctp_chunks.specs.Wire.{ReadsChunk, shutdown_chunk}
 use Rattle.sctp_association.proofs.Arrived.{came_same, came_then, sender_came}
 use Rattle.sctp_association.proofs.Begun.{quiet_shutdown}
+use Rattle.sctp_association.proofs.Known.{keeps_by, knows_shutdown}
 use Rattle.sctp_association.proofs.association.Association.take_shutdown.Goals as goal
 
 pub returns-in_err-shutdown-clause-came : goal.returns-in_err-shutdown-clause-came
@@ -16,11 +17,21 @@ returns-then-not-is_again-clause-came c = came_same _ _ _ refl
 pub returns-in_err-_taken-clause-came : goal.returns-in_err-_taken-clause-came
 returns-in_err-_taken-clause-came c =
     let reads : ReadsChunk (drop c.args.chunk.at c.args.datagram.now) (shutdown_chunk c.in-Some.shutdown.cumulative_tsn_ack) = search rules in
-    came_then _ _ _ _ (came_same _ _ _ (quiet_shutdown _ _ _ _ c.follow.ensures.begun c.shutdown-answer.ensures.takes.answer))
+    came_then _ _ _ _ (came_same _ _ _ (quiet_shutdown _ _ _ _ _ _ c.follow.ensures.begun c.shutdown-answer.ensures.takes.answer))
     (sender_came _ _ c.requires.own _ reads _ _ _ c.take_shutdown.ensures.hearing)
 
 pub returns-clause-came : goal.returns-clause-came
 returns-clause-came c =
     let reads : ReadsChunk (drop c.args.chunk.at c.args.datagram.now) (shutdown_chunk c.in-Some.shutdown.cumulative_tsn_ack) = search rules in
-    came_then _ _ _ _ (came_same _ _ _ (quiet_shutdown _ _ _ _ c.follow.ensures.begun c.shutdown-answer.ensures.takes.answer))
+    came_then _ _ _ _ (came_same _ _ _ (quiet_shutdown _ _ _ _ _ _ c.follow.ensures.begun c.shutdown-answer.ensures.takes.answer))
     (sender_came _ _ c.requires.own _ reads _ _ _ c.take_shutdown.ensures.hearing)
+
+pub returns-in_err-_taken-clause-peer : goal.returns-in_err-_taken-clause-peer
+returns-in_err-_taken-clause-peer c =
+    let on = c.follow.ensures.kept in
+    keeps_by _ _ _ (knows_shutdown _ _ _ c.shutdown-answer.ensures.takes) on.config on.key on.machine
+
+pub returns-clause-peer : goal.returns-clause-peer
+returns-clause-peer c =
+    let on = c.follow.ensures.kept in
+    keeps_by _ _ _ (knows_shutdown _ _ _ c.shutdown-answer.ensures.takes) on.config on.key on.machine

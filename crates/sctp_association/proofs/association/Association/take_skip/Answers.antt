@@ -26,3 +26,7 @@ returns-clause-came c =
     let reads : ReadsChunk (drop c.args.chunk.at c.args.datagram.now) (forward_tsn_chunk (forward_tsn_of c.in-Some.skip)) = search rules in
     came_then _ _ _ _ (receiver_came _ _ c.requires.own _ reads _ _ _ _ c.take_skip.new.self c.in-Some-inbound.is refl c.take_skip.ensures.received)
     (came_alike _ _ _ c.end_by.ensures.halves)
+
+pub returns-clause-peer : goal.returns-clause-peer
+returns-clause-peer c =
+    let peer = c.end_by.ensures.peer in record { config = peer.config; key = peer.key; machine = peer.machine }

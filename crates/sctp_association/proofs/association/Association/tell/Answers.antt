@@ -1,32 +1,39 @@
 use Rattle.std.proofs.Common.{ap, refl, rules, ◌≡◌}
-use Rattle.sctp_association.proofs.Begun.{begins_anew, begun_by}
-use Rattle.sctp_association.specs.Halves.{halves_of}
+use Rattle.sctp_association.proofs.Begun.{begun_by}
+use Rattle.sctp_association.specs.Arrivals.{halves, new_sender}
+use Rattle.sctp_association.specs.Halves.{fragment_size, halves_of, receiver_of}
 use Rattle.sctp_association.proofs.association.Association.tell.Goals as goal
 use Rattle.sctp_handshake.specs.declared.answer.Told.TheVariants as told
 
 pub returns-in-Connected-clause-begun : goal.returns-in-Connected-clause-begun
 returns-in-Connected-clause-begun c =
     let is : c.args.told ≡ told.Connected = search rules in
-    begun_by _ _ _ _ is c.begin.ensures.begun
+    begun_by _ _ _ _ _ _ is c.begin.ensures.begun
 
 pub returns-in-Restarted-clause-begun : goal.returns-in-Restarted-clause-begun
 returns-in-Restarted-clause-begun c =
     let is : c.args.told ≡ told.Restarted = search rules in
-    begun_by _ _ _ _ is (
-    begins_anew _ _ c.new.result.sender _ _ _ c.new.ensures.sender c.begin-in-Restarted.ensures.begun
-    )
+    let size : c.outbound_config.result.mtu ≡ c.args.self.now.config.mtu = search rules in
+    let max : c.outbound_config.result.max_message_size ≡ c.args.self.now.config.max_message_size = search rules in
+    let sender : c.new.result.sender
+    ≡ new_sender c.args.self.now.machine.own.first_tsn (fragment_size c.args.self.now.config.mtu) c.args.self.now.config.max_message_size = search rules in
+    begun_by _ _ _ _ _ _ is (record {
+      middle = halves c.new.result.sender (receiver_of c.args.self.now.inbound);
+      renewed = (refl, sender);
+      begun = c.begin-in-Restarted.ensures.begun;
+    })
 
 pub returns-in-ShutdownBegun-clause-begun : goal.returns-in-ShutdownBegun-clause-begun
 returns-in-ShutdownBegun-clause-begun c =
     let is : c.args.told ≡ told.ShutdownBegun = search rules in
-    begun_by _ _ _ _ is refl
+    begun_by _ _ _ _ _ _ is refl
 
 pub returns-in-Closed-clause-begun : goal.returns-in-Closed-clause-begun
 returns-in-Closed-clause-begun c =
     let is : c.args.told ≡ told.Closed = search rules in
-    begun_by _ _ _ _ is (ap halves_of c.end.ensures.rest)
+    begun_by _ _ _ _ _ _ is (ap halves_of c.end.ensures.rest)
 
 pub returns-in-Failed-clause-begun : goal.returns-in-Failed-clause-begun
 returns-in-Failed-clause-begun c =
     let is : c.args.told ≡ told.Failed = search rules in
-    begun_by _ _ _ _ is (ap halves_of c.end-in-Failed.ensures.rest)
+    begun_by _ _ _ _ _ _ is (ap halves_of c.end-in-Failed.ensures.rest)

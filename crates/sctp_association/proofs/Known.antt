@@ -1,0 +1,142 @@
+-- What an input leaves of what the machine knows of its peer, and what of an association stays.
+use Rattle.std.proofs.Common.{◌≡◌, Bool, true, false, refl, ap, subst, sym, ◌∙◌}
+use Rattle.std.proofs.lemmas.Bool.{false≢true}
+use Rattle.std.proofs.lemmas.Option.{none-some}
+use Rattle.std.specs.Prelude.{nat_lt, if◌then◌else◌}
+use Rattle.sctp_association.specs.Beginnings.{IsKept, KeepsPeer, KnowsNoMore, is_asking}
+use Rattle.sctp_association.specs.declared.association.Association.{Association}
+use Rattle.sctp_handshake.specs.Answers.{silent}
+use Rattle.sctp_handshake.specs.Cookies.{begun_again, on_stale_cookie, stale_cookie_row}
+use Rattle.sctp_handshake.specs.Endings.{abort_row, drained_row, on_abort, on_drained, on_shutdown, on_shutdown_ack, on_shutdown_asked}
+use Rattle.sctp_handshake.specs.Endings.{on_shutdown_complete, shutdown_ack_row, shutdown_asked_row, shutdown_complete_row, shutdown_row}
+use Rattle.sctp_handshake.specs.Machines.{Step, Takes, closed, failed, into}
+use Rattle.sctp_handshake.specs.Timeouts.{on_packet_arrived, packet_arrived_row}
+use Rattle.sctp_handshake.specs.declared.answer.Answer.{Answer}
+use Rattle.sctp_handshake.specs.declared.machine.Machine.{Machine}
+use Rattle.sctp_handshake.specs.declared.state.State.{State}
+use Rattle.sctp_handshake.specs.declared.state.State.TheVariants.{Closed, CookieEchoed, CookieWait, Established, ShutdownPending, ShutdownReceived}
+use Rattle.sctp_handshake.specs.declared.state.State.TheVariants.{ShutdownAckSent, ShutdownSent}
+
+-- ## The machine
+
+pub knows_same : (m n : Machine) → n ≡ m → KnowsNoMore m n
+knows_same m n e = record {
+  asking = λ asks. subst (λ (k : Machine). is_asking k.state ≡ true) e asks;
+  peer = λ o is. sym (ap (λ (k : Machine). k.peer) e) ∙ is;
+}
+
+pub knows_then : (m n k : Machine) → KnowsNoMore m n → KnowsNoMore n k → KnowsNoMore m k
+knows_then m n k f g = record { asking = λ e. f.asking (g.asking e); peer = λ o e. f.peer o (g.peer o e) }
+
+knows-closed : (m : Machine) → KnowsNoMore m (closed m)
+knows-closed m = record { asking = λ e. absurd (false≢true e); peer = λ o e. absurd (none-some o e) }
+
+knows-into : (s : State) (m : Machine) → is_asking s ≡ false → KnowsNoMore m (into s m)
+knows-into s m is = record { asking = λ e. absurd (false≢true (sym is ∙ e)); peer = λ o e. e }
+
+-- ## Inputs
+
+arrived-knows : (s : State) (m : Machine) → KnowsNoMore m (packet_arrived_row s true m).machine
+arrived-knows ShutdownSent m = record { asking = λ e. e; peer = λ o e. e }
+arrived-knows _ m = knows_same m m refl
+
+abort-knows : (s : State) (m : Machine) → KnowsNoMore m (abort_row s m).machine
+abort-knows Closed m = knows_same m m refl
+abort-knows _ m = knows-closed m
+
+shutdown-knows : (s : State) (m : Machine) → KnowsNoMore m (shutdown_row s m).machine
+shutdown-knows Established m = knows-into ShutdownReceived m refl
+shutdown-knows ShutdownPending m = knows-into ShutdownReceived m refl
+shutdown-knows ShutdownSent m = knows-into ShutdownAckSent m refl
+shutdown-knows _ m = knows_same m m refl
+
+asked-knows : (s : State) (m : Machine) → KnowsNoMore m (shutdown_asked_row s m).machine
+asked-knows CookieWait m = knows-closed m
+asked-knows Established m = knows-into ShutdownPending m refl
+asked-knows _ m = knows_same m m refl
+
+ack-knows : (s : State) (m : Machine) → KnowsNoMore m (shutdown_ack_row s m).machine
+ack-knows ShutdownSent m = knows-closed m
+ack-knows ShutdownAckSent m = knows-closed m
+ack-knows _ m = knows_same m m refl
+
+complete-knows : (s : State) (m : Machine) → KnowsNoMore m (shutdown_complete_row s m).machine
+complete-knows ShutdownAckSent m = knows-closed m
+complete-knows _ m = knows_same m m refl
+
+drained-knows : (s : State) (m : Machine) → KnowsNoMore m (drained_row s m).machine
+drained-knows ShutdownPending m = knows-into ShutdownSent m refl
+drained-knows ShutdownReceived m = knows-into ShutdownAckSent m refl
+drained-knows _ m = knows_same m m refl
+
+-- the handshake begins again in CookieEchoed, where this side asks, too
+retried-knows : (b : Bool) (m : Machine) → m.state ≡ CookieEchoed → KnowsNoMore m (if b then begun_again m else failed m).machine
+retried-knows true m is = record { asking = λ e. ap is_asking is; peer = λ o e. absurd (none-some o e) }
+retried-knows false m is = knows-closed m
+
+stale-knows : (s : State) (m : Machine) → m.state ≡ s → KnowsNoMore m (stale_cookie_row s m).machine
+stale-knows CookieEchoed m is = retried-knows (nat_lt m.stale m.limits.max_init_retransmits) m is
+stale-knows _ m is = knows_same m m refl
+
+module _ (m n : Machine) (a : Answer) where
+  taken : (s : Step) → KnowsNoMore m s.machine → Takes s n a → KnowsNoMore m n
+  taken s k t = subst (KnowsNoMore m) (sym t.machine) k
+
+  pub knows_arrived : Takes (on_packet_arrived true m) n a → KnowsNoMore m n
+  knows_arrived t = taken (on_packet_arrived true m) (arrived-knows m.state m) t
+
+  pub knows_abort : Takes (on_abort m) n a → KnowsNoMore m n
+  knows_abort t = taken (on_abort m) (abort-knows m.state m) t
+
+  pub knows_shutdown : Takes (on_shutdown m) n a → KnowsNoMore m n
+  knows_shutdown t = taken (on_shutdown m) (shutdown-knows m.state m) t
+
+  pub knows_asked : Takes (on_shutdown_asked m) n a → KnowsNoMore m n
+  knows_asked t = taken (on_shutdown_asked m) (asked-knows m.state m) t
+
+  pub knows_shutdown_ack : Takes (on_shutdown_ack m) n a → KnowsNoMore m n
+  knows_shutdown_ack t = taken (on_shutdown_ack m) (ack-knows m.state m) t
+
+  pub knows_complete : Takes (on_shutdown_complete m) n a → KnowsNoMore m n
+  knows_complete t = taken (on_shutdown_complete m) (complete-knows m.state m) t
+
+  pub knows_drained : Takes (on_drained m) n a → KnowsNoMore m n
+  knows_drained t = taken (on_drained m) (drained-knows m.state m) t
+
+  pub knows_stale : Takes (on_stale_cookie m) n a → KnowsNoMore m n
+  knows_stale t = taken (on_stale_cookie m) (stale-knows m.state m refl) t
+
+-- the same, where what is dropped tells the machine
+pub knows_abort_of : {m n : Machine} {a : Answer} → (a ≡ silent → n ≡ m) → Takes (on_abort m) n a → KnowsNoMore m n
+knows_abort_of {m} {n} {a} dropped t = knows_abort m n a t
+
+-- ## The association
+
+pub kept_then : (a b c : Association) → IsKept a b → IsKept b c → IsKept a c
+kept_then a b c f g = record { config = g.config ∙ f.config; key = g.key ∙ f.key; machine = g.machine ∙ f.machine }
+
+-- so of one that has the same
+pub kept_by : {a b c : Association} → IsKept a b → c.config ≡ b.config → c.key ≡ b.key → c.machine ≡ b.machine → IsKept a c
+kept_by k f g h = record { config = f ∙ k.config; key = g ∙ k.key; machine = h ∙ k.machine }
+
+pub keeps_kept : (a b : Association) → IsKept a b → KeepsPeer a b
+keeps_kept a b k = record { config = k.config; key = k.key; machine = knows_same a.machine b.machine k.machine }
+
+pub keeps_then : (a b c : Association) → KeepsPeer a b → KeepsPeer b c → KeepsPeer a c
+keeps_then a b c f g = record {
+  config = g.config ∙ f.config;
+  key = g.key ∙ f.key;
+  machine = knows_then a.machine b.machine c.machine f.machine g.machine;
+}
+
+-- an input that leaves the machine so, and then what stays
+pub keeps_by : (a b : Association) (n : Machine) → KnowsNoMore a.machine n → b.config ≡ a.config → b.key ≡ a.key → b.machine ≡ n → KeepsPeer a b
+keeps_by a b n k c e is = record { config = c; key = e; machine = subst (KnowsNoMore a.machine) (sym is) k }
+
+-- the same, of a machine that was the association's
+pub keeps_as : (a b : Association) (m n : Machine) → KnowsNoMore m n → m ≡ a.machine → b.config ≡ a.config → b.key ≡ a.key → b.machine ≡ n → KeepsPeer a b
+keeps_as a b m n k own c e is = record {
+  config = c;
+  key = e;
+  machine = subst (λ (x : Machine). KnowsNoMore x b.machine) own (subst (KnowsNoMore m) (sym is) k);
+}

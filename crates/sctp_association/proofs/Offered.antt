@@ -1,0 +1,93 @@
+-- With whose first TSN the halves of an association begin: what a chunk brings, and what chunks bring one after another.
+use Rattle.std.proofs.Common.{◌≡◌, ℕ, List, refl, ap, subst, sym, ◌∙◌, inl, inr}
+use Rattle.sctp_association.proofs.Arrived.{came_alike, came_same}
+use Rattle.sctp_association.proofs.Arriving.{follows_of, follows_then}
+use Rattle.sctp_association.proofs.Known.{keeps_kept}
+use Rattle.sctp_association.specs.Arrivals.{Arrival, CallsArrive, Does, IsBroughtAs, IsOfHalf, begins, hears, receives, renews}
+use Rattle.sctp_association.specs.Beginnings.{ArrivesAsOffered, IsBegunBy, IsEchoed, IsKept, IsOffered, KeepsPeer, begins_by, by_init_ack, by_kept}
+use Rattle.sctp_association.specs.Beginnings.{by_ticket, renews_by}
+use Rattle.sctp_association.specs.declared.association.Association.{Association}
+use Rattle.sctp_association.specs.declared.config.Config.{Config}
+use Rattle.sctp_association.specs.declared.due.Due.{Due}
+use Rattle.sctp_association.specs.Halves.{HalvesAlike, halves_of}
+use Rattle.sctp_handshake.specs.declared.offer.Offer.{Offer}
+
+module _ (d : List ℕ) where
+  -- ## Calls of halves that are there
+
+  half-begun : (a : Association) (call : Arrival) → IsOfHalf call → IsBegunBy d a call
+  half-begun a (receives c) h = tt
+  half-begun a (hears h) e = tt
+  half-begun a (begins tsn max limits) h = absurd h
+  half-begun a (renews tsn size max) h = absurd h
+
+  pub offered_calls : (a b : Association) → CallsArrive d (halves_of a) (halves_of b) → KeepsPeer a b → ArrivesAsOffered d a b
+  offered_calls a b f k = record {
+    arrives =
+        follows_of (IsBroughtAs IsOfHalf d) (IsBroughtAs (IsBegunBy d a) d) Does
+        (λ call h. record { brought = h.brought; rule = half-begun a call h.rule }) (halves_of a) (halves_of b) f;
+    config = k.config;
+    key = k.key;
+    asking = k.machine.asking;
+    peer = λ o e. inl (k.machine.peer o e);
+  }
+
+  pub offered_kept : (a b : Association) → CallsArrive d (halves_of a) (halves_of b) → IsKept a b → ArrivesAsOffered d a b
+  offered_kept a b f k = offered_calls a b f (keeps_kept a b k)
+
+  pub offered_alike : (a b : Association) → HalvesAlike a b → KeepsPeer a b → ArrivesAsOffered d a b
+  offered_alike a b h k = offered_calls a b (came_alike d a b h) k
+
+  pub offered_same : (a b : Association) → b ≡ a → ArrivesAsOffered d a b
+  offered_same a b e =
+      let kept : IsKept a a = record { config = refl; key = refl; machine = refl } in
+      subst (λ (x : Association). ArrivesAsOffered d a x) (sym e) (offered_kept a a (came_same d (halves_of a) (halves_of a) refl) kept)
+
+  -- a packet of one reply is due, and nothing else changes
+  pub offered_due : (a b : Association) (due : Due) → b ≡ record a { due = due } → ArrivesAsOffered d a b
+  offered_due a b due e =
+      let kept : IsKept a b = record {
+        config = ap (λ (x : Association). x.config) e;
+        key = ap (λ (x : Association). x.key) e;
+        machine = ap (λ (x : Association). x.machine) e;
+      } in
+      offered_kept a b (came_same d (halves_of a) (halves_of b) (ap halves_of e)) kept
+
+  -- ## One after another
+
+  -- what may begin by the later of two may begin by the earlier
+  module _ (a b : Association) (f : ArrivesAsOffered d a b) where
+    offer-back : (o : Offer) → IsOffered d b o → IsOffered d a o
+    offer-back o (by_ticket t e is) = by_ticket t (subst (λ (k : List ℕ). IsEchoed d k t) f.key e) is
+    offer-back o (by_init_ack asks e) = by_init_ack (f.asking asks) e
+    offer-back o (by_kept asks e) = elim (f.peer o e) [
+      | inl known ↦ by_kept (f.asking asks) known
+      | inr offered ↦ offered
+    ]
+
+    rule-back : (call : Arrival) → IsBegunBy d b call → IsBegunBy d a call
+    rule-back (receives c) r = tt
+    rule-back (hears h) r = tt
+    rule-back (begins tsn max limits) r = record {
+      peer = r.peer;
+      offered = offer-back r.peer r.offered;
+      is = subst (λ (c : Config). begins tsn max limits ≡ begins_by r.peer c) f.config r.is;
+    }
+    rule-back (renews tsn size max) r = record {
+      ticket = r.ticket;
+      echoed = subst (λ (k : List ℕ). IsEchoed d k r.ticket) f.key r.echoed;
+      is = subst (λ (c : Config). renews tsn size max ≡ renews_by r.ticket.own.first_tsn c) f.config r.is;
+    }
+
+    pub offered_then : (c : Association) → ArrivesAsOffered d b c → ArrivesAsOffered d a c
+    offered_then c g = record {
+      arrives =
+          follows_then (IsBroughtAs (IsBegunBy d a) d) Does (halves_of a) (halves_of b) (halves_of c) f.arrives (
+          follows_of (IsBroughtAs (IsBegunBy d b) d) (IsBroughtAs (IsBegunBy d a) d) Does
+          (λ call h. record { brought = h.brought; rule = rule-back call h.rule }) (halves_of b) (halves_of c) g.arrives
+          );
+      config = g.config ∙ f.config;
+      key = g.key ∙ f.key;
+      asking = λ e. f.asking (g.asking e);
+      peer = λ o e. elim (g.peer o e) [ inl known ↦ f.peer o known | inr offered ↦ inr (offer-back o offered) ];
+    }

@@ -1,0 +1,251 @@
+-- An association begins by a COOKIE-ECHO, a COOKIE-ACK or an INIT ACK of a datagram: by whose offer.
+use Rattle.std.proofs.Common.{◌≡◌, ◌⊎◌, ℕ, Bool, true, false, List, Option, Some, None, refl, ap, sym, subst, ◌∙◌, inl, inr}
+use Rattle.std.proofs.lemmas.Bool.{false≢true}
+use Rattle.std.proofs.lemmas.Option.{none-some, same_Some}
+use Rattle.sctp_association.proofs.Arriving.{follows_one, follows_same, follows_then}
+use Rattle.sctp_association.specs.Arrivals.{Arrival, Does, Follows, Halves, HasType, IsBroughtAs, by_type}
+use Rattle.sctp_association.specs.Beginnings.{AnswersInit, ArrivesAsOffered, Begins, BeginsAnew, BeginsBy, IsBegunBy, IsEchoed, IsOffered, begins_by}
+use Rattle.sctp_association.specs.Beginnings.{by_init_ack, by_kept, by_ticket, is_asking, renews_by}
+use Rattle.sctp_association.specs.declared.association.Association.{Association}
+use Rattle.sctp_association.specs.declared.config.Config.{Config}
+use Rattle.sctp_association.specs.Halves.{halves_of}
+use Rattle.sctp_datagram.specs.Carried.{IsChunkOf}
+use Rattle.sctp_datagram.specs.declared.datagram.ChunkPlace.{ChunkPlace}
+use Rattle.sctp_handshake.specs.Beginnings.{init_ack_checked, init_ack_row, on_init_ack}
+use Rattle.sctp_handshake.specs.Cookies as cookies
+use Rattle.sctp_handshake.specs.Cookies.{cookie_ack_row, cookie_step, on_cookie_ack, on_cookie_echo, renewal_row, repeat_row, row_of, unless_stale}
+use Rattle.sctp_handshake.specs.Machines.{Step, Takes, dropped}
+use Rattle.sctp_handshake.specs.Offers.{offer_fault}
+use Rattle.sctp_handshake.specs.declared.answer.Answer.{Answer}
+use Rattle.sctp_handshake.specs.declared.answer.Told.{Told}
+use Rattle.sctp_handshake.specs.declared.answer.Told.TheVariants.{Connected, Restarted}
+use Rattle.sctp_handshake.specs.declared.machine.cookies.CookieRow.{CookieRow}
+use Rattle.sctp_handshake.specs.declared.machine.cookies.CookieRow.TheVariants.{Collision, First, Late, Repeat, Restart, Unlisted}
+use Rattle.sctp_handshake.specs.declared.machine.Machine.{Machine}
+use Rattle.sctp_handshake.specs.declared.offer.Offer.{Offer}
+use Rattle.sctp_handshake.specs.declared.offer.OfferFault.{OfferFault}
+use Rattle.sctp_handshake.specs.declared.offer.OfferFault.TheVariants.{SmallWindow}
+use Rattle.sctp_handshake.specs.declared.state.State.{State}
+use Rattle.sctp_handshake.specs.declared.state.State.TheVariants.{Closed, CookieEchoed, CookieWait, ShutdownAckSent}
+use Rattle.sctp_handshake.specs.declared.ticket.Ticket.{Ticket}
+
+-- ## What a step tells and leaves
+
+abbrev is-new : Option Told → Bool
+is-new (Some Restarted) = true
+is-new _ = false
+
+-- the peer that the step leaves was known, or is so offered
+abbrev IsPeer : (Offered : Offer → Type 0) → Machine → Machine → Type 0
+IsPeer Offered m n = (o : Offer) → n.peer ≡ Some o → (m.peer ≡ Some o) ⊎ Offered o
+
+-- where it tells that the association stands, this side has asked, or the peer is so offered; where it tells that it began anew, this side is as
+-- it says, and the peer is so offered
+record Tells (Offered : Offer → Type 0) (Own : Offer → Type 0) (m : Machine) (s : Step) : Type 0 where
+  asking : is_asking s.machine.state ≡ true → is_asking m.state ≡ true
+  peer : IsPeer Offered m s.machine
+  connected : s.answer.told ≡ Some Connected → (o : Offer) → s.machine.peer ≡ Some o
+      → ((is_asking m.state ≡ true) × (m.peer ≡ Some o)) ⊎ Offered o
+  own : s.answer.told ≡ Some Restarted → Own s.machine.own
+  anew : s.answer.told ≡ Some Restarted → (o : Offer) → s.machine.peer ≡ Some o → Offered o
+
+module _ (d : List ℕ) (a b : Association) (Offered Own : Offer → Type 0) (offers : (o : Offer) → Offered o → IsOffered d a o)
+    (s : Step) (t : Tells Offered Own a.machine s) (n : Machine) (answer : Answer) (takes : Takes s n answer) where
+  abbrev Rule : Arrival → Type 0
+  Rule = IsBroughtAs (IsBegunBy d a) d
+
+  same : (x y : Halves) → y ≡ x → Follows Rule Does x y
+  same x y e = follows_same Rule Does x y e
+
+  known : (o : Offer) → n.peer ≡ Some o → s.machine.peer ≡ Some o
+  known o e = sym (ap (λ (k : Machine). k.peer) takes.machine) ∙ e
+
+  -- a chunk of this type comes, by which an association begins
+  module _ (typ : ℕ) (has : HasType d typ) (begins' : (typ ≡ 10) ⊎ (typ ≡ 11)) where
+    receiver-begins : (p : Option Offer) (x y : Halves) → ((o : Offer) → p ≡ Some o → IsOffered d a o) → Begins p a.config x y → Follows Rule Does x y
+    receiver-begins None x y of e = same x y e
+    receiver-begins (Some o) x y of does =
+        follows_one Rule Does (begins_by o a.config) x y
+        (record { brought = by_type typ has begins'; rule = record { peer = o; offered = of o refl; is = refl } }) does
+
+    is-connected : s.answer.told ≡ Some Connected → (x y : Halves) → Begins n.peer a.config x y → Follows Rule Does x y
+    is-connected told x y b =
+        receiver-begins n.peer x y (λ o e. elim (t.connected told o (known o e)) [
+          | inl kept ↦ by_kept kept.0 kept.1
+          | inr offered ↦ offers o offered
+        ]) b
+
+    -- where it tells that it began anew, a COOKIE-ECHO came
+    module _ (renewed : s.answer.told ≡ Some Restarted → HasType d 10 × ((own : Offer) → Own own → Rule (renews_by own.first_tsn a.config))) where
+      is-anew : s.answer.told ≡ Some Restarted → (x y : Halves) → BeginsAnew n a.config x y → Follows Rule Does x y
+      is-anew told x y b =
+          let own : Own n.own = subst (λ (k : Machine). Own k.own) (sym takes.machine) (t.own told) in
+          let of : (o : Offer) → n.peer ≡ Some o → IsOffered d a o =
+          λ o e. offers o (t.anew told o (known o e)) in
+          follows_then Rule Does x b.middle y
+          (follows_one Rule Does (renews_by n.own.first_tsn a.config) x b.middle ((renewed told).1 n.own own) b.renewed)
+          (receiver-begins n.peer b.middle y of b.begun)
+
+      begun : (o : Option Told) → s.answer.told ≡ o → (x y : Halves) → BeginsBy o n a.config x y → Follows Rule Does x y
+      begun None e x y b = same x y b
+      begun (Some Connected) e x y b = is-connected e x y b
+      begun (Some Restarted) e x y b = is-anew e x y b
+      begun (Some _) e x y b = same x y b
+
+  -- then what stays
+  module _ (kept : (b.config ≡ a.config) × (b.key ≡ a.key) × (b.machine ≡ n)) where
+    so : Follows Rule Does (halves_of a) (halves_of b) → ArrivesAsOffered d a b
+    so arrives =
+        let is : b.machine ≡ s.machine = kept.2 ∙ takes.machine in
+        record {
+          arrives = arrives;
+          config = kept.0;
+          key = kept.1;
+          asking = λ e. t.asking (subst (λ (k : Machine). is_asking k.state ≡ true) is e);
+          peer = λ o e. elim (t.peer o (sym (ap (λ (k : Machine). k.peer) is) ∙ e)) [ inl old ↦ inl old | inr offered ↦ inr (offers o offered) ];
+        }
+
+    begun-so : (typ : ℕ) → HasType d typ → (typ ≡ 10) ⊎ (typ ≡ 11)
+        → (s.answer.told ≡ Some Restarted → HasType d 10 × ((own : Offer) → Own own → Rule (renews_by own.first_tsn a.config)))
+        → BeginsBy answer.told n a.config (halves_of a) (halves_of b) → ArrivesAsOffered d a b
+    begun-so typ has begins' renewed b' =
+        so (begun typ has begins' renewed answer.told (sym (ap (λ (k : Answer). k.told) takes.answer)) (halves_of a) (halves_of b) b')
+
+-- ## A COOKIE-ECHO
+
+module _ (t : Ticket) (m : Machine) where
+  abbrev OfTicket : Step → Type 0
+  OfTicket s = Tells (λ o. t.peer ≡ o) (λ own. own ≡ t.own) m s
+
+  -- it tells nothing, and leaves the machine
+  cookie-same : (s : Step) → s.machine ≡ m → s.answer.told ≡ None → OfTicket s
+  cookie-same s is none = record {
+    asking = λ e. subst (λ (k : Machine). is_asking k.state ≡ true) is e;
+    peer = λ o e. inl (sym (ap (λ (k : Machine). k.peer) is) ∙ e);
+    connected = λ e. absurd (none-some Connected (sym none ∙ e));
+    own = λ e. absurd (none-some Restarted (sym none ∙ e));
+    anew = λ e. absurd (none-some Restarted (sym none ∙ e));
+  }
+
+  cookie-begins : (told : Told) → OfTicket (cookies.begins told t m)
+  cookie-begins told = record {
+    asking = λ e. absurd (false≢true e);
+    peer = λ o e. inr (same_Some t.peer o e);
+    connected = λ _ o e. inr (same_Some t.peer o e);
+    own = λ _. refl;
+    anew = λ _ o e. same_Some t.peer o e;
+  }
+
+  cookie-renews : (s : State) → OfTicket (renewal_row s t m)
+  cookie-renews Closed = cookie-begins Connected
+  cookie-renews CookieWait = cookie-begins Connected
+  cookie-renews CookieEchoed = cookie-begins Connected
+  cookie-renews ShutdownAckSent = cookie-same (renewal_row ShutdownAckSent t m) refl refl
+  cookie-renews _ = cookie-begins Restarted
+
+  -- both tags match: the association stands that this side has asked for
+  cookie-repeats : (s : State) → m.state ≡ s → OfTicket (repeat_row s m)
+  cookie-repeats CookieEchoed is = record {
+    asking = λ e. absurd (false≢true e);
+    peer = λ o e. inl e;
+    connected = λ _ o e. inl (ap is_asking is, e);
+    own = λ e. absurd (false≢true (ap is-new e));
+    anew = λ e. absurd (false≢true (ap is-new e));
+  }
+  cookie-repeats _ is = cookie-same _ refl refl
+
+  cookie-unless : (stale : Bool) (s : Step) → OfTicket s → OfTicket (unless_stale stale m s)
+  cookie-unless true s h = cookie-same (unless_stale true m s) refl refl
+  cookie-unless false s h = h
+
+  cookie-row : (r : CookieRow) (stale : Bool) → OfTicket (cookie_step r t stale m)
+  cookie-row First stale = cookie-unless stale (renewal_row m.state t m) (cookie-renews m.state)
+  cookie-row Restart stale = cookie-unless stale (renewal_row m.state t m) (cookie-renews m.state)
+  cookie-row Collision stale = cookie-unless stale (renewal_row m.state t m) (cookie-renews m.state)
+  cookie-row Late stale = cookie-unless stale (dropped m) (cookie-same (dropped m) refl refl)
+  cookie-row Repeat stale = cookie-repeats m.state refl
+  cookie-row Unlisted stale = cookie-unless stale (dropped m) (cookie-same (dropped m) refl refl)
+
+module _ (d : List ℕ) (p : ChunkPlace) (own : IsChunkOf d p) (a b : Association) (n : Machine) (answer : Answer) where
+  pub cookie_offered : p.typ ≡ 10 → (t : Ticket) → IsEchoed d a.key t → (stale : Bool) → Takes (on_cookie_echo t stale a.machine) n answer
+      → BeginsBy answer.told n a.config (halves_of a) (halves_of b) → b.config ≡ a.config → b.key ≡ a.key → b.machine ≡ n → ArrivesAsOffered d a b
+  cookie_offered typ t echoed stale takes led c k m =
+      let has : HasType d 10 = record { place = p; own = own; is = typ } in
+      begun-so d a b (λ o. t.peer ≡ o) (λ mine. mine ≡ t.own) (λ o e. by_ticket t echoed e) (on_cookie_echo t stale a.machine)
+      (cookie-row t a.machine (row_of t a.machine) stale) n answer takes (c, k, m) 10 has (inl refl)
+      (λ told. (
+        has,
+        λ mine is. record {
+          brought = by_type 10 has refl;
+          rule = record { ticket = t; echoed = echoed; is = ap (λ (o : Offer). renews_by o.first_tsn a.config) is };
+        },
+      )) led
+
+  -- ## A COOKIE-ACK
+
+  ack-tells : (s : State) (m : Machine) → m.state ≡ s → Tells (λ o. ⊥) (λ mine. ⊥) m (cookie_ack_row s m)
+  ack-tells CookieEchoed m is = record {
+    asking = λ e. absurd (false≢true e);
+    peer = λ o e. inl e;
+    connected = λ _ o e. inl (ap is_asking is, e);
+    own = λ e. absurd (false≢true (ap is-new e));
+    anew = λ e. absurd (false≢true (ap is-new e));
+  }
+  ack-tells _ m is = record {
+    asking = λ e. e;
+    peer = λ o e. inl e;
+    connected = λ e. absurd (none-some Connected e);
+    own = λ e. absurd (none-some Restarted e);
+    anew = λ e. absurd (none-some Restarted e);
+  }
+
+  pub ack_offered : p.typ ≡ 11 → Takes (on_cookie_ack a.machine) n answer → BeginsBy answer.told n a.config (halves_of a) (halves_of b)
+      → b.config ≡ a.config → b.key ≡ a.key → b.machine ≡ n → ArrivesAsOffered d a b
+  ack_offered typ takes led c k m =
+      let has : HasType d 11 = record { place = p; own = own; is = typ } in
+      let tells : Tells (λ o. ⊥) (λ mine. ⊥) a.machine (on_cookie_ack a.machine) = ack-tells a.machine.state a.machine refl in
+      begun-so d a b (λ o. ⊥) (λ mine. ⊥) (λ o e. absurd e) (on_cookie_ack a.machine) tells n answer takes (c, k, m) 11 has (inr refl)
+      (λ told. absurd (tells.own told)) led
+
+-- ## An INIT ACK
+
+-- it tells of nothing that begins, and the peer that it leaves was known, or made this offer where this side has asked
+record Hears (offer : Offer) (m : Machine) (s : Step) : Type 0 where
+  asking : is_asking s.machine.state ≡ true → is_asking m.state ≡ true
+  peer : IsPeer (λ o. (is_asking m.state ≡ true) × (offer ≡ o)) m s.machine
+  quiet : (n : Machine) (c : Config) (x y : Halves) → BeginsBy s.answer.told n c x y → y ≡ x
+
+init-ack-checked : (f : Option OfferFault) (offer : Offer) (m : Machine) → m.state ≡ CookieWait → Hears offer m (init_ack_checked f offer m)
+init-ack-checked None offer m is = record {
+  asking = λ e. ap is_asking is;
+  peer = λ o e. inr (ap is_asking is, same_Some offer o e);
+  quiet = λ n c x y b. b;
+}
+init-ack-checked (Some SmallWindow) offer m is = record { asking = λ e. e; peer = λ o e. inl e; quiet = λ n c x y b. b }
+init-ack-checked (Some _) offer m is = record {
+  asking = λ e. absurd (false≢true e);
+  peer = λ o e. absurd (none-some o e);
+  quiet = λ n c x y b. b;
+}
+
+init-ack-hears : (s : State) (offer : Offer) (m : Machine) → m.state ≡ s → Hears offer m (init_ack_row s offer m)
+init-ack-hears CookieWait offer m is = init-ack-checked (offer_fault offer) offer m is
+init-ack-hears _ offer m is = record { asking = λ e. e; peer = λ o e. inl e; quiet = λ n c x y b. b }
+
+module _ (d : List ℕ) (a b : Association) (n : Machine) (answer : Answer) (offer : Offer) where
+  pub init_ack_offered : AnswersInit d offer → Takes (on_init_ack offer a.machine) n answer → BeginsBy answer.told n a.config (halves_of a) (halves_of b)
+      → b.config ≡ a.config → b.key ≡ a.key → b.machine ≡ n → ArrivesAsOffered d a b
+  init_ack_offered answers takes begun c k m =
+      let h : Hears offer a.machine (on_init_ack offer a.machine) = init-ack-hears a.machine.state offer a.machine refl in
+      let is : b.machine ≡ (on_init_ack offer a.machine).machine = m ∙ takes.machine in
+      let told = subst (λ (o : Option Told). BeginsBy o n a.config (halves_of a) (halves_of b)) (ap (λ (k : Answer). k.told) takes.answer) begun in
+      record {
+        arrives = follows_same (IsBroughtAs (IsBegunBy d a) d) Does (halves_of a) (halves_of b) (h.quiet n a.config (halves_of a) (halves_of b) told);
+        config = c;
+        key = k;
+        asking = λ e. h.asking (subst (λ (j : Machine). is_asking j.state ≡ true) is e);
+        peer = λ o e. elim (h.peer o (sym (ap (λ (j : Machine). j.peer) is) ∙ e)) [
+          | inl old ↦ inl old
+          | inr made ↦ inr (by_init_ack made.0 (subst (AnswersInit d) made.1 answers))
+        ];
+      }

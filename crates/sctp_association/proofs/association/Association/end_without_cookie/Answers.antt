@@ -1,0 +1,12 @@
+use Rattle.std.proofs.Common.{ap, ◌∙◌}
+use Rattle.sctp_association.proofs.Known.{keeps_by, knows_abort}
+use Rattle.sctp_association.specs.declared.association.Association.{Association}
+use Rattle.sctp_association.proofs.association.Association.end_without_cookie.Goals as goal
+
+pub returns-clause-peer : goal.returns-clause-peer
+returns-clause-peer c =
+    let owed = c.owe_farewell.ensures.rest in
+    let ended = c.end.ensures.rest in
+    keeps_by _ _ _ (knows_abort _ _ _ c.abort-answer.ensures.takes) (ap (λ (x : Association). x.config) ended ∙ ap (λ (x : Association). x.config) owed)
+    (ap (λ (x : Association). x.key) ended ∙ ap (λ (x : Association). x.key) owed)
+    (ap (λ (x : Association). x.machine) ended ∙ ap (λ (x : Association). x.machine) owed)
