@@ -1,9 +1,10 @@
 -- Definitions of specs/ at numbers that a reader can check against RFC 9260.
-use Rattle.std.specs.Prelude.{ℕ, ◌≡◌, ◌-◌, ◌*◌, ◌^◌, true, false, Option, Some, None, refl}
+use Rattle.std.specs.Prelude.{ℕ, ◌≡◌, ◌-◌, ◌*◌, ◌^◌, true, false, Option, Some, None, [], ◌∷◌, refl}
 use Rattle.sctp_path.specs.Rto.{Timeout, usual, limits_of, first as first_timeout, next_trip, after_trip, after_back_off}
-use Rattle.sctp_path.specs.Congestion.{Control, pmdcs_of, first, after_sack, after_loss, after_timeout, after_idling, with_mtu, may_send, burst_limit}
+use Rattle.sctp_path.specs.Congestion.{Control, pmdcs_of, first, after_sack, after_loss, after_resending, after_repeats, after_timeout, after_idling, with_mtu, may_send, burst_limit}
 use Rattle.sctp_path.specs.declared.congestion.Acknowledged.{Acknowledged}
-use Rattle.sctp_util.specs.Serial.{at_or_before, distance}
+use Rattle.sctp_path.specs.declared.congestion.Undo.{Undo}
+use Rattle.sctp_util.specs.Serial.{at_or_before, comes_before, distance}
 use Rattle.sctp_path.specs.Timers.{started, is_due, earliest, new_delay, after_packet, one_more, is_passed}
 use Rattle.sctp_path.specs.Heartbeats.{next_at, trip_of}
 
@@ -88,7 +89,7 @@ window-at-first-9000 = refl
 -- a state of such a path, and a SACK
 at : (window threshold acked : ℕ) → Option ℕ → Control
 at window threshold acked exit =
-    record { pmdcs = 1188; window = window; threshold = threshold; acked = acked; exit = exit; single = false; idle = false }
+    record { pmdcs = 1188; window = window; threshold = threshold; acked = acked; exit = exit; single = false; idle = false; undo = None }
 
 sack : (tsn bytes flight : ℕ) → Acknowledged
 sack tsn bytes flight = record { cumulative_tsn = tsn; advances = true; bytes = bytes; flight = flight; all = false }
@@ -138,18 +139,57 @@ avoidance-all : after_sack (record (sack 1 1188 4752) { all = true }) (at 4752 4
 unfolding at sack
 avoidance-all = refl
 
--- a loss: half, with all that was acknowledged forgotten; a second one in Fast Recovery changes nothing
-loss : after_loss 7 None (at 20000 65535 300 None) ≡ at 10000 10000 0 (Some 7)
-unfolding at
+-- a loss of what is outstanding, TSNs 4 to 7: half, with all that was acknowledged forgotten, and what was before is noted; a second one in
+-- Fast Recovery changes nothing
+undo : (window threshold again : ℕ) → Option Undo
+undo window threshold again =
+    Some (record { window = window; threshold = threshold; above = 3; last = 7; again = again })
+
+loss : after_loss 3 7 None (at 20000 65535 300 None) ≡ record (at 10000 10000 0 (Some 7)) { undo = undo 20000 65535 0 }
+unfolding at undo
 loss = refl
 
-loss-least : after_loss 7 None (at 5000 65535 300 None) ≡ at 4752 4752 0 (Some 7)
-unfolding at
+loss-least : after_loss 3 7 None (at 5000 65535 300 None) ≡ record (at 4752 4752 0 (Some 7)) { undo = undo 5000 65535 0 }
+unfolding at undo
 loss-least = refl
 
-loss-again : after_loss 9 (Some 7) (at 10000 10000 0 (Some 7)) ≡ at 10000 10000 0 (Some 7)
+loss-again : after_loss 3 9 (Some 7) (at 10000 10000 0 (Some 7)) ≡ at 10000 10000 0 (Some 7)
 unfolding at
 loss-again = refl
+
+-- one chunk was sent again, and came twice: cwnd is 20,000 again, and ssthresh 15,000
+fell : ℕ → Control
+fell again = record (at 10000 10000 0 (Some 7)) { undo = undo 20000 15000 again }
+
+resent-one : after_resending (undo 20000 15000 0) (fell 0) ≡ fell 1
+unfolding fell undo at
+resent-one = refl
+
+twice-one : after_repeats (4 ∷ []) (fell 1) ≡ at 20000 15000 0 (Some 7)
+unfolding fell undo at comes_before at_or_before distance
+twice-one = refl
+
+-- two were sent again: both have to come twice
+twice-of-two : after_repeats (7 ∷ []) (fell 2) ≡ fell 1
+unfolding fell undo at comes_before at_or_before distance
+twice-of-two = refl
+
+twice-both : after_repeats (7 ∷ 4 ∷ []) (fell 2) ≡ at 20000 15000 0 (Some 7)
+unfolding fell undo at comes_before at_or_before distance
+twice-both = refl
+
+-- nothing follows from chunks that were not outstanding at the loss, nor where none was sent again, nor without a loss
+twice-others : after_repeats (3 ∷ 8 ∷ []) (fell 1) ≡ fell 1
+unfolding fell undo at comes_before at_or_before distance
+twice-others = refl
+
+twice-none : after_repeats (4 ∷ []) (fell 0) ≡ fell 0
+unfolding fell undo at comes_before at_or_before distance
+twice-none = refl
+
+twice-no-loss : after_repeats (4 ∷ 5 ∷ []) (at 10000 10000 0 None) ≡ at 10000 10000 0 None
+unfolding at
+twice-no-loss = refl
 
 -- in Fast Recovery nothing grows. TSN 7 ends it, also where TSNs wrap, and counts as any other SACK
 recovery-lasts : after_sack (sack 6 2376 10000) (at 10000 10000 0 (Some 7)) ≡ at 10000 10000 0 (Some 7)

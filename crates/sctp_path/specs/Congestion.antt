@@ -1,10 +1,11 @@
 -- The congestion window (RFC 9260 7.2). Amounts are bytes, and a quotient is rounded down.
-use Rattle.std.specs.Prelude.{ℕ, ◌+◌, ◌-◌, ◌*◌, ◌/◌, ◌^◌, Bool, true, false, ◌&&◌, ◌==◌, nat_lt, nat_le, if◌then◌else◌, min, max, Option, Some, None}
-use Rattle.sctp_util.specs.Serial.{at_or_before}
+use Rattle.std.specs.Prelude.{ℕ, ◌+◌, ◌-◌, ◌*◌, ◌/◌, ◌^◌, Bool, true, false, ◌&&◌, ◌==◌, nat_lt, nat_le, if◌then◌else◌, min, max, Option, Some, None, List, [], ◌∷◌}
+use Rattle.sctp_util.specs.Serial.{at_or_before, comes_before}
 use Rattle.sctp_path.specs.declared.congestion.Acknowledged.{Acknowledged}
+use Rattle.sctp_path.specs.declared.congestion.Undo.{Undo}
 
 -- PMDCS, cwnd, ssthresh, partial_bytes_acked; in Fast Recovery its exit point; whether T3-rtx expired and nothing was acknowledged
--- since; whether the path is idle, so that cwnd was adjusted for it
+-- since; whether the path is idle, so that cwnd was adjusted for it; what the last loss changed
 pub record Control : Type 0 where
   pub pmdcs : ℕ
   pub window : ℕ
@@ -13,6 +14,7 @@ pub record Control : Type 0 where
   pub exit : Option ℕ
   pub single : Bool
   pub idle : Bool
+  pub undo : Option Undo
 
 -- PMDCS: what a packet has room for after its header of 12 bytes, in whole words (RFC 9260 2.3, 3). A length of IP has 16 bits.
 abbrev pub pmdcs_of : ℕ → ℕ
@@ -32,6 +34,7 @@ first mtu peer_window = record {
   exit = None;
   single = false;
   idle = false;
+  undo = None;
 }
 
 -- the greatest amount
@@ -95,12 +98,23 @@ after_sack a c =
 abbrev pub halved : Control → ℕ
 halved c = max (c.window / 2) (4 * c.pmdcs)
 
+-- what a loss changes, where TSNs past one up to another are outstanding
+abbrev pub before_loss : ℕ → ℕ → Control → Undo
+before_loss acked highest c =
+    record { window = c.window; threshold = c.threshold; above = acked; last = highest; again = 0 }
+
 -- SACKs reported a chunk missing: Fast Recovery begins, with the highest outstanding TSN as its exit point (RFC 9260 7.2.3, 7.2.4).
 -- Nothing changes in Fast Recovery
-abbrev pub after_loss : ℕ → Option ℕ → Control → Control
-after_loss highest None c =
-    record c { window = halved c; threshold = halved c; acked = 0; exit = Some highest; idle = false }
-after_loss highest (Some exit) c = c
+abbrev pub after_loss : ℕ → ℕ → Option ℕ → Control → Control
+after_loss acked highest None c = record c {
+  window = halved c;
+  threshold = halved c;
+  acked = 0;
+  exit = Some highest;
+  idle = false;
+  undo = Some (before_loss acked highest c);
+}
+after_loss acked highest (Some exit) c = c
 
 -- T3-rtx expired: slow start begins with one packet (RFC 9260 7.2.3), and a Fast Recovery ends
 abbrev pub after_timeout : Control → Control
@@ -111,14 +125,51 @@ after_timeout c = record c {
   exit = None;
   single = true;
   idle = false;
+  undo = None;
 }
+
+-- ## What was no loss: chunks that were sent again since, and came twice (RFC 9260 3.3.4)
+
+-- one more was sent again
+abbrev pub after_resending : Option Undo → Control → Control
+after_resending None c = c
+after_resending (Some u) c = record c { undo = Some (record u { again = min (u.again + 1) most }) }
+
+-- the chunk was outstanding as the loss was told, and one that was sent again is not known to have come twice
+abbrev pub is_repeat : ℕ → Undo → Bool
+is_repeat tsn u = nat_lt 0 u.again && (comes_before u.above tsn && at_or_before tsn u.last)
+
+-- nothing was lost: cwnd and ssthresh are no less than before
+abbrev pub undone : Undo → Control → Control
+undone u c =
+    record c { window = max c.window u.window; threshold = max c.threshold u.threshold; undo = None }
+
+-- one fewer is left, and with the last one nothing was lost
+abbrev pub with_repeat : Undo → Control → Control
+with_repeat u c =
+    if nat_lt 1 u.again then record c { undo = Some (record u { again = u.again - 1 }) }
+    else undone u c
+
+abbrev pub after_repeat : ℕ → Option Undo → Control → Control
+after_repeat tsn None c = c
+after_repeat tsn (Some u) c = if is_repeat tsn u then with_repeat u c else c
+
+-- so of each in turn
+abbrev pub after_repeats : List ℕ → Control → Control
+after_repeats [] c = c
+after_repeats (t ∷ ts) c = after_repeats ts (after_repeat t c.undo c)
 
 -- ## Idle paths
 
 -- no DATA was sent for an RTO: half of cwnd, and at least four packets; before the first of these ssthresh becomes cwnd (RFC 9260 7.2.1)
 abbrev pub after_idling : Control → Control
 after_idling c =
-    record c { window = halved c; threshold = if c.idle then c.threshold else c.window; idle = true }
+    record c {
+      window = halved c;
+      threshold = if c.idle then c.threshold else c.window;
+      idle = true;
+      undo = None;
+    }
 
 -- ## The path MTU
 

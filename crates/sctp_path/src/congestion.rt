@@ -1,9 +1,9 @@
 //! The congestion window (RFC 9260 7.2): how many bytes may be outstanding. All amounts are in bytes.
 
 ghost use Rattle.std.specs.Prelude.{◌≡◌, ◌+◌, ◌<◌, ◌≤◌, IsTrue, is_some};
-ghost use Rattle.sctp_path.specs.Congestion.{pmdcs_of, first, after_sack, after_slow_start, after_avoidance, halved, after_loss, after_timeout, after_idling, with_mtu, may_send, burst_limit};
+ghost use Rattle.sctp_path.specs.Congestion.{pmdcs_of, first, after_sack, after_slow_start, after_avoidance, halved, after_loss, after_timeout, after_idling, with_mtu, may_send, burst_limit, after_resending, after_repeat, after_repeats};
 
-use sctp_util::util::sna32lte;
+use sctp_util::util::{sna32lt, sna32lte};
 use std::marker::Model;
 
 /// What a SACK acknowledges.
@@ -21,6 +21,17 @@ pub struct Acknowledged {
     pub all: bool,
 }
 
+// What a loss changed, while it may turn out that nothing was lost: cwnd and ssthresh before; which TSNs were outstanding, past one and up to
+// another; how many chunks were sent again since, less those that came twice.
+#[derive(Clone, Copy, Debug, PartialEq, Eq)]
+struct Undo {
+    window: usize,
+    threshold: usize,
+    above: u32,
+    last: u32,
+    again: usize,
+}
+
 /// The congestion window, what it depends on, and how it grows and falls. It is at least one packet.
 #[derive(Clone, Copy, Debug, PartialEq, Eq)]
 pub struct Congestion {
@@ -31,6 +42,7 @@ pub struct Congestion {
     exit: Option<u32>,
     single: bool,
     idle: bool,
+    undo: Option<Undo>,
 }
 
 impl Model for Congestion {
@@ -47,6 +59,7 @@ impl Model for Congestion {
       exit = c.exit;
       single = c.single;
       idle = c.idle;
+      undo = c.undo;
     } };
 
     ghost inverse = { λ c. record {
@@ -57,6 +70,7 @@ impl Model for Congestion {
       exit = c.exit;
       single = c.single;
       idle = c.idle;
+      undo = c.undo;
     } };
 
     ghost invariant = { λ c. (4 ≤ c.pmdcs) × (c.pmdcs ≤ 65535) × (c.pmdcs ≤ c.window) };
@@ -77,6 +91,7 @@ impl Congestion {
             exit: None,
             single: false,
             idle: false,
+            undo: None,
         }
     }
 
@@ -137,18 +152,70 @@ impl Congestion {
         (self.window / 2).max(4 * self.pmdcs)
     }
 
-    /// SACKs reported a chunk missing, so that it is to be sent again (RFC 9260 7.2.4). `highest` is the highest outstanding TSN.
-    pub fn lost(&mut self, highest: u32)
-        ensures { self.new ≡ after_loss highest self.old.exit self.old }
+    /// SACKs reported a chunk missing, so that it is to be sent again (RFC 9260 7.2.4). TSNs past `acked`, the Cumulative TSN Ack Point, up to
+    /// `highest` are outstanding.
+    pub fn lost(&mut self, acked: u32, highest: u32)
+        ensures { self.new ≡ after_loss acked highest self.old.exit self.old }
     {
         if self.exit.is_none() {
             let half = self.halved();
+            self.undo = Some(Undo {
+                window: self.window,
+                threshold: self.threshold,
+                above: acked,
+                last: highest,
+                again: 0,
+            });
             self.threshold = half;
             self.window = half;
             self.acked = 0;
             self.exit = Some(highest);
             self.idle = false;
         }
+    }
+
+    /// A chunk was sent again.
+    pub fn sent_again(&mut self)
+        ensures { self.new ≡ after_resending self.old.undo self.old }
+    {
+        if let Some(undo) = self.undo {
+            self.undo = Some(Undo {
+                again: undo.again.saturating_add(1),
+                ..undo
+            });
+        }
+    }
+
+    /// Takes the Duplicate TSNs of a SACK (RFC 9260 3.3.4). Where each chunk that was sent again since a loss came twice nothing was lost: cwnd and
+    /// ssthresh are no less than before it. Call it before `acked` of the same SACK.
+    pub fn came_twice(&mut self, tsns: &[u32])
+        ensures { self.new ≡ after_repeats tsns.now self.old }
+    {
+        for tsn in tsns {
+            self.take_repeat(*tsn);
+        }
+    }
+
+    // The same of one of them.
+    fn take_repeat(&mut self, tsn: u32)
+        ensures { self.new ≡ after_repeat tsn self.old.undo self.old }
+    {
+        let Some(undo) = self.undo else {
+            return;
+        };
+        if undo.again == 0 || !sna32lt(undo.above, tsn) || !sna32lte(tsn, undo.last) {
+            return;
+        }
+        if undo.again > 1 {
+            self.undo = Some(Undo {
+                again: undo.again - 1,
+                ..undo
+            });
+            return;
+        }
+        self.window = self.window.max(undo.window);
+        self.threshold = self.threshold.max(undo.threshold);
+        self.undo = None;
     }
 
     /// T3-rtx expired.
@@ -161,6 +228,7 @@ impl Congestion {
         self.exit = None;
         self.single = true;
         self.idle = false;
+        self.undo = None;
     }
 
     /// No DATA was sent for one RTO, and none is outstanding.
@@ -173,6 +241,7 @@ impl Congestion {
         }
         self.window = half;
         self.idle = true;
+        self.undo = None;
     }
 
     /// The packets of the path have at most so many bytes now.
