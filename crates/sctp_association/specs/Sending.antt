@@ -1,5 +1,5 @@
 -- When DATA leaves, and when T3-rtx runs (RFC 9260 6.1, 6.3.2, 7.2). Amounts are bytes, moments nanoseconds.
-use Rattle.std.specs.Prelude.{◌≡◌, ℕ, zero, suc, ◌+◌, ◌-◌, ◌/◌, ◌≤◌, ◌==◌, Bool, true, false, ◌&&◌, ◌||◌, nat_le, nat_lt, min, max, if◌then◌else◌, List, []}
+use Rattle.std.specs.Prelude.{◌≡◌, ℕ, zero, suc, ◌+◌, ◌-◌, ◌/◌, ◌≤◌, ◌==◌, Bool, true, false, not, ◌&&◌, ◌||◌, nat_le, nat_lt, min, max, if◌then◌else◌, List, []}
 use Rattle.std.specs.Prelude.{◌∷◌, Option, Some, None, IfSome, is_some, ◌⊎◌, length}
 use Rattle.sctp_data.specs.declared.chunk.chunk_payload_data.ChunkPayloadData.{ChunkPayloadData}
 use Rattle.sctp_outbound.specs.Outstanding.{outstanding_of}
@@ -33,10 +33,23 @@ abbrev pub is_later : ℕ → Option ℕ → Bool
 is_later now None = false
 is_later now (Some paused) = nat_lt paused now
 
+-- the moment at which a chunk left last
+abbrev pub sent_at : Option ChunkPayloadData → Option ℕ
+sent_at None = None
+sent_at (Some c) = c.since
+
+-- A chunk that T3-rtx marked as it expired waits while something is outstanding, where it had left less than a round trip ago: a SACK of it may
+-- still come (6.3.3 E3 marks it, which is a SHOULD)
+abbrev pub is_early : (flight now expired : ℕ) → (trip sent : Option ℕ) → Bool
+is_early flight now expired None sent = false
+is_early flight now expired (Some trip) None = false
+is_early flight now expired (Some trip) (Some sent) =
+    nat_lt 0 flight && (nat_lt sent expired && nat_lt (now - sent) trip)
+
 -- DATA may be sent again: one packet of it whatever is outstanding, where fast retransmission begins (7.2.4); else a packet, while less than
--- cwnd was outstanding when it began (6.3.3 E3)
-abbrev pub may_send_again : Bool → ℕ → Control → Bool
-may_send_again is_fast flight c = is_fast || may_send flight c
+-- cwnd was outstanding when it began, and the first chunk does not wait (6.3.3 E3)
+abbrev pub may_send_again : (is_fast early : Bool) → ℕ → Control → Bool
+may_send_again is_fast early flight c = is_fast || (may_send flight c && not early)
 
 -- ## Idle paths (7.2.1)
 

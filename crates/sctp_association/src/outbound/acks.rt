@@ -135,6 +135,7 @@ impl Outbound {
         };
         note_low(low, &released);
         self.peer_window = sack.advertised_receiver_window_credit as usize;
+        self.congestion.came_twice(&sack.duplicate_tsn);
         self.follow(&released, before, flight, now);
         let has_advanced = self.sender.acked_tsn() != before;
         self.count_missing(sack, &released, has_advanced);
@@ -238,7 +239,9 @@ impl Outbound {
             before = sack.cumulative_tsn_ack.wrapping_add(u32::from(block.end));
         }
         if self.sender.add_miss_indications(before) > 0 {
-            self.congestion.lost(self.sender.next_tsn().wrapping_sub(1));
+            let acked = self.sender.acked_tsn();
+            self.congestion
+                .lost(acked, self.sender.next_tsn().wrapping_sub(1));
             self.is_fast = true;
             self.has_lost = true;
         }

@@ -1,10 +1,12 @@
 //! What goes into a packet (RFC 9260 6.1, 6.10).
 
-ghost use Rattle.std.specs.Prelude.{◌≡◌, ◌<◌, ◌≤◌, true, false, None, Some, IfOk, IfSome, OnErr, length};
+ghost use Rattle.std.specs.Prelude.{◌≡◌, ◌<◌, ◌≤◌, true, false, None, Some, IfOk, IfSome, OnErr, find, length};
 ghost use Rattle.sctp_association.specs.Counts.{IsCountedAlike, IsCountedOn};
 ghost use Rattle.sctp_association.specs.Packets.{PutsOut};
-ghost use Rattle.sctp_association.specs.Sending.{IsTimed, idle_times, is_later, lowered_times, lowered, may_send_again, may_send_next};
+ghost use Rattle.sctp_association.specs.Sending.{IsTimed, idle_times, is_early, is_later, lowered_times, lowered, may_send_again, may_send_next, sent_at};
 ghost use Rattle.sctp_outbound.specs.pending_queue.PendingQueue.{next_pending};
+ghost use Rattle.sctp_path.specs.Rto.{smoothed_of};
+ghost use Rattle.sctp_sender.specs.Resending.{is_to_resend};
 ghost use Rattle.sctp_stream.specs.Stats.{count_up};
 
 use super::{DATA_HEADER, Outbound};
@@ -108,7 +110,10 @@ impl Outbound {
     ) -> Result<bool, Fault>
         ensures made { PutsOut self.old.sender self.new.sender packet.old.bytes packet.new.bytes }
         ensures sent { IfOk result (λ sent. sent ≡ true
-            → may_send_again is_fast flight self.old.congestion ≡ true) }
+            → may_send_again is_fast
+            (is_early flight now self.old.timed_out (smoothed_of self.old.rto.trips)
+            (sent_at (find is_to_resend self.old.sender.flight.queue.inflight.chunks)))
+            flight self.old.congestion ≡ true) }
         ensures counted { IfOk result (λ sent. sent ≡ true
             → self.new.resent ≡ count_up self.old.resent 1) }
         ensures uncounted { IfOk result (λ sent. sent ≡ false
@@ -119,7 +124,7 @@ impl Outbound {
         ensures err { OnErr result ((self.new ≡ self.old) × (packet.new ≡ packet.old)) }
         ensures limit { packet.new.limit ≡ packet.old.limit }
     {
-        if !is_fast && !self.congestion.may_send(flight) {
+        if !self.may_send_again(is_fast, flight, now) {
             return Ok(false);
         }
         // Where none is marked, what waits may go.
@@ -128,6 +133,40 @@ impl Outbound {
             return Ok(false);
         }
         self.put_first(packet, now)
+    }
+
+    // Whether DATA may be sent again (RFC 9260 6.3.3 E3, 7.2.4). `is_fast` and `flight` are as they were when the packet began.
+    fn may_send_again(&self, is_fast: bool, flight: usize, now: u64) -> bool
+        ensures { result ≡ may_send_again is_fast
+            (is_early flight now self.now.timed_out (smoothed_of self.now.rto.trips)
+            (sent_at (find is_to_resend self.now.sender.flight.queue.inflight.chunks)))
+            flight self.now.congestion }
+    {
+        if is_fast {
+            return true;
+        }
+        self.congestion.may_send(flight) && !self.is_early(flight, now)
+    }
+
+    // Whether the chunk that is to be sent again first waits: a SACK of its first sending may still come, and something is outstanding. It is
+    // looked for only in the round trip after T3-rtx expired.
+    fn is_early(&self, flight: usize, now: u64) -> bool
+        ensures { result ≡ is_early flight now self.now.timed_out (smoothed_of self.now.rto.trips)
+            (sent_at (find is_to_resend self.now.sender.flight.queue.inflight.chunks)) }
+    {
+        let Some(trip) = self.rto.smoothed() else {
+            return false;
+        };
+        if flight == 0 || now.saturating_sub(self.timed_out) >= trip {
+            return false;
+        }
+        let Some(chunk) = replay::next_to_retransmit(&self.sender) else {
+            return false;
+        };
+        match chunk.since {
+            Some(since) => since < self.timed_out && now.saturating_sub(since) < trip,
+            None => false,
+        }
     }
 
     // Sends the first chunk again that is marked, where it fits: seldom, and so apart.
@@ -150,6 +189,7 @@ impl Outbound {
         self.is_fast = false;
         self.resent = self.resent.saturating_add(1);
         self.used = now;
+        self.congestion.sent_again();
         self.stop_where_first(chunk.tsn);
         packet.put(&chunk);
         Ok(true)
