@@ -1,10 +1,11 @@
 /* What the worst packets of 1,400 bytes cost: processor time of a packet that is read and followed, the least of three runs.
  *
  * Of several FORWARD-TSNs and of several SACKs in a packet the first one is followed (docs/C.md). A row that begins with `all:` is what a
- * caller pays who follows all of them.
+ * caller pays who follows all of them. A row that begins with `advised:` is of a caller who keeps to the limits of docs/HALVES.md: a window
+ * of 1 MiB, 1,024 streams, 4,096 chunks in flight.
  *
  * The aim is a millisecond for a packet, and 50 ms to send 65,534 chunks again. A row that misses it is printed with `over`, and stands in
- * SECURITY.md. Of the other rows eight times the aim is asserted, since machines differ. */
+ * SECURITY.md. Of the advised rows, and of some others, eight times the aim is asserted, since machines differ. */
 #define _POSIX_C_SOURCE 199309L
 #include "check.h"
 #include "peer.h"
@@ -12,6 +13,9 @@
 #include <time.h>
 
 enum { PACKET = 1400, RUNS = 3, REACH = 250000, ALL = 65536, IN_FLIGHT = 65535, INCOMPLETE = 4975 };
+
+/* What HALVES.md advises; so many messages of a byte fill that window. */
+enum { ADVISED_WINDOW = 1 << 20, ADVISED_STREAMS = 1024, ADVISED_IN_FLIGHT = 4096, ADVISED_HELD = 2606 };
 
 static sctpr_receiver receiver;
 static sctpr_sender sender;
@@ -107,11 +111,15 @@ static void take_all(void) { take_chunks(1); }
 
 /* ---- Receivers ------------------------------------------------------------------------------------------------------------- */
 
-static void begin_receiver(uint32_t streams) {
-    CHECK(sctpr_receiver_new(1, 1 << 20, (size_t)512 << 20, REACH, &receiver) == SCTPR_OK);
+static void begin_receiver_with(uint32_t most, size_t window, uint32_t streams) {
+    CHECK(sctpr_receiver_new(1, most, window, REACH, &receiver) == SCTPR_OK);
     for (uint32_t i = 0; i < streams; i++) must(sctpr_receiver_open(&receiver, (uint16_t)i), SCTPR_OK);
     begin_packet();
 }
+
+static void begin_receiver(uint32_t streams) { begin_receiver_with(1 << 20, (size_t)512 << 20, streams); }
+
+static void begin_advised_receiver(void) { begin_receiver_with(1 << 16, ADVISED_WINDOW, ADVISED_STREAMS); }
 
 static void give(uint32_t tsn, uint16_t stream, uint16_t ssn, uint8_t flags) {
     uint8_t complete;
@@ -119,15 +127,29 @@ static void give(uint32_t tsn, uint16_t stream, uint16_t ssn, uint8_t flags) {
     must(sctpr_receiver_data(&receiver, chunk, put_data(chunk, &data), &complete), SCTPR_OK);
 }
 
-/* Incomplete messages at every second TSN, over so many streams, and 170 FORWARD-TSNs, each past the next fragment of the next message, with
- * the message's name or without. */
-static void skips(uint32_t count, uint32_t streams, size_t names) {
-    begin_receiver(streams);
+/* Incomplete messages at every second TSN, over so many streams. */
+static void hold_incomplete(uint32_t count, uint32_t streams) {
     for (uint32_t i = 0; i < count; i++) give(2 + 2 * i, (uint16_t)(i % streams), (uint16_t)(i / streams), FIRST);
+}
+
+/* 170 FORWARD-TSNs, each past the next fragment of the next message, with the message's name or without. */
+static void add_skips(uint32_t streams, size_t names) {
     for (uint32_t i = 0; i < 170; i++) {
         struct sctpr_skip name = { (uint16_t)(i % streams), (uint16_t)(i / streams) };
         if (!add_forward_tsn(3 + 2 * i, &name, names)) break;
     }
+}
+
+static void skips(uint32_t count, uint32_t streams, size_t names) {
+    begin_receiver(streams);
+    hold_incomplete(count, streams);
+    add_skips(streams, names);
+}
+
+static void advised_skips(size_t names) {
+    begin_advised_receiver();
+    hold_incomplete(ADVISED_HELD, ADVISED_STREAMS);
+    add_skips(ADVISED_STREAMS, names);
 }
 
 static void skips_on_one(void) { skips(INCOMPLETE, 1, 0); }
@@ -136,14 +158,33 @@ static void skips_on_as_many(void) { skips(INCOMPLETE, INCOMPLETE, 0); }
 static void skips_on_all(void) { skips(65535, 65535, 0); }
 static void named_skips_on_one(void) { skips(INCOMPLETE, 1, 1); }
 static void named_skips_on_all(void) { skips(65535, 65535, 1); }
+static void advised_skips_plain(void) { advised_skips(0); }
+static void advised_skips_named(void) { advised_skips(1); }
 
-/* One FORWARD-TSN that names 345 of all streams, each with an incomplete message. */
-static void many_names(void) {
+/* One FORWARD-TSN past so many incomplete messages, that names 345 of so many streams, which have them. */
+static void add_names(uint32_t count, uint32_t streams) {
     static struct sctpr_skip names[345];
-    skips(65535, 65535, 0);
     begin_packet();
-    for (size_t i = 0; i < 345; i++) names[i].stream = (uint16_t)(190 * i), names[i].sequence = 0;
-    CHECK(add_forward_tsn(2 + 2 * 65535, names, 345));
+    for (size_t i = 0; i < 345; i++) names[i].stream = (uint16_t)(streams / 345 * i), names[i].sequence = 0;
+    CHECK(add_forward_tsn(2 + 2 * count, names, 345));
+}
+
+static void many_names(void) {
+    skips(65535, 65535, 0);
+    add_names(65535, 65535);
+}
+
+static void advised_names(void) {
+    advised_skips(0);
+    add_names(ADVISED_HELD, ADVISED_STREAMS);
+}
+
+/* 69 DATA, each between two of 1,200 incomplete messages, by its TSN. */
+static void advised_gaps(void) {
+    begin_advised_receiver();
+    hold_incomplete(1200, ADVISED_STREAMS);
+    for (uint32_t i = 0; add_data(1001 + 2 * i, 0, 0, UNORDERED); i++) {
+    }
 }
 
 /* A chunk fills the gap before 100,000 TSNs; others fill gaps in the middle of 50,000 runs of one TSN each. */
@@ -207,57 +248,71 @@ static void sack_out(void) {
 
 /* ---- Senders --------------------------------------------------------------------------------------------------------------- */
 
-static void begin_sender(void) {
+static void begin_sender(uint32_t in_flight) {
     size_t n;
     uint64_t number;
     uint32_t tsn;
     CHECK(sctpr_sender_new(1, 1000, 1000, 1, &sender) == SCTPR_OK && sctpr_sender_open(&sender, 0) == SCTPR_OK);
     must(sctpr_sender_set_mode(&sender, 0, 1, SCTPR_RELIABLE, 0), SCTPR_OK);
-    for (uint32_t i = 0; i < IN_FLIGHT; i++) {
+    for (uint32_t i = 0; i < in_flight; i++) {
         must(sctpr_sender_write(&sender, 0, SCTPR_PPID_BINARY, chunk, 1, &number, &n), SCTPR_OK);
         must(sctpr_sender_send_next(&sender, 1, chunk, sizeof chunk, &n, &tsn), SCTPR_OK);
     }
     begin_packet();
 }
 
-static void reports_in_turn(void) {
-    begin_sender();
-    blocks[0].start = 2, blocks[0].end = 65535;
-    for (int i = 0; i < 68; i++) CHECK(add_sack(0, i % 2 == 0));
+/* A SACK of all but the first chunk. */
+static size_t put_all_but_one(uint32_t in_flight) {
+    blocks[0].start = 2, blocks[0].end = (uint16_t)in_flight;
+    return put_sack(chunk, 0, blocks, 1);
+}
+
+static void turns(uint32_t in_flight) {
+    begin_sender(in_flight);
+    for (int i = 0; i < 68; i++) CHECK(add(i % 2 == 0 ? put_all_but_one(in_flight) : put_sack(chunk, 0, blocks, 0)));
 }
 
 /* A SACK of no block, where all but the first chunk are reported. */
-static void reports_taken_back(void) {
+static void taken_back(uint32_t in_flight) {
     size_t count = 0;
-    begin_sender();
-    blocks[0].start = 2, blocks[0].end = 65535;
-    must(sctpr_sender_acked(&sender, chunk, put_sack(chunk, 0, blocks, 1), rows, ALL, &count), SCTPR_OK);
-    CHECK(count == IN_FLIGHT - 1 && add_sack(0, 0));
+    begin_sender(in_flight);
+    must(sctpr_sender_acked(&sender, chunk, put_all_but_one(in_flight), rows, ALL, &count), SCTPR_OK);
+    CHECK(count == in_flight - 1 && add_sack(0, 0));
 }
 
-/* Two SACKs of 170 blocks, each of which reports what the other does not. */
-static void many_blocks(void) {
-    begin_sender();
+/* Two SACKs of 167 blocks, each of which reports what the other does not. */
+static void many_blocks_of(uint32_t in_flight) {
+    uint32_t pitch = in_flight / 168, half = pitch / 2;
+    begin_sender(in_flight);
     for (uint32_t turn = 0; turn < 2; turn++) {
         for (uint32_t i = 0; i < 167; i++) {
-            blocks[i].start = (uint16_t)(2 + 390 * i + 195 * turn);
-            blocks[i].end = (uint16_t)(blocks[i].start + 190);
+            blocks[i].start = (uint16_t)(2 + pitch * i + half * turn);
+            blocks[i].end = (uint16_t)(blocks[i].start + half - 5);
         }
         CHECK(add_sack(0, 167));
     }
 }
 
 /* SACKs that each report one chunk more, the last one, so that all before it are missing once more. */
-static void one_more_each(void) {
-    begin_sender();
+static void one_more(uint32_t in_flight) {
+    begin_sender(in_flight);
     for (uint32_t i = 0; i < 68; i++) {
-        blocks[0].start = (uint16_t)(65535 - i), blocks[0].end = 65535;
+        blocks[0].start = (uint16_t)(in_flight - i), blocks[0].end = (uint16_t)in_flight;
         if (!add_sack(0, 1)) break;
     }
 }
 
+static void reports_in_turn(void) { turns(IN_FLIGHT); }
+static void reports_taken_back(void) { taken_back(IN_FLIGHT); }
+static void many_blocks(void) { many_blocks_of(IN_FLIGHT); }
+static void one_more_each(void) { one_more(IN_FLIGHT); }
+static void advised_turns(void) { turns(ADVISED_IN_FLIGHT); }
+static void advised_taken_back(void) { taken_back(ADVISED_IN_FLIGHT); }
+static void advised_blocks(void) { many_blocks_of(ADVISED_IN_FLIGHT); }
+static void advised_one_more(void) { one_more(ADVISED_IN_FLIGHT); }
+
 static void marked(void) {
-    begin_sender();
+    begin_sender(IN_FLIGHT);
     sctpr_sender_retransmit_all(&sender);
 }
 
@@ -301,6 +356,14 @@ static const struct row {
     { "a SACK of 167 blocks of 191, reports kept", many_blocks, take_packet, 1000, 0 },
     { "a SACK that reports one chunk, 65,535 in flight", one_more_each, take_packet, 1000, 0 },
     { "65,535 marked chunks are sent again", marked, sent_again, 50000, 1 },
+    { "advised: FORWARD-TSNs by one, 2,606 messages of 1,024 streams", advised_skips_plain, take_packet, 1000, 1 },
+    { "advised: the same with a name", advised_skips_named, take_packet, 1000, 1 },
+    { "advised: a FORWARD-TSN of 345 names past all", advised_names, take_packet, 1000, 1 },
+    { "advised: 69 DATA between 1,200 runs of a TSN", advised_gaps, take_packet, 1000, 1 },
+    { "advised: a SACK of 2..4,096, reports kept", advised_turns, take_packet, 1000, 1 },
+    { "advised: a SACK of none behind it, which takes that back", advised_taken_back, take_packet, 1000, 1 },
+    { "advised: a SACK of 167 blocks of 8, reports kept", advised_blocks, take_packet, 1000, 1 },
+    { "advised: a SACK that reports one chunk, 4,096 in flight", advised_one_more, take_packet, 1000, 1 },
     { "all: 170 FORWARD-TSNs by one, 4,975 incomplete messages of a stream", skips_on_one, take_all, 1000, 0 },
     { "all: the same, one on each of 1,024 streams", skips_on_some, take_all, 1000, 0 },
     { "all: the same, each on a stream of its own", skips_on_as_many, take_all, 1000, 0 },
