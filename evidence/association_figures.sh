@@ -1,5 +1,5 @@
 #!/bin/sh
-# All figures of docs/SIMULATION.md, in its order: goodput, two associations that share a bottleneck, heap.
+# The figures of docs/SIMULATION.md but the means of many seeds, in its order: goodput, two associations that share a bottleneck, heap.
 #
 #     evidence/association_figures.sh [SEEDS]
 #
@@ -11,5 +11,5 @@ ASSOCRUN=${ASSOCRUN:-crates/assocrun/out/assocrun}
 echo "goodput, retransmissions, SACKs a packet, longest stall"
 python3 evidence/simulate.py --ours "$ASSOCRUN" --page --seeds "${1:-3}"
 echo "two associations share the bottleneck"
-python3 evidence/simulate.py --ours "$ASSOCRUN" --page --fair --rates 1,10 --losses 0,1
+python3 evidence/simulate.py --ours "$ASSOCRUN" --page --fair --rates 1,10 --losses 0,1 --seeds "${1:-3}"
 python3 evidence/heap.py --ours "$ASSOCRUN"
