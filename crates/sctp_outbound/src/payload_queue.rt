@@ -187,8 +187,7 @@ fn first_after(held: &Held, cumulative_tsn: u32, turns: &mut Turns) -> usize
 const WALKED: usize = 4;
 
 // The last place before `end` up to which TSNs rise by one, from a place behind which four do, up to this TSN; and the TSN behind it
-// where it was seen. It looks as far ahead as the run reaches, then between: fewer turns than twice the run's binary logarithm, and
-// at most 29.
+// where it was seen. It looks as far ahead as the run reaches, then between.
 fn run_end(
     held: &Held,
     place: usize,

@@ -693,9 +693,7 @@ fn set_of_run(chunks: FragmentList, turns: &mut Turns) -> Fragments
     Fragments::new_counted(0, ppi, chunks, turns)
 }
 
-// How long the message of an unordered chunk would be with it, up to the greatest number. Its turns are added. It stands apart, so
-// that what an ordered chunk takes stays small.
-#[inline(never)]
+// How long the message of an unordered chunk would be with it, up to the greatest number. Its turns are added.
 fn unordered_size(
     chunk: &ChunkPayloadData,
     unassembled: &Loose,

@@ -157,7 +157,9 @@ impl Line {
         let len = chunk.user_data.len();
         self.chunks.reserve(1)?;
         self.chunks.push_back_reserved(chunk);
-        self.room = self.room.saturating_sub(1);
+        if self.room > 0 {
+            self.room -= 1;
+        }
         self.n_bytes += len;
         Ok(())
     }
@@ -196,7 +198,9 @@ impl Line {
             Some(chunk) => self.chunks.push_back_reserved(chunk),
             None => unreachable!(),
         }
-        self.room = self.room.saturating_sub(1);
+        if self.room > 0 {
+            self.room -= 1;
+        }
         self.n_bytes += len;
         Ok(())
     }

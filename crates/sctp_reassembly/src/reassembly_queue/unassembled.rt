@@ -203,8 +203,8 @@ impl Loose {
         Ok(())
     }
 
-    // Whether they stand in serial order with the number at the place. It stands apart, so that the call of a push stays small.
-    #[inline(never)]
+    // Whether they stand in serial order with the number at the place.
+    #[inline(always)]
     fn stays_serial(&self, place: usize, tsn: u32, turns: &mut Turns) -> bool
         requires { place ≤ length self.now.chunks }
         ensures flag { (x : ChunkPayloadData)

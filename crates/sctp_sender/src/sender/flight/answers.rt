@@ -256,6 +256,7 @@ pub(super) fn judge_each(
 }
 
 // Whether all of the message of the chunk in flight at a place is acknowledged: as the last answer says, if that is of this message.
+#[inline(always)]
 fn whole_or_last(
     queue: &OutboundQueue,
     partial: Option<u64>,
@@ -283,6 +284,7 @@ fn whole_or_last(
 
 // Whether nothing of the message of the chunk in flight at a place waits, and each chunk of it in flight is acknowledged, and not
 // abandoned.
+#[inline(always)]
 fn is_closed(
     queue: &OutboundQueue,
     partial: Option<u64>,
