@@ -1,17 +1,17 @@
--- Sessions of every call: in the end each ordered DATA chunk of a stream that goes on, and that no FORWARD-TSN names, was read.
+-- Sessions of every call: in the end each ordered DATA chunk of a stream that goes on was read, but of messages that may be passed over.
 use Rattle.sctp_delivery.proofs.Names.{◌≡◌, ℕ, suc, ◌+◌, ◌^◌, ◌<◌, ◌≤◌, Bool, true, false, List, [], ◌∷◌, length, Option, Some, None, inl, inr, refl, ap, sym}
 use Rattle.sctp_delivery.proofs.Names.{subst, ◌∙◌, arith, All, Contains, if◌then◌else◌, list_any, nat_le, cases_lt, nat_tests}
 use Rattle.sctp_delivery.proofs.Names.{or-left, or-split, same-is, same-yes, and, not_both, none-some, at_or_before, at_or_before16, tsn}
 use Rattle.sctp_delivery.proofs.Names.{at_or_before16-index, ChunkPayloadData, ChunkSet, Data, data_of, has_tsn, is_complete, is_readable, front_readable}
 use Rattle.sctp_delivery.proofs.Names.{message_read, Reassembly, InboundStream, Reception, stream_of, Message, reads_nothing, data_chunk, AreMade, AreMessages}
-use Rattle.sctp_delivery.proofs.Names.{Session, AllPass-from_list_all, ◌==◌, is_ordered_on, not}
+use Rattle.sctp_delivery.proofs.Names.{Session, AllPass-from_list_all, ◌==◌, ◌%◌, ◌⊎◌, is_ordered_on, not}
 use Rattle.std.proofs.lemmas.List.Folds.{Any-from_list_any}
 use Rattle.sctp_data.specs.ChunkSet.{fresh}
 use Rattle.sctp_reassembly.specs.reassembly_queue.ReassemblyQueue.{message_among}
 use Rattle.sctp_delivery.specs.EveryEnd.{IsReadOn}
 use Rattle.sctp_delivery.proofs.Cases.{by-test}
 use Rattle.sctp_delivery.proofs.Delivered.{found-sent-on}
-use Rattle.sctp_delivery.proofs.EveryFronts.{FrontOf, HasFront, HasRead, IsReadUp, from-next, index-is, next_of}
+use Rattle.sctp_delivery.proofs.EveryFronts.{FrontOf, HasRead, IsHeldOn, IsReadUp, index-is, next_of, one-index}
 use Rattle.sctp_delivery.proofs.InTheEnd.{unread-of}
 use Rattle.sctp_delivery.proofs.MessagePlaces.{IsEntryAt, has-all, misses-one, place-tsn}
 use Rattle.sctp_delivery.proofs.NotRefused.{begin-place}
@@ -24,6 +24,7 @@ use Rattle.sctp_delivery.proofs.UnwrappedHolds as holds
 use Rattle.sctp_delivery.proofs.UnwrappedHolds.{AreDue, at-in}
 use Rattle.sctp_delivery.proofs.UnwrappedReads.{AreSets, IsDue, later-none}
 use Rattle.sctp_delivery.proofs.UnwrappedSessions as sessions
+use Rattle.sctp_delivery.proofs.WholeSets.{HasFront, IsFront, IsHeldIn, before-is}
 
 module _ (st first : ℕ) (on dropped : ℕ → Bool) (o : on st ≡ true) (n : ℕ) (s : Session) (ns : List Numbered) (sent : List Entry)
     (i : IsSpreadOn on dropped first n s ns sent) (few : n < 2 ^ 31) where
@@ -59,7 +60,7 @@ module _ (st first : ℕ) (on dropped : ℕ → Bool) (o : on st ≡ true) (n : 
 
   -- ## Nothing is in flight, and nothing is to be read
 
-  module _ (d : AreDue p st n B E M i.step.numbered.acked s.receiving) (u : IsReadUp st first n sent (stream_of st r) s.receiving.read)
+  module _ (d : AreDue p st n B E M i.step.numbered.acked s.receiving) (G : ℕ → Type 0) (u : IsReadUp st first n sent G (stream_of st r) s.receiving.read)
       (landed : s.sending.sender.flight.queue.inflight.chunks ≡ []) (unbegun : s.sending.sender.flight.queue.pending.selected ≡ None)
       (unread : reads_nothing r ≡ true) where
     long : length sent ≡ n
@@ -110,25 +111,60 @@ module _ (st first : ℕ) (on dropped : ℕ → Bool) (o : on st ≡ true) (n : 
         | inr h ↦ h
       ]
 
+      -- the front set is not complete, if it is of the next message or of one before it
+      not-whole : (x : ChunkSet) (xs : List ChunkSet) → q.ordered ≡ x ∷ xs → (j : ℕ) → x.ssn ≡ j % 2 ^ 16 → due.low ≤ j → j ≤ due.index
+          → is_complete x.chunks ≡ true → ⊥
+      not-whole x xs is j number lo le c =
+          let near = due.near in
+          let order : nat_le j due.index ≡ true = grind (arith, nat_tests, le) in
+          let at : at_or_before16 x.ssn q.next_ssn ≡ true = cc (
+            number,
+            due.next,
+            at_or_before16-index j due.index (omega (arith, le)) (omega (arith, near, lo)),
+            order,
+          ) in
+          let e : is_readable q.next_ssn x ≡ true = and (is_complete x.chunks) (at_or_before16 x.ssn q.next_ssn) c at in
+          by q.unordered refl (ap (front_readable q.next_ssn) is ∙ ap (λ b. if b then Some x else None) e)
+        where
+          by : (us : List ChunkSet) → q.unordered ≡ us → front_readable q.next_ssn q.ordered ≡ Some x → ⊥
+          by [] e f = none-some x (sym (sym f ∙ ap (λ us. message_among us q) (sym e) ∙ none))
+          by (v ∷ vs) e f = none-some v (sym (ap (λ us. message_among us q) (sym e) ∙ none))
+
+      -- so all sets are of the next message or of later ones
+      from-next : Sets due.index q.ordered
+      from-next = by q.ordered refl
+        where
+          by : (ss : List ChunkSet) → q.ordered ≡ ss → Sets due.index q.ordered
+          by [] is = subst (Sets due.index) (sym is) tt
+          by (x ∷ xs) is =
+              let a = subst (Sets due.low) is due.sets in
+              let lo = a.1.0.0 in
+              elim (cases_lt a.0 due.index) [
+                | inl lt ↦
+                    let whole = (subst (IsFront q.next_ssn) is front).0
+                    (before-is p n B Fits Came d.k d.reach q due front x a.0 a.1.0.2 lo a.1.0.1 lt) in
+                    absurd (not-whole x xs is a.0 a.1.0.2 lo (omega (arith, lt)) whole)
+                | inr ge ↦ subst (Sets due.index) (sym is) (a.0, ((ge, a.1.0.1, a.1.0.2), a.1.1), a.2)
+              ]
+
+      -- none before it is held whole
+      none-held : (j : ℕ) → j < due.index → IsHeldIn Fits j q.ordered → ⊥
+      none-held j lt = by due.index q.ordered (omega arith) from-next
+        where
+          by : (low : ℕ) (ss : List ChunkSet) → due.index ≤ low → Sets low ss → IsHeldIn Fits j ss → ⊥
+          by low [] le a h = absurd h
+          by low (x ∷ xs) le a h =
+              let lo = a.1.0.0 in
+              elim h [
+                | inl f ↦
+                    let same = one-index st first on dropped o n s ns sent i few j a.0 x.chunks f.0 a.1.1 f.1 in
+                    absurd (omega (arith, same, lo, le, lt))
+                | inr f ↦ by (a.0 + 1) xs (omega (arith, lo, le)) a.2 f
+              ]
+
       -- the front set is not that of the next message
       module _ (x : ChunkSet) (xs : List ChunkSet) (is : q.ordered ≡ x ∷ xs) (a : Sets due.index (x ∷ xs)) (same : a.0 ≡ due.index)
           (some : 0 < length x.chunks) (past : due.index < B n) where
-        not-whole : is_complete x.chunks ≡ true → ⊥
-        not-whole c =
-            let order : nat_le a.0 due.index ≡ true = grind (arith, nat_tests, same) in
-            let at : at_or_before16 x.ssn q.next_ssn ≡ true = cc (
-              a.1.0.2,
-              due.next,
-              at_or_before16-index a.0 due.index (omega (arith, same)) (omega (arith, same)),
-              order,
-            ) in
-            let e : is_readable q.next_ssn x ≡ true = and (is_complete x.chunks) (at_or_before16 x.ssn q.next_ssn) c at in
-            by q.unordered refl (ap (front_readable q.next_ssn) is ∙ ap (λ b. if b then Some x else None) e)
-          where
-            by : (us : List ChunkSet) → q.unordered ≡ us → front_readable q.next_ssn q.ordered ≡ Some x → ⊥
-            by [] e f = none-some x (sym (sym f ∙ ap (λ us. message_among us q) (sym e) ∙ none))
-            by (v ∷ vs) e f = none-some v (sym (ap (λ us. message_among us q) (sym e) ∙ none))
-
         not-open : is_complete x.chunks ≡ false → ⊥
         not-open c =
             let miss = misses-one ns first sent line joined n long few st a.0 n (omega arith) (sent, part-itself sent, long, ends (given x.chunks a.1.1 some))
@@ -145,14 +181,16 @@ module _ (st first : ℕ) (on dropped : ℕ → Bool) (o : on st ≡ true) (n : 
             given (c ∷ cs) h lt = let w = h.0.within in omega (arith, w)
 
         no-front : ⊥
-        no-front = by-test (is_complete x.chunks) not-whole not-open
+        no-front =
+            let from = due.from in
+            by-test (is_complete x.chunks) (not-whole x xs is a.0 a.1.0.2 (omega (arith, same, from)) (omega (arith, same))) not-open
 
       all-begun : B n ≤ due.index
       all-begun = elim (cases_lt due.index (B n)) [
         | inr ge ↦ ge
         | inl lt ↦
             let z = begin-place st n due.index sent (omega (arith, lt)) in
-            absurd (by q.ordered refl (from-next p n B Fits Came d.k d.reach q due front) z.0 z.1 z.3 (held z.0 z.1 z.2 z.3) lt)
+            absurd (by q.ordered refl from-next z.0 z.1 z.3 (held z.0 z.1 z.2 z.3) lt)
       ]
         where
           by : (ss : List ChunkSet) → q.ordered ≡ ss → Sets due.index q.ordered → (z : ℕ) → z ≤ n → B z ≡ due.index + 1 → has z q.ordered ≡ true
@@ -186,8 +224,25 @@ module _ (st first : ℕ) (on dropped : ℕ → Bool) (o : on st ≡ true) (n : 
         by (Some l) is =
             let due = subst (holds.DueOn p st n B E M Came d.k d.reach) is d.due in
             let all = all-begun l is due (subst FrontOf is u.front) in
-            let same = index-is st first on dropped o n s ns sent i few s d u l due (ap next_of (sym is) ∙ u.number) in
+            let same = index-is st first on dropped o n s ns sent i few s d G u l due (ap next_of (sym is) ∙ u.number) in
             omega (arith, all, same)
+
+    -- and each of them was read, or may be passed over
+    pub all-done : (j : ℕ) → j < B n → HasRead st first n sent j s.receiving.read ⊎ G j
+    all-done j lt =
+        let up = all-up in
+        elim (u.done j (omega (arith, lt, up))) [
+          | inl h ↦ inl h
+          | inr h ↦ elim h [ inl k ↦ absurd (by (stream_of st r) refl k) | inr k ↦ inr k ]
+        ]
+      where
+        by : (l : Option InboundStream) → stream_of st r ≡ l → IsHeldOn st first n sent j (stream_of st r) → ⊥
+        by None is k = subst (IsHeldOn st first n sent j) is k
+        by (Some l) is k =
+            let due = subst (holds.DueOn p st n B E M Came d.k d.reach) is d.due in
+            let front = subst FrontOf is u.front in
+            let all = all-begun l is due front in
+            none-held l is due front j (omega (arith, all, lt)) (subst (IsHeldOn st first n sent j) is k)
 
   -- ## A chunk that was made
 
@@ -200,8 +255,8 @@ module _ (st first : ℕ) (on dropped : ℕ → Bool) (o : on st ≡ true) (n : 
   ]
 
   pub was-read : AreMessages s → AreMade s → (d : Data) (w : Numbered) (after : List ℕ) (xs : List Entry) → IsPart (fragment d w after ∷ xs) sent
-      → d.stream_identifier ≡ st → d.unordered ≡ false → ((j : ℕ) → j < B n → HasRead st first n sent j s.receiving.read)
-      → IsReadOn st d s.receiving.read
+      → d.stream_identifier ≡ st → d.unordered ≡ false
+      → ((j : ℕ) → j < B n → B (suc (length xs)) ≡ j + 1 → HasRead st first n sent j s.receiving.read) → IsReadOn st d s.receiving.read
   was-read whole made d w after xs part on' kind read =
       let c0 = fresh d in
       let ordered : is_ordered_on st c0 ≡ true =
@@ -209,7 +264,6 @@ module _ (st first : ℕ) (on dropped : ℕ → Bool) (o : on st ≡ true) (n : 
       let entry = sessions.entry-of st first on dropped o n s ns sent i few c0 (w, after, xs, part) in
       let own = entry.step.number ordered in
       let top = grows (entry.before + 1) n (let w' = entry.within in let long = i.long in omega (arith, w', long)) in
-      let m = read-at own.0 s.receiving.read (read own.0 (let e = own.1 in omega (arith, e, top))) in
       let e : IsEntryAt sent (suc (length xs)) d w = record { after = after; entries = xs; part = part; place = refl } in
       let within : suc (length xs) ≤ n = let l = part-length sent (fragment d w after ∷ xs) part in let long = i.long in omega (arith, l, long) in
       let is = place-tsn ns first sent line joined n i.long few (suc (length xs)) d w e in
@@ -217,6 +271,7 @@ module _ (st first : ℕ) (on dropped : ℕ → Bool) (o : on st ≡ true) (n : 
       same-place p (entry.before + 1) (suc (length xs)) (let w' = entry.within in let long = i.long in omega (arith, w', long, few))
       (omega (arith, within, few))
       (sym entry.is ∙ is) in
+      let m = read-at own.0 s.receiving.read (read own.0 (let e = own.1 in omega (arith, e, top)) (ap B (sym at) ∙ sym own.1)) in
       let complete : is_complete m.0.fragments ≡ true =
       subst (λ (x : Message). is_complete x.fragments ≡ true) m.1.2
       (AllPass-from_list_all (λ x. is_complete x.fragments) s.receiving.read whole.0 m.1.0 m.0 m.1.1) in

@@ -1,7 +1,7 @@
 -- Sessions of every call, on a stream that goes on: each TSN that came was taken, or is of a message that is gone; and what is lost of unordered
 -- messages is of such. A message is gone that was abandoned, or of which a chunk was dropped.
 use Rattle.sctp_delivery.proofs.Names.{◌≡◌, ℕ, suc, ◌+◌, ◌-◌, ◌<◌, ◌≤◌, ◌^◌, Bool, true, false, List, [], ◌∷◌, length, map, Option, Some, None, inl, inr}
-use Rattle.sctp_delivery.proofs.Names.{refl, ap, sym, subst, ◌∙◌, arith, ◌||◌, ◌==◌, if◌then◌else◌, nat_eq, filter, list_any, list_any_at, list_all, sum_by}
+use Rattle.sctp_delivery.proofs.Names.{⊤, refl, ap, sym, subst, ◌∙◌, arith, ◌||◌, ◌==◌, if◌then◌else◌, nat_eq, filter, list_any, list_any_at, list_all, sum_by}
 use Rattle.sctp_delivery.proofs.Names.{nat_tests, cases_lt, or-left, or-right, or-split, same-is, same-yes, not_both, eq-eqb, at_or_before, tsn}
 use Rattle.sctp_delivery.proofs.Names.{distance, distance-tsn, ChunkPayloadData, Data, data_of, data_chunk, forward_tsn, ForwardTsn, New, has_tsn, has_come}
 use Rattle.sctp_delivery.proofs.Names.{filter_of, with_filter, with_tsn, Reassembly, InboundStream, stream_of, Reception, Stand, Message}
@@ -30,7 +30,7 @@ use Rattle.sctp_delivery.proofs.InTheEnd.{some-of, unread-of}
 use Rattle.sctp_delivery.proofs.KeptSets.{IsUnordered, OnlyFirst}
 use Rattle.sctp_delivery.proofs.UnorderedGone as unordered_gone
 use Rattle.sctp_delivery.proofs.UnorderedGone.{IsNeat, neat-kept, neat-more, pushed-neat}
-use Rattle.sctp_delivery.proofs.MessagePlaces.{IsEntryAt, place-tsn}
+use Rattle.sctp_delivery.proofs.MessagePlaces.{IsEntryAt, is_of_stream, place-tsn}
 use Rattle.sctp_delivery.proofs.OrderedEntries.{AreIndexedOn, AreJoined}
 use Rattle.sctp_delivery.proofs.PassedMessages.{AreCutGone, ArePassing, AreTakenOrGone, EndsMessage, IsMadePassing, IsPassing, is_gone}
 use Rattle.sctp_delivery.proofs.PassingCalls as passing_calls
@@ -96,6 +96,67 @@ at-later gone more a sent xs (inr x) y h = subst (λ zs. gone_at more zs y ≡ t
     (let le = at-within gone sent y h in
     let other : (length (x.0 ∷ sent) == y) ≡ false = grind (arith, nat_tests, le) in
     ap (λ b. if b then is_gone_entry more x.0 else gone_at more sent y) other ∙ at-among gone more a sent y h)
+
+-- ## Messages that are not ordered ones of a stream
+
+abbrev pub elsewhere : ℕ → List Entry → List ℕ
+elsewhere st [] = []
+elsewhere st (terminal ∷ xs) = elsewhere st xs
+elsewhere st (fragment d w after ∷ xs) = if is_of_stream st d then elsewhere st xs else w.place ∷ elsewhere st xs
+
+elsewhere-more : (st : ℕ) (x : Entry) (xs : List Entry) → AreAmong (elsewhere st xs) (elsewhere st (x ∷ xs))
+elsewhere-more st terminal xs k e = e
+elsewhere-more st (fragment d w after) xs k e = at-if (λ (ms : List ℕ). is_gone ms k ≡ true) (is_of_stream st d) (λ _. e)
+    (λ _. or-right (nat_eq k w.place) (is_gone (elsewhere st xs) k) e)
+
+elsewhere-has : (st : ℕ) (d : Data) (w : Numbered) (after : List ℕ) (xs sent : List Entry) → IsPart (fragment d w after ∷ xs) sent
+    → is_of_stream st d ≡ false → is_gone (elsewhere st sent) w.place ≡ true
+elsewhere-has st d w after xs [] q off = let n = ap length q in absurd (omega (arith, n))
+elsewhere-has st d w after xs (y ∷ ys) (inr q) off = elsewhere-more st y ys w.place (elsewhere-has st d w after xs ys q off)
+elsewhere-has st d w after xs (y ∷ ys) (inl e) off = subst (λ zs. is_gone (elsewhere st zs) w.place ≡ true) e
+    (ap (λ b. is_gone (if b then elsewhere st xs else w.place ∷ elsewhere st xs) w.place) off
+    ∙ or-left (nat_eq w.place w.place) (is_gone (elsewhere st xs) w.place) (same-yes w.place))
+
+-- each has an entry that is none
+pub elsewhere-of : (st k : ℕ) (sent : List Entry) → is_gone (elsewhere st sent) k ≡ true → (d : Data) × (w : Numbered) × (after : List ℕ) × (xs : List Entry)
+    × IsPart (fragment d w after ∷ xs) sent × (is_of_stream st d ≡ false) × (w.place ≡ k)
+elsewhere-of st k [] e = absurd (not_both e)
+elsewhere-of st k (terminal ∷ xs) e = let r = elsewhere-of st k xs e in (r.0, r.1, r.2, r.3, inr r.4, r.5, r.6)
+elsewhere-of st k (fragment d w after ∷ xs) e = at-test (λ b. is_gone (if b then elsewhere st xs else w.place ∷ elsewhere st xs) k ≡ true
+    → (e : Data) × (v : Numbered) × (rest : List ℕ) × (ys : List Entry) × IsPart (fragment e v rest ∷ ys) (fragment d w after ∷ xs)
+    × (is_of_stream st e ≡ false) × (v.place ≡ k)) (is_of_stream st d)
+    (λ on h. let r = elsewhere-of st k xs h in (r.0, r.1, r.2, r.3, inr r.4, r.5, r.6))
+    (λ off h. elim (or-split (nat_eq k w.place) (is_gone (elsewhere st xs) k) h) [
+      | inl s ↦ (d, w, after, xs, inl refl, off, sym (same-is k w.place s))
+      | inr s ↦ let r = elsewhere-of st k xs s in (r.0, r.1, r.2, r.3, inr r.4, r.5, r.6)
+    ]) e
+
+-- these messages, or those
+abbrev pub listed : Option (List ℕ) → ℕ → List Entry → List ℕ
+listed None st sent = elsewhere st sent
+listed (Some others) st sent = others
+
+pub listed-more : (l : Option (List ℕ)) (st : ℕ) (sent more : List Entry) → IsOnceMore sent more → AreAmong (listed l st sent) (listed l st more)
+listed-more (Some others) st sent more once k e = e
+listed-more None st sent more (inl e) k h = subst (λ xs. is_gone (elsewhere st xs) k ≡ true) (sym e) h
+listed-more None st sent more (inr x) k h = subst (λ xs. is_gone (elsewhere st xs) k ≡ true) (sym x.1) (elsewhere-more st x.0 sent k h)
+
+-- a chunk that the call drops, and that had not come, is of one of these messages
+abbrev pub IsDropOf : List ℕ → List Entry → Session → ReceiverOther → Type 0
+IsDropOf gone sent s (discards c) = (w : Numbered) (after : List ℕ) (xs : List Entry) → IsPart (fragment (data_of c) w after ∷ xs) sent
+    → has_come c.tsn (filter_of s.receiving.receiver) ≡ false → is_gone gone w.place ≡ true
+IsDropOf gone sent s (closes_incoming stream) = ⊤
+IsDropOf gone sent s (resets_incoming stream last) = ⊤
+IsDropOf gone sent s (passes_over g) = ⊤
+
+-- where the stream goes on, it is not an ordered one of it
+pub drops-elsewhere : (st : ℕ) (gone : List ℕ) (sent : List Entry) (s : Session) (opened : Bool) (call : ReceiverOther)
+    → AreAmong (elsewhere st sent) gone → breaks opened st (of_receiving call) ≡ false → IsDropOf gone sent s call
+drops-elsewhere st gone sent s opened (discards c) among off =
+    λ w after xs q new'. among w.place (elsewhere-has st (data_of c) w after xs sent q off)
+drops-elsewhere st gone sent s opened (closes_incoming stream) among off = tt
+drops-elsewhere st gone sent s opened (resets_incoming stream last) among off = tt
+drops-elsewhere st gone sent s opened (passes_over g) among off = tt
 
 -- ## What is known of a TSN: it was taken, or is of a message that is gone
 
@@ -337,6 +398,28 @@ module _ (on dropped : ℕ → Bool) (st first n : ℕ) (few : n < 2 ^ 31) (old 
         later g.1.place g.3,
       )
 
+  -- it is of one of the messages that the call tells
+  pub drops-told : (call : ReceiverOther) → ((m : ℕ) → is_gone (dropped_by call old) m ≡ true → is_gone gone m ≡ true) → IsDropOf gone sent old call
+  drops-told (discards c) covers = λ w after xs q new'.
+      let num = number ns first sent line n i.long few gone old (data_of c) w after xs q in
+      let x = i.step.numbered in
+      let far : h.known.place < length xs + 1 = elim (cases_lt h.known.place (length xs + 1)) [
+        | inl lt ↦ lt
+        | inr ge ↦
+            let v = h.known.within in
+            absurd (not_both (sym new' ∙ or-left (at_or_before c.tsn r.cumulative_tsn) (list_any (λ u. u == c.tsn) r.beyond)
+            (upto-yes p (length xs + 1) h.known.place num.0 h.known.is (omega (arith, num.1, few)) (omega (arith, v, few)) ge)))
+      ] in
+      let all = x.total in
+      let tells = flight-tells on first n sent i.long few x.acked (flight_of old).queue.inflight.chunks (omega (arith, all)) x.run
+      (placed-each on first sent (flight_of old).queue.inflight.chunks i.holds.held.stands.known) (data_of c) w after xs q num.0
+      (omega (arith, far, least)) (omega (arith, all, num.1)) in
+      covers w.place (ap (λ b. is_gone (if b then [] else map (λ (d : ChunkPayloadData). d.message_id)
+      (filter (has_tsn c.tsn) (flight_of old).queue.inflight.chunks)) w.place) new' ∙ tells)
+  drops-told (closes_incoming stream) covers = tt
+  drops-told (resets_incoming stream last) covers = tt
+  drops-told (passes_over g) covers = tt
+
   -- of the receiver
   module _ (cut : AreCutGone gone sent) (made : IsTakenMade old) (whole : AreWholeOn sent st old.receiving.read) where
     was-made : (d : Data) → Contains old.made (data_chunk d) → WasSent sent d
@@ -451,30 +534,16 @@ module _ (on dropped : ℕ → Bool) (st first n : ℕ) (few : n < 2 ^ 31) (old 
 
       -- a chunk that is dropped is of a message that is gone
       dropped-known : (c : ChunkPayloadData) → Contains old.made (data_chunk (data_of c)) → has_come c.tsn (filter_of r) ≡ false
-          → ((m : ℕ) → is_gone (dropped_by (discards c) old) m ≡ true → is_gone gone m ≡ true) → known_so first gone sent old c.tsn ≡ true
+          → IsDropOf gone sent old (discards c) → known_so first gone sent old c.tsn ≡ true
       dropped-known c in' new' covers =
           let w = was-made (data_of c) in' in
           let num = number ns first sent line n i.long few gone old (data_of c) w.0 w.1 w.2 w.3 in
-          let x = i.step.numbered in
-          let far : h.known.place < length w.2 + 1 = elim (cases_lt h.known.place (length w.2 + 1)) [
-            | inl lt ↦ lt
-            | inr ge ↦
-                let v = h.known.within in
-                absurd (not_both (sym new' ∙ or-left (at_or_before c.tsn r.cumulative_tsn) (list_any (λ u. u == c.tsn) r.beyond)
-                (upto-yes p (length w.2 + 1) h.known.place num.0 h.known.is (omega (arith, num.1, few)) (omega (arith, v, few)) ge)))
-          ] in
-          let all = x.total in
-          let tells = flight-tells on first n sent i.long few x.acked (flight_of old).queue.inflight.chunks (omega (arith, all)) x.run
-          (placed-each on first sent (flight_of old).queue.inflight.chunks i.holds.held.stands.known) (data_of c) w.0 w.1 w.2 w.3 num.0
-          (omega (arith, far, least)) (omega (arith, all, num.1)) in
-          let dead = covers w.0.place (ap (λ b. is_gone (if b then [] else map (λ (d : ChunkPayloadData). d.message_id)
-          (filter (has_tsn c.tsn) (flight_of old).queue.inflight.chunks)) w.0.place) new' ∙ tells) in
           or-right (was_taken c.tsn old) (gone_at gone sent (place_in first c.tsn))
           (ap (λ t. gone_at gone sent (place_in first t)) num.0 ∙ gone-of ns first sent line n i.long few gone old (fragment (data_of c) w.0 w.1) w.2 w.3
-          ∙ dead)
+          ∙ covers w.0 w.1 w.2 w.3 new')
 
       pub other-told : (opened : Bool) (call : ReceiverOther) → ReceiverDoes call old new → breaks opened st (of_receiving call) ≡ false
-          → ((m : ℕ) → is_gone (dropped_by call old) m ≡ true → is_gone gone m ≡ true) → IsTold st first n gone new sent
+          → IsDropOf gone sent old call → IsTold st first n gone new sent
       other-told opened (discards c) f off covers = by-test (has_come c.tsn (filter_of r))
           (λ e.
           quiet (discards c) f f.step.accepted tt (repeat_tsn c.tsn r)

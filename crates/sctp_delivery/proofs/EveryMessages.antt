@@ -5,7 +5,7 @@ use Rattle.sctp_delivery.proofs.Names.{◌≤◌, None, Released, SenderCall, Se
 use Rattle.sctp_delivery.proofs.Names.{not_both, list_any-append, ChunkPayloadData, Message, has_tsn, is_complete, is_one_message, is_on}
 use Rattle.sctp_delivery.proofs.Names.{data_of, data_chunk, StandAt, fragments_of_all, are_apart, AreMade, AreMessages, Session, Write, Limits, Transmission}
 use Rattle.sctp_delivery.proofs.Names.{Modes, Stand, Data, Pending, Unknown, nat_eq, or-split, ◌-◌, if◌then◌else◌, inl, inr, is_all_acknowledged, reads_nothing}
-use Rattle.sctp_delivery.proofs.Names.{at_first, modes_from, AllPairs, Some, some-same}
+use Rattle.sctp_delivery.proofs.Names.{at_first, modes_from, AllPairs, Some, some-same, same-yes, ◌&&◌, ◌⊎◌}
 use Rattle.std.proofs.Common.{◌≢◌}
 use Rattle.sctp_delivery.proofs.Names.{Sack, IsAccounted, bytes_written, held_by_sender, total_bytes, with_inflight, sum_by, ◌||◌, ap₂}
 use Rattle.sctp_sender.specs.declared.sender.Reported.{Reported}
@@ -32,17 +32,17 @@ use Rattle.sctp_delivery.proofs.Delivered.{single-on}
 use Rattle.sctp_delivery.specs.Complete.{is_exhausted}
 use Rattle.sctp_delivery.specs.Modes.{unknown, was_written_ordered}
 use Rattle.sctp_delivery.specs.Order.{is_ordered_on, places_where}
-use Rattle.sctp_delivery.proofs.EveryEnds.{all-up, was-read}
-use Rattle.sctp_delivery.proofs.EveryFronts.{HasRead}
+use Rattle.sctp_delivery.proofs.EveryEnds.{all-done, was-read}
 use Rattle.sctp_delivery.proofs.EveryHeld.{even}
-use Rattle.sctp_delivery.proofs.EveryKept.{ended-read, whole-on}
+use Rattle.sctp_delivery.proofs.EveryKept.{elsewhere, elsewhere-of, ended-read, whole-on}
 use Rattle.sctp_delivery.proofs.EverySettled as every_settled
 use Rattle.sctp_delivery.proofs.EveryRuns as runs
-use Rattle.sctp_delivery.proofs.EveryShadows.{every, HasBesideSo, IsPlayedSo, has-beside-so, played-accounted}
+use Rattle.sctp_delivery.proofs.EveryShadows.{every, HasBesideSo, IsPlayedSo, MayPass, has-beside-so, played-accounted}
 use Rattle.sctp_delivery.proofs.Every.{Every, every-contained, every-of-all}
 use Rattle.sctp_delivery.proofs.OnceWritten.{EachRead, apart, places, stand}
 use Rattle.sctp_delivery.proofs.InTheEnd.{none-selected}
 use Rattle.sctp_delivery.proofs.KeptSessions.{IsIdle, begun-part, idle-of, same-write, slice-itself}
+use Rattle.sctp_delivery.proofs.MessagePlaces.{IsEntryAt, is_of_stream, same-message}
 use Rattle.sctp_delivery.proofs.ModeSessions.{kind-at, starts-ordered}
 use Rattle.sctp_delivery.proofs.Numbers.{number_of}
 use Rattle.sctp_delivery.proofs.AllBegun.{begins_in}
@@ -409,23 +409,56 @@ module _ (reported : Reported) (first size max most : ℕ) (limits : Option Limi
     whole-there =
         subst (λ y. AreComplete y × AreOfOneMessage y) (sym beside.shadow.receiving) (runs.messages reported first size max most limits cs s r)
 
-    -- ## Ordered ones, where no FORWARD-TSN names the stream
+    -- ## Ordered ones
 
-    module _ (unnamed : is_unnamed st s.made ≡ true) where
-      all-messages : (j : ℕ) → j < begun_to st n i.sent → HasRead st first n i.sent j q.receiving.read
-      all-messages j lt =
-          let x = beside.shadow in
-          let up = i.up st c (subst (λ ms. is_unnamed st ms ≡ true) (sym x.made) unnamed) in
-          let all = all-up st first (is_steady cs) (was_dropped cs) steady n q i.numbered i.sent i.spread few (i.answered st c).0 up landed unbegun unread in
-          up.read j (omega (arith, lt, all))
+    -- a message that has an ordered fragment of the stream has no other fragments
+    none-elsewhere : (d : Data) (w : Numbered) (after : List ℕ) (xs : List Entry) → IsPart (fragment d w after ∷ xs) i.sent → is_of_stream st d ≡ true
+        → list_any (nat_eq w.place) (elsewhere st i.sent) ≡ true → ⊥
+    none-elsewhere d w after xs part on' e =
+        let r = elsewhere-of st w.place i.sent e in
+        let line = i.spread.holds.held.stands.queued.line in
+        let a = (part-line i.numbered first i.sent (fragment d w after ∷ xs) part line).0 in
+        let b = (part-line i.numbered first i.sent (fragment r.0 r.1 r.2 ∷ r.3) r.4 line).0 in
+        let x = place-at i.numbered a.written.0 w i.spread.holds.placed a.written.1 a.written.2 in
+        let y = place-at i.numbered b.written.0 r.1 i.spread.holds.placed b.written.1 b.written.2 in
+        let at = r.6 in
+        let index : b.written.0 ≡ a.written.0 = omega (arith, x, y, at) in
+        let same : r.1 ≡ w = sym b.written.2 ∙ ap (λ k. slice_index_or i.numbered k r.1) index ∙ slice-itself i.numbered a.written.0 r.1 w a.written.1
+        ∙ a.written.2 in
+        let stream : r.0.stream_identifier ≡ d.stream_identifier = b.stream ∙ ap (λ (v : Numbered). v.stream) same ∙ sym a.stream in
+        let kind : r.0.unordered ≡ d.unordered =
+        sym (kind-at modes q i.numbered i.sent i.said i.spread.holds.placed r.0 r.1 r.2 r.3 b.written r.4 unknown)
+        ∙ ap (λ k. (slice_index_or modes.of_writes k unknown).mode.unordered) index
+        ∙ kind-at modes q i.numbered i.sent i.said i.spread.holds.placed d w after xs a.written part unknown in
+        not_both (sym r.5 ∙ ap (λ k. (k == st) && not r.0.unordered) stream ∙ ap (λ k. (d.stream_identifier == st) && not k) kind ∙ on')
 
-      -- of which it has each fragment
-      read-part : (d : Data) (w : Numbered) (after : List ℕ) (xs : List Entry) → IsPart (fragment d w after ∷ xs) i.sent → d.stream_identifier ≡ st
-          → d.unordered ≡ false → IsReadOn st d s.receiving.read
-      read-part d w after xs part on' kind =
-          subst (λ (y : Stand). IsReadOn st d y.read) beside.shadow.receiving
-          (was-read st first (is_steady cs) (was_dropped cs) steady n q i.numbered i.sent i.spread few whole-there made-there
-          d w after xs part on' kind all-messages)
+    -- each fragment of one was read, where no FORWARD-TSN names the stream, or the message is not gone
+    read-part : (d : Data) (w : Numbered) (after : List ℕ) (xs : List Entry) → IsPart (fragment d w after ∷ xs) i.sent → d.stream_identifier ≡ st
+        → d.unordered ≡ false → (is_unnamed st s.made ≡ true) ⊎ (list_any (nat_eq w.place) gone ≡ false) → IsReadOn st d s.receiving.read
+    read-part d w after xs part on' kind spared =
+        let x = beside.shadow in
+        let others' = elsewhere st i.sent in
+        let of-stream : is_of_stream st d ≡ true = and (d.stream_identifier == st) (not d.unordered) (ap (λ k. k == st) on' ∙ same-yes st) (ap not kind) in
+        let it : IsEntryAt i.sent (suc (length xs)) d w = record { after = after; entries = xs; part = part; place = refl } in
+        subst (λ (y : Stand). IsReadOn st d y.read) x.receiving
+        (was-read st first (is_steady cs) (was_dropped cs) steady n q i.numbered i.sent i.spread few whole-there made-there d w after xs part on' kind
+        (λ j lt is. elim (all-done st first (is_steady cs) (was_dropped cs) steady n q i.numbered i.sent i.spread few (i.answered st c).0
+        (MayPass st (gone ++ others') q.made i.sent) (i.up st c) landed unbegun unread j lt) [
+          | inl h ↦ h
+          | inr h ↦ absurd (elim spared [
+            | inl e ↦ not_both (sym h.0 ∙ ap (is_unnamed st) x.made ∙ e)
+            | inr e ↦
+                let g = h.1 in
+                let same = same-message i.numbered first i.sent i.spread.holds.held.stands.queued.line i.spread.holds.held.stands.queued.joined st g.0
+                (suc (length xs)) g.1 d g.2 w g.3 it g.4 of-stream (g.5 ∙ sym is) in
+                let dead = ap (λ (v : Numbered). list_any (nat_eq v.place) (gone ++ others')) (sym same) ∙ g.6 in
+                elim (or-split (list_any (nat_eq w.place) gone) (list_any (nat_eq w.place) others')
+                (sym (list_any-append (nat_eq w.place) gone others') ∙ dead)) [
+                  | inl k ↦ not_both (sym e ∙ k)
+                  | inr k ↦ none-elsewhere d w after xs part of-stream k
+                ]
+          ])
+        ]))
 
     -- ## Unordered ones, of messages that are not lost
 
@@ -435,8 +468,8 @@ module _ (reported : Reported) (first size max most : ℕ) (limits : Option Limi
         let x = beside.shadow in
         let all = i.taken in
         subst (λ (y : Stand). IsReadOn st d y.read) x.receiving
-        (ended-read (is_steady cs) (was_dropped cs) st first n few q i.numbered i.sent i.spread (gone ++ others) (i.answered st c) (i.told others refl st c)
-        (cut-later gone (gone ++ others) (gone-left gone others) i.sent i.cut) i.taken
+        (ended-read (is_steady cs) (was_dropped cs) st first n few q i.numbered i.sent i.spread (gone ++ others) (i.answered st c)
+        (i.told (Some others) refl st c) (cut-later gone (gone ++ others) (gone-left gone others) i.sent i.cut) i.taken
         (whole-on (is_steady cs) first q i.numbered i.sent st steady (let a = i.spread.long in omega (arith, a, few))
         i.spread.holds.held.stands.queued.line i.spread.holds.held.stands.queued.indexed i.spread.holds.made whole-there made-there
         (ap (λ (y : Stand). list_all (λ m. list_all (is_on m.stream) m.fragments) y.read) x.receiving ∙ on-each))
@@ -560,19 +593,18 @@ module _ (reported : Reported) (first size max most : ℕ) (limits : Option Limi
   pub sent-read : IsSentReadInTheEnd cs s
   sent-read exhausted st c unnamed d in' on' kind =
       let w = found-sent-on (is_steady cs) i.sent s.made d made in' in
-      read-part exhausted st c unnamed d w.0 w.1 w.2 w.3 on' kind
+      read-part exhausted st c d w.0 w.1 w.2 w.3 on' kind (inl unnamed)
 
-  -- and what was written on it
+  -- and what was written on it, whatever FORWARD-TSNs name
   pub ordered-read : IsOrderedReadInTheEnd gone cs s
   ordered-read exhausted = (
     own-places,
     own-stand,
     own-apart,
-    λ st c unnamed k left.
-        placed exhausted st c false gone (λ m e. e) (λ d w after xs part on' kind off. read-part exhausted st c unnamed d w after xs part on' kind) k left,
+    λ st c k left.
+        placed exhausted st c false gone (λ m e. e) (λ d w after xs part on' kind off. read-part exhausted st c d w after xs part on' kind (inr off)) k left,
   )
 
-  -- whatever FORWARD-TSNs name
   pub unordered-written-read : IsUnorderedReadInTheEnd (gone ++ others) cs s
   unordered-written-read exhausted = (
     own-places,

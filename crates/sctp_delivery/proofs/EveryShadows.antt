@@ -2,9 +2,9 @@
 use Rattle.sctp_delivery.proofs.Names.{◌≡◌, ℕ, ◌+◌, ◌<◌, ◌^◌, Bool, true, false, not, List, [], ◌∷◌, ◌++◌, length, map, Option, refl, ap, sym, subst}
 use Rattle.sctp_delivery.proofs.Names.{◌∙◌, arith, distance, not_both, or-left, or-right, filter, change_where, Limits, Modes, OutboundStream}
 use Rattle.sctp_delivery.proofs.Names.{Call, Follows, Session, bytes_written, of_receiver, of_sender, at_first, has_number, Transmission}
-use Rattle.sctp_delivery.proofs.Names.{abandoned_by, append-nil, append_assoc, SenderCall, Made, ForwardTsn, fails, is_pair_of, list_any_at, made_after}
+use Rattle.sctp_delivery.proofs.Names.{abandoned_by, append-nil, append_assoc, SenderCall, Made, ForwardTsn, is_pair_of, list_any_at, made_after}
 use Rattle.sctp_delivery.proofs.Names.{stream_of, ◌||◌, Mode, both, inl, inr, is_open, modes_from, negated, or-split, Some, None, none-some, nat_eq, list_any-append, ChunkPayloadData}
-use Rattle.sctp_delivery.proofs.Names.{has_come, has_tsn, filter_of}
+use Rattle.sctp_delivery.proofs.Names.{has_come, has_tsn, filter_of, ⊤}
 use Rattle.sctp_delivery.proofs.Names.{IsAccounted, Contains, at_start, list_any, same-yes, sum_by, Write, data_chunk, forward_tsn, data_of, if◌then◌else◌}
 use Rattle.sctp_receiver.specs.ReceiverRuns as receiver_runs
 use Rattle.sctp_sender.specs.declared.sender.Reported.{Reported}
@@ -33,26 +33,27 @@ use Rattle.sctp_delivery.proofs.AbandonedMessages.{marked-later, stays-begun-or-
 use Rattle.sctp_delivery.proofs.Calls.{numbered_after}
 use Rattle.sctp_delivery.proofs.Cases.{at-test}
 use Rattle.sctp_delivery.proofs.Delivered.{next_tsn}
-use Rattle.sctp_delivery.proofs.EveryFronts.{IsReadUp, other-up, receiver-up, sender-up}
-use Rattle.sctp_delivery.proofs.EveryKept.{IsTold, other-told, receiver-told, sender-told, told-beside, told-first, whole-on}
+use Rattle.sctp_delivery.proofs.EveryFronts.{IsGoneAt, IsReadUp, gone-later, other-up, receiver-up, sender-up}
+use Rattle.sctp_delivery.proofs.EveryKept.{IsDropOf, IsTold, drops-elsewhere, drops-told, elsewhere, listed, listed-more, other-told, receiver-told}
+use Rattle.sctp_delivery.proofs.EveryKept.{sender-told, told-beside, told-first, whole-on}
 use Rattle.sctp_delivery.proofs.EveryRuns as runs
 use Rattle.sctp_delivery.proofs.EveryTurns.{open-after, open-after-other, opens-it, other-answered}
 use Rattle.sctp_delivery.proofs.ModeSessions.{AreInModes, IsAsSaid, IsInModes, changed-in, said-after, said-beside, said-first}
 use Rattle.sctp_delivery.proofs.Numbers.{all-open, apart-changed, apart-closed, number-elsewhere, number_of, numbers-closed, sized-changed, sized-closed}
 use Rattle.sctp_delivery.proofs.Numbers.{there-changed, there-closed}
-use Rattle.sctp_delivery.proofs.PassedMessages.{AreCutGone, is_gone}
+use Rattle.sctp_delivery.proofs.PassedMessages.{AreCutGone, IsMadePassing, IsPassing, is_gone}
 use Rattle.sctp_delivery.proofs.Plain.{are-plain, plain}
 use Rattle.sctp_delivery.proofs.PlainCalls.{sender-goes}
 use Rattle.sctp_delivery.proofs.PlainRuns.{returns-goes, unmoved}
 use Rattle.sctp_delivery.proofs.PlainSessions.{Goes, IsThere, Others, Shadows, gone_by, kept_of, modes_by, receives-too}
 use Rattle.sctp_delivery.proofs.PlainStreams.{AreAlike, bare, both-changed}
-use Rattle.sctp_delivery.proofs.Every.{Every}
+use Rattle.sctp_delivery.proofs.Every.{Every, every-contained}
 use Rattle.sctp_delivery.proofs.SackLaws as sacks
 use Rattle.sctp_delivery.proofs.SackSteps.{came_in, passed_in}
 use Rattle.sctp_delivery.proofs.Senders.{IsHeldOn, renumbered}
 use Rattle.sctp_delivery.proofs.Sent.{Entry, Numbered}
 use Rattle.sctp_delivery.proofs.Sessions as made_in
-use Rattle.sctp_delivery.proofs.Sessions.{IsCounted, IsTakenMade, more-made, sender-counts}
+use Rattle.sctp_delivery.proofs.Sessions.{IsCounted, IsTakenMade, more-made, sender-counts, unnot}
 use Rattle.sctp_delivery.proofs.SpreadCalls.{IsSpreadOn, beside-spreads, receiver-spreads-on, sender-spreads-on, spread-first-on}
 use Rattle.sctp_delivery.proofs.TsnPlaces.{base}
 use Rattle.sctp_delivery.proofs.UnwrappedSessions.{IsAnswered, answered-first, receiver-answered-on, sender-answered-on}
@@ -130,15 +131,16 @@ left-in-modes f s ls h = from (swapped_out (has_number s) ls) (out-each (has_num
 
 -- # FORWARD-TSNs that were made
 
--- no name now, and none before
-unnamed-before : (st : ℕ) (call : SenderCall) (t : Transmission) (ms : List Made) → is_unnamed st (made_after call t ms) ≡ true → is_unnamed st ms ≡ true
-unnamed-before st call t ms e =
-    ap not (fails (list_any (is_naming st) ms) (λ h. not_both (sym (ap not (more-made (is_naming st) call t ms h)) ∙ e)))
+-- a name before, and one now
+named-after : (st : ℕ) (call : SenderCall) (t : Transmission) (ms : List Made) → is_unnamed st ms ≡ false → is_unnamed st (made_after call t ms) ≡ false
+named-after st call t ms e = ap not (more-made (is_naming st) call t ms (unnot (list_any (is_naming st) ms) e))
 
--- each of them names it not
-unnamed-of : (st : ℕ) (ms : List Made) (g : ForwardTsn) → is_unnamed st ms ≡ true → Contains ms (forward_tsn g) → list_any (is_pair_of st) g.streams ≡ false
-unnamed-of st ms g e c = fails (list_any (is_pair_of st) g.streams) (λ h.
-    not_both (sym (ap not (list_any_at (is_naming st) ms c.0 (forward_tsn g) c.1 (ap (is_naming st) c.2 ∙ h))) ∙ e))
+named-of : (st : ℕ) (ms : List Made) (g : ForwardTsn) → Contains ms (forward_tsn g) → list_any (is_pair_of st) g.streams ≡ true → is_unnamed st ms ≡ false
+named-of st ms g c e = ap not (list_any_at (is_naming st) ms c.0 (forward_tsn g) c.1 (ap (is_naming st) c.2 ∙ e))
+
+-- an ordered message of a stream may be passed over where it is named, and the message is gone
+abbrev pub MayPass : ℕ → List ℕ → List Made → List Entry → ℕ → Type 0
+MayPass st gone made sent j = (is_unnamed st made ≡ false) × IsGoneAt st gone sent j
 
 -- # What is so of the receiver's streams
 
@@ -233,11 +235,12 @@ same-dropped (resets_incoming st last) s d x = refl
 same-dropped (passes_over g) s d x = refl
 
 -- what is gone stays so
-wider : (gone answered others : List ℕ) → AreAmong (gone ++ others) ((gone ++ answered) ++ others)
-wider gone answered others k e = elim (or-split (is_gone gone k) (is_gone others k) (sym (list_any-append (nat_eq k) gone others) ∙ e)) [
-  | inl h ↦ gone-left (gone ++ answered) others k (gone-left gone answered k h)
-  | inr h ↦ gone-right (gone ++ answered) others k h
-]
+wider : (gone answered others more : List ℕ) → AreAmong others more → AreAmong (gone ++ others) ((gone ++ answered) ++ more)
+wider gone answered others more among k e =
+    elim (or-split (is_gone gone k) (is_gone others k) (sym (list_any-append (nat_eq k) gone others) ∙ e)) [
+      | inl h ↦ gone-left (gone ++ answered) more k (gone-left gone answered k h)
+      | inr h ↦ gone-right (gone ++ answered) more k (among k h)
+    ]
 
 -- what the receiver was called for
 pub record IsCalled (first : ℕ) (y : receiver_runs.Stand) : Type 0 where
@@ -261,9 +264,13 @@ called-then first c y z h f = record {
 
 -- # The session beside it
 
--- numbers go on on some streams; on some of these the receiver goes on, too. Where it is said of which messages the receiver drops chunks, it is told
--- what becomes of the others
+-- numbers go on on some streams; on some of these the receiver goes on, too. Of each of these it is told what becomes of its ordered messages; and where
+-- it is said of which messages the receiver drops chunks, what becomes of the others
 module _ (on dropped calm : ℕ → Bool) (lost : Option (List ℕ)) (sub : (st : ℕ) → calm st ≡ true → on st ≡ true) (first : ℕ) where
+  abbrev IsSaid : Option (List ℕ) → Type 0
+  IsSaid None = ⊤
+  IsSaid (Some others) = lost ≡ Some others
+
   -- what stays true of it after n TSNs were given out
   pub record IsPlayedSo (d : Session) (n : ℕ) (gone : List ℕ) (m : Modes) : Type 0 where
     pub numbered : List Numbered
@@ -272,8 +279,8 @@ module _ (on dropped calm : ℕ → Bool) (lost : Option (List ℕ)) (sub : (st 
     pub said : IsAsSaid m d numbered sent
     pub begun : AreBegunOrGone gone (length numbered) sent d.sending.sender.flight.queue.pending
     pub answered : (st : ℕ) → calm st ≡ true → IsAnswered st first n sent spread.step.numbered.acked d
-    pub up : (st : ℕ) → calm st ≡ true → is_unnamed st d.made ≡ true
-        → IsReadUp st first n sent (stream_of st d.receiving.receiver) d.receiving.read
+    pub up : (st : ℕ) → calm st ≡ true
+        → IsReadUp st first n sent (MayPass st (gone ++ elsewhere st sent) d.made sent) (stream_of st d.receiving.receiver) d.receiving.read
     pub counted : IsCounted d
     pub size : ℕ
     pub max : ℕ
@@ -284,7 +291,7 @@ module _ (on dropped calm : ℕ → Bool) (lost : Option (List ℕ)) (sub : (st 
     pub apart : are_apart (numbers_of d.receiving.receiver.streams) ≡ true
     pub marked : AreMarkedGone gone (flight_of d).queue.inflight.chunks
     pub cut : AreCutGone gone sent
-    pub told : (others : List ℕ) → lost ≡ Some others → (st : ℕ) → calm st ≡ true → IsTold st first n (gone ++ others) d sent
+    pub told : (l : Option (List ℕ)) → IsSaid l → (st : ℕ) → calm st ≡ true → IsTold st first n (gone ++ listed l st sent) d sent
 
   -- what was read on such a stream
   whole : (d : Session) (n : ℕ) (gone : List ℕ) (m : Modes) (p : IsPlayedSo d n gone m) → n < 2 ^ 31 → (st : ℕ) → calm st ≡ true
@@ -303,10 +310,10 @@ module _ (on dropped calm : ℕ → Bool) (lost : Option (List ℕ)) (sub : (st 
   beside-played : (d e : Session) (n : ℕ) (gone : List ℕ) (m : Modes) → (same : e.sending ≡ d.sending) → (made : e.made ≡ d.made)
       → (written : e.written ≡ d.written) → (p : IsPlayedSo d n gone m) → (spread : IsSpreadOn on dropped first n e p.numbered p.sent)
       → ((st : ℕ) → calm st ≡ true → IsAnswered st first n p.sent spread.step.numbered.acked e)
-      → ((st : ℕ) → calm st ≡ true → is_unnamed st d.made ≡ true
-      → IsReadUp st first n p.sent (stream_of st e.receiving.receiver) e.receiving.read)
+      → ((st : ℕ) → calm st ≡ true
+      → IsReadUp st first n p.sent (MayPass st (gone ++ elsewhere st p.sent) d.made p.sent) (stream_of st e.receiving.receiver) e.receiving.read)
       → IsTakenMade e → IsCalled first e.receiving → are_apart (numbers_of e.receiving.receiver.streams) ≡ true
-      → ((others : List ℕ) → lost ≡ Some others → (st : ℕ) → calm st ≡ true → IsTold st first n (gone ++ others) e p.sent) → IsPlayedSo e n gone m
+      → ((l : Option (List ℕ)) → IsSaid l → (st : ℕ) → calm st ≡ true → IsTold st first n (gone ++ listed l st p.sent) e p.sent) → IsPlayedSo e n gone m
   beside-played d e n gone m same made written p spread answered up taken called apart told = record {
     numbered = p.numbered;
     sent = p.sent;
@@ -314,7 +321,8 @@ module _ (on dropped calm : ℕ → Bool) (lost : Option (List ℕ)) (sub : (st 
     said = said-beside d e m p.numbered p.sent same p.said;
     begun = subst (λ (l : sender_runs.Ledger). AreBegunOrGone gone (length p.numbered) p.sent l.sender.flight.queue.pending) (sym same) p.begun;
     answered = answered;
-    up = λ st c none. up st c (subst (λ ms. is_unnamed st ms ≡ true) made none);
+    up = λ st c. subst (λ ms. IsReadUp st first n p.sent (MayPass st (gone ++ elsewhere st p.sent) ms p.sent) (stream_of st e.receiving.receiver)
+        e.receiving.read) (sym made) (up st c);
     counted = record {
       written = ap (λ ws. sum_by (λ (w : Write). length w.bytes) ws) written ∙ p.counted.written
           ∙ sym (ap (λ (l : sender_runs.Ledger). l.written) same);
@@ -331,6 +339,15 @@ module _ (on dropped calm : ℕ → Bool) (lost : Option (List ℕ)) (sub : (st 
     cut = p.cut;
     told = told;
   }
+
+  cut-with : (gone others : List ℕ) (sent : List Entry) → AreCutGone gone sent → AreCutGone (gone ++ others) sent
+  cut-with gone others sent cut = cut-later gone (gone ++ others) (gone-left gone others) sent cut
+
+  -- what FORWARD-TSNs that were made pass on such a stream
+  made-passes : (st : ℕ) (d : Session) (n : ℕ) (gone : List ℕ) (m : Modes) (i : IsPlayedSo d n gone m) → calm st ≡ true → (g : ForwardTsn)
+      → Contains d.made (forward_tsn g) → IsPassing (base first) (gone ++ elsewhere st i.sent) d i.sent g
+  made-passes st d n gone m i c g h =
+      every-contained (IsMadePassing (base first) (gone ++ elsewhere st i.sent) d i.sent) d.made (forward_tsn g) h (i.told None tt st c).passing
 
   pub onward : (d e : Session) (n : ℕ) (gone : List ℕ) (m : Modes) → PlaysSo d n gone m → (c : Call) → Follows c d e
       → PlaysSo e (n + distance (next_tsn d) (next_tsn e)) (gone ++ gone_by c d) (modes_by c m)
@@ -352,10 +369,16 @@ module _ (on dropped calm : ℕ → Bool) (lost : Option (List ℕ)) (sub : (st 
             (begun-later gone (gone ++ answered) (gone-left gone answered) (length i.numbered) i.sent d.sending.sender.flight.queue.pending i.begun) call
             (gone-right gone answered) f x.grown;
         answered = λ st c. sender-answered-on st first on dropped n call d e i.numbered i.sent i.spread few f x (i.answered st c);
-        up = λ st c none.
+        up = λ st c.
             sender-up st first on dropped (sub st c) n call d e i.numbered i.sent i.spread few f x
             (sender-answered-on st first on dropped n call d e i.numbered i.sent i.spread few f x (i.answered st c))
-            (i.up st c (unnamed-before st call d.sending.sender d.made (ap (is_unnamed st) (sym (ap (λ (s : Session). s.made) f.after)) ∙ none)));
+            (MayPass st (gone ++ elsewhere st i.sent) d.made i.sent) (MayPass st (more ++ elsewhere st x.more) e.made x.more)
+            (λ j h. (
+              ap (is_unnamed st) (ap (λ (s : Session). s.made) f.after) ∙ named-after st call d.sending.sender d.made h.0,
+              gone-later st first n (gone ++ elsewhere st i.sent) (more ++ elsewhere st x.more)
+                  (wider gone answered (elsewhere st i.sent) (elsewhere st x.more) (listed-more None st i.sent x.more x.once)) i.sent x.more i.spread.long
+                  x.once j h.1,
+            )) (i.up st c);
         counted = sender-counts call d e f i.counted;
         size = i.size;
         max = i.max;
@@ -368,9 +391,12 @@ module _ (on dropped calm : ℕ → Bool) (lost : Option (List ℕ)) (sub : (st 
             (marked-later gone more (gone-left gone answered) chunks i.marked) call (gone-right gone answered) f;
         cut = stays-cut on more first d e i.numbered i.sent x.more i.spread.holds x.spread.holds.held.stands.counted
             (cut-later gone more (gone-left gone answered) i.sent i.cut) call (gone-right gone answered) f x.grown;
-        told = λ others is st c. sender-told on dropped st first n small d i.numbered i.sent i.spread (gone ++ others) (i.answered st c) (i.told others is st c)
-            call e few f x (more ++ others) (wider gone answered others)
-            (marked-later gone (more ++ others) (λ k g. gone-left more others k (gone-left gone answered k g)) chunks i.marked);
+        told = λ l said st c.
+            let before = listed l st i.sent in
+            let after = listed l st x.more in
+            sender-told on dropped st first n small d i.numbered i.sent i.spread (gone ++ before) (i.answered st c) (i.told l said st c) call e few f x
+            (more ++ after) (wider gone answered before after (listed-more l st i.sent x.more x.once))
+            (marked-later gone (more ++ after) (λ k g. gone-left more after k (gone-left gone answered k g)) chunks i.marked);
       }
   onward d e n gone m p (of_receiver call) f few =
       let small : n < 2 ^ 31 = omega (arith, few) in
@@ -381,12 +407,13 @@ module _ (on dropped calm : ℕ → Bool) (lost : Option (List ℕ)) (sub : (st 
       (subst (λ xs. IsPlayedSo e n xs m) (sym (append-nil gone))
       (beside-played d e n gone m (ap (λ (s : Session). s.sending) f.after) (ap (λ (s : Session). s.made) f.after) (ap (λ (s : Session). s.written) f.after)
       i spread (λ st c. receiver-answered-on st first on dropped (sub st c) n call d e i.numbered i.sent i.spread small f spread (i.answered st c))
-      (λ st c none. receiver-up st first on dropped (sub st c) n d i.numbered i.sent i.spread small e (i.answered st c).0 (i.up st c none) call f
-      (λ g h. unnamed-of st d.made g none h)) (made_in.taken-made call d e f i.taken)
+      (λ st c. receiver-up st first on dropped (sub st c) n d i.numbered i.sent i.spread small e (i.answered st c).0
+      (MayPass st (gone ++ elsewhere st i.sent) d.made i.sent) (i.up st c) (gone ++ elsewhere st i.sent) (cut-with gone (elsewhere st i.sent) i.sent i.cut)
+      (made-passes st d n gone m i c) (λ g h j name at. (named-of st d.made g h name, at)) call f) (made_in.taken-made call d e f i.taken)
       (called-then first (incoming.as_run call) d.receiving e.receiving i.called f.step)
       (stays-apart (incoming.as_run call) d.receiving.receiver e.receiving.receiver f.step.receiver i.apart)
-      (λ others is st c. receiver-told on dropped st first n small d i.numbered i.sent i.spread (gone ++ others) (i.answered st c) (i.told others is st c)
-      (cut-later gone (gone ++ others) (gone-left gone others) i.sent i.cut) i.taken (whole d n gone m i small st c) e i.apart call f)))
+      (λ l said st c. receiver-told on dropped st first n small d i.numbered i.sent i.spread (gone ++ listed l st i.sent) (i.answered st c)
+      (i.told l said st c) (cut-with gone (listed l st i.sent) i.sent i.cut) i.taken (whole d n gone m i small st c) e i.apart call f)))
 
   pub played-accounted : (d : Session) (n : ℕ) (gone : List ℕ) (m : Modes) → IsPlayedSo d n gone m → IsAccounted d
   played-accounted d n gone m i =
@@ -451,8 +478,8 @@ module _ (on dropped calm : ℕ → Bool) (lost : Option (List ℕ)) (sub : (st 
     apart = i.apart;
     marked = i.marked;
     cut = i.cut;
-    told = λ others is st k.
-        told-beside st first n (gone ++ others) d (with_sender (with_streams ls d.sending.sender) d) i.sent refl refl (i.told others is st k);
+    told = λ l said st k.
+        told-beside st first n (gone ++ listed l st i.sent) d (with_sender (with_streams ls d.sending.sender) d) i.sent refl refl (i.told l said st k);
   }
 
   module _ (s v : Session) (n : ℕ) (gone : List ℕ) (m : Modes) (g : Goes first every s.sending.sender s n gone m) where
@@ -521,6 +548,18 @@ module _ (on dropped calm : ℕ → Bool) (lost : Option (List ℕ)) (sub : (st 
     handed-too (resets_incoming st last) h = tt
     handed-too (passes_over c) h = subst (λ ms. Contains ms (forward_tsn c)) (sym g.shadow.made) h
 
+    -- of which messages it drops chunks
+    drops-of : (opened : ℕ → Bool) (call : ReceiverOther) → ((others : List ℕ) → lost ≡ Some others → AreAmong (dropped_by call s) others)
+        → (few : n < 2 ^ 31) (st : ℕ) (c : calm st ≡ true) → breaks (opened st) st (of_receiving call) ≡ false → (l : Option (List ℕ)) → IsSaid l
+        → IsDropOf (gone ++ listed l st (g.plays few).sent) (g.plays few).sent d call
+    drops-of opened call covers few st c off None said =
+        let sent = (g.plays few).sent in
+        drops-elsewhere st (gone ++ elsewhere st sent) sent d (opened st) call (gone-right gone (elsewhere st sent)) off
+    drops-of opened call covers few st c off (Some others) said =
+        let i = g.plays few in
+        drops-told on dropped st first n few d i.numbered i.sent i.spread (gone ++ others) (i.answered st c) (i.told (Some others) said st c) call
+        (λ k e. gone-right gone others k (covers others said k (subst (λ xs. is_gone xs k ≡ true) (same-dropped call s d g.shadow) e)))
+
     other-receives : (opened : ℕ → Bool) → IsReady calm opened s → (call : ReceiverOther)
         → ((t : ℕ) → drops t (of_receiving call) ≡ true → dropped t ≡ true)
         → ((st : ℕ) → calm st ≡ true → breaks (opened st) st (of_receiving call) ≡ false)
@@ -558,14 +597,16 @@ module _ (on dropped calm : ℕ → Bool) (lost : Option (List ℕ)) (sub : (st 
               (subst (λ (y : receiver_runs.Stand). are_apart (numbers_of y.receiver.streams) ≡ true) (sym x.receiving) ready.apart) call f'
               (unbroken st c) spread
               (i.answered st c))
-              (λ st c none. other-up st first on dropped (sub st c) n d i.numbered i.sent i.spread few e (i.answered st c).0 (i.up st c none) (opened st)
-              (subst (λ (y : receiver_runs.Stand). are_apart (numbers_of y.receiver.streams) ≡ true) (sym x.receiving) ready.apart) call f' (unbroken st c)
-              (λ g h. unnamed-of st d.made g none h)) (runs.takes-made (of_receiving call) d e f' i.taken)
+              (λ st c. other-up st first on dropped (sub st c) n d i.numbered i.sent i.spread few e (i.answered st c).0
+              (MayPass st (gone ++ elsewhere st i.sent) d.made i.sent) (i.up st c) (gone ++ elsewhere st i.sent)
+              (cut-with gone (elsewhere st i.sent) i.sent i.cut) (made-passes st d n gone m i c) (λ g h j name at. (named-of st d.made g h name, at))
+              (opened st) (subst (λ (y : receiver_runs.Stand). are_apart (numbers_of y.receiver.streams) ≡ true) (sym x.receiving) ready.apart) call f'
+              (unbroken st c)) (runs.takes-made (of_receiving call) d e f' i.taken)
               (called-then first (as_receiver_run call) d.receiving e.receiving i.called f'.step)
               (stays-apart (as_receiver_run call) d.receiving.receiver e.receiving.receiver f'.step.receiver i.apart)
-              (λ others is st c. other-told on dropped st first n few d i.numbered i.sent i.spread (gone ++ others) (i.answered st c) (i.told others is st c)
-              (cut-later gone (gone ++ others) (gone-left gone others) i.sent i.cut) i.taken (whole d n gone m i few st c) e i.apart (opened st) call f'
-              (unbroken st c) (λ k g. gone-right gone others k (covers others is k (subst (λ xs. is_gone xs k ≡ true) (same-dropped call s d x) g))));
+              (λ l said st c. other-told on dropped st first n few d i.numbered i.sent i.spread (gone ++ listed l st i.sent) (i.answered st c)
+              (i.told l said st c) (cut-with gone (listed l st i.sent) i.sent i.cut) i.taken (whole d n gone m i few st c) e i.apart (opened st) call f'
+              (unbroken st c) (drops-of opened call covers few st c (unbroken st c) l said));
         })
 
   -- ## Every call
@@ -635,8 +676,8 @@ module _ (on dropped calm : ℕ → Bool) (lost : Option (List ℕ)) (sub : (st 
         said = said-first first size max most limits;
         begun = λ k lt e. absurd (omega (arith, lt));
         answered = λ st c. answered-first st first on dropped size max most limits small some;
-        up = λ st c none.
-            record { next = 0; number = omega arith; front = tt; within = omega arith; near = omega arith; read = λ j lt. absurd (omega (arith, lt)) };
+        up = λ st c.
+            record { next = 0; number = omega arith; front = tt; within = omega arith; near = omega arith; done = λ j lt. absurd (omega (arith, lt)) };
         counted = record { written = refl; back = refl };
         size = size;
         max = max;
@@ -647,7 +688,7 @@ module _ (on dropped calm : ℕ → Bool) (lost : Option (List ℕ)) (sub : (st 
         apart = refl;
         marked = tt;
         cut = tt;
-        told = λ others is st c. told-first st first size max most limits others small;
+        told = λ l said st c. told-first st first size max most limits (listed l st []) small;
       }
 
       by : (k : Reported) → HasBesideSo (at_start_with k first size max most limits) 0 [] at_first

@@ -26,6 +26,11 @@ use Rattle.sctp_delivery.proofs.UnwrappedSessions as sessions
 
 -- ## What is due
 
+-- where it is not refused, no name is too far
+pub near-names : (f : ForwardTsn) (r : Reception) (b : Bool) → (if b then Some NamedSsnTooFar else forward_refusal f r) ≡ None → b ≡ false
+near-names f r true e = absurd (none-some NamedSsnTooFar (sym e))
+near-names f r false e = refl
+
 module _ (st first : ℕ) (on dropped : ℕ → Bool) (o : on st ≡ true) (n : ℕ) (old : Session) (ns : List Numbered) (sent : List Entry)
     (i : IsSpreadOn on dropped first n old ns sent) (few : n < 2 ^ 31) (new : Session) where
   abbrev r : Reception
@@ -48,10 +53,6 @@ module _ (st first : ℕ) (on dropped : ℕ → Bool) (o : on st ≡ true) (n : 
         quiet (base first) st n (sessions.to st first sent) (sessions.at st first sent) (sessions.Was st first sent) few
         (sessions.grows st first on dropped o n old ns sent i few) i.step.numbered.acked old.receiving new.receiving d read
         (subst (DueOn Old d.k d.reach) (sym same) d.due) cumulative beyond
-
-    near-names : (f : ForwardTsn) → (b : Bool) → (if b then Some NamedSsnTooFar else forward_refusal f r) ≡ None → b ≡ false
-    near-names f true e = absurd (none-some NamedSsnTooFar (sym e))
-    near-names f false e = refl
 
     pub other-call-due : (opened : Bool) → (opened ≡ true → is_open st r ≡ true) → are_apart (numbers_of r.streams) ≡ true → (call : ReceiverOther)
         → ReceiverDoes call old new → breaks opened st (of_receiving call) ≡ false → Due d.arrived.place new.receiving
@@ -78,7 +79,7 @@ module _ (st first : ℕ) (on dropped : ℕ → Bool) (o : on st ≡ true) (n : 
         (ap (λ (u : Reception). u.cumulative_tsn) f.step.receiver) (ap (λ (u : Reception). u.beyond) f.step.receiver)
     other-call-due opened open' apart (passes_over g) f off =
         sessions.passed-due st first on dropped o n old ns sent i few new d g f.handed f.step.receiver f.step.read
-        (near-names g (names_too_far g r) f.accepted)
+        (near-names g r (names_too_far g r) f.accepted)
         (λ m at le lt j only.
         let named : list_any (is_pair_of st) g.streams ≡ true =
         list_any-those (is_pair_of st) (is_pair_of st) g.streams

@@ -541,10 +541,10 @@ lefts = (refl, refl, refl)
 -- ## What is read where a message was abandoned
 
 -- the second message is read in the end
-abbrev in_the_end : Session
+abbrev pub in_the_end : Session
 in_the_end = receiving (reads 1) (receiver.after_read 1 emptied.receiving.receiver) emptied
 
-reads-second : ReceiverFollows (reads 1) emptied in_the_end
+pub reads-second : ReceiverFollows (reads 1) emptied in_the_end
 unfolding at_or_before at_or_before16 comes_before comes_before16 distance distance16
 reads-second = by-receiver (reads 1) in_the_end.receiving.receiver emptied tt refl refl
 
@@ -571,12 +571,12 @@ later-run = (
   (makes-skip, (receiver_open, (opens-receiver, (past_first, (follows-skip, (first_reported, (reports-first, (first_taken, (takes-first, last-run))))))))),
 )
 
-abbrev all_calls : List Call
+abbrev pub all_calls : List Call
 all_calls =
     of_sender (outgoing.opens 1) ∷ of_sender (writes 1 Binary (7 ∷ [])) ∷ of_sender (sends 5) ∷ of_sender (writes 1 Binary (8 ∷ []))
     ∷ of_sender (abandons 10 lost) ∷ later_calls
 
-abbrev all-run : RunsTo start all_calls in_the_end
+abbrev pub all-run : RunsTo start all_calls in_the_end
 all-run = (opened, (opens, (written, (writes-one, (in_flight, (sends-one, (two_written, (writes-second, (first_gone, (abandons-first, later-run))))))))))
 
 -- of two messages in flight the one is abandoned whose TSN is given, and neither once more
@@ -593,7 +593,7 @@ no-other : (abandoned_by (outgoing.expires 100 None) waiting ≡ []) × (abandon
 no-other = (refl, refl)
 
 -- nothing is to be read in the end, and the second message was read, once
-exhausted : is_exhausted in_the_end.sending.sender in_the_end.receiving.receiver ≡ true
+pub exhausted : is_exhausted in_the_end.sending.sender in_the_end.receiving.receiver ≡ true
 unfolding at_or_before at_or_before16 comes_before comes_before16 distance distance16
 exhausted = refl
 

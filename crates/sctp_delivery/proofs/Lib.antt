@@ -41,6 +41,7 @@ pub mod OnceWritten
 pub mod Dropped
 pub mod EveryRuns
 pub mod EveryTurns
+pub mod WholeSets
 pub mod EveryFronts
 pub mod EveryEnds
 pub mod EveryShadows
@@ -50,6 +51,7 @@ pub mod EverySettled
 pub mod EveryKept
 pub mod EveryMessages
 pub mod EveryExamples
+pub mod NamedExamples
 pub mod ReopenedExamples
 pub mod DroppedExamples
 pub mod StandsAny

@@ -83,14 +83,14 @@ pub record IsLeftOn (unordered : Bool) (stream : ℕ) (gone : List ℕ) (calls :
   pub left : list_any (nat_eq (length s.written - (k + 1))) gone ≡ false
 
 -- where nothing waits to be sent, nothing is in flight, and nothing is to be read: each message of which no fragment but the first begins one is a
--- write at a place of its own; and on a stream that goes on, and that no FORWARD-TSN names, each ordered write that was not abandoned stands at one
--- of these, so it was read exactly once
+-- write at a place of its own; and on a stream that goes on, whatever FORWARD-TSNs were made, each ordered write that was not abandoned stands at
+-- one of these, so it was read exactly once
 abbrev pub IsOrderedReadInTheEnd : List ℕ → List AnyCall → Session → Type 0
 IsOrderedReadInTheEnd gone calls s =
     is_exhausted s.sending.sender s.receiving.receiver ≡ true
     → (places : List ℕ) × StandAt s.written (single_messages s.receiving.read) places
     × AllPairs (λ p q. p ≢ q) places
-    × ((stream : ℕ) → is_unbroken calls stream ≡ true → is_unnamed stream s.made ≡ true
+    × ((stream : ℕ) → is_unbroken calls stream ≡ true
     → (k : ℕ) → IsLeftOn false stream gone calls s k → Contains places k)
 
 -- ## Unordered writes

@@ -4,7 +4,7 @@
 //! Where the sender resets or closes a stream, and the receiver does not, two messages may have one number. Where one is sent right behind
 //! the other, and the receiver has not read the first one, it reads both as one message.
 //!
-//! Not said here: that ordered messages of a stream that a FORWARD-TSN names are read in the end; and that a chunk in flight is not refused.
+//! Not said here: that a chunk in flight is not refused.
 
 ghost use Rattle.sctp_delivery.specs.EveryCall.{AcknowledgedArrived, AfterEachAny, AfterEachAnyOfFewBytes, AfterEachAnyOfFewTsns, AreSingle, AreSingleWhereSteady, AreSingleWritesOfTheirOwn, AreToldApart, AreWritesWhereSingle, LeftArrived, ReleasedArrived, ReportWhatArrived};
 ghost use Rattle.sctp_delivery.specs.EveryEnd.{AfterEachAnyOfLost, AfterEachAnyOfMessages, IsOrderedReadInTheEnd, IsSentReadInTheEnd, IsUnorderedHeldReadOrPassed, IsUnorderedReadInTheEnd, IsUnorderedReadOrHeld, IsUnorderedSentReadInTheEnd};
@@ -48,16 +48,16 @@ pub fn whatever_is_called_messages_are_read_in_order()
 {}
 
 /// With so few TSNs and bytes: where nothing waits to be sent, nothing is in flight, and on no stream is a message to read, take a stream that goes
-/// on, and that no FORWARD-TSN names. Each ordered write on it was read exactly once, unless a call abandoned its message, or let it expire;
-/// and so was each ordered DATA chunk that was made.
+/// on, whatever FORWARD-TSNs name. Each ordered write on it was read exactly once, unless a call abandoned its message, or let it expire.
+/// Where no FORWARD-TSN names the stream, each ordered DATA chunk that was made was read.
 pub fn whatever_is_called_what_is_ordered_is_read_in_the_end()
     ensures writes { AfterEachAnyOfMessages IsOrderedReadInTheEnd }
     ensures chunks { AfterEachAnyOfFewBytes IsSentReadInTheEnd }
 {}
 
 /// With so few TSNs and bytes: where nothing waits to be sent, nothing is in flight, and on no stream is a message to read, take a stream that goes
-/// on, whatever FORWARD-TSNs name. Each unordered write on it was read exactly once, unless a call abandoned its message, let it expire, or the
-/// receiver dropped one of its chunks, which had not come. Where no message was lost so, each unordered DATA chunk that was made was read.
+/// on, whatever FORWARD-TSNs name. Each unordered write on it was read exactly once, unless a call abandoned its message or let it expire, or the
+/// receiver dropped a chunk of it that had not come. Where none was lost so, each unordered DATA chunk was read.
 pub fn whatever_is_called_what_is_unordered_is_read_in_the_end()
     ensures writes { AfterEachAnyOfLost IsUnorderedReadInTheEnd }
     ensures chunks { AfterEachAnyOfLost IsUnorderedSentReadInTheEnd }
