@@ -94,13 +94,13 @@ fn one_by_one(
     ensures cost { turns.new ≤ turns.old + length marks.now }
 {
     let mut blocks = Vec::new(alloc);
+    if blocks.reserve(marks.len()).is_err() {
+        return Err(SenderRefusal::OutOfMemory);
+    }
     for offset in 1..marks.len() {
         turns.tick();
         if !marks[offset] {
             continue;
-        }
-        if blocks.reserve(1).is_err() {
-            return Err(SenderRefusal::OutOfMemory);
         }
         put(
             &mut blocks,

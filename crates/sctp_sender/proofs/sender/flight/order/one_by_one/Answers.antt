@@ -9,7 +9,7 @@ loop-offset-preserved c =
     let ms = c.args.marks.now in
     let bs = c.loop-offset.blocks.items in
     let b : GapAckBlock = record { start = i; end = i } in
-    let put = c.put.ensures.items ∙ ap (λ (zs : List GapAckBlock). zs ++ b ∷ []) c.reserve.ensures.items in
+    let put = c.put.ensures.items in
     let inv = c.loop-offset.invariant in
     let pos : 0 < i = c.loop-offset.auto.offset in
     let none : (n : ℕ) → i ≤ n → is_in_blocks bs n ≡ false = λ n le.
@@ -26,6 +26,7 @@ loop-offset-preserved c =
       few = (let n = length_push bs b in let m = ap length put in let few = inv.few in omega (arith, n, m, few));
       top = omega (arith, c.loop-offset-test.true);
       turns = omega (arith, c.tick.ensures, inv.turns);
+      room = omega (arith, c.put.ensures.capacity, inv.room);
     }
 
 pub returns-clause-few : goal.returns-clause-few
