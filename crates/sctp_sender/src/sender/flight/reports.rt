@@ -242,7 +242,9 @@ fn note_block(ends: &mut Vec<u32>, block: &GapAckBlock)
         return;
     }
     let start = block.start as usize;
-    ends[start] = ends[start].max(after);
+    if ends[start] < after {
+        ends[start] = after;
+    }
 }
 
 // One more than the greatest distance that a block reports, 0 where none reports any.
