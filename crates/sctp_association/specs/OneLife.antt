@@ -151,7 +151,7 @@ abandoned_any_in st =
 -- is a write at a place of its own. Each is so on a stream that the sender did not begin again; and each on all, where of two ordered messages
 -- of a stream that are sent one right behind the other the second has a number of its own. On an untouched stream ordered messages, and what was
 -- written while it was ordered, are read in the order of their writes; and where nothing waits, is in flight or is to be read, each ordered write on
--- one that no FORWARD-TSN names was read exactly once, unless it expired or was abandoned
+-- it was read exactly once, unless it expired or was abandoned
 pub record DeliversAny (w : Way) (to_sender to_receiver : List Brought) (a b : Host) : Type 0 where
   pub stand : StandAny
   pub sends : stand.session.sending.sender ≡ a.sender
