@@ -10,7 +10,7 @@ use Rattle.sctp_association.specs.Hosts.{Host, IsPlain, NamesOpen, Way, first_ho
 use Rattle.sctp_association.specs.Links.{Party, host_at}
 use Rattle.sctp_association.specs.OneLife.{AreOfTheirOwn, AreSingleOnSteady, AreWritesOnSteady, Brought, Came, CamePastClosed, DeliversAny, EachDeliversAny}
 use Rattle.sctp_association.specs.OneLife.{EachPlainIsOneLife}
-use Rattle.sctp_association.specs.OneLife.{EachLinkDeliversAny, IsOneLife, IsReadAsWrittenAny, IsSteady, IsUntouched, WasBrought, brought}
+use Rattle.sctp_association.specs.OneLife.{EachLinkDeliversAny, IsOneLife, NoneWasDropped, IsReadAsWrittenAny, IsSteady, IsUntouched, WasBrought, brought}
 use Rattle.sctp_association.specs.OneLife.{brought_to_one, brought_to_other, others_of}
 use Rattle.sctp_delivery.proofs.Every.{Every, all-of-every}
 use Rattle.sctp_delivery.proofs.EveryMessages as messages
@@ -18,9 +18,11 @@ use Rattle.sctp_delivery.proofs.EveryRuns as every
 use Rattle.sctp_delivery.proofs.InOrder as in_order
 use Rattle.sctp_util.proofs.More.{not_both}
 use Rattle.sctp_delivery.specs.EveryCall.{AnyCall, closes, closes_incoming, discards, makes, of_receiving, of_sending, passes_over, renews as renewed}
-use Rattle.sctp_delivery.specs.EveryCall.{resets, resets_incoming, takes_back}
+use Rattle.sctp_delivery.specs.EveryCall.{RunsAny, resets, resets_incoming, takes_back}
+use Rattle.sctp_delivery.specs.EveryEnd.{dropped_any}
 use Rattle.sctp_delivery.specs.EveryOrder.{goes_on, opens_incoming}
 use Rattle.sctp_delivery.specs.SenderCalls.{Write}
+use Rattle.sctp_delivery.specs.Session.{Session}
 use Rattle.sctp_delivery.specs.StandAny.{StandAny}
 use Rattle.sctp_receiver.specs.Receiver.{Reception}
 use Rattle.sctp_receiver.specs.ReceiverRuns as runs
@@ -90,6 +92,19 @@ module _ (ones others : List Brought) where
       (unbroken-calls cs (opened || false) s e.1 n)
   unbroken-calls (of_receiving (passes_over f) ∷ cs) opened s e n = absurd (n.passed f e.0)
 
+  -- where none was brought, none was dropped
+  none-dropped : (old : Session) (cs : List AnyCall) (new : Session) (run : RunsAny old cs new) → Every (WasBrought ones others) (others_of cs)
+      → NoneWasDropped others → dropped_any old cs new run ≡ []
+  none-dropped old [] new run e n = refl
+  none-dropped old (makes call ∷ cs) new run e n = none-dropped run.0 cs new run.1.1 e n
+  none-dropped old (of_sending (takes_back sack back) ∷ cs) new run e n = none-dropped run.0 cs new run.1.1 e n
+  none-dropped old (of_sending (closes stream) ∷ cs) new run e n = absurd e.0
+  none-dropped old (of_sending (resets stream) ∷ cs) new run e n = none-dropped run.0 cs new run.1.1 e.1 n
+  none-dropped old (of_receiving (discards c) ∷ cs) new run e n = absurd (n c.tsn e.0)
+  none-dropped old (of_receiving (closes_incoming stream) ∷ cs) new run e n = none-dropped run.0 cs new run.1.1 e.1 n
+  none-dropped old (of_receiving (resets_incoming stream last) ∷ cs) new run e n = none-dropped run.0 cs new run.1.1 e.1 n
+  none-dropped old (of_receiving (passes_over f) ∷ cs) new run e n = none-dropped run.0 cs new run.1.1 e.1 n
+
   -- ## The law
 
   delivers : (f b : Way) (x z : Host) → Joined (WasBrought ones others) (WasBrought others ones) f b x z → DeliversAny f ones others x z
@@ -120,6 +135,9 @@ module _ (ones others : List Brought) where
         turn = in_order.in-turn-any st.reported st.tsn st.size st.max st.most st.limits st.calls st.session st.run st.small st.some st.few st.short;
         end = messages.ordered-read st.reported st.tsn st.size st.max st.most st.limits st.calls st.session st.run st.small st.some st.few st.short;
         chunks = messages.sent-read st.reported st.tsn st.size st.max st.most st.limits st.calls st.session st.run st.small st.some st.few st.short;
+        unordered = messages.unordered-written-read st.reported st.tsn st.size st.max st.most st.limits st.calls st.session st.run st.small st.some st.few
+            st.short;
+        dropped = none-dropped _ st.calls st.session st.run j.goes.only;
       }
 
 pub each-delivers-any : EachDeliversAny

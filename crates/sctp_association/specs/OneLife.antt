@@ -15,7 +15,7 @@ use Rattle.sctp_data.specs.ForwardTsn.{ForwardTsn}
 use Rattle.sctp_delivery.specs.EveryCall.{AnyCall, AreSingle, AreSingleWritesOfTheirOwn, AreToldApart, AreWritesWhereSingle, closes, closes_incoming}
 use Rattle.sctp_delivery.specs.EveryCall.{discards, is_single, makes, of_receiving, of_sending, passes_over, resets, resets_incoming, single_messages}
 use Rattle.sctp_delivery.specs.EveryCall.{takes_back}
-use Rattle.sctp_delivery.specs.EveryEnd.{IsOrderedReadInTheEnd, IsSentReadInTheEnd, abandoned_any}
+use Rattle.sctp_delivery.specs.EveryEnd.{IsOrderedReadInTheEnd, IsSentReadInTheEnd, IsUnorderedReadInTheEnd, abandoned_any, dropped_any}
 use Rattle.sctp_delivery.specs.EveryOrder.{AreReadInTurnWhereUnbroken, AreSingleReadAsWritten, AreSingleReadInOrder, is_unbroken}
 use Rattle.sctp_delivery.specs.Messages.{AreParts, IsWrite, NoneIsReadTwice, StandAt}
 use Rattle.sctp_delivery.specs.Returns.{IsAccountedSo, at_start_with}
@@ -145,13 +145,24 @@ abandoned_any_in st =
     abandoned_any (at_start_with st.reported st.tsn st.size st.max st.most st.limits)
     st.calls st.session st.run
 
+-- those of which the receiver dropped a chunk that had not come
+abbrev pub dropped_any_in : StandAny → List ℕ
+dropped_any_in st =
+    dropped_any (at_start_with st.reported st.tsn st.size st.max st.most st.limits)
+    st.calls st.session st.run
+
+-- no datagram brought a TSN without its chunk
+abbrev pub NoneWasDropped : (to_receiver : List Brought) → Type 0
+NoneWasDropped to_receiver =
+    (tsn : ℕ) → Came to_receiver (receives (runs.discards tsn)) → ⊥
+
 -- the sender of the one and the receiver of the other stand in a session of every call (`sctp_delivery`), in which was written what the one wrote, and
 -- read what the other read; each call of it that sessions of plain calls do not have was brought. So each byte is accounted for, and each message that
 -- is read is whole, of fragments that are parts of writes, none of which is read twice. A message of which no fragment but the first begins one
 -- is a write at a place of its own. Each is so on a stream that the sender did not begin again; and each on all, where of two ordered messages
 -- of a stream that are sent one right behind the other the second has a number of its own. On an untouched stream ordered messages, and what was
--- written while it was ordered, are read in the order of their writes; and where nothing waits, is in flight or is to be read, each ordered write on
--- it was read exactly once, unless it expired or was abandoned
+-- written while it was ordered, are read in the order of their writes. Where nothing waits, is in flight or is to be read, each write on one was read
+-- exactly once, unless it expired or was abandoned. Of an unordered write the receiver may have dropped a chunk, where a datagram brought that
 pub record DeliversAny (w : Way) (to_sender to_receiver : List Brought) (a b : Host) : Type 0 where
   pub stand : StandAny
   pub sends : stand.session.sending.sender ≡ a.sender
@@ -175,6 +186,9 @@ pub record DeliversAny (w : Way) (to_sender to_receiver : List Brought) (a b : H
   pub turn : AreReadInTurnWhereUnbroken stand.calls stand.session
   pub end : IsOrderedReadInTheEnd (abandoned_any_in stand) stand.calls stand.session
   pub chunks : IsSentReadInTheEnd stand.calls stand.session
+  pub unordered : IsUnorderedReadInTheEnd (abandoned_any_in stand ++ dropped_any_in stand)
+      stand.calls stand.session
+  pub dropped : NoneWasDropped to_receiver → dropped_any_in stand ≡ []
 
 -- so it is both ways, whatever two associations do from `new` on, and whatever becomes of their datagrams
 abbrev pub EachDeliversAny : Type 0
