@@ -320,6 +320,8 @@ RULES = [
          ["sctp_sender::Sender::drop_expired run tail late due"],
          ["sctp_sender Late.after_late", "sctp_data Reliability.deadline_at"],
          ["transfer_tests::sender_cases the lifetime of a partially sent message ends"]),
+        ("an association abandons what is in flight past its lifetime once something is to be sent again; the last chunk of a message is sent past it",
+         "3758 4.1; 9260 11.1.5", ["sctp_association::Outbound::abandon early"], ["sctp_association Sending.may_drop"], ["c_tests/assoc/partial.script"]),
         ("priorities", "7496 3.2", "no mode for them", [], [], []),
         ("Forward-TSN-Supported is negotiated", "3758 3.1, 3.3", ["sctp_handshake::Machine::agreed", "sctp_handshake::Said::read_init"],
          ["sctp_handshake Machines.agreed_with", "sctp_handshake InitValues.noted"], []),

@@ -1,12 +1,14 @@
 -- Each chunk of a half that is put is what a call of it answered.
 use Rattle.std.proofs.Common.{◌≡◌, ◌≢◌, ℕ, List, [], ◌∷◌, Bool, true, false, Option, Some, None, refl, ap, sym, subst, ◌∙◌, arith}
 use Rattle.std.specs.Prelude.{Contains, IfSome, find, is_some}
+use Rattle.std.proofs.lemmas.Bool.{false≢true}
 use Rattle.std.specs.Option.{option_map}
 use Rattle.sctp_association.proofs.Putting.{adds_none, and_then, kept, puts_made, puts_none, puts_reported, there}
-use Rattle.sctp_association.proofs.Running.{dropped_each, none_sent, reported_once, sent_then}
+use Rattle.sctp_association.proofs.Running.{dropped_each, none_sent, reported_once, sent_by, sent_then}
 use Rattle.sctp_association.specs.declared.outbound.Outbound.{Outbound}
 use Rattle.sctp_association.specs.Packets.{Adds, PutsIn, PutsOut, put_where, sides}
 use Rattle.sctp_association.specs.Runs.{Sends}
+use Rattle.sctp_association.specs.Sending.{may_drop}
 use Rattle.sctp_chunks.specs.Wire.{data_chunk, forward_tsn_chunk, sack_chunk}
 use Rattle.sctp_data.specs.declared.chunk.chunk_forward_tsn.ChunkForwardTsn.{ChunkForwardTsn}
 use Rattle.sctp_data.specs.declared.chunk.chunk_payload_data.ChunkPayloadData.{ChunkPayloadData}
@@ -16,7 +18,7 @@ use Rattle.sctp_data.specs.PayloadData.{data_of}
 use Rattle.sctp_data.specs.SelectiveAck.{sack_of}
 use Rattle.sctp_delivery.specs.Amounts.{Drops}
 use Rattle.sctp_delivery.specs.ReceiverCalls.{forgets, makes_sack}
-use Rattle.sctp_delivery.specs.SenderCalls.{forwards_within, next_chunk, resends, sends, with_chunk}
+use Rattle.sctp_delivery.specs.SenderCalls.{forwards_within, next_chunk, resends, sends, starts, with_chunk}
 use Rattle.sctp_delivery.specs.SenderCalls as made
 use Rattle.sctp_outbound.proofs.lemmas.outbound_queue.Outbounds.{peeked_all_started}
 use Rattle.sctp_outbound.specs.outbound_queue.OutboundQueue.{all_started}
@@ -24,6 +26,7 @@ use Rattle.sctp_outbound.specs.pending_queue.PendingQueue.{next_pending}
 use Rattle.sctp_receiver.specs.Receiver.{Reception, sack_within, without_duplicates}
 use Rattle.sctp_sender.specs.Abandonment.{Name, can_skip_to, is_end, named_up_to}
 use Rattle.sctp_sender.specs.declared.sender.Dropped.{Dropped}
+use Rattle.sctp_sender.specs.Drops.{with_lifetimes}
 use Rattle.sctp_sender.specs.Flight.{can_resend}
 use Rattle.sctp_sender.specs.Numbers.{send_refusal}
 use Rattle.sctp_sender.specs.Resending.{count_again, next_within, resent_at, sent_again}
@@ -141,6 +144,14 @@ dropped_in a l n u k h e s =
     let P : Outbound → Type 0 = λ m. (m ≡ record a { sender = m.sender; is_skip_due = m.is_skip_due }) × Sends [] a.sender m.sender in
     let there : n ≡ record a { sender = u; is_skip_due = k } = e ∙ ap (λ (o : Outbound). let y : Outbound = record o { sender = u; is_skip_due = k } in y) h in
     subst P (sym there) (refl, s)
+
+-- lifetimes start, and no chunk is made
+pub started_on : (now : ℕ) (s t u : Transmission) → Sends [] s t → u ≡ with_lifetimes now t → Sends [] s u
+started_on now s t u before e = sent_then [] [] s t u before (sent_by (starts now) t u (refl, (e, (tt, (tt, tt)))))
+
+-- where nothing is to be looked for, nothing is dropped
+pub none_dropped : (now : ℕ) (a l : Outbound) → (may_drop now a.sender ≡ false → l ≡ a) → may_drop now l.sender ≡ true → may_drop now a.sender ≡ false → ⊥
+none_dropped now a l same may h = false≢true (sym (ap (λ o. may_drop now o.sender) (same h) ∙ h) ∙ may)
 
 -- ## The receiver
 

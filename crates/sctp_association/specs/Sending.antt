@@ -2,9 +2,12 @@
 use Rattle.std.specs.Prelude.{◌≡◌, ℕ, zero, suc, ◌+◌, ◌-◌, ◌/◌, ◌≤◌, ◌==◌, Bool, true, false, not, ◌&&◌, ◌||◌, nat_le, nat_lt, min, max, if◌then◌else◌, List, []}
 use Rattle.std.specs.Prelude.{◌∷◌, Option, Some, None, IfSome, is_some, ◌⊎◌, length}
 use Rattle.sctp_data.specs.declared.chunk.chunk_payload_data.ChunkPayloadData.{ChunkPayloadData}
+use Rattle.sctp_data.specs.Reliability.{is_past}
 use Rattle.sctp_outbound.specs.Outstanding.{outstanding_of}
+use Rattle.sctp_outbound.specs.pending_queue.PendingQueue.{next_pending}
 use Rattle.sctp_path.specs.Congestion.{Control, after_idling, burst_limit, may_send}
 use Rattle.sctp_path.specs.Timers.{started}
+use Rattle.sctp_sender.specs.Sender.{Transmission}
 
 -- ## What may be sent
 
@@ -50,6 +53,21 @@ is_early flight now expired (Some trip) (Some sent) =
 -- cwnd was outstanding when it began, and the first chunk does not wait (6.3.3 E3)
 abbrev pub may_send_again : (is_fast early : Bool) → ℕ → Control → Bool
 may_send_again is_fast early flight c = is_fast || (may_send flight c && not early)
+
+-- ## What is given up (RFC 3758 4.1)
+
+-- the message in front of what waits is past its lifetime, and more of it waits than its last chunk
+abbrev pub is_front_late : ℕ → Option ChunkPayloadData → Bool
+is_front_late now None = false
+is_front_late now (Some c) =
+    is_past now c.deadline && (c.beginning_fragment || not c.ending_fragment)
+
+-- What has expired is looked for where something is to be sent again, or the message in front is late. Else what is in flight may have come, and
+-- the last chunk of a message goes, of which some left in time (11.1.5)
+abbrev pub may_drop : ℕ → Transmission → Bool
+may_drop now t =
+    nat_lt 0 (outstanding_of t.flight.queue.inflight.chunks).marked
+    || is_front_late now (next_pending t.flight.queue.pending)
 
 -- ## Idle paths (7.2.1)
 

@@ -1,6 +1,6 @@
 //! What is sent, and when (RFC 9260 6.1, 6.3, 7.2; RFC 3758 3.5; RFC 7496 3.1).
 
-ghost use Rattle.std.specs.Prelude.{◌≡◌, ◌-◌, ◌<◌, ◌≤◌, ◌==◌, [], max, min, not, true, false, None, Some, OnOk, OnErr, IfOk, IfErr, IsOk, length};
+ghost use Rattle.std.specs.Prelude.{◌≡◌, ◌⊎◌, ◌-◌, ◌<◌, ◌≤◌, ◌==◌, [], max, min, not, true, false, None, Some, OnOk, OnErr, IfOk, IfErr, IsOk, length};
 ghost use Rattle.sctp_association.specs.declared.fault.Fault.TheVariants.{OutOfMemory};
 ghost use Rattle.sctp_association.specs.Arrivals.{new_sender};
 ghost use Rattle.sctp_association.specs.Asked.{AsksOn};
@@ -11,13 +11,14 @@ ghost use Rattle.sctp_association.specs.Waiting.{IsRefusal, closed_where, fault_
 ghost use Rattle.sctp_sender.specs.Settings.{with_fragment_size, with_low_on};
 ghost use Rattle.sctp_stream.specs.Stats.{count_up};
 ghost use Rattle.sctp_stream.specs.declared.outbound_stream.OutboundStream.{OutboundStream};
-ghost use Rattle.sctp_association.specs.Sending.{EndsWithin, IsTimed, is_none_of, t3_after, t3_time};
+ghost use Rattle.sctp_association.specs.Sending.{EndsWithin, IsTimed, is_none_of, may_drop, t3_after, t3_time};
 ghost use Rattle.sctp_delivery.specs.SenderCalls.{sets_low, sets_mode, writes};
 ghost use Rattle.sctp_outbound.specs.Outstanding.{outstanding_of};
 ghost use Rattle.sctp_outbound.specs.pending_queue.PendingQueue.{chunk_count};
 ghost use Rattle.sctp_path.specs.Congestion.{after_timeout};
 ghost use Rattle.sctp_path.specs.Rto.{after_back_off};
 ghost use Rattle.sctp_path.specs.Timers.{is_due, is_passed, one_more};
+ghost use Rattle.sctp_sender.specs.Drops.{with_lifetimes};
 ghost use Rattle.sctp_sender.specs.Resending.{all_marked};
 ghost use Rattle.sctp_sender.specs.Sender.{is_open, stream_of, with_flight, with_mode_on, written_to};
 
@@ -29,6 +30,7 @@ use crate::fault::Fault;
 use bytes::Bytes;
 use sctp_data::chunk::chunk_payload_data::{PayloadProtocolIdentifier, ReliabilityType};
 use sctp_path::{Congestion, Failures, Rto, RtoLimits, Timer};
+use sctp_sender::replay;
 use sctp_sender::sender::refusal::SenderRefusal;
 use sctp_sender::sender::{Dropped, Reported, Sender};
 use std::alloc::Global;
@@ -407,9 +409,12 @@ impl Outbound {
         }
     }
 
-    /// Abandons what is past its lifetime (RFC 3758 4.1), and what was sent as often as it may be (RFC 7496 3.1).
+    /// Abandons what is past its lifetime (RFC 3758 4.1), and what was sent as often as it may be (RFC 7496 3.1). While nothing is to be sent
+    /// again, what is in flight may have come: it is not abandoned, unless more of the message in front waits than its last chunk.
     pub(crate) fn abandon(&mut self, now: u64) -> Result<(), Fault>
         ensures dropped { Sends [] self.old.sender self.new.sender }
+        ensures early { may_drop now self.old.sender ≡ false → self.new ≡ self.old
+            ⊎ self.new ≡ record self.old { sender = with_lifetimes now self.old.sender } }
         ensures rest { self.new ≡ record self.old {
           sender = self.new.sender;
           is_skip_due = self.new.is_skip_due;
@@ -419,6 +424,10 @@ impl Outbound {
             return Ok(());
         }
         for _ in 0..MOST_DROPS {
+            if !self.may_drop(now) {
+                replay::start(&mut self.sender, now);
+                break;
+            }
             match self.sender.drop_expired(now)? {
                 Some(Dropped::Abandoned(_)) => self.is_skip_due = true,
                 Some(Dropped::Expired(_)) => {}
@@ -426,5 +435,22 @@ impl Outbound {
             }
         }
         Ok(())
+    }
+
+    // Whether something is to be sent again, or the message in front is past its lifetime, and more of it waits than its last chunk.
+    fn may_drop(&self, now: u64) -> bool
+        ensures { result ≡ may_drop now self.now.sender }
+    {
+        if self.sender.outstanding().marked > 0 {
+            return true;
+        }
+        let Some(chunk) = self.sender.outbound().peek_pending() else {
+            return false;
+        };
+        let is_last = chunk.ending_fragment && !chunk.beginning_fragment;
+        match chunk.deadline {
+            Some(deadline) => deadline <= now && !is_last,
+            None => false,
+        }
     }
 }

@@ -1,10 +1,12 @@
-use Rattle.std.proofs.Common.{◌≡◌, []}
+use Rattle.std.proofs.Common.{◌≡◌, [], false}
 use Rattle.sctp_association.specs.Runs.{Sends}
+use Rattle.sctp_association.specs.Sending.{may_drop}
 use Rattle.sctp_association.proofs.outbound.Outbound.abandon.Given as goal
 
--- what is late is abandoned, and nothing else changes
+-- what is late is abandoned, and nothing else changes; nothing is before something may be
 abbrev pub invariant-loop : goal.invariant-loop
 invariant-loop l = (l.self ≡ record l.initial.self {
   sender = l.self.sender;
   is_skip_due = l.self.is_skip_due;
 }) × Sends [] l.initial.self.sender l.self.sender
+    × (may_drop l.now l.initial.self.sender ≡ false → l.self ≡ l.initial.self)
