@@ -1,17 +1,21 @@
 -- What an input leaves of what the machine knows of its peer, and what of an association stays.
-use Rattle.std.proofs.Common.{◌≡◌, Bool, true, false, refl, ap, subst, sym, ◌∙◌}
+use Rattle.std.proofs.Common.{◌≡◌, Bool, true, false, None, refl, ap, subst, sym, ◌∙◌}
 use Rattle.std.proofs.lemmas.Bool.{false≢true}
 use Rattle.std.proofs.lemmas.Option.{none-some}
 use Rattle.std.specs.Prelude.{nat_lt, if◌then◌else◌}
-use Rattle.sctp_association.specs.Beginnings.{IsKept, KeepsPeer, KnowsNoMore, is_asking}
+use Rattle.sctp_association.specs.Beginnings.{KeepsPeer, KnowsNoMore, is_asking}
+use Rattle.sctp_association.specs.Kept.{IsKept, IsUnmoved, OwesNoMore, ticket_due}
 use Rattle.sctp_association.specs.declared.association.Association.{Association}
+use Rattle.sctp_association.specs.declared.due.Due.{Due}
 use Rattle.sctp_handshake.specs.Answers.{silent}
 use Rattle.sctp_handshake.specs.Cookies.{begun_again, on_stale_cookie, stale_cookie_row}
 use Rattle.sctp_handshake.specs.Endings.{abort_row, drained_row, on_abort, on_drained, on_shutdown, on_shutdown_ack, on_shutdown_asked}
 use Rattle.sctp_handshake.specs.Endings.{on_shutdown_complete, shutdown_ack_row, shutdown_asked_row, shutdown_complete_row, shutdown_row}
 use Rattle.sctp_handshake.specs.Machines.{Step, Takes, closed, failed, into}
-use Rattle.sctp_handshake.specs.Timeouts.{on_packet_arrived, packet_arrived_row}
+use Rattle.sctp_handshake.specs.Timeouts.{on_packet_arrived, on_timed_out, packet_arrived_row, sent_again, timed_out_row}
 use Rattle.sctp_handshake.specs.declared.answer.Answer.{Answer}
+use Rattle.sctp_handshake.specs.declared.answer.Reply.{Reply}
+use Rattle.sctp_handshake.specs.declared.answer.Reply.TheVariants.{CookieEcho, Init, Shutdown, ShutdownAck}
 use Rattle.sctp_handshake.specs.declared.machine.Machine.{Machine}
 use Rattle.sctp_handshake.specs.declared.state.State.{State}
 use Rattle.sctp_handshake.specs.declared.state.State.TheVariants.{Closed, CookieEchoed, CookieWait, Established, ShutdownPending, ShutdownReceived}
@@ -23,21 +27,22 @@ pub knows_same : (m n : Machine) → n ≡ m → KnowsNoMore m n
 knows_same m n e = record {
   asking = λ asks. subst (λ (k : Machine). is_asking k.state ≡ true) e asks;
   peer = λ o is. sym (ap (λ (k : Machine). k.peer) e) ∙ is;
+  own = ap (λ (k : Machine). k.own) e;
 }
 
 pub knows_then : (m n k : Machine) → KnowsNoMore m n → KnowsNoMore n k → KnowsNoMore m k
-knows_then m n k f g = record { asking = λ e. f.asking (g.asking e); peer = λ o e. f.peer o (g.peer o e) }
+knows_then m n k f g = record { asking = λ e. f.asking (g.asking e); peer = λ o e. f.peer o (g.peer o e); own = g.own ∙ f.own }
 
 knows-closed : (m : Machine) → KnowsNoMore m (closed m)
-knows-closed m = record { asking = λ e. absurd (false≢true e); peer = λ o e. absurd (none-some o e) }
+knows-closed m = record { asking = λ e. absurd (false≢true e); peer = λ o e. absurd (none-some o e); own = refl }
 
 knows-into : (s : State) (m : Machine) → is_asking s ≡ false → KnowsNoMore m (into s m)
-knows-into s m is = record { asking = λ e. absurd (false≢true (sym is ∙ e)); peer = λ o e. e }
+knows-into s m is = record { asking = λ e. absurd (false≢true (sym is ∙ e)); peer = λ o e. e; own = refl }
 
 -- ## Inputs
 
 arrived-knows : (s : State) (m : Machine) → KnowsNoMore m (packet_arrived_row s true m).machine
-arrived-knows ShutdownSent m = record { asking = λ e. e; peer = λ o e. e }
+arrived-knows ShutdownSent m = record { asking = λ e. e; peer = λ o e. e; own = refl }
 arrived-knows _ m = knows_same m m refl
 
 abort-knows : (s : State) (m : Machine) → KnowsNoMore m (abort_row s m).machine
@@ -71,12 +76,24 @@ drained-knows _ m = knows_same m m refl
 
 -- the handshake begins again in CookieEchoed, where this side asks, too
 retried-knows : (b : Bool) (m : Machine) → m.state ≡ CookieEchoed → KnowsNoMore m (if b then begun_again m else failed m).machine
-retried-knows true m is = record { asking = λ e. ap is_asking is; peer = λ o e. absurd (none-some o e) }
+retried-knows true m is = record { asking = λ e. ap is_asking is; peer = λ o e. absurd (none-some o e); own = refl }
 retried-knows false m is = knows-closed m
 
 stale-knows : (s : State) (m : Machine) → m.state ≡ s → KnowsNoMore m (stale_cookie_row s m).machine
 stale-knows CookieEchoed m is = retried-knows (nat_lt m.stale m.limits.max_init_retransmits) m is
 stale-knows _ m is = knows_same m m refl
+
+-- the timer of the state ran out
+again-knows : (b : Bool) (r : Reply) (m : Machine) → KnowsNoMore m (if b then sent_again r m else failed m).machine
+again-knows true r m = record { asking = λ e. e; peer = λ o e. e; own = refl }
+again-knows false r m = knows-closed m
+
+timed-knows : (s : State) (m : Machine) → KnowsNoMore m (timed_out_row s m).machine
+timed-knows CookieWait m = again-knows (nat_lt m.attempts m.limits.max_init_retransmits) Init m
+timed-knows CookieEchoed m = again-knows (nat_lt m.attempts m.limits.max_init_retransmits) CookieEcho m
+timed-knows ShutdownSent m = again-knows (nat_lt m.attempts m.limits.association_max_retrans) Shutdown m
+timed-knows ShutdownAckSent m = again-knows (nat_lt m.attempts m.limits.association_max_retrans) ShutdownAck m
+timed-knows _ m = knows_same m m refl
 
 module _ (m n : Machine) (a : Answer) where
   taken : (s : Step) → KnowsNoMore m s.machine → Takes s n a → KnowsNoMore m n
@@ -103,6 +120,9 @@ module _ (m n : Machine) (a : Answer) where
   pub knows_drained : Takes (on_drained m) n a → KnowsNoMore m n
   knows_drained t = taken (on_drained m) (drained-knows m.state m) t
 
+  pub knows_timed : Takes (on_timed_out m) n a → KnowsNoMore m n
+  knows_timed t = taken (on_timed_out m) (timed-knows m.state m) t
+
   pub knows_stale : Takes (on_stale_cookie m) n a → KnowsNoMore m n
   knows_stale t = taken (on_stale_cookie m) (stale-knows m.state m refl) t
 
@@ -113,30 +133,65 @@ knows_abort_of {m} {n} {a} dropped t = knows_abort m n a t
 -- ## The association
 
 pub kept_then : (a b c : Association) → IsKept a b → IsKept b c → IsKept a c
-kept_then a b c f g = record { config = g.config ∙ f.config; key = g.key ∙ f.key; machine = g.machine ∙ f.machine }
+kept_then a b c f g = record {
+  config = g.config ∙ f.config;
+  key = g.key ∙ f.key;
+  machine = g.machine ∙ f.machine;
+  owes = λ t e. f.owes t (g.owes t e);
+}
 
 -- so of one that has the same
-pub kept_by : {a b c : Association} → IsKept a b → c.config ≡ b.config → c.key ≡ b.key → c.machine ≡ b.machine → IsKept a c
-kept_by k f g h = record { config = f ∙ k.config; key = g ∙ k.key; machine = h ∙ k.machine }
+pub kept_by : {a b c : Association} → IsKept a b → c.config ≡ b.config → c.key ≡ b.key → c.machine ≡ b.machine → OwesNoMore b c → IsKept a c
+kept_by k f g h o = record { config = f ∙ k.config; key = g ∙ k.key; machine = h ∙ k.machine; owes = λ t e. k.owes t (o t e) }
 
 pub keeps_kept : (a b : Association) → IsKept a b → KeepsPeer a b
-keeps_kept a b k = record { config = k.config; key = k.key; machine = knows_same a.machine b.machine k.machine }
+keeps_kept a b k = record { config = k.config; key = k.key; machine = knows_same a.machine b.machine k.machine; owes = k.owes }
 
 pub keeps_then : (a b c : Association) → KeepsPeer a b → KeepsPeer b c → KeepsPeer a c
 keeps_then a b c f g = record {
   config = g.config ∙ f.config;
   key = g.key ∙ f.key;
   machine = knows_then a.machine b.machine c.machine f.machine g.machine;
+  owes = λ t e. f.owes t (g.owes t e);
 }
 
 -- an input that leaves the machine so, and then what stays
-pub keeps_by : (a b : Association) (n : Machine) → KnowsNoMore a.machine n → b.config ≡ a.config → b.key ≡ a.key → b.machine ≡ n → KeepsPeer a b
-keeps_by a b n k c e is = record { config = c; key = e; machine = subst (KnowsNoMore a.machine) (sym is) k }
+pub keeps_by : (a b : Association) (n : Machine) → KnowsNoMore a.machine n → b.config ≡ a.config → b.key ≡ a.key → b.machine ≡ n → OwesNoMore a b
+    → KeepsPeer a b
+keeps_by a b n k c e is o = record { config = c; key = e; machine = subst (KnowsNoMore a.machine) (sym is) k; owes = o }
 
 -- the same, of a machine that was the association's
-pub keeps_as : (a b : Association) (m n : Machine) → KnowsNoMore m n → m ≡ a.machine → b.config ≡ a.config → b.key ≡ a.key → b.machine ≡ n → KeepsPeer a b
-keeps_as a b m n k own c e is = record {
+pub keeps_as : (a b : Association) (m n : Machine) → KnowsNoMore m n → m ≡ a.machine → b.config ≡ a.config → b.key ≡ a.key → b.machine ≡ n → OwesNoMore a b
+    → KeepsPeer a b
+keeps_as a b m n k own c e is o = record {
   config = c;
   key = e;
   machine = subst (λ (x : Machine). KnowsNoMore x b.machine) own (subst (KnowsNoMore m) (sym is) k);
+  owes = o;
+}
+
+-- ## The INIT ACK that is due
+
+-- the same is due, or none
+pub owes_same : (a b : Association) → b.due ≡ a.due → OwesNoMore a b
+owes_same a b e t owed = sym (ap (λ (d : Due). ticket_due d.alone) e) ∙ owed
+
+pub owes_none : (a b : Association) → ticket_due b.due.alone ≡ None → OwesNoMore a b
+owes_none a b none t owed = absurd (none-some t (sym none ∙ owed))
+
+-- where nothing has moved
+pub unmoved_keeps : (a b : Association) → IsUnmoved a b → KeepsPeer a b
+unmoved_keeps a b u = record {
+  config = u.config;
+  key = u.key;
+  machine = knows_same a.machine b.machine u.machine;
+  owes = λ t e. sym (ap ticket_due u.alone) ∙ e;
+}
+
+pub unmoved_then : (a b c : Association) → IsUnmoved a b → IsUnmoved b c → IsUnmoved a c
+unmoved_then a b c f g = record {
+  config = g.config ∙ f.config;
+  key = g.key ∙ f.key;
+  machine = g.machine ∙ f.machine;
+  alone = g.alone ∙ f.alone;
 }

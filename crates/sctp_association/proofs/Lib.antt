@@ -11,6 +11,9 @@ pub mod UserData
 pub mod Kept
 pub mod Running
 pub mod Putting
+pub mod Offering
+pub mod Inits
+pub mod Readings
 pub mod Others
 pub mod Making
 pub mod Sessions
@@ -32,6 +35,7 @@ pub mod HostCalls
 pub mod Rules
 pub mod PlainHosts
 pub mod OneLife
+pub mod Lives
 pub mod Links
 pub mod PairOrder
 pub mod Pairs

@@ -47,7 +47,7 @@ pub skip_put : (room : ℕ) (c : ChunkForwardTsn) (b : Bool) (t : Transmission) 
     → Adds (put_where b (forward_tsn_chunk (forward_tsn_of c))) old new → PutsOut t t old new
 skip_put room c b t old new past ended names added =
     puts_made (forwards_within room (forward_tsn_of c)) b (forward_tsn_chunk (forward_tsn_of c)) t t old new
-    (refl, (omega arith, (refl, ((past, ended, names), tt)))) (there (made.forward_tsn (forward_tsn_of c))) added
+    (refl, (omega arith, (refl, ((past, ended, names), tt)))) (there (made.forward_tsn (forward_tsn_of c))) tt added
 
 -- the same, of what `forward_tsn` answers
 pub skip_put_where : (room : ℕ) (o : Option ChunkForwardTsn) (c : ChunkForwardTsn) (b : Bool) (t : Transmission) (old new : List ℕ) → o ≡ Some c
@@ -81,7 +81,7 @@ module _ (now room : ℕ) (chunk : ChunkPayloadData) (b : Bool) (t u : Transmiss
       let own : chunk ≡ sent_again (count_again c) now c = of-some chunk _ e in
       puts_made (resends c.tsn now c) b (data_chunk (data_of chunk)) t u old new (refl, (exact c is, (tt, ((m.1, m.0), tt))))
       (subst (λ (d : ChunkPayloadData). Contains (made.data_chunk (data_of d) ∷ []) (made.data_chunk (data_of chunk))) own
-      (there (made.data_chunk (data_of chunk)))) added
+      (there (made.data_chunk (data_of chunk)))) tt added
 
   pub again_put : Some chunk ≡ option_map (λ c. sent_again (count_again c) now c) (next_within room t.flight)
       → ((c : ChunkPayloadData) → next_within room t.flight ≡ Some c → u ≡ with_flight (resent_at c.tsn now c t.flight) t)
@@ -97,7 +97,7 @@ module _ (now : ℕ) (t u : Transmission) (exact : u ≡ after_send now t) (held
       → Adds (put_where b (data_chunk (data_of chunk))) old new → PutsOut t u old new
   next_put chunk b old new answer added =
       puts_made (sends now) b (data_chunk (data_of chunk)) t u old new (refl, (held, (exact, (accepted, tt))))
-      (subst (λ o. Contains (with_chunk o []) (made.data_chunk (data_of chunk))) answer (there (made.data_chunk (data_of chunk)))) added
+      (subst (λ o. Contains (with_chunk o []) (made.data_chunk (data_of chunk))) answer (there (made.data_chunk (data_of chunk)))) tt added
 
   pub none_put : (x : List ℕ) → PutsOut t u x x
   none_put x = puts_none (sends now) t u x (refl, (held, (exact, (accepted, tt))))
@@ -158,7 +158,7 @@ none_dropped now a l same may h = false≢true (sym (ap (λ o. may_drop now o.se
 module _ (credit room : ℕ) (c : ChunkSelectiveAck) (r : Reception) (old new : List ℕ) (own : sack_of c ≡ sack_within credit room r) where
   reported : (b : Bool) → Adds (put_where b (sack_chunk (sack_of c))) old new → PutsIn r r old new
   reported b added = puts_reported (makes_sack credit room) b (sack_chunk (sack_of c)) r r old new (refl, (refl, tt))
-      (subst (λ s. Contains (s ∷ []) (sack_of c)) own (there (sack_of c))) added
+      (subst (λ s. Contains (s ∷ []) (sack_of c)) own (there (sack_of c))) tt added
 
   forgotten : (s : Reception) → s ≡ without_duplicates r → PutsIn r s new new
   forgotten s e t = record {
@@ -169,6 +169,7 @@ module _ (credit room : ℕ) (c : ChunkSelectiveAck) (r : Reception) (old new : 
     reported = reported_once forgets r s (refl, (e, tt));
     added = adds_none new;
     own = tt;
+    plain = tt;
   }
 
   pub sack_put : (s : Reception) → s ≡ without_duplicates r → Adds (put_where true (sack_chunk (sack_of c))) old new → PutsIn r s old new

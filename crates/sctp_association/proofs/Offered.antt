@@ -1,16 +1,20 @@
 -- With whose first TSN the halves of an association begin: what a chunk brings, and what chunks bring one after another.
-use Rattle.std.proofs.Common.{◌≡◌, ℕ, List, refl, ap, subst, sym, ◌∙◌, inl, inr}
+use Rattle.std.proofs.Common.{◌≡◌, ◌⊎◌, ℕ, List, true, refl, ap, subst, sym, ◌∙◌, inl, inr}
 use Rattle.sctp_association.proofs.Arrived.{came_alike, came_same}
 use Rattle.sctp_association.proofs.Arriving.{follows_of, follows_then}
 use Rattle.sctp_association.proofs.Known.{keeps_kept}
 use Rattle.sctp_association.specs.Arrivals.{Arrival, CallsArrive, Does, IsBroughtAs, IsOfHalf, begins, hears, receives, renews}
-use Rattle.sctp_association.specs.Beginnings.{ArrivesAsOffered, IsBegunBy, IsEchoed, IsKept, IsOffered, KeepsPeer, begins_by, by_init_ack, by_kept}
+use Rattle.sctp_association.specs.Beginnings.{ArrivesAsOffered, IsBegunBy, IsEchoed, IsOffered, IsOwnEchoed, KeepsPeer, OffersInit, begins_by}
+use Rattle.sctp_association.specs.Beginnings.{by_init_ack, by_kept, is_asking}
+use Rattle.sctp_association.specs.Kept.{IsKept, OwesNoMore, OwesTicket}
 use Rattle.sctp_association.specs.Beginnings.{by_ticket, renews_by}
 use Rattle.sctp_association.specs.declared.association.Association.{Association}
 use Rattle.sctp_association.specs.declared.config.Config.{Config}
 use Rattle.sctp_association.specs.declared.due.Due.{Due}
 use Rattle.sctp_association.specs.Halves.{HalvesAlike, halves_of}
+use Rattle.sctp_handshake.specs.declared.machine.Machine.{Machine}
 use Rattle.sctp_handshake.specs.declared.offer.Offer.{Offer}
+use Rattle.sctp_handshake.specs.declared.ticket.Ticket.{Ticket}
 
 module _ (d : List ℕ) where
   -- ## Calls of halves that are there
@@ -30,6 +34,8 @@ module _ (d : List ℕ) where
     key = k.key;
     asking = k.machine.asking;
     peer = λ o e. inl (k.machine.peer o e);
+    own = inl k.machine.own;
+    owes = λ t e. inl (k.owes t e);
   }
 
   pub offered_kept : (a b : Association) → CallsArrive d (halves_of a) (halves_of b) → IsKept a b → ArrivesAsOffered d a b
@@ -40,18 +46,28 @@ module _ (d : List ℕ) where
 
   pub offered_same : (a b : Association) → b ≡ a → ArrivesAsOffered d a b
   offered_same a b e =
-      let kept : IsKept a a = record { config = refl; key = refl; machine = refl } in
+      let kept : IsKept a a = record { config = refl; key = refl; machine = refl; owes = λ t e. e } in
       subst (λ (x : Association). ArrivesAsOffered d a x) (sym e) (offered_kept a a (came_same d (halves_of a) (halves_of a) refl) kept)
 
   -- a packet of one reply is due, and nothing else changes
-  pub offered_due : (a b : Association) (due : Due) → b ≡ record a { due = due } → ArrivesAsOffered d a b
-  offered_due a b due e =
-      let kept : IsKept a b = record {
-        config = ap (λ (x : Association). x.config) e;
-        key = ap (λ (x : Association). x.key) e;
-        machine = ap (λ (x : Association). x.machine) e;
-      } in
-      offered_kept a b (came_same d (halves_of a) (halves_of b) (ap halves_of e)) kept
+  pub offered_due : (a b : Association) (due : Due) → b ≡ record a { due = due }
+      → ((t : Ticket) → OwesTicket b t → OwesTicket a t ⊎ OffersInit d t.peer) → ArrivesAsOffered d a b
+  offered_due a b due e owes = record {
+    arrives =
+        follows_of (IsBroughtAs IsOfHalf d) (IsBroughtAs (IsBegunBy d a) d) Does
+        (λ call h. record { brought = h.brought; rule = half-begun a call h.rule }) (halves_of a) (halves_of b)
+        (came_same d (halves_of a) (halves_of b) (ap halves_of e));
+    config = ap (λ (x : Association). x.config) e;
+    key = ap (λ (x : Association). x.key) e;
+    asking = λ asks. subst (λ (m : Machine). is_asking m.state ≡ true) (ap (λ (x : Association). x.machine) e) asks;
+    peer = λ o is. inl (sym (ap (λ (x : Association). x.machine.peer) e) ∙ is);
+    own = inl (ap (λ (x : Association). x.machine.own) e);
+    owes = owes;
+  }
+
+  -- the same, where no INIT ACK is due that was not due before
+  pub offered_less : (a b : Association) (due : Due) → b ≡ record a { due = due } → OwesNoMore a b → ArrivesAsOffered d a b
+  offered_less a b due e less = offered_due a b due e (λ t owed. inl (less t owed))
 
   -- ## One after another
 
@@ -64,6 +80,19 @@ module _ (d : List ℕ) where
       | inl known ↦ by_kept (f.asking asks) known
       | inr offered ↦ offered
     ]
+
+    -- what this side offers, too, and the INIT ACK that is due
+    own-back : (c : Association) → (c.machine.own ≡ b.machine.own) ⊎ IsOwnEchoed d b.key c.machine.own
+        → (c.machine.own ≡ a.machine.own) ⊎ IsOwnEchoed d a.key c.machine.own
+    own-back c (inl same) = elim f.own [
+      | inl first ↦ inl (same ∙ first)
+      | inr echoed ↦ inr (subst (λ (o : Offer). IsOwnEchoed d a.key o) (sym same) echoed)
+    ]
+    own-back c (inr echoed) = inr (subst (λ (k : List ℕ). IsOwnEchoed d k c.machine.own) f.key echoed)
+
+    owes-back : (t : Ticket) → OwesTicket b t ⊎ OffersInit d t.peer → OwesTicket a t ⊎ OffersInit d t.peer
+    owes-back t (inl owed) = f.owes t owed
+    owes-back t (inr offered) = inr offered
 
     rule-back : (call : Arrival) → IsBegunBy d b call → IsBegunBy d a call
     rule-back (receives c) r = tt
@@ -90,4 +119,6 @@ module _ (d : List ℕ) where
       key = g.key ∙ f.key;
       asking = λ e. f.asking (g.asking e);
       peer = λ o e. elim (g.peer o e) [ inl known ↦ f.peer o known | inr offered ↦ inr (offer-back o offered) ];
+      own = own-back c g.own;
+      owes = λ t e. owes-back t (g.owes t e);
     }

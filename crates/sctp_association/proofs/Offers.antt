@@ -1,35 +1,49 @@
 -- An association begins by a COOKIE-ECHO, a COOKIE-ACK or an INIT ACK of a datagram: by whose offer.
-use Rattle.std.proofs.Common.{◌≡◌, ◌⊎◌, ℕ, Bool, true, false, List, Option, Some, None, refl, ap, sym, subst, ◌∙◌, inl, inr}
+use Rattle.std.proofs.Common.{◌≡◌, ◌⊎◌, ℕ, Bool, true, false, List, Ok, Option, Some, None, drop, refl, ap, sym, subst, ◌∙◌, inl, inr}
 use Rattle.std.proofs.lemmas.Bool.{false≢true}
 use Rattle.std.proofs.lemmas.Option.{none-some, same_Some}
 use Rattle.sctp_association.proofs.Arriving.{follows_one, follows_same, follows_then}
 use Rattle.sctp_association.specs.Arrivals.{Arrival, Does, Follows, Halves, HasType, IsBroughtAs, by_type}
-use Rattle.sctp_association.specs.Beginnings.{AnswersInit, ArrivesAsOffered, Begins, BeginsAnew, BeginsBy, IsBegunBy, IsEchoed, IsOffered, begins_by}
-use Rattle.sctp_association.specs.Beginnings.{by_init_ack, by_kept, by_ticket, is_asking, renews_by}
+use Rattle.sctp_association.specs.Beginnings.{AnswersInit, ArrivesAsOffered, Begins, BeginsAnew, BeginsBy, IsBegunBy, IsEchoed, IsOffered}
+use Rattle.sctp_association.specs.Beginnings.{IsOwnEchoed, OffersInit, begins_by, by_init_ack, by_kept, by_ticket, is_asking, renews_by}
+use Rattle.sctp_association.specs.Kept.{OwesNoMore}
 use Rattle.sctp_association.specs.declared.association.Association.{Association}
 use Rattle.sctp_association.specs.declared.config.Config.{Config}
 use Rattle.sctp_association.specs.Halves.{halves_of}
+use Rattle.sctp_chunks.specs.Framing.{value_at}
 use Rattle.sctp_datagram.specs.Carried.{IsChunkOf}
 use Rattle.sctp_datagram.specs.declared.datagram.ChunkPlace.{ChunkPlace}
-use Rattle.sctp_handshake.specs.Beginnings.{init_ack_checked, init_ack_row, on_init_ack}
+use Rattle.sctp_handshake.specs.Beginnings.{init_ack_checked, init_ack_row, init_checked, init_reply, init_row, on_init_ack}
 use Rattle.sctp_handshake.specs.Cookies as cookies
 use Rattle.sctp_handshake.specs.Cookies.{cookie_ack_row, cookie_step, on_cookie_ack, on_cookie_echo, renewal_row, repeat_row, row_of, unless_stale}
 use Rattle.sctp_handshake.specs.Machines.{Step, Takes, dropped}
 use Rattle.sctp_handshake.specs.Offers.{offer_fault}
 use Rattle.sctp_handshake.specs.declared.answer.Answer.{Answer}
+use Rattle.sctp_handshake.specs.InitValues.{init_in}
+use Rattle.sctp_handshake.specs.declared.answer.Reply.{Reply}
+use Rattle.sctp_handshake.specs.declared.answer.Reply.TheVariants.{InitAck}
 use Rattle.sctp_handshake.specs.declared.answer.Told.{Told}
 use Rattle.sctp_handshake.specs.declared.answer.Told.TheVariants.{Connected, Restarted}
 use Rattle.sctp_handshake.specs.declared.machine.cookies.CookieRow.{CookieRow}
 use Rattle.sctp_handshake.specs.declared.machine.cookies.CookieRow.TheVariants.{Collision, First, Late, Repeat, Restart, Unlisted}
+use Rattle.sctp_handshake.specs.declared.init_value.Said.{Said}
+use Rattle.sctp_handshake.specs.declared.machine.Fresh.{Fresh}
 use Rattle.sctp_handshake.specs.declared.machine.Machine.{Machine}
 use Rattle.sctp_handshake.specs.declared.offer.Offer.{Offer}
 use Rattle.sctp_handshake.specs.declared.offer.OfferFault.{OfferFault}
-use Rattle.sctp_handshake.specs.declared.offer.OfferFault.TheVariants.{SmallWindow}
+use Rattle.sctp_handshake.specs.declared.offer.OfferFault.TheVariants.{NoTag, SmallWindow}
 use Rattle.sctp_handshake.specs.declared.state.State.{State}
 use Rattle.sctp_handshake.specs.declared.state.State.TheVariants.{Closed, CookieEchoed, CookieWait, ShutdownAckSent}
 use Rattle.sctp_handshake.specs.declared.ticket.Ticket.{Ticket}
 
 -- ## What a step tells and leaves
+
+-- the association has this machine then, and what it begins by stays
+pub record IsLeft (a : Association) (n : Machine) (b : Association) : Type 0 where
+  pub config : b.config ≡ a.config
+  pub key : b.key ≡ a.key
+  pub machine : b.machine ≡ n
+  pub owes : OwesNoMore a b
 
 abbrev is-new : Option Told → Bool
 is-new (Some Restarted) = true
@@ -48,6 +62,7 @@ record Tells (Offered : Offer → Type 0) (Own : Offer → Type 0) (m : Machine)
       → ((is_asking m.state ≡ true) × (m.peer ≡ Some o)) ⊎ Offered o
   own : s.answer.told ≡ Some Restarted → Own s.machine.own
   anew : s.answer.told ≡ Some Restarted → (o : Offer) → s.machine.peer ≡ Some o → Offered o
+  mine : (s.machine.own ≡ m.own) ⊎ Own s.machine.own
 
 module _ (d : List ℕ) (a b : Association) (Offered Own : Offer → Type 0) (offers : (o : Offer) → Offered o → IsOffered d a o)
     (s : Step) (t : Tells Offered Own a.machine s) (n : Machine) (answer : Answer) (takes : Takes s n answer) where
@@ -93,16 +108,22 @@ module _ (d : List ℕ) (a b : Association) (Offered Own : Offer → Type 0) (of
       begun (Some _) e x y b = same x y b
 
   -- then what stays
-  module _ (kept : (b.config ≡ a.config) × (b.key ≡ a.key) × (b.machine ≡ n)) where
+  module _ (kept : IsLeft a n b) (echoes : (o : Offer) → Own o → IsOwnEchoed d a.key o) where
     so : Follows Rule Does (halves_of a) (halves_of b) → ArrivesAsOffered d a b
     so arrives =
-        let is : b.machine ≡ s.machine = kept.2 ∙ takes.machine in
+        let is : b.machine ≡ s.machine = kept.machine ∙ takes.machine in
+        let own : b.machine.own ≡ s.machine.own = ap (λ (k : Machine). k.own) is in
         record {
           arrives = arrives;
-          config = kept.0;
-          key = kept.1;
+          config = kept.config;
+          key = kept.key;
           asking = λ e. t.asking (subst (λ (k : Machine). is_asking k.state ≡ true) is e);
           peer = λ o e. elim (t.peer o (sym (ap (λ (k : Machine). k.peer) is) ∙ e)) [ inl old ↦ inl old | inr offered ↦ inr (offers o offered) ];
+          own = elim t.mine [
+            | inl same ↦ inl (own ∙ same)
+            | inr echoed ↦ inr (subst (λ (o : Offer). IsOwnEchoed d a.key o) (sym own) (echoes s.machine.own echoed))
+          ];
+          owes = λ k e. inl (kept.owes k e);
         }
 
     begun-so : (typ : ℕ) → HasType d typ → (typ ≡ 10) ⊎ (typ ≡ 11)
@@ -125,6 +146,7 @@ module _ (t : Ticket) (m : Machine) where
     connected = λ e. absurd (none-some Connected (sym none ∙ e));
     own = λ e. absurd (none-some Restarted (sym none ∙ e));
     anew = λ e. absurd (none-some Restarted (sym none ∙ e));
+    mine = inl (ap (λ (k : Machine). k.own) is);
   }
 
   cookie-begins : (told : Told) → OfTicket (cookies.begins told t m)
@@ -134,6 +156,7 @@ module _ (t : Ticket) (m : Machine) where
     connected = λ _ o e. inr (same_Some t.peer o e);
     own = λ _. refl;
     anew = λ _ o e. same_Some t.peer o e;
+    mine = inr refl;
   }
 
   cookie-renews : (s : State) → OfTicket (renewal_row s t m)
@@ -151,6 +174,7 @@ module _ (t : Ticket) (m : Machine) where
     connected = λ _ o e. inl (ap is_asking is, e);
     own = λ e. absurd (false≢true (ap is-new e));
     anew = λ e. absurd (false≢true (ap is-new e));
+    mine = inl refl;
   }
   cookie-repeats _ is = cookie-same _ refl refl
 
@@ -168,11 +192,11 @@ module _ (t : Ticket) (m : Machine) where
 
 module _ (d : List ℕ) (p : ChunkPlace) (own : IsChunkOf d p) (a b : Association) (n : Machine) (answer : Answer) where
   pub cookie_offered : p.typ ≡ 10 → (t : Ticket) → IsEchoed d a.key t → (stale : Bool) → Takes (on_cookie_echo t stale a.machine) n answer
-      → BeginsBy answer.told n a.config (halves_of a) (halves_of b) → b.config ≡ a.config → b.key ≡ a.key → b.machine ≡ n → ArrivesAsOffered d a b
-  cookie_offered typ t echoed stale takes led c k m =
+      → BeginsBy answer.told n a.config (halves_of a) (halves_of b) → IsLeft a n b → ArrivesAsOffered d a b
+  cookie_offered typ t echoed stale takes led left =
       let has : HasType d 10 = record { place = p; own = own; is = typ } in
       begun-so d a b (λ o. t.peer ≡ o) (λ mine. mine ≡ t.own) (λ o e. by_ticket t echoed e) (on_cookie_echo t stale a.machine)
-      (cookie-row t a.machine (row_of t a.machine) stale) n answer takes (c, k, m) 10 has (inl refl)
+      (cookie-row t a.machine (row_of t a.machine) stale) n answer takes left (λ o is. (t, echoed, sym is)) 10 has (inl refl)
       (λ told. (
         has,
         λ mine is. record {
@@ -190,6 +214,7 @@ module _ (d : List ℕ) (p : ChunkPlace) (own : IsChunkOf d p) (a b : Associatio
     connected = λ _ o e. inl (ap is_asking is, e);
     own = λ e. absurd (false≢true (ap is-new e));
     anew = λ e. absurd (false≢true (ap is-new e));
+    mine = inl refl;
   }
   ack-tells _ m is = record {
     asking = λ e. e;
@@ -197,14 +222,15 @@ module _ (d : List ℕ) (p : ChunkPlace) (own : IsChunkOf d p) (a b : Associatio
     connected = λ e. absurd (none-some Connected e);
     own = λ e. absurd (none-some Restarted e);
     anew = λ e. absurd (none-some Restarted e);
+    mine = inl refl;
   }
 
   pub ack_offered : p.typ ≡ 11 → Takes (on_cookie_ack a.machine) n answer → BeginsBy answer.told n a.config (halves_of a) (halves_of b)
-      → b.config ≡ a.config → b.key ≡ a.key → b.machine ≡ n → ArrivesAsOffered d a b
-  ack_offered typ takes led c k m =
+      → IsLeft a n b → ArrivesAsOffered d a b
+  ack_offered typ takes led left =
       let has : HasType d 11 = record { place = p; own = own; is = typ } in
       let tells : Tells (λ o. ⊥) (λ mine. ⊥) a.machine (on_cookie_ack a.machine) = ack-tells a.machine.state a.machine refl in
-      begun-so d a b (λ o. ⊥) (λ mine. ⊥) (λ o e. absurd e) (on_cookie_ack a.machine) tells n answer takes (c, k, m) 11 has (inr refl)
+      begun-so d a b (λ o. ⊥) (λ mine. ⊥) (λ o e. absurd e) (on_cookie_ack a.machine) tells n answer takes left (λ o never. absurd never) 11 has (inr refl)
       (λ told. absurd (tells.own told)) led
 
 -- ## An INIT ACK
@@ -214,38 +240,78 @@ record Hears (offer : Offer) (m : Machine) (s : Step) : Type 0 where
   asking : is_asking s.machine.state ≡ true → is_asking m.state ≡ true
   peer : IsPeer (λ o. (is_asking m.state ≡ true) × (offer ≡ o)) m s.machine
   quiet : (n : Machine) (c : Config) (x y : Halves) → BeginsBy s.answer.told n c x y → y ≡ x
+  own : s.machine.own ≡ m.own
 
 init-ack-checked : (f : Option OfferFault) (offer : Offer) (m : Machine) → m.state ≡ CookieWait → Hears offer m (init_ack_checked f offer m)
 init-ack-checked None offer m is = record {
   asking = λ e. ap is_asking is;
   peer = λ o e. inr (ap is_asking is, same_Some offer o e);
   quiet = λ n c x y b. b;
+  own = refl;
 }
-init-ack-checked (Some SmallWindow) offer m is = record { asking = λ e. e; peer = λ o e. inl e; quiet = λ n c x y b. b }
+init-ack-checked (Some SmallWindow) offer m is = record { asking = λ e. e; peer = λ o e. inl e; quiet = λ n c x y b. b; own = refl }
 init-ack-checked (Some _) offer m is = record {
   asking = λ e. absurd (false≢true e);
   peer = λ o e. absurd (none-some o e);
   quiet = λ n c x y b. b;
+  own = refl;
 }
 
 init-ack-hears : (s : State) (offer : Offer) (m : Machine) → m.state ≡ s → Hears offer m (init_ack_row s offer m)
 init-ack-hears CookieWait offer m is = init-ack-checked (offer_fault offer) offer m is
-init-ack-hears _ offer m is = record { asking = λ e. e; peer = λ o e. inl e; quiet = λ n c x y b. b }
+init-ack-hears _ offer m is = record { asking = λ e. e; peer = λ o e. inl e; quiet = λ n c x y b. b; own = refl }
 
 module _ (d : List ℕ) (a b : Association) (n : Machine) (answer : Answer) (offer : Offer) where
   pub init_ack_offered : AnswersInit d offer → Takes (on_init_ack offer a.machine) n answer → BeginsBy answer.told n a.config (halves_of a) (halves_of b)
-      → b.config ≡ a.config → b.key ≡ a.key → b.machine ≡ n → ArrivesAsOffered d a b
-  init_ack_offered answers takes begun c k m =
+      → IsLeft a n b → ArrivesAsOffered d a b
+  init_ack_offered answers takes begun left =
       let h : Hears offer a.machine (on_init_ack offer a.machine) = init-ack-hears a.machine.state offer a.machine refl in
-      let is : b.machine ≡ (on_init_ack offer a.machine).machine = m ∙ takes.machine in
+      let is : b.machine ≡ (on_init_ack offer a.machine).machine = left.machine ∙ takes.machine in
       let told = subst (λ (o : Option Told). BeginsBy o n a.config (halves_of a) (halves_of b)) (ap (λ (k : Answer). k.told) takes.answer) begun in
       record {
         arrives = follows_same (IsBroughtAs (IsBegunBy d a) d) Does (halves_of a) (halves_of b) (h.quiet n a.config (halves_of a) (halves_of b) told);
-        config = c;
-        key = k;
+        config = left.config;
+        key = left.key;
+        own = inl (ap (λ (j : Machine). j.own) is ∙ h.own);
+        owes = λ t e. inl (left.owes t e);
         asking = λ e. h.asking (subst (λ (j : Machine). is_asking j.state ≡ true) is e);
         peer = λ o e. elim (h.peer o (sym (ap (λ (j : Machine). j.peer) is) ∙ e)) [
           | inl old ↦ inl old
           | inr made ↦ inr (by_init_ack made.0 (subst (AnswersInit d) made.1 answers))
         ];
       }
+
+-- ## An INIT
+
+-- the offer in the ticket of a reply
+abbrev offer-in : Option Reply → Option Offer
+offer-in (Some (InitAck t)) = Some t.peer
+offer-in _ = None
+
+-- is that of the INIT, where it answers by an INIT ACK
+abbrev IsOfInit : Offer → Option Reply → Type 0
+IsOfInit peer o = (offer-in o ≡ Some peer) ⊎ (offer-in o ≡ None)
+
+row-offer : (s : State) (peer : Offer) (fresh : Fresh) (m : Machine) → IsOfInit peer (init_row s peer fresh m)
+row-offer ShutdownAckSent peer fresh m = inr refl
+row-offer _ peer fresh m = inl refl
+
+checked-offer : (f : Option OfferFault) (peer : Offer) (fresh : Fresh) (m : Machine) → IsOfInit peer (init_checked f peer fresh m)
+checked-offer None peer fresh m = row-offer m.state peer fresh m
+checked-offer (Some NoTag) peer fresh m = inr refl
+checked-offer (Some _) peer fresh m = inr refl
+
+answers-offer : (peer : Offer) (fresh : Fresh) (m : Machine) (t : Ticket) → Some (InitAck t) ≡ init_reply peer fresh m → t.peer ≡ peer
+answers-offer peer fresh m t e = elim (checked-offer (offer_fault peer) peer fresh m) [
+  | inl is ↦ same_Some t.peer peer (ap offer-in e ∙ is)
+  | inr none ↦ absurd (none-some t.peer (sym none ∙ sym (ap offer-in e)))
+]
+
+module _ (d : List ℕ) (p : ChunkPlace) (own : IsChunkOf d p) (typ : p.typ ≡ 1) (said : Said) where
+  -- a ticket that is due was due before, or answers the INIT
+  pub init_answered : init_in (value_at (drop p.at d)) ≡ Ok said → (fresh : Fresh) (m : Machine) (r : Reply) → Some r ≡ init_reply said.offer fresh m
+      → (Before : Type 0) (t : Ticket) → Before ⊎ (r ≡ InitAck t) → Before ⊎ OffersInit d t.peer
+  init_answered reads fresh m r e Before t (inl before) = inl before
+  init_answered reads fresh m r e Before t (inr is) =
+      let same : t.peer ≡ said.offer = answers-offer said.offer fresh m t (ap Some (sym is) ∙ e) in
+      inr (subst (OffersInit d) (sym same) (record { place = p; own = own; typ = typ; cookie = said.cookie; reads = reads }))

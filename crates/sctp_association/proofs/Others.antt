@@ -4,13 +4,16 @@ use Rattle.std.proofs.lemmas.Bool.{false≢true}
 use Rattle.std.proofs.lemmas.List.Elements.{Contains-append_left}
 use Rattle.std.specs.List.{AllByRecursion}
 use Rattle.std.specs.Result.{IsErr}
+use Rattle.sctp_association.proofs.Known.{unmoved_then}
 use Rattle.sctp_association.proofs.Putting.{shutdown_put, adds_none, adds_then, all_append, all_of_more, all_put, nothing}
 use Rattle.sctp_association.proofs.Running.{none_in, none_sent, reported_in, sent_then}
 use Rattle.sctp_association.specs.declared.association.Association.{Association}
 use Rattle.sctp_association.specs.declared.inbound.Inbound.{Inbound}
 use Rattle.sctp_association.specs.Halves.{HalvesAlike, PutsOthers, is_sent, receiver_of, sides_of}
+use Rattle.sctp_association.specs.Kept.{IsUnmoved}
 use Rattle.sctp_association.specs.declared.fault.Fault.{Fault}
-use Rattle.sctp_association.specs.Packets.{Adds, IsOf, IsWritten, Puts, PutsIn, Sides, Transmits, put_where, sides, sum_of, with_chunks}
+use Rattle.sctp_association.specs.Packets.{Adds, IsNoInit, IsOf, IsPacketOf, IsWritten, Puts, PutsIn, Sides, Transmits, put_where, sides}
+use Rattle.sctp_association.specs.Packets.{sum_of, with_chunks}
 use Rattle.sctp_association.specs.Runs.{ReportsIn, Sends}
 use Rattle.sctp_chunks.specs.Wire.{Wire, shutdown_chunk}
 use Rattle.sctp_data.specs.SelectiveAck.{Sack}
@@ -24,12 +27,14 @@ use Rattle.sctp_sender.specs.Sender.{Transmission}
 pub alike_then : (a b c : Association) → HalvesAlike a b → HalvesAlike b c → HalvesAlike a c
 alike_then a b c h k = record { sender = k.sender ∙ h.sender; receiver = k.receiver ∙ h.receiver }
 
-pub others_none : (a b : Association) → HalvesAlike a b → b.draft.bytes ≡ a.draft.bytes → PutsOthers a b
-others_none a b h e = record {
+pub others_none : (a b : Association) → HalvesAlike a b → IsUnmoved a b → b.draft.bytes ≡ a.draft.bytes → PutsOthers a b
+others_none a b h u e = record {
   halves = h;
   chunks = [];
   added = subst (λ x. Adds [] a.draft.bytes x) (sym e) (adds_none a.draft.bytes);
   own = tt;
+  plain = tt;
+  kept = u;
 }
 
 pub others_then : (a b c : Association) → PutsOthers a b → PutsOthers b c → PutsOthers a c
@@ -38,15 +43,24 @@ others_then a b c p q = record {
   chunks = p.chunks ++ q.chunks;
   added = adds_then p.chunks q.chunks a.draft.bytes b.draft.bytes c.draft.bytes p.added q.added;
   own = all_append (IsOf [] []) p.chunks q.chunks p.own q.own;
+  plain = all_append IsNoInit p.chunks q.chunks p.plain q.plain;
+  kept = unmoved_then a b c p.kept q.kept;
 }
 
 pub others_after : (a b c : Association) → PutsOthers b c → PutsOthers a b → PutsOthers a c
 others_after a b c q p = others_then a b c p q
 
 -- a chunk is put, where it fits
-pub others_one : (k : Bool) (w : Wire) (a b : Association) → Adds (put_where k w) a.draft.bytes b.draft.bytes → IsOf [] [] w → HalvesAlike a b
-    → PutsOthers a b
-others_one k w a b added of h = record { halves = h; chunks = put_where k w; added = added; own = all_put (IsOf [] []) k w of }
+pub others_one : (k : Bool) (w : Wire) (a b : Association) → Adds (put_where k w) a.draft.bytes b.draft.bytes → IsOf [] [] w → IsNoInit w
+    → HalvesAlike a b → IsUnmoved a b → PutsOthers a b
+others_one k w a b added of plain h u = record {
+  halves = h;
+  chunks = put_where k w;
+  added = added;
+  own = all_put (IsOf [] []) k w of;
+  plain = all_put IsNoInit k w plain;
+  kept = u;
+}
 
 module _ (a b : Association) where
   -- what leads on from a side that is the same
@@ -65,6 +79,7 @@ module _ (a b : Association) where
     reported = none_in (receiver_of a.inbound);
     added = p.added;
     own = p.own;
+    plain = p.plain;
   })
 
   -- where nothing is put
@@ -73,7 +88,7 @@ module _ (a b : Association) where
   alike_puts h x = put_alike x x h (nothing (sides a.outbound.sender (receiver_of a.inbound) x))
 
 pub same_puts : (a b : Association) → b.draft.bytes ≡ a.draft.bytes → HalvesAlike a b → Puts (sides_of a) (sides_of b)
-same_puts a b e h = others_puts a b (others_none a b h e)
+same_puts a b e h = subst (λ x. Puts (sides_of a) (sides b.outbound.sender (receiver_of b.inbound) x)) (sym e) (alike_puts a b h a.draft.bytes)
 
 -- what a receiver puts, where there is one
 in_side : (t : Transmission) (o p : Option Inbound) (i j : Inbound) (x y : List ℕ) → o ≡ Some i → p ≡ Some j → PutsIn i.receiver j.receiver x y
@@ -100,14 +115,14 @@ shutdown_puts k n a b i added e own h =
 
 -- what the sender puts
 pub sends_puts : (ms : List Made) (t u : Transmission) (r : Option Reception) (x : List ℕ) → Sends ms t u → Puts (sides t r x) (sides u r x)
-sends_puts ms t u r x s = record { made = ms; sacks = []; chunks = []; sent = s; reported = none_in r; added = adds_none x; own = tt }
+sends_puts ms t u r x s = record { made = ms; sacks = []; chunks = []; sent = s; reported = none_in r; added = adds_none x; own = tt; plain = tt }
 
 -- ## A datagram
 
 -- what was put behind a header, sealed
-pub written : (h : CommonHeader) (z : Bool) (ms : List Made) (ss : List Sack) (ws : List Wire) (begun full sealed : List ℕ) → IsDraft (headed h) begun
-    → Adds ws begun full → AllByRecursion (IsOf ms ss) ws → ((p : Parts) → IsDraft p full → sealed ≡ packet_encoding (sum_of z) p) → IsWritten ms ss sealed
-written h z ms ss ws begun full sealed draft added own encoded =
+pub written : (h : CommonHeader) (z : Bool) (P : Wire → Type 0) (ws : List Wire) (begun full sealed : List ℕ) → IsDraft (headed h) begun
+    → Adds ws begun full → AllByRecursion P ws → ((p : Parts) → IsDraft p full → sealed ≡ packet_encoding (sum_of z) p) → IsPacketOf P sealed
+written h z P ws begun full sealed draft added own encoded =
     let d = added.draft (headed h) draft in
     record { packet = with_chunks ws (headed h); is_zero = z; encoded = encoded _ d; encodings = d.encodings; fits = d.fits; own = own }
 
@@ -123,8 +138,13 @@ module _ (t u : Transmission) (r q : Option Reception) (x begun full : List ℕ)
     sacks = p.sacks;
     sent = p.sent;
     reported = p.reported;
-    written = λ e. written h z p.made p.sacks p.chunks begun full sealed draft p.added p.own encoded;
+    written = λ e. written h z (IsOf p.made p.sacks) p.chunks begun full sealed draft p.added p.own encoded;
   }
+
+  -- no INIT is in it
+  pub plain_after : (h : CommonHeader) (z : Bool) (sealed : List ℕ) → IsDraft (headed h) begun
+      → ((d : Parts) → IsDraft d full → sealed ≡ packet_encoding (sum_of z) d) → IsPacketOf IsNoInit sealed
+  plain_after h z sealed draft encoded = written h z IsNoInit p.chunks begun full sealed draft p.added p.plain encoded
 
 more_written : (ms ns : List Made) (ss ts : List Sack) (b : List ℕ) → IsWritten ms ss b → IsWritten (ms ++ ns) (ss ++ ts) b
 more_written ms ns ss ts b w = record {
@@ -159,6 +179,9 @@ unsent s t r x y p = record { made = p.made; sacks = p.sacks; sent = p.sent; rep
 refused : (o : Result Bool Fault) → IsErr o → is_sent o ≡ false
 refused (Ok b) h = absurd (false≢true h)
 refused (Err e) h = refl
+
+pub unsent_err : {X : Type 0} (o : Result Bool Fault) → IsErr o → is_sent o ≡ true → X
+unsent_err o h e = absurd (false≢true (sym (refused o h) ∙ e))
 
 pub none_sent_so : (o : Result Bool Fault) (s z : Sides) → IsErr o → Transmits false s z → Transmits (is_sent o) s z
 none_sent_so o s z h t = subst (λ k. Transmits k s z) (sym (refused o h)) t

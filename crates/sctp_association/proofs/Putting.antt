@@ -5,7 +5,7 @@ use Rattle.std.proofs.lemmas.List.Elements.{Contains-append_left, Contains-appen
 use Rattle.std.specs.Prelude.{Contains}
 use Rattle.std.specs.List.{AllByRecursion}
 use Rattle.sctp_association.proofs.Running.{none_in, none_sent, reported_in, reported_once, sent_by, sent_then}
-use Rattle.sctp_association.specs.Packets.{Adds, IsOf, Puts, PutsIn, PutsOut, Sides, put_where, sides, with_chunks}
+use Rattle.sctp_association.specs.Packets.{Adds, IsNoInit, IsOf, Puts, PutsIn, PutsOut, Sides, put_where, sides, with_chunks}
 use Rattle.sctp_association.specs.Runs.{AcksBy, SendsBy, made_by, reported_by}
 use Rattle.sctp_chunks.specs.Wire.{Wire, data_chunk, forward_tsn_chunk, i_forward_tsn_chunk, sack_chunk, shutdown_chunk}
 use Rattle.sctp_chunks.specs.Wire.{abort_chunk, cookie_ack_chunk, cookie_echo_chunk, error_chunk, heartbeat_ack_chunk, heartbeat_chunk, init_chunk}
@@ -77,6 +77,7 @@ nothing s = record {
   reported = none_in s.receiver;
   added = adds_none s.bytes;
   own = tt;
+  plain = tt;
 }
 
 pub and_then : (a b c : Sides) → Puts a b → Puts b c → Puts a c
@@ -92,6 +93,7 @@ and_then a b c p q = record {
       (λ s h. Contains-append_right q.sacks p.sacks s h) p.chunks p.own)
       (all_of_more q.made (q.made ++ p.made) q.sacks (q.sacks ++ p.sacks) (λ m h. Contains-append_left q.made p.made m h)
       (λ s h. Contains-append_left q.sacks p.sacks s h) q.chunks q.own);
+  plain = all_append IsNoInit p.chunks q.chunks p.plain q.plain;
 }
 
 -- where neither half changes, nor the packet
@@ -110,9 +112,9 @@ pub out_then : (t u v : Transmission) (x y z : List ℕ) → PutsOut t u x y →
 out_then t u v x y z p q r = and_then (sides t r x) (sides u r y) (sides v r z) (p r) (q r)
 
 -- a chunk that a call of the sender answers
-pub puts_made : (c : SenderCall) (b : Bool) (w : Wire) (t u : Transmission) (old new : List ℕ) → SendsBy c t u → IsOf (made_by c t) [] w
+pub puts_made : (c : SenderCall) (b : Bool) (w : Wire) (t u : Transmission) (old new : List ℕ) → SendsBy c t u → IsOf (made_by c t) [] w → IsNoInit w
     → Adds (put_where b w) old new → PutsOut t u old new
-puts_made c b w t u old new m of added r = record {
+puts_made c b w t u old new m of plain added r = record {
   made = made_by c t;
   sacks = [];
   chunks = put_where b w;
@@ -120,6 +122,7 @@ puts_made c b w t u old new m of added r = record {
   reported = none_in r;
   added = added;
   own = all_put (IsOf (made_by c t) []) b w of;
+  plain = all_put IsNoInit b w plain;
 }
 
 -- a call of the sender, of which no chunk is put
@@ -132,12 +135,13 @@ puts_none c t u b m r = record {
   reported = none_in r;
   added = adds_none b;
   own = tt;
+  plain = tt;
 }
 
 -- a chunk that a call of the receiver answers
 pub puts_reported : (c : ReceiverCall) (b : Bool) (w : Wire) (r s : Reception) (old new : List ℕ) → AcksBy c r s → IsOf [] (reported_by c r) w
-    → Adds (put_where b w) old new → PutsIn r s old new
-puts_reported c b w r s old new m of added t = record {
+    → IsNoInit w → Adds (put_where b w) old new → PutsIn r s old new
+puts_reported c b w r s old new m of plain added t = record {
   made = [];
   sacks = reported_by c r;
   chunks = put_where b w;
@@ -145,6 +149,7 @@ puts_reported c b w r s old new m of added t = record {
   reported = reported_once c r s m;
   added = added;
   own = all_put (IsOf [] (reported_by c r)) b w of;
+  plain = all_put IsNoInit b w plain;
 }
 
 pub there : {X : Type 0} (x : X) → Contains (x ∷ []) x
@@ -154,4 +159,4 @@ there x = (0, omega arith, refl)
 pub shutdown_put : (n : ℕ) (b : Bool) (r : Reception) (old new : List ℕ) → n ≡ r.cumulative_tsn → Adds (put_where b (shutdown_chunk n)) old new
     → PutsIn r r old new
 shutdown_put n b r old new e added = puts_reported (makes_sack 0 16) b (shutdown_chunk n) r r old new (refl, (refl, tt))
-    (record { sack = sack_within 0 16 r; own = there (sack_within 0 16 r); cumulative = sym e }) added
+    (record { sack = sack_within 0 16 r; own = there (sack_within 0 16 r); cumulative = sym e }) tt added

@@ -7,12 +7,14 @@ use Rattle.sctp_association.specs.declared.config.Config.{Config}
 use Rattle.sctp_association.specs.declared.due.Alone.{Alone}
 use Rattle.sctp_association.specs.declared.due.AloneKind.TheVariants.{Init}
 use Rattle.sctp_association.specs.Halves.{fragment_size, halves_of}
+use Rattle.sctp_association.specs.Kept.{OwesNoMore, OwesTicket, ticket_due}
 use Rattle.sctp_association.specs.Reached.{limits_of}
 use Rattle.sctp_chunks.specs.Framing.{value_at}
 use Rattle.sctp_datagram.specs.Carried.{IsChunkOf}
 use Rattle.sctp_datagram.specs.declared.datagram.ChunkPlace.{ChunkPlace}
 use Rattle.sctp_datagram.specs.declared.params.ParamPlace.{ParamPlace}
 use Rattle.sctp_handshake.specs.InitValues as values
+use Rattle.sctp_handshake.specs.Machines.{into}
 use Rattle.sctp_handshake.specs.declared.answer.Told.{Told}
 use Rattle.sctp_handshake.specs.declared.answer.Told.TheVariants as told
 use Rattle.sctp_handshake.specs.declared.machine.Machine.{Machine}
@@ -100,6 +102,15 @@ pub record AnswersInit (datagram : List ℕ) (offer : Offer) : Type 0 where
   pub reads : values.cookie_in (values.init_in (value_at (drop place.at datagram)))
       ≡ Ok (offer, cookie)
 
+-- an INIT of the datagram makes this offer
+pub record OffersInit (datagram : List ℕ) (offer : Offer) : Type 0 where
+  pub place : ChunkPlace
+  pub own : IsChunkOf datagram place
+  pub typ : place.typ ≡ 1
+  pub cookie : Option ParamPlace
+  pub reads : values.init_in (value_at (drop place.at datagram))
+      ≡ Ok (record { offer = offer; cookie = cookie })
+
 -- By this offer of the peer the association may begin when the datagram comes: it is that of a ticket that the datagram echoes; or this side has asked,
 -- and it is that of an INIT ACK of the datagram, or the one that this side keeps of an earlier INIT ACK.
 pub data IsOffered (datagram : List ℕ) (a : Association) (offer : Offer) : Type 0 where
@@ -130,8 +141,13 @@ IsBegunBy datagram a (begins tsn max limits) =
     BeginsByOffer datagram a (begins tsn max limits)
 IsBegunBy datagram a (renews tsn size max) = RenewsByTicket datagram a (renews tsn size max)
 
+-- the offer of this side in a ticket that the datagram echoes
+abbrev pub IsOwnEchoed : (datagram key : List ℕ) → Offer → Type 0
+IsOwnEchoed datagram key offer = (ticket : Ticket) × IsEchoed datagram key ticket × (ticket.own ≡ offer)
+
 -- What the datagram brings, where each half that is new begins so. The peer is the one that was known, or one by whose offer the association may
--- begin. This side asks no peer that it did not ask before.
+-- begin. This side asks no peer that it did not ask before, and offers what it offered, or what a ticket says that is echoed. An INIT ACK that is
+-- due was due before, or its ticket has the offer of an INIT of the datagram.
 pub record ArrivesAsOffered (datagram : List ℕ) (old new : Association) : Type 0 where
   pub arrives : ArrivesAs (IsBegunBy datagram old) datagram (halves_of old) (halves_of new)
   pub config : new.config ≡ old.config
@@ -139,25 +155,48 @@ pub record ArrivesAsOffered (datagram : List ℕ) (old new : Association) : Type
   pub asking : is_asking new.machine.state ≡ true → is_asking old.machine.state ≡ true
   pub peer : (offer : Offer) → new.machine.peer ≡ Some offer
       → (old.machine.peer ≡ Some offer) ⊎ IsOffered datagram old offer
+  pub own : (new.machine.own ≡ old.machine.own)
+      ⊎ IsOwnEchoed datagram old.key new.machine.own
+  pub owes : (ticket : Ticket) → OwesTicket new ticket
+      → OwesTicket old ticket ⊎ OffersInit datagram ticket.peer
 
 -- ## What stays
 
--- the machine, and what an association begins by
-pub record IsKept (old new : Association) : Type 0 where
-  pub config : new.config ≡ old.config
-  pub key : new.key ≡ old.key
-  pub machine : new.machine ≡ old.machine
-
--- of a peer nothing new is known
+-- of a peer nothing new is known, and this side offers the same
 pub record KnowsNoMore (old new : Machine) : Type 0 where
   pub asking : is_asking new.state ≡ true → is_asking old.state ≡ true
   pub peer : (offer : Offer) → new.peer ≡ Some offer → old.peer ≡ Some offer
+  pub own : new.own ≡ old.own
 
 -- the peer is the one that was known, or is forgotten
 pub record KeepsPeer (old new : Association) : Type 0 where
   pub config : new.config ≡ old.config
   pub key : new.key ≡ old.key
   pub machine : KnowsNoMore old.machine new.machine
+  pub owes : OwesNoMore old new
+
+-- ## Calls that no datagram brings
+
+-- a new one: it has these, knows no peer, and no INIT ACK is due
+pub record IsMadeOf (c : Config) (k : List ℕ) (tsn : ℕ) (new : Association) : Type 0 where
+  pub config : new.config ≡ c
+  pub key : new.key ≡ k
+  pub own : new.machine.own.first_tsn ≡ tsn
+  pub peer : new.machine.peer ≡ None
+  pub owes : ticket_due new.due.alone ≡ None
+
+-- `connect`: this side asks, and what an association begins by stays
+pub record BeginsToAsk (old new : Association) : Type 0 where
+  pub config : new.config ≡ old.config
+  pub key : new.key ≡ old.key
+  pub machine : new.machine ≡ into CookieWait old.machine
+
+-- `set_mtu`: no more changes of what an association begins by than how many bytes a packet has
+pub record IsKeptButMtu (old new : Association) : Type 0 where
+  pub config : new.config ≡ record old.config { mtu = new.config.mtu }
+  pub key : new.key ≡ old.key
+  pub machine : new.machine ≡ old.machine
+  pub due : new.due ≡ old.due
 
 -- ## From the state Closed
 

@@ -6,7 +6,8 @@ use Rattle.sctp_association.specs.declared.association.Association.{Association}
 use Rattle.sctp_association.specs.declared.fault.Fault.{Fault}
 use Rattle.sctp_association.specs.declared.inbound.Inbound.{Inbound}
 use Rattle.sctp_association.specs.Arrivals.{Halves, halves, new_sender}
-use Rattle.sctp_association.specs.Packets.{Adds, IsOf, Sides, sides}
+use Rattle.sctp_association.specs.Kept.{IsUnmoved}
+use Rattle.sctp_association.specs.Packets.{Adds, IsNoInit, IsOf, Sides, sides}
 use Rattle.sctp_chunks.specs.Wire.{Wire}
 use Rattle.sctp_path.specs.Congestion.{pmdcs_of}
 use Rattle.sctp_path.specs.Timers.{is_due}
@@ -29,12 +30,14 @@ pub record HalvesAlike (old new : Association) : Type 0 where
   pub sender : new.outbound.sender ≡ old.outbound.sender
   pub receiver : receiver_of new.inbound ≡ receiver_of old.inbound
 
--- and what was put is neither DATA nor FORWARD-TSN, SACK or SHUTDOWN
+-- and what was put is neither DATA nor FORWARD-TSN, SACK, SHUTDOWN or INIT. What the association begins by stays
 pub record PutsOthers (old new : Association) : Type 0 where
   pub halves : HalvesAlike old new
   pub chunks : List Wire
   pub added : Adds chunks old.draft.bytes new.draft.bytes
   pub own : AllByRecursion (IsOf [] []) chunks
+  pub plain : AllByRecursion IsNoInit chunks
+  pub kept : IsUnmoved old new
 
 -- a datagram is there
 abbrev pub is_sent : Result Bool Fault → Bool

@@ -13,8 +13,11 @@ pub mod Halves
 pub mod Held
 pub mod HostCalls
 pub mod Hosts
+pub mod Kept
 pub mod Links
+pub mod Lives
 pub mod Once
+pub mod Offering
 pub mod OneLife
 pub mod Packets
 pub mod Pairs

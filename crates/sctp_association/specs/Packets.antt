@@ -3,7 +3,7 @@ use Rattle.std.specs.Prelude.{◌≡◌, ⊤, ℕ, Bool, true, false, List, [], 
 use Rattle.std.specs.List.{AllByRecursion}
 use Rattle.crc32c.specs.Castagnoli.{crc32c_of}
 use Rattle.sctp_association.specs.Runs.{ReportsIn, Sends}
-use Rattle.sctp_chunks.specs.Wire.{Wire, data_chunk, forward_tsn_chunk, i_forward_tsn_chunk, sack_chunk, shutdown_chunk}
+use Rattle.sctp_chunks.specs.Wire.{Wire, data_chunk, forward_tsn_chunk, i_forward_tsn_chunk, init_chunk, sack_chunk, shutdown_chunk}
 use Rattle.sctp_data.specs.SelectiveAck.{Sack}
 use Rattle.sctp_delivery.specs.SenderCalls.{Made}
 use Rattle.sctp_delivery.specs.SenderCalls as made
@@ -48,6 +48,11 @@ IsOf ms sacks (shutdown_chunk tsn) = IsAcked sacks tsn
 IsOf ms sacks (i_forward_tsn_chunk f) = ⊥
 IsOf ms sacks _ = ⊤
 
+-- no INIT, and no INIT ACK
+abbrev pub IsNoInit : Wire → Type 0
+IsNoInit (init_chunk i) = ⊥
+IsNoInit _ = ⊤
+
 -- the halves of an association, and the packet that it writes
 pub record Sides : Type 0 where
   pub sender : Transmission
@@ -66,6 +71,7 @@ pub record Puts (old new : Sides) : Type 0 where
   pub reported : ReportsIn sacks old.receiver new.receiver
   pub added : Adds chunks old.bytes new.bytes
   pub own : AllByRecursion (IsOf made sacks) chunks
+  pub plain : AllByRecursion IsNoInit chunks
 
 -- the same of the sender, whatever the receiver is
 abbrev pub PutsOut : Transmission → Transmission → List ℕ → List ℕ → Type 0
@@ -79,13 +85,17 @@ PutsIn r s old new =
 -- ## A datagram
 
 -- the bytes are the one encoding of a packet of such chunks
-pub record IsWritten (ms : List Made) (sacks : List Sack) (bytes : List ℕ) : Type 0 where
+pub record IsPacketOf (P : Wire → Type 0) (bytes : List ℕ) : Type 0 where
   pub packet : Parts
   pub is_zero : Bool
   pub encoded : bytes ≡ packet_encoding (sum_of is_zero) packet
   pub encodings : HavePacketEncoding packet
   pub fits : FitsParts packet
-  pub own : AllByRecursion (IsOf ms sacks) packet.chunks
+  pub own : AllByRecursion P packet.chunks
+
+-- each is of what these calls answered
+abbrev pub IsWritten : List Made → List Sack → List ℕ → Type 0
+IsWritten ms sacks bytes = IsPacketOf (IsOf ms sacks) bytes
 
 -- calls of both halves led from old to new, and where there is a datagram it is a packet of what these calls answered
 pub record Transmits (is_sent : Bool) (old new : Sides) : Type 0 where

@@ -54,7 +54,7 @@ is_early flight now expired (Some trip) (Some sent) =
 abbrev pub may_send_again : (is_fast early : Bool) → ℕ → Control → Bool
 may_send_again is_fast early flight c = is_fast || (may_send flight c && not early)
 
--- ## What is given up (RFC 3758 4.1)
+-- ## What is abandoned (RFC 3758 4.1)
 
 -- the message in front of what waits is past its lifetime, and more of it waits than its last chunk
 abbrev pub is_front_late : ℕ → Option ChunkPayloadData → Bool

@@ -95,7 +95,9 @@ pub struct Association {
 }
 
 // What this side offers.
-fn offer_of(config: &Config, secrets: &Secrets) -> Offer {
+fn offer_of(config: &Config, secrets: &Secrets) -> Offer
+    ensures { result.first_tsn ≡ secrets.now.first_tsn }
+{
     Offer {
         tag: secrets.tag,
         window: u32::try_from(config.window).unwrap_or(u32::MAX),
@@ -126,7 +128,7 @@ fn outbound_config(config: &Config, first_tsn: u32) -> OutboundConfig
 }
 
 impl Association {
-    ghost use Rattle.sctp_association.specs.Beginnings.{HasAsked, IsUnbegun};
+    ghost use Rattle.sctp_association.specs.Beginnings.{BeginsToAsk, HasAsked, IsMadeOf, IsUnbegun, KeepsPeer};
     ghost use Rattle.sctp_association.specs.Halves.{HalvesAlike, first_halves, halves_of};
     ghost use Rattle.sctp_association.specs.Held.{HoldsFewChunks, OfReceiver, OpensFewStreams, held_by};
     ghost use Rattle.sctp_association.specs.Reads.{AreReadOff, IsSameBeside, length_of, message_in};
@@ -137,6 +139,7 @@ impl Association {
         ensures halves { IfOk result (λ a. halves_of a
             ≡ first_halves secrets.first_tsn config.mtu config.max_message_size) }
         ensures unbegun { IfOk result IsUnbegun }
+        ensures made { IfOk result (IsMadeOf config secrets.cookie_key secrets.first_tsn) }
         ensures refused { IfErr result (λ e. e ≡ BadConfig) }
     {
         if secrets.tag == 0 || !config.is_usable() {
@@ -176,6 +179,7 @@ impl Association {
         ensures accepted { IsOk result → IsUnbegun self.old }
         ensures unbegun { IsUnbegun self.old → IsOk result }
         ensures asked { OnOk result (HasAsked self.new) }
+        ensures begins { OnOk result (BeginsToAsk self.old self.new) }
         ensures refused { IfErr result (λ e. e ≡ WrongState) }
         ensures halves { HalvesAlike self.old self.new }
         ensures err { OnErr result (self.new ≡ self.old) }
@@ -265,6 +269,7 @@ impl Association {
         ensures accepted { IsOk result → self.old.machine.state ≢ Closed }
         ensures refused { IfErr result (λ e. e ≡ WrongState) }
         ensures halves { HalvesAlike self.old self.new }
+        ensures peer { KeepsPeer self.old self.new }
         ensures err { OnErr result (self.new ≡ self.old) }
     {
         let before = self.machine.state();
@@ -288,6 +293,7 @@ impl Association {
         ensures accepted { IsOk result → self.old.is_over ≡ false }
         ensures refused { IfErr result (λ e. e ≡ WrongState) }
         ensures halves { HalvesAlike self.old self.new }
+        ensures peer { KeepsPeer self.old self.new }
         ensures err { OnErr result (self.new ≡ self.old) }
     {
         if self.is_over {

@@ -1,6 +1,7 @@
 //! What is to be sent beside user data and SACKs.
 
-ghost use Rattle.std.specs.Prelude.{◌≡◌, true, false};
+ghost use Rattle.std.specs.Prelude.{◌≡◌, true, false, None};
+ghost use Rattle.sctp_association.specs.Kept.{ticket_in_kind};
 ghost use Rattle.sctp_association.specs.Tags.{is_ending};
 
 use bytes::Bytes;
@@ -35,11 +36,13 @@ impl Alone {
     /// Whether this, by which an association ended, answers a packet that begins with a chunk of a type and comes behind the end: a
     /// SHUTDOWN-COMPLETE answers a SHUTDOWN-ACK (RFC 9260 8.4, 5), an ABORT what is not itself an end, an ERROR or a COOKIE-ACK (8.4, 8).
     pub(crate) fn answers(&self, typ: u8) -> bool
-        ensures { result ≡ true → is_ending typ ≡ false }
+        ensures ends { result ≡ true → is_ending typ ≡ false }
+        // None ended by an INIT ACK.
+        ensures owes { result ≡ true → ticket_in_kind self.now.kind ≡ None }
     {
         match typ {
             1 | 6 | 9 | 10 | 11 | 14 => false,
-            8 => true,
+            8 => !matches!(self.kind, AloneKind::InitAck(_)),
             _ => matches!(
                 self.kind,
                 AloneKind::Abort(_) | AloneKind::NoCookie | AloneKind::NoUserData(_)
@@ -74,7 +77,9 @@ pub(crate) struct Due {
 
 impl Due {
     /// Nothing.
-    pub(crate) fn new() -> Due {
+    pub(crate) fn new() -> Due
+        ensures { result.alone ≡ None }
+    {
         Due {
             alone: None,
             cookie_echo: false,

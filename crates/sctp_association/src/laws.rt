@@ -5,6 +5,7 @@ ghost use Rattle.sctp_association.specs.Held.{CostsLittle, HoldsFewChunks, Keeps
 ghost use Rattle.sctp_association.specs.HostCalls.{EachAskActs, EachBegins, EachDatagramActs, EachOtherIsQuiet, EachPollActs, EachReadActs, EachSizeActs, EachTimeoutActs};
 ghost use Rattle.sctp_association.specs.Hosts.{EachDelivers, EachIsCut};
 ghost use Rattle.sctp_association.specs.Links.{EachLinkDelivers, EachLinkGoesOn, EachLinkIsCut, EachLinkTurns, EachTwoBegin};
+ghost use Rattle.sctp_association.specs.Lives.{EachBeginningCame, EachDeedIsKnown, EachLifeBegins, EachOfferIsRead, EachUnforgedCame};
 ghost use Rattle.sctp_association.specs.OneLife.{EachDatagramBrings, EachDeliversAny, EachLinkDeliversAny, EachOneLifeBegins, EachOneLifeGoesOn, EachOneLifeTurns, EachOfferedIsBrought, EachPlainIsOneLife};
 ghost use Rattle.sctp_association.specs.Sessions.{EachIsSent};
 
@@ -83,4 +84,15 @@ pub fn two_associations_of_one_life_go_on()
     ensures turned { EachOneLifeTurns }
     ensures handled { EachDatagramBrings }
     ensures offered { EachOfferedIsBrought }
+{}
+
+/// By which datagrams an association knows its peer, from `new` on, whatever calls it has. Each receiver begins with the first TSN of an INIT ACK
+/// that came, or of a ticket that a COOKIE-ECHO brought back. Each ticket that this side seals has the offer of an INIT that came. So where no
+/// cookie is forged, each receiver begins by the offer of an INIT or INIT ACK that came. One that an association wrote offers its TSN.
+pub fn each_receiver_begins_by_what_came()
+    ensures begun { EachLifeBegins }
+    ensures deeds { EachDeedIsKnown }
+    ensures came { EachBeginningCame }
+    ensures unforged { EachUnforgedCame }
+    ensures read { EachOfferIsRead }
 {}

@@ -1,9 +1,10 @@
 //! What comes in a datagram (RFC 9260 5, 6, 8.5, 9).
 
-ghost use Rattle.std.specs.Prelude.{◌≡◌, ◌≤◌, [], ◌∷◌, Ok, IfOk, IfSome, IsOk, OnErr, true, false, drop, length};
+ghost use Rattle.std.specs.Prelude.{◌≡◌, ◌≤◌, [], ◌∷◌, None, Ok, IfOk, IfSome, IsOk, OnErr, true, false, drop, length};
 ghost use Rattle.std.specs.List.{AllByRecursion};
 ghost use Rattle.sctp_association.specs.Arrivals.{Arrives, CallsArrive};
-ghost use Rattle.sctp_association.specs.Beginnings.{ArrivesAsOffered, BeginsBy, BeginsByDatagram, BeginsByTicket, IsKept, KeepsPeer};
+ghost use Rattle.sctp_association.specs.Beginnings.{ArrivesAsOffered, BeginsBy, BeginsByDatagram, BeginsByTicket, KeepsPeer};
+ghost use Rattle.sctp_association.specs.Kept.{IsKept, OwesNoMore, ticket_in_kind};
 ghost use Rattle.sctp_association.specs.Cookies.{IsAlive, IsSealed, cookie_in};
 ghost use Rattle.sctp_association.specs.Halves.{HalvesAlike, halves_of};
 ghost use Rattle.sctp_association.specs.Reached.{most_user_data};
@@ -77,6 +78,19 @@ fn read_data(datagram: &Bytes, chunk: ChunkPlace) -> Result<ChunkPayloadData, Fa
     }
 }
 
+// The ABORT that what came asks for.
+#[inline(always)]
+fn ending_of(followed: Followed) -> Option<AloneKind>
+    ensures { IfSome result (λ kind. ticket_in_kind kind ≡ None) }
+{
+    match followed {
+        Followed::Done => None,
+        Followed::NoUserData(tsn) => Some(AloneKind::NoUserData(tsn)),
+        Followed::Abort(AbortCause::OutOfResource) => Some(AloneKind::Abort(4)),
+        Followed::Abort(AbortCause::ProtocolViolation) => Some(AloneKind::Abort(13)),
+    }
+}
+
 impl Association {
     /// Takes a datagram of the peer. One that is dropped changes nothing. Where memory is wanting, the chunks before are taken, and those
     /// from the refused one on count as lost: the peer sends them again. Of SACK, SHUTDOWN, RE-CONFIG and FORWARD-TSN the first one in the
@@ -136,6 +150,7 @@ impl Association {
         ensures accepted { result ≡ Accepted → AdmitsFirst
             chunks.entry.bytes chunks.entry.left self.old.key self.old.machine }
         ensures rest { self.new ≡ record self.old { due = self.new.due } }
+        ensures owes { OwesNoMore self.old self.new }
     {
         let mut chunks = chunks;
         let tag = chunks.header().verification_tag;
@@ -415,11 +430,8 @@ impl Association {
         ensures halves { HalvesAlike self.old self.new }
         ensures peer { KeepsPeer self.old self.new }
     {
-        let kind = match followed {
-            Followed::Done => return Step::Next,
-            Followed::NoUserData(tsn) => AloneKind::NoUserData(tsn),
-            Followed::Abort(AbortCause::OutOfResource) => AloneKind::Abort(4),
-            Followed::Abort(AbortCause::ProtocolViolation) => AloneKind::Abort(13),
+        let Some(kind) = ending_of(followed) else {
+            return Step::Next;
         };
         self.end_with(kind);
         Step::Stop

@@ -3,6 +3,7 @@
 ghost use Rattle.std.specs.Prelude.{◌≡◌, ◌<◌, None, Some, Err, OnOk, OnErr, IfErr, IsOk, length};
 ghost use Rattle.sctp_association.specs.declared.fault.Fault.{Fault};
 ghost use Rattle.sctp_association.specs.Asked.{AsksOn};
+ghost use Rattle.sctp_association.specs.Beginnings.{IsKeptButMtu};
 ghost use Rattle.sctp_association.specs.Halves.{SetsFragmentSize};
 ghost use Rattle.sctp_association.specs.Waiting.{IsRefusal, opened};
 ghost use Rattle.sctp_delivery.specs.SenderCalls.{sets_low, sets_mode, writes};
@@ -163,6 +164,7 @@ impl Association {
     pub fn set_mtu(&mut self, mtu: usize) -> Result<(), Fault>
         ensures ok { OnOk result ((self.new.config.mtu ≡ mtu) × (self.new.draft.limit ≡ mtu)) }
         ensures halves { OnOk result (SetsFragmentSize mtu self.old self.new) }
+        ensures kept { IsKeptButMtu self.old self.new }
         ensures err { OnErr result (self.new ≡ self.old) }
     {
         if mtu < 512 || mtu > 65_535 {

@@ -1,7 +1,8 @@
 //! What the state machine is answered and tells.
 
 ghost use Rattle.std.specs.Prelude.{◌≡◌, ◌+◌, ◌≤◌, true, None, Some};
-ghost use Rattle.sctp_association.specs.Beginnings.{Begins, BeginsBy, IsKept, KeepsPeer, OwesInit};
+ghost use Rattle.sctp_association.specs.Beginnings.{Begins, BeginsBy, KeepsPeer, OwesInit};
+ghost use Rattle.sctp_association.specs.Kept.{IsKept, OwesNoMore, ticket_due, ticket_in_kind};
 ghost use Rattle.sctp_association.specs.Failing.{IsGuarded};
 ghost use Rattle.sctp_association.specs.Halves.{HalvesAlike, halves_of};
 ghost use Rattle.sctp_handshake.specs.declared.answer.Reply.TheVariants.{Init};
@@ -113,14 +114,16 @@ impl Association {
         self.due.farewell = self.due.alone;
     }
 
-    /// A reply is due. `tag` is that of whom it answers, where it is not the association's peer.
+    /// A reply is due, but for an INIT ACK: the machine answers only an INIT by that. `tag` is that of whom it answers, where it is not the
+    /// association's peer.
     pub(super) fn owe(&mut self, reply: Reply, tag: u32)
         ensures init { reply ≡ Init → OwesInit self.new }
+        ensures owes { OwesNoMore self.old self.new }
         ensures rest { self.new ≡ record self.old { due = self.new.due } }
     {
         match reply {
             Reply::Init => self.owe_alone(0, AloneKind::Init),
-            Reply::InitAck(ticket) => self.owe_alone(tag, AloneKind::InitAck(ticket)),
+            Reply::InitAck(_) => {}
             Reply::CookieEcho => self.due.cookie_echo = true,
             Reply::CookieAck => self.due.cookie_ack = true,
             Reply::StaleCookie => self.owe_alone(tag, AloneKind::StaleCookie(0)),
@@ -224,15 +227,23 @@ impl Association {
         ensures over { self.new.is_over ≡ true }
         ensures outbound { self.new.outbound ≡ self.old.outbound }
         ensures halves { HalvesAlike self.old self.new }
-        ensures peer { KeepsPeer self.old self.new }
+        ensures peer { ticket_in_kind kind ≡ None → KeepsPeer self.old self.new }
     {
-        if let Some(peer) = self.machine.peer() {
-            self.owe_farewell(peer.tag, kind);
-        } else {
-            self.due.alone = None;
-        }
+        self.owe_end(kind);
         let _answer = self.machine.abort();
         self.end(Ending::Aborted);
+    }
+
+    // The packet is due by which the association ends, where the peer is known; else none is.
+    fn owe_end(&mut self, kind: AloneKind)
+        ensures owes { ticket_in_kind kind ≡ None → ticket_due self.new.due.alone ≡ None }
+        ensures rest { self.new ≡ record self.old { due = self.new.due } }
+    {
+        let Some(peer) = self.machine.peer() else {
+            self.due.alone = None;
+            return;
+        };
+        self.owe_farewell(peer.tag, kind);
     }
 
     /// A tag and a first TSN for one INIT (RFC 9260 5.3.1): nobody without the key can guess them. While no association stands the first TSN

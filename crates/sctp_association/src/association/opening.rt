@@ -1,7 +1,8 @@
 //! INIT, INIT ACK and the cookie (RFC 9260 5).
 
-ghost use Rattle.std.specs.Prelude.{◌≡◌, ◌≢◌, Ok, IfOk, OnErr, true};
-ghost use Rattle.sctp_association.specs.Beginnings.{ArrivesAsOffered, BeginsByTicket, KeepsPeer};
+ghost use Rattle.std.specs.Prelude.{◌≡◌, ◌≢◌, ◌⊎◌, Ok, IfOk, OnErr, true};
+ghost use Rattle.sctp_association.specs.Beginnings.{ArrivesAsOffered, BeginsByTicket, KeepsPeer, OffersInit};
+ghost use Rattle.sctp_association.specs.Kept.{OwesNoMore, OwesTicket};
 ghost use Rattle.sctp_association.specs.Cookies.{IsAlive, IsSealed, cookie_in};
 ghost use Rattle.sctp_association.specs.Halves.{HalvesAlike, halves_of};
 ghost use Rattle.sctp_association.specs.Reports.{EndsWithoutCookie};
@@ -9,7 +10,9 @@ ghost use Rattle.sctp_association.specs.Steps.{is_taken};
 ghost use Rattle.sctp_association.specs.declared.association.Reason.{Reason};
 ghost use Rattle.sctp_association.specs.declared.association.arrivals.Step.TheVariants as step;
 ghost use Rattle.sctp_datagram.specs.Carried.{IsChunkOf};
+ghost use Rattle.sctp_handshake.specs.declared.answer.Reply.TheVariants.{InitAck};
 ghost use Rattle.sctp_handshake.specs.declared.state.State.TheVariants.{Closed, CookieWait};
+ghost use Rattle.sctp_handshake.specs.declared.ticket.Ticket.{Ticket};
 ghost use Rattle.sctp_handshake.specs.InitValues.{init_in};
 
 use super::arrivals::{Step, bytes_of};
@@ -32,9 +35,14 @@ impl Association {
         chunk: ChunkPlace,
         now: u64,
     ) -> Result<Step, Fault>
+        requires own { IsChunkOf datagram.now chunk }
+        requires typ { chunk.typ ≡ 1 }
         ensures refused { (r : Reason) → result ≡ Ok (step.Refused r) → self.new ≡ self.old }
         ensures err { OnErr result (self.new ≡ self.old) }
         ensures due { self.new ≡ record self.old { due = self.new.due } }
+        // The ticket of an INIT ACK that is due has the offer of this INIT.
+        ensures owes { (ticket : Ticket) → OwesTicket self.new ticket
+            → OwesTicket self.old ticket ⊎ OffersInit datagram.now ticket.peer }
         ensures stops { result ≡ Ok step.Next → ⊥ }
     {
         let Ok(value) = init_value(bytes_of(datagram, chunk)) else {
@@ -47,10 +55,22 @@ impl Association {
         match self.machine.init(said.offer, fresh) {
             Some(reply) => {
                 self.due.unknown_params = self.reported_in(value)?;
-                self.owe(reply, said.offer.tag);
+                self.owe_answer(reply, said.offer.tag);
                 Ok(Step::Stop)
             }
             None => Ok(Step::Refused(Reason::Unexpected)),
+        }
+    }
+
+    // What answers an INIT is due, to its tag.
+    fn owe_answer(&mut self, reply: Reply, tag: u32)
+        ensures owes { (ticket : Ticket) → OwesTicket self.new ticket
+            → OwesTicket self.old ticket ⊎ (reply ≡ InitAck ticket) }
+        ensures rest { self.new ≡ record self.old { due = self.new.due } }
+    {
+        match reply {
+            Reply::InitAck(ticket) => self.owe_alone(tag, AloneKind::InitAck(ticket)),
+            reply => self.owe(reply, tag),
         }
     }
 
@@ -96,6 +116,7 @@ impl Association {
     // Notes the parameters of an INIT ACK of which its sender is told: cause 8 (RFC 9260 3.3.10.8).
     fn note_params(&mut self, reported: Option<Bytes>)
         ensures rest { self.new ≡ record self.old { due = self.new.due } }
+        ensures owes { OwesNoMore self.old self.new }
     {
         if let Some(raw) = reported {
             self.due.report = Some(Report { code: 8, raw });

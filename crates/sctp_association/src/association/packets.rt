@@ -1,8 +1,16 @@
 //! What goes into a datagram (RFC 9260 6.10, 8.5).
 
-ghost use Rattle.std.specs.Prelude.{◌≡◌, ◌≤◌, None, Ok, OnOk, [], true, false, length};
+ghost use Rattle.std.specs.Prelude.{◌≡◌, ◌≤◌, None, Ok, IfOk, OnOk, [], map, true, false, length};
+ghost use Rattle.sctp_association.specs.Beginnings.{KeepsPeer};
 ghost use Rattle.sctp_association.specs.Halves.{HalvesAlike, PutsOthers, is_sent, sides_of};
-ghost use Rattle.sctp_association.specs.Packets.{IsWritten, Puts, Transmits};
+ghost use Rattle.sctp_association.specs.Kept.{IsUnmoved};
+ghost use Rattle.sctp_association.specs.Offering.{HasFirst, IsInitWith, IsReplyOf, OffersAsDue, PutsReply};
+ghost use Rattle.sctp_association.specs.Packets.{IsNoInit, IsPacketOf, IsWritten, Puts, Transmits};
+ghost use Rattle.sctp_chunks.specs.Init.{init_of};
+ghost use Rattle.sctp_cookie.specs.Cookie.{sealed};
+ghost use Rattle.sctp_cookie.specs.Hmac.{hmac_sha256};
+ghost use Rattle.sctp_handshake.specs.Tickets.{ticket_bytes};
+ghost use Rattle.sctp_params.specs.ParamKind.{parameter_of};
 
 use super::Association;
 use crate::due::{Alone, AloneKind};
@@ -36,6 +44,9 @@ impl Association {
         ensures over { self.old.is_over ≡ true → self.old.due.alone ≡ None
             → (result ≡ Ok false) × (self.new ≡ self.old) }
         ensures made { Transmits (is_sent result) (sides_of self.old) (sides_of self.new) }
+        // An INIT has the first TSN of this side; an INIT ACK has a cookie over the ticket that was due.
+        ensures offers { is_sent result ≡ true → OffersAsDue self.old self.new.draft.bytes }
+        ensures peer { KeepsPeer self.old self.new }
     {
         if let Some(alone) = self.due.alone {
             self.put_alone(alone, now)?;
@@ -58,6 +69,8 @@ impl Association {
     // Writes a packet of what is due, and answers whether it has a chunk.
     fn put_packet(&mut self, header: CommonHeader, is_zero: bool, now: u64) -> Result<bool, Fault>
         ensures made { Transmits (is_sent result) (sides_of self.old) (sides_of self.new) }
+        ensures plain { is_sent result ≡ true → IsPacketOf IsNoInit self.new.draft.bytes }
+        ensures kept { IsUnmoved self.old self.new }
     {
         self.draft.begin(header)?;
         let filled = self.fill(now);
@@ -91,7 +104,10 @@ impl Association {
     #[inline(never)]
     fn put_alone(&mut self, alone: Alone, now: u64) -> Result<(), Fault>
         ensures written { OnOk result (IsWritten [] [] self.new.draft.bytes) }
+        ensures offers { OnOk result (IsPacketOf
+            (IsReplyOf self.old.key self.old.machine alone.kind) self.new.draft.bytes) }
         ensures halves { HalvesAlike self.old self.new }
+        ensures kept { IsUnmoved self.old self.new }
     {
         let header = self.header(alone.tag);
         self.draft.begin(header)?;
@@ -101,9 +117,9 @@ impl Association {
     }
 
     // Puts its chunks.
-    #[tactic(auto, using(crate::proofs::Others::others_one, crate::proofs::Others::others_none, crate::proofs::Others::others_then))]
+    #[tactic(auto, using(crate::proofs::Others::others_one, crate::proofs::Others::others_none, crate::proofs::Offering::reply_others))]
     fn put_reply(&mut self, kind: AloneKind, now: u64) -> Result<(), Fault>
-        ensures others { PutsOthers self.old self.new }
+        ensures reply { PutsReply kind self.old self.new }
     {
         match kind {
             AloneKind::Init => {
@@ -134,38 +150,53 @@ impl Association {
     }
 
     // An INIT, or with a cookie an INIT ACK, with an offer. An INIT ACK has what it reports before what it offers.
-    fn init_of(&self, own: Offer, cookie: Option<Bytes>) -> Result<ChunkInit, Fault> {
+    fn init_of(&self, own: Offer, cookie: Option<Bytes>) -> Result<ChunkInit, Fault>
+        ensures { IfOk result (λ i. IsInitWith own cookie (init_of i)) }
+    {
+        let is_ack = cookie.is_some();
+        let mut params = self.first_params(cookie)?;
+        params.push(ParamKind::ForwardTsnSupported(ParamForwardTsnSupported))?;
         let mut init = ChunkInit {
-            is_ack: cookie.is_some(),
+            is_ack,
             initiate_tag: own.tag,
             advertised_receiver_window_credit: own.window,
             num_outbound_streams: own.outbound_streams,
             num_inbound_streams: own.inbound_streams,
             initial_tsn: own.first_tsn,
-            params: Vec::new(self.alloc),
+            params,
         };
-        if let Some(cookie) = cookie {
-            init.params
-                .push(ParamKind::StateCookie(ParamStateCookie { cookie }))?;
-            self.push_reported(&mut init)?;
-        }
-        init.params
-            .push(ParamKind::ForwardTsnSupported(ParamForwardTsnSupported))?;
         if init.set_supported_extensions(self.alloc).is_err() {
             return Err(Fault::OutOfMemory);
         }
-        if own.zero_checksum {
-            let value = Bytes::copy_from_slice(self.alloc, &DTLS)?;
-            init.params.push(ParamKind::Unknown(ParamUnknown {
-                typ: ZERO_CHECKSUM_ACCEPTABLE,
-                value,
-            }))?;
+        if !own.zero_checksum {
+            return Ok(init);
         }
+        let value = Bytes::copy_from_slice(self.alloc, &DTLS)?;
+        init.params.push(ParamKind::Unknown(ParamUnknown {
+            typ: ZERO_CHECKSUM_ACCEPTABLE,
+            value,
+        }))?;
         Ok(init)
     }
 
+    // The parameters before those that an offer has: with a cookie it goes first, and then what is reported.
+    fn first_params(&self, cookie: Option<Bytes>) -> Result<Vec<ParamKind>, Fault>
+        ensures { IfOk result (λ params. HasFirst cookie (map parameter_of params.items)) }
+    {
+        let mut params = Vec::new(self.alloc);
+        let Some(cookie) = cookie else {
+            return Ok(params);
+        };
+        params.push(ParamKind::StateCookie(ParamStateCookie { cookie }))?;
+        self.push_reported(&mut params)?;
+        Ok(params)
+    }
+
     // The cookie that holds a ticket (RFC 9260 5.1.3).
-    fn cookie_of(&self, ticket: &Ticket, now: u64) -> Result<Bytes, Fault> {
+    fn cookie_of(&self, ticket: &Ticket, now: u64) -> Result<Bytes, Fault>
+        ensures { IfOk result (λ cookie. cookie
+            ≡ sealed (hmac_sha256 self.now.key) now (ticket_bytes ticket.now)) }
+    {
         let mut payload = BytesMut::with_capacity(self.alloc, TICKET_LENGTH)?;
         ticket.put(&mut payload);
         match seal(self.alloc, &HmacSha256, &self.key, now, payload.as_slice()) {
@@ -213,6 +244,7 @@ impl Association {
     // Puts what is due into a packet: control chunks first (RFC 9260 6.10).
     fn fill(&mut self, now: u64) -> Result<(), Fault>
         ensures made { Puts (sides_of self.old) (sides_of self.new) }
+        ensures kept { IsUnmoved self.old self.new }
     {
         self.put_cookies();
         if self.machine.state() == State::CookieEchoed {
@@ -231,6 +263,7 @@ impl Association {
     // Puts what is due beside cookies, SACKs and DATA.
     fn put_control(&mut self, now: u64) -> Result<(), Fault>
         ensures made { Puts (sides_of self.old) (sides_of self.new) }
+        ensures kept { IsUnmoved self.old self.new }
     {
         self.put_shutdown();
         self.put_heartbeats(now)?;
@@ -242,6 +275,7 @@ impl Association {
     // Puts FORWARD-TSN and DATA, in the states in which they may be sent.
     fn put_data(&mut self, now: u64) -> Result<(), Fault>
         ensures made { Puts (sides_of self.old) (sides_of self.new) }
+        ensures kept { IsUnmoved self.old self.new }
     {
         if !self.machine.state().sends_data() {
             return Ok(());
@@ -302,6 +336,7 @@ impl Association {
     #[tactic(auto, using(crate::proofs::Others::sack_puts, crate::proofs::Others::same_puts))]
     fn put_sack(&mut self, now: u64) -> Result<(), Fault>
         ensures made { Puts (sides_of self.old) (sides_of self.new) }
+        ensures kept { IsUnmoved self.old self.new }
     {
         let has_data = self.outbound.has_data() && self.machine.state().sends_data();
         match &mut self.inbound {
@@ -313,6 +348,7 @@ impl Association {
     // Puts SHUTDOWN or SHUTDOWN-ACK (RFC 9260 9.2).
     fn put_shutdown(&mut self)
         ensures made { Puts (sides_of self.old) (sides_of self.new) }
+        ensures kept { IsUnmoved self.old self.new }
     {
         self.put_shutdown_asked();
         self.put_shutdown_ack();
@@ -322,6 +358,7 @@ impl Association {
     #[tactic(auto, using(crate::proofs::Others::shutdown_puts, crate::proofs::Others::same_puts))]
     fn put_shutdown_asked(&mut self)
         ensures made { Puts (sides_of self.old) (sides_of self.new) }
+        ensures kept { IsUnmoved self.old self.new }
     {
         if !self.due.shutdown {
             return;

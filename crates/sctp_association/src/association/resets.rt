@@ -2,7 +2,7 @@
 
 ghost use Rattle.std.specs.Prelude.{◌≡◌, true, false, Ok, Err, IfErr, IsOk, OnOk, OnErr, drop};
 ghost use Rattle.sctp_association.specs.Arrivals.{CallsArrive, HearsBy, Does, Follows, IsReset, IsResetAt, IsRestart, ParamAsks, ParamAsksIn, ReceivedIn};
-ghost use Rattle.sctp_association.specs.Beginnings.{IsKept};
+ghost use Rattle.sctp_association.specs.Kept.{IsKept};
 ghost use Rattle.sctp_association.specs.Calls.{is_resettable};
 ghost use Rattle.sctp_association.specs.Halves.{HalvesAlike, PutsOthers, halves_of, receiver_of};
 ghost use Rattle.sctp_association.specs.declared.fault.Fault.TheVariants.{NoSuchStream, OutOfMemory};

@@ -1,8 +1,11 @@
 //! When something is to be done though nothing came (RFC 9260 6.3.3, 8.1, 8.3, 9.2).
 
-ghost use Rattle.std.specs.Prelude.{◌≡◌, ◌⊎◌, None, true, false, option_map};
+ghost use Rattle.std.specs.Prelude.{◌≡◌, ◌⊎◌, None, Some, true, false, option_map};
+ghost use Rattle.sctp_association.specs.Beginnings.{KeepsPeer};
+ghost use Rattle.sctp_association.specs.Kept.{ticket_due};
 ghost use Rattle.sctp_association.specs.Halves.{MarksByT3};
 ghost use Rattle.sctp_association.specs.Sending.{IsTimed, t3_time};
+ghost use Rattle.sctp_handshake.specs.declared.ticket.Ticket.{Ticket};
 ghost use Rattle.sctp_path.specs.Timers.{is_due, is_passed, one_more};
 ghost use Rattle.sctp_reset.specs.Own.{time_of};
 ghost use Rattle.sctp_stream.specs.Stats.{count_up};
@@ -14,17 +17,20 @@ use sctp_handshake::{Reply, State};
 use sctp_path::earliest;
 
 // What is sent again is due, to the peer, or with tag 0 where that is an INIT (RFC 9260 8.5.1).
-fn owe_again(due: &mut Due, reply: Reply) {
+fn owe_again(due: &mut Due, reply: Option<Reply>)
+    ensures { (ticket : Ticket) → ticket_due due.new.alone ≡ Some ticket
+        → ticket_due due.old.alone ≡ Some ticket }
+{
     match reply {
-        Reply::Init => {
+        Some(Reply::Init) => {
             due.alone = Some(Alone {
                 tag: 0,
                 kind: AloneKind::Init,
             });
         }
-        Reply::CookieEcho => due.cookie_echo = true,
-        Reply::Shutdown => due.shutdown = true,
-        Reply::ShutdownAck => due.shutdown_ack = true,
+        Some(Reply::CookieEcho) => due.cookie_echo = true,
+        Some(Reply::Shutdown) => due.shutdown = true,
+        Some(Reply::ShutdownAck) => due.shutdown_ack = true,
         _ => {}
     }
 }
@@ -109,6 +115,7 @@ impl Association {
         ensures guard { is_due now self.old.guard.at ≡ true → self.new.is_over ≡ true }
         ensures guarded { (self.new.is_over ≡ true) ⊎ IsGuarded self.new }
         ensures halves { MarksByT3 now self.old self.new }
+        ensures peer { KeepsPeer self.old self.new }
     {
         if self.is_over {
             return;
@@ -131,23 +138,41 @@ impl Association {
             ≡ record self.old.outbound { rto = self.new.outbound.rto } }
         ensures inbound { self.new.inbound ≡ self.old.inbound }
         ensures guarded { (self.new.is_over ≡ true) ⊎ IsGuarded self.new }
+        ensures peer { KeepsPeer self.old self.new }
     {
         if self.control.is_due(now) {
-            self.outbound.rto.backed_off();
-            let answer = self.machine.timed_out();
-            if let Some(reply) = answer.reply {
-                owe_again(&mut self.due, reply);
-            }
-            self.control.stop();
-            if answer.told.is_some() {
-                self.end(Ending::Unanswered);
-            }
+            self.run_out();
         }
+        self.start_control(now);
+        self.run_guard(now);
+    }
+
+    // What waits for its answer is sent again, or the association is over.
+    fn run_out(&mut self)
+        ensures control { (self.new.is_over ≡ true)
+            ⊎ IsTimedOut self.old.machine self.new.machine }
+        ensures outbound { self.new.outbound
+            ≡ record self.old.outbound { rto = self.new.outbound.rto } }
+        ensures inbound { self.new.inbound ≡ self.old.inbound }
+        ensures peer { KeepsPeer self.old self.new }
+    {
+        self.outbound.rto.backed_off();
+        let answer = self.machine.timed_out();
+        owe_again(&mut self.due, answer.reply);
+        self.control.stop();
+        if answer.told.is_some() {
+            self.end(Ending::Unanswered);
+        }
+    }
+
+    // The timer of the state runs, where it has one.
+    fn start_control(&mut self, now: u64)
+        ensures { self.new ≡ record self.old { control = self.new.control } }
+    {
         match self.machine.state().timer() {
             Some(_) => self.control.start(now, self.outbound.rto.get()),
             None => self.control.stop(),
         }
-        self.run_guard(now);
     }
 
     // Whether a HEARTBEAT or a request to reset was not answered once too often (RFC 9260 8.1, 8.3; RFC 6525 5.1.1).
@@ -190,6 +215,7 @@ impl Association {
         ensures over { self.new.is_over ≡ true }
         ensures outbound { self.new.outbound ≡ self.old.outbound }
         ensures inbound { self.new.inbound ≡ self.old.inbound }
+        ensures peer { KeepsPeer self.old self.new }
     {
         let _answer = self.machine.abort();
         self.end(Ending::Unanswered);

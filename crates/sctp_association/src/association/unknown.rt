@@ -2,6 +2,8 @@
 
 ghost use Rattle.std.specs.Prelude.{◌≡◌, ◌⊎◌, ◌<◌, ◌≤◌, None, Ok, IfOk, IfSome, OnOk, OnErr, length};
 ghost use Rattle.sctp_association.specs.Halves.{PutsOthers};
+ghost use Rattle.sctp_association.specs.Kept.{OwesNoMore};
+ghost use Rattle.sctp_association.specs.Offering.{IsLonger};
 ghost use Rattle.sctp_association.specs.Reports.{most_reported, reported_after};
 ghost use Rattle.sctp_association.specs.declared.association.Reason.{Reason};
 ghost use Rattle.sctp_association.specs.declared.association.arrivals.Step.TheVariants as step;
@@ -11,7 +13,7 @@ use super::{Association, Reason};
 use crate::due::Report;
 use crate::fault::Fault;
 use bytes::{Bytes, BytesMut};
-use sctp_chunks::{ChunkError, ChunkInit};
+use sctp_chunks::ChunkError;
 use sctp_datagram::ChunkPlace;
 use sctp_datagram::params::param_at;
 use sctp_handshake::Reported;
@@ -54,6 +56,7 @@ impl Association {
         ensures refused { (r : Reason) → result ≡ Ok (step.Refused r) → self.new ≡ self.old }
         ensures goes_on { IfOk result (λ s. s ≡ step.Next) }
         ensures rest { self.new ≡ record self.old { due = self.new.due } }
+        ensures owes { OwesNoMore self.old self.new }
         ensures err { OnErr result (self.new ≡ self.old) }
     {
         let is_reported = chunk.is_reported || chunk.typ == I_FORWARD_TSN;
@@ -96,7 +99,9 @@ impl Association {
     }
 
     /// Adds an Unrecognized Parameter to an INIT ACK for each parameter that is reported of the INIT, as many as fit (RFC 9260 3.2.2).
-    pub(super) fn push_reported(&self, init: &mut ChunkInit) -> Result<(), Fault> {
+    pub(super) fn push_reported(&self, params: &mut Vec<ParamKind>) -> Result<(), Fault>
+        ensures { IsLonger params.old.items params.new.items }
+    {
         let Some(raw) = &self.due.unknown_params else {
             return Ok(());
         };
@@ -114,7 +119,7 @@ impl Association {
             }
             left -= takes;
             let value = raw.slice(at..to)?;
-            init.params.push(ParamKind::Unknown(ParamUnknown {
+            params.push(ParamKind::Unknown(ParamUnknown {
                 typ: UNRECOGNIZED_PARAMETER,
                 value,
             }))?;

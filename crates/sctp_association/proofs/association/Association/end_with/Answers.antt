@@ -1,8 +1,15 @@
-use Rattle.std.proofs.Common.{rules}
-use Rattle.sctp_association.proofs.Known.{keeps_as, knows_abort_of}
+use Rattle.std.proofs.Common.{ap, rules, ◌≡◌, ◌∙◌}
+use Rattle.sctp_association.proofs.Known.{keeps_as, knows_abort_of, owes_none}
+use Rattle.sctp_association.specs.declared.association.Association.{Association}
+use Rattle.sctp_association.specs.Kept.{ticket_due}
 use Rattle.sctp_association.proofs.association.Association.end_with.Goals as goal
 
 pub returns-clause-peer : goal.returns-clause-peer
-returns-clause-peer c =
+returns-clause-peer c none =
     let abort = c.abort-answer.ensures in
-    keeps_as _ _ _ _ (knows_abort_of abort.dropped abort.takes) (search rules) (search rules) (search rules) (search rules)
+    let owed = c.owe_end.ensures.rest in
+    let ended = c.end.ensures.rest in
+    keeps_as _ _ _ _ (knows_abort_of abort.dropped abort.takes) (ap (λ (x : Association). x.machine) owed)
+    (ap (λ (x : Association). x.config) ended ∙ ap (λ (x : Association). x.config) owed)
+    (ap (λ (x : Association). x.key) ended ∙ ap (λ (x : Association). x.key) owed) (ap (λ (x : Association). x.machine) ended)
+    (owes_none c.args.self.now c.end.new.self (ap (λ (x : Association). ticket_due x.due.alone) ended ∙ c.owe_end.ensures.owes none))

@@ -2,7 +2,7 @@ use Rattle.std.proofs.Common.{ap, refl, rules}
 use Rattle.sctp_association.proofs.Arrived.{arrives_of, arrives_same}
 use Rattle.sctp_association.specs.Halves.{halves_of}
 use Rattle.sctp_association.proofs.First.{begins, first_is, unless_none}
-use Rattle.sctp_association.proofs.Offered.{offered_due, offered_same}
+use Rattle.sctp_association.proofs.Offered.{offered_less, offered_same}
 use Rattle.sctp_association.proofs.association.Association.handle_datagram.Goals as goal
 use Rattle.sctp_datagram.specs.Places.{TellsAll, place_at}
 
@@ -55,7 +55,7 @@ pub returns-then-header-self-clause-offered : goal.returns-then-header-self-clau
 returns-then-header-self-clause-offered c = offered_same _ _ _ refl
 
 pub returns-then-self-2-clause-offered : goal.returns-then-self-2-clause-offered
-returns-then-self-2-clause-offered c = offered_due _ _ _ _ c.take_after_end.ensures.rest
+returns-then-self-2-clause-offered c = offered_less _ _ _ _ c.take_after_end.ensures.rest c.take_after_end.ensures.owes
 
 pub returns-clause-memory : goal.returns-clause-memory
 returns-clause-memory c one is =

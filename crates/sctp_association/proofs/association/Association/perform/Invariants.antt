@@ -1,5 +1,5 @@
 use Rattle.sctp_association.specs.Arrivals.{Does, Follows, ParamAsks}
-use Rattle.sctp_association.specs.Beginnings.{IsKept}
+use Rattle.sctp_association.specs.Kept.{IsKept}
 use Rattle.sctp_association.specs.Halves.{halves_of}
 use Rattle.sctp_params.specs.Param.{outgoing_reset_request}
 use Rattle.sctp_params.specs.ResetRequest.{reset_request_of}

@@ -7,7 +7,7 @@ pub loop-stream-init : goal.loop-stream-init
 loop-stream-init c = record {
   outbound = refl;
   received = received_in_same _ _ _ refl;
-  kept = record { config = refl; key = refl; machine = refl };
+  kept = record { config = refl; key = refl; machine = refl; owes = λ t e. e };
 }
 
 pub loop-stream-preserved : goal.loop-stream-preserved

@@ -1,6 +1,6 @@
 use Rattle.std.proofs.Common.{◌≡◌}
 use Rattle.sctp_association.specs.Arrivals.{IsResetAt, ReceivedIn}
-use Rattle.sctp_association.specs.Beginnings.{IsKept}
+use Rattle.sctp_association.specs.Kept.{IsKept}
 use Rattle.sctp_association.specs.Halves.{receiver_of}
 use Rattle.sctp_association.proofs.association.Association.perform_all.Given as goal
 

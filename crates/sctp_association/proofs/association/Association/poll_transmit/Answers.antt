@@ -1,4 +1,7 @@
-use Rattle.sctp_association.proofs.Others.{alike_puts, before_then, none_sent_so, sends_puts, sent_alone, unsent}
+use Rattle.std.proofs.lemmas.Option.{none-some}
+use Rattle.sctp_association.proofs.Known.{keeps_then, knows_same, unmoved_keeps}
+use Rattle.sctp_association.proofs.Offering.{offers_none, offers_reply}
+use Rattle.sctp_association.proofs.Others.{alike_puts, before_then, none_sent_so, sends_puts, sent_alone, unsent, unsent_err}
 use Rattle.sctp_association.proofs.Putting.{and_then, nothing}
 use Rattle.sctp_association.proofs.association.Association.poll_transmit.Goals as goal
 use Rattle.sctp_association.specs.Halves.{receiver_of, sides_of}
@@ -29,3 +32,37 @@ returns-clause-made c = before_then _ _ _ _ _ _ _ (
     and_then _ _ _ (sends_puts _ _ _ (receiver_of c.args.self.now.inbound) c.args.self.now.draft.bytes c.abandon.ensures.dropped)
     (alike_puts _ _ c.settle.ensures.halves c.args.self.now.draft.bytes)
     ) c.put_packet.ensures.made
+
+-- ## What is offered
+
+pub returns-in_err-put_alone-clause-offers : goal.returns-in_err-put_alone-clause-offers
+returns-in_err-put_alone-clause-offers c = unsent_err _ c.from_residual.ensures.0
+
+pub returns-in-Some-clause-offers : goal.returns-in-Some-clause-offers
+returns-in-Some-clause-offers c _ = offers_reply c.args.self.now c.in-Some.alone _ c.in-Some.is c.in_ok-put_alone.ensures.offers
+
+pub returns-in_err-abandon-clause-offers : goal.returns-in_err-abandon-clause-offers
+returns-in_err-abandon-clause-offers c = unsent_err _ c.from_residual-in_err-abandon.ensures.0
+
+pub returns-clause-offers : goal.returns-clause-offers
+returns-clause-offers c sent = offers_none c.args.self.now _ (c.put_packet.ensures.plain sent)
+
+-- ## What stays
+
+pub returns-in_err-put_alone-clause-peer : goal.returns-in_err-put_alone-clause-peer
+returns-in_err-put_alone-clause-peer c = unmoved_keeps _ _ c.put_alone.ensures.kept
+
+pub returns-in-Some-clause-peer : goal.returns-in-Some-clause-peer
+returns-in-Some-clause-peer c =
+    let kept = c.put_alone.ensures.kept in
+    record { config = kept.config; key = kept.key; machine = knows_same _ _ kept.machine; owes = λ t e. absurd (none-some t e) }
+
+pub returns-in_default-peer-clause-peer : goal.returns-in_default-peer-clause-peer
+returns-in_default-peer-clause-peer c =
+    let peer = c.settle.ensures.peer in record { config = peer.config; key = peer.key; machine = peer.machine; owes = peer.owes }
+
+pub returns-clause-peer : goal.returns-clause-peer
+returns-clause-peer c =
+    let peer = c.settle.ensures.peer in
+    keeps_then _ c.settle.new.self _ (record { config = peer.config; key = peer.key; machine = peer.machine; owes = peer.owes })
+    (unmoved_keeps _ _ c.put_packet.ensures.kept)

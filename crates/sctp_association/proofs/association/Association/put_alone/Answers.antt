@@ -1,17 +1,32 @@
 use Rattle.std.proofs.Common.{[], false}
 use Rattle.sctp_association.proofs.Others.{written}
 use Rattle.sctp_association.proofs.association.Association.put_alone.Goals as goal
+use Rattle.sctp_association.specs.Offering.{IsReplyOf}
+use Rattle.sctp_association.specs.Packets.{IsOf}
 
 pub returns-in_err-put_reply-clause-halves : goal.returns-in_err-put_reply-clause-halves
 returns-in_err-put_reply-clause-halves c = record {
-  sender = c.put_reply.ensures.others.halves.sender;
-  receiver = c.put_reply.ensures.others.halves.receiver;
+  sender = c.put_reply.ensures.reply.halves.sender;
+  receiver = c.put_reply.ensures.reply.halves.receiver;
 }
 
 pub returns-clause-halves : goal.returns-clause-halves
-returns-clause-halves c = record { sender = c.put_reply.ensures.others.halves.sender; receiver = c.put_reply.ensures.others.halves.receiver }
+returns-clause-halves c = record { sender = c.put_reply.ensures.reply.halves.sender; receiver = c.put_reply.ensures.reply.halves.receiver }
 
 pub returns-clause-written : goal.returns-clause-written
 returns-clause-written c =
-    written _ false [] [] c.put_reply.ensures.others.chunks _ _ _ c.in_ok-begin.ensures.begun c.put_reply.ensures.others.added
-    c.put_reply.ensures.others.own c.seal.ensures.sealed
+    written _ false (IsOf [] []) c.put_reply.ensures.reply.chunks _ _ _ c.in_ok-begin.ensures.begun c.put_reply.ensures.reply.added
+    c.put_reply.ensures.reply.own c.seal.ensures.sealed
+
+pub returns-clause-offers : goal.returns-clause-offers
+returns-clause-offers c =
+    written _ false (IsReplyOf c.args.self.now.key c.args.self.now.machine c.args.alone.kind) c.put_reply.ensures.reply.chunks _ _ _
+    c.in_ok-begin.ensures.begun c.put_reply.ensures.reply.added c.put_reply.ensures.reply.replies c.seal.ensures.sealed
+
+pub returns-in_err-put_reply-clause-kept : goal.returns-in_err-put_reply-clause-kept
+returns-in_err-put_reply-clause-kept c =
+    let kept = c.put_reply.ensures.reply.kept in record { config = kept.config; key = kept.key; machine = kept.machine; alone = kept.alone }
+
+pub returns-clause-kept : goal.returns-clause-kept
+returns-clause-kept c =
+    let kept = c.put_reply.ensures.reply.kept in record { config = kept.config; key = kept.key; machine = kept.machine; alone = kept.alone }

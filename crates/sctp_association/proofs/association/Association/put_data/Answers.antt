@@ -5,14 +5,12 @@ use Rattle.sctp_association.specs.declared.association.Association.{Association}
 use Rattle.sctp_association.specs.Halves.{receiver_of, sides_of}
 use Rattle.sctp_association.specs.Packets.{Puts}
 
-pub returns-then-not-sends_data : goal.returns-then-not-sends_data
-returns-then-not-sends_data c = record { made = nothing (sides_of c.args.self.now) }
+pub returns-then-not-sends_data-clause-made : goal.returns-then-not-sends_data-clause-made
+returns-then-not-sends_data-clause-made c = nothing (sides_of c.args.self.now)
 
-pub returns-in_err-put : goal.returns-in_err-put
-returns-in_err-put c = record { made = c.put.ensures.made (receiver_of c.args.self.now.inbound) }
+pub returns-in_err-put-clause-made : goal.returns-in_err-put-clause-made
+returns-in_err-put-clause-made c = c.put.ensures.made (receiver_of c.args.self.now.inbound)
 
-pub returns : goal.returns
-returns c = record {
-  made = subst (λ (a : Association). Puts (sides_of c.args.self.now) (sides_of a)) (sym c.note_use.ensures)
-      (c.put.ensures.made (receiver_of c.args.self.now.inbound));
-}
+pub returns-clause-made : goal.returns-clause-made
+returns-clause-made c = subst (λ (a : Association). Puts (sides_of c.args.self.now) (sides_of a)) (sym c.note_use.ensures)
+    (c.put.ensures.made (receiver_of c.args.self.now.inbound))

@@ -1,23 +1,27 @@
-use Rattle.std.proofs.Common.{ap}
-use Rattle.sctp_association.proofs.Others.{none_sent_so, sealed_after, sent_same, unsent, unsent_after}
+use Rattle.std.proofs.Common.{[], ap}
+use Rattle.sctp_association.proofs.Others.{none_sent_so, plain_after, sealed_after, sent_same, unsent, unsent_after, unsent_err}
 use Rattle.sctp_association.proofs.Putting.{nothing}
 use Rattle.sctp_association.proofs.association.Association.put_packet.Goals as goal
 use Rattle.sctp_association.specs.Halves.{sides_of}
 
-pub returns-in_err-begin : goal.returns-in_err-begin
-returns-in_err-begin c = record { made = none_sent_so _ _ _ c.from_residual.ensures.0 (unsent _ _ _ _ _ (nothing (sides_of c.args.self.now))) }
+pub returns-in_err-begin-clause-made : goal.returns-in_err-begin-clause-made
+returns-in_err-begin-clause-made c = none_sent_so _ _ _ c.from_residual.ensures.0 (unsent _ _ _ _ _ (nothing (sides_of c.args.self.now)))
 
-pub returns-in_err-filled : goal.returns-in_err-filled
-returns-in_err-filled c = record {
-  made = none_sent_so _ _ _ c.from_residual-in_err-filled.ensures.0 (unsent_after _ _ _ _ _ _ _ c.fill-filled.ensures.made _);
-}
+pub returns-in_err-filled-clause-made : goal.returns-in_err-filled-clause-made
+returns-in_err-filled-clause-made c = none_sent_so _ _ _ c.from_residual-in_err-filled.ensures.0 (unsent_after _ _ _ _ _ _ _ c.fill-filled.ensures.made _)
 
-pub returns-then-is_empty : goal.returns-then-is_empty
-returns-then-is_empty c = record {
-  made = sent_same _ _ _ _ _ _ (ap (λ o. o.sender) c.pause.ensures) (unsent_after _ _ _ _ _ _ _ c.fill-filled.ensures.made _);
-}
+pub returns-then-is_empty-clause-made : goal.returns-then-is_empty-clause-made
+returns-then-is_empty-clause-made c = sent_same _ _ _ _ _ _ (ap (λ o. o.sender) c.pause.ensures) (unsent_after _ _ _ _ _ _ _ c.fill-filled.ensures.made _)
 
-pub returns : goal.returns
-returns c = record {
-  made = sealed_after _ _ _ _ _ _ _ c.fill-filled.ensures.made c.args.header c.args.is_zero _ c.in_ok-begin.ensures.begun c.seal.ensures.sealed;
-}
+pub returns-clause-made : goal.returns-clause-made
+returns-clause-made c = sealed_after _ _ _ _ _ _ _ c.fill-filled.ensures.made c.args.header c.args.is_zero _ c.in_ok-begin.ensures.begun c.seal.ensures.sealed
+
+pub returns-in_err-begin-clause-plain : goal.returns-in_err-begin-clause-plain
+returns-in_err-begin-clause-plain c = unsent_err _ c.from_residual.ensures.0
+
+pub returns-in_err-filled-clause-plain : goal.returns-in_err-filled-clause-plain
+returns-in_err-filled-clause-plain c = unsent_err _ c.from_residual-in_err-filled.ensures.0
+
+pub returns-clause-plain : goal.returns-clause-plain
+returns-clause-plain c _ =
+    plain_after _ _ _ _ [] _ _ c.fill-filled.ensures.made c.args.header c.args.is_zero _ c.in_ok-begin.ensures.begun c.seal.ensures.sealed

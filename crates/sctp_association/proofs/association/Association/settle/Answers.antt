@@ -1,5 +1,5 @@
 use Rattle.std.proofs.Common.{ap}
-use Rattle.sctp_association.proofs.Known.{keeps_by, keeps_kept, keeps_then, knows_asked}
+use Rattle.sctp_association.proofs.Known.{keeps_by, keeps_kept, keeps_then, knows_asked, owes_same}
 use Rattle.sctp_association.specs.Beginnings.{KeepsPeer}
 use Rattle.sctp_association.specs.declared.association.Association.{Association}
 use Rattle.sctp_association.proofs.association.Association.settle.Goals as goal
@@ -10,10 +10,12 @@ returns-clause-peer c =
     let first : KeepsPeer c.args.self.now c.if-self.self = elim c.if-self.branch [
       | then-self+then-eq w ↦ keeps_by _ _ _ (knows_asked _ _ _ w.shutdown_asked-answer.ensures) (ap (λ (x : Association). x.config) w.self-is)
           (ap (λ (x : Association). x.key) w.self-is) (ap (λ (x : Association). x.machine) w.self-is)
+          (owes_same c.args.self.now c.if-self.self (ap (λ (x : Association). x.due) w.self-is))
       | else-self w ↦ keeps_kept _ _ (record {
         config = ap (λ (x : Association). x.config) w.self-is;
         key = ap (λ (x : Association). x.key) w.self-is;
         machine = ap (λ (x : Association). x.machine) w.self-is;
+        owes = owes_same c.args.self.now c.if-self.self (ap (λ (x : Association). x.due) w.self-is);
       })
     ] in
     keeps_then _ _ _ first c.note_drained.ensures.peer

@@ -12,7 +12,7 @@ pub returns-in-0-clause-came : goal.returns-in-0-clause-came
 returns-in-0-clause-came c = offered_calls _ _ _ c.take_data.ensures.came c.take_data.ensures.peer
 
 pub returns-in-1-clause-came : goal.returns-in-1-clause-came
-returns-in-1-clause-came c = offered_due _ _ _ _ c.take_init.ensures.due
+returns-in-1-clause-came c = offered_due _ _ _ _ c.take_init.ensures.due c.take_init.ensures.owes
 
 pub returns-in-3-clause-came : goal.returns-in-3-clause-came
 returns-in-3-clause-came c = offered_calls _ _ _ c.take_sack.ensures.came c.take_sack.ensures.peer

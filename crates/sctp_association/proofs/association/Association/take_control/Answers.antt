@@ -2,7 +2,7 @@ use Rattle.std.proofs.Common.{rules, ◌≡◌}
 use Rattle.sctp_association.proofs.Arrived.{came_alike, came_same}
 use Rattle.sctp_association.proofs.Begun.{quiet_complete, quiet_shutdown_ack}
 use Rattle.sctp_association.proofs.Known.{keeps_by, knows_complete, knows_shutdown_ack}
-use Rattle.sctp_association.proofs.Offered.{offered_alike, offered_calls, offered_due, offered_kept}
+use Rattle.sctp_association.proofs.Offered.{offered_alike, offered_calls, offered_kept, offered_less}
 use Rattle.sctp_association.proofs.Offers.{ack_offered}
 use Rattle.sctp_association.proofs.association.Association.take_control.Goals as goal
 
@@ -22,7 +22,7 @@ pub returns-in-8-clause-came : goal.returns-in-8-clause-came
 returns-in-8-clause-came c =
     let kept = c.take_answer.ensures.kept in
     offered_calls _ _ _ (came_same _ _ _ (quiet_shutdown_ack _ _ _ _ _ _ c.take_answer.ensures.begun c.shutdown_ack-answer.ensures.takes.answer))
-    (keeps_by _ _ _ (knows_shutdown_ack _ _ _ c.shutdown_ack-answer.ensures.takes) kept.config kept.key kept.machine)
+    (keeps_by _ _ _ (knows_shutdown_ack _ _ _ c.shutdown_ack-answer.ensures.takes) kept.config kept.key kept.machine kept.owes)
 
 pub returns-in-9-clause-came : goal.returns-in-9-clause-came
 returns-in-9-clause-came c = offered_alike _ _ _ c.take_error.ensures.halves c.take_error.ensures.peer
@@ -31,13 +31,14 @@ pub returns-in-11-clause-came : goal.returns-in-11-clause-came
 returns-in-11-clause-came c =
     let typ : c.args.chunk.typ ≡ 11 = search rules in
     let kept = c.take_answer-in-11.ensures.kept in
-    ack_offered _ _ c.requires.own _ _ _ _ typ c.cookie_ack-answer.ensures.takes c.take_answer-in-11.ensures.begun kept.config kept.key kept.machine
+    ack_offered _ _ c.requires.own _ _ _ _ typ c.cookie_ack-answer.ensures.takes c.take_answer-in-11.ensures.begun
+    (record { config = kept.config; key = kept.key; machine = kept.machine; owes = kept.owes })
 
 pub returns-in-14-clause-came : goal.returns-in-14-clause-came
 returns-in-14-clause-came c =
     let kept = c.take_answer-in-14.ensures.kept in
     offered_calls _ _ _ (came_same _ _ _ (quiet_complete _ _ _ _ _ _ c.take_answer-in-14.ensures.begun c.shutdown_complete-answer.ensures.takes.answer))
-    (keeps_by _ _ _ (knows_complete _ _ _ c.shutdown_complete-answer.ensures.takes) kept.config kept.key kept.machine)
+    (keeps_by _ _ _ (knows_complete _ _ _ c.shutdown_complete-answer.ensures.takes) kept.config kept.key kept.machine kept.owes)
 
 pub returns-in_default-clause-came : goal.returns-in_default-clause-came
-returns-in_default-clause-came c = offered_due _ _ _ _ c.note_unknown.ensures.rest
+returns-in_default-clause-came c = offered_less _ _ _ _ c.note_unknown.ensures.rest c.note_unknown.ensures.owes

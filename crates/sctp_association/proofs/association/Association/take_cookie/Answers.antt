@@ -26,7 +26,7 @@ returns-then-ticket-tag-clause-came c = offered_same _ _ _ refl
 pub returns-then-is_none-2-clause-came : goal.returns-then-is_none-2-clause-came
 returns-then-is_none-2-clause-came c =
     let same : c.cookie_echo-answer.new.self ≡ c.args.self.now.machine = search rules in
-    offered_kept _ _ _ (came_same _ _ _ refl) (record { config = refl; key = refl; machine = same })
+    offered_kept _ _ _ (came_same _ _ _ refl) (record { config = refl; key = refl; machine = same; owes = λ t e. e })
 
 pub returns-in-Some-StaleCookie-clause-came : goal.returns-in-Some-StaleCookie-clause-came
 returns-in-Some-StaleCookie-clause-came c =
@@ -40,7 +40,7 @@ returns-in-Some-StaleCookie-clause-came c =
     } in
     let kept = c.follow.ensures.kept in
     cookie_offered _ _ c.requires.own _ _ _ _ c.requires.typ _ echoed _ c.cookie_echo-answer.ensures.takes c.follow.ensures.begun
-    kept.config kept.key kept.machine
+    (record { config = kept.config; key = kept.key; machine = kept.machine; owes = kept.owes })
 
 pub returns-in_default-reply-2-clause-came : goal.returns-in_default-reply-2-clause-came
 returns-in_default-reply-2-clause-came c =
@@ -54,7 +54,7 @@ returns-in_default-reply-2-clause-came c =
     } in
     let kept = c.follow.ensures.kept in
     cookie_offered _ _ c.requires.own _ _ _ _ c.requires.typ _ echoed _ c.cookie_echo-answer.ensures.takes c.follow.ensures.begun
-    kept.config kept.key kept.machine
+    (record { config = kept.config; key = kept.key; machine = kept.machine; owes = kept.owes })
 
 -- what is answered by a stale cookie changed nothing
 pub returns-in-Some-StaleCookie-clause-stale : goal.returns-in-Some-StaleCookie-clause-stale
@@ -81,7 +81,7 @@ returns-in_default-reply-clause-came c =
     } in
     let kept = c.follow.ensures.kept in
     cookie_offered _ _ c.requires.own _ _ _ _ c.requires.typ _ echoed _ c.cookie_echo-answer.ensures.takes c.follow.ensures.begun
-    kept.config kept.key kept.machine
+    (record { config = kept.config; key = kept.key; machine = kept.machine; owes = kept.owes })
 
 pub returns-in_default-reply-clause-first : goal.returns-in_default-reply-clause-first
 returns-in_default-reply-clause-first c closed next =

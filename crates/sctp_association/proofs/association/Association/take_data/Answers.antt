@@ -37,5 +37,6 @@ returns-clause-peer c =
     let again = c.run_again.ensures.kept in
     let on = c.follow.ensures.kept in
     keeps_then c.args.self.now c.follow.new.self _
-    (keeps_by _ _ _ (knows_arrived _ _ _ c.packet_arrived-answer.ensures) (on.config ∙ again.config) (on.key ∙ again.key) (on.machine ∙ again.machine))
+    (keeps_by _ _ _ (knows_arrived _ _ _ c.packet_arrived-answer.ensures) (on.config ∙ again.config) (on.key ∙ again.key) (on.machine ∙ again.machine)
+    (λ t e. again.owes t (on.owes t e)))
     c.end_by.ensures.peer

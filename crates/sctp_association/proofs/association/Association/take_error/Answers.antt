@@ -1,5 +1,5 @@
 use Rattle.std.proofs.Common.{ap, ◌∙◌}
-use Rattle.sctp_association.proofs.Known.{keeps_by, keeps_kept, knows_stale}
+use Rattle.sctp_association.proofs.Known.{keeps_by, keeps_kept, knows_stale, owes_same}
 use Rattle.sctp_association.specs.Beginnings.{KeepsPeer}
 use Rattle.sctp_association.specs.declared.association.Association.{Association}
 use Rattle.sctp_association.proofs.association.Association.take_error.Goals as goal
@@ -12,10 +12,12 @@ returns-clause-peer c =
           (ap (λ (x : Association). x.config) w.self-is ∙ w.follow.ensures.kept.config)
           (ap (λ (x : Association). x.key) w.self-is ∙ w.follow.ensures.kept.key)
           (ap (λ (x : Association). x.machine) w.self-is ∙ w.follow.ensures.kept.machine)
+          (λ t e. w.follow.ensures.kept.owes t (owes_same w.follow.new.self c.if-code-eq3.self (ap (λ (x : Association). x.due) w.self-is) t e))
       | else-code-eq3 w ↦ keeps_kept _ _ (record {
         config = ap (λ (x : Association). x.config) w.self-is;
         key = ap (λ (x : Association). x.key) w.self-is;
         machine = ap (λ (x : Association). x.machine) w.self-is;
+        owes = owes_same c.args.self.now c.if-code-eq3.self (ap (λ (x : Association). x.due) w.self-is);
       })
     ] in
-    record { config = first.config; key = first.key; machine = first.machine }
+    record { config = first.config; key = first.key; machine = first.machine; owes = first.owes }

@@ -1,4 +1,4 @@
-use Rattle.sctp_association.specs.Beginnings.{IsKept}
+use Rattle.sctp_association.specs.Kept.{IsKept}
 use Rattle.sctp_association.specs.Halves.{HalvesAlike}
 use Rattle.sctp_association.proofs.association.Association.take_heartbeat.Given as goal
 

@@ -17,7 +17,7 @@ returns-then-is_none-2-clause-refused c =
 pub returns-then-is_none-2-clause-came : goal.returns-then-is_none-2-clause-came
 returns-then-is_none-2-clause-came c =
     let same : c.init_ack-answer.new.self ≡ c.args.self.now.machine = search rules in
-    offered_kept _ _ _ (came_same _ _ _ refl) (record { config = refl; key = refl; machine = same })
+    offered_kept _ _ _ (came_same _ _ _ refl) (record { config = refl; key = refl; machine = same; owes = λ t e. e })
 
 pub returns-clause-came : goal.returns-clause-came
 returns-clause-came c =
@@ -33,5 +33,9 @@ returns-clause-came c =
     let told = c.init_ack-answer.result.told in
     let begun =
     subst (λ (x : Association). BeginsBy told x.machine x.config (halves_of x) (halves_of c.follow.new.self)) rest c.follow.ensures.begun in
-    init_ack_offered _ _ _ _ _ _ answers c.init_ack-answer.ensures.takes begun (kept.config ∙ ap (λ (x : Association). x.config) rest)
-    (kept.key ∙ ap (λ (x : Association). x.key) rest) (kept.machine ∙ ap (λ (x : Association). x.machine) rest)
+    init_ack_offered _ _ _ _ _ _ answers c.init_ack-answer.ensures.takes begun (record {
+      config = kept.config ∙ ap (λ (x : Association). x.config) rest;
+      key = kept.key ∙ ap (λ (x : Association). x.key) rest;
+      machine = kept.machine ∙ ap (λ (x : Association). x.machine) rest;
+      owes = λ t e. c.note_params.ensures.owes t (kept.owes t e);
+    })

@@ -11,7 +11,7 @@ pub returns-then-end-len-clause-came : goal.returns-then-end-len-clause-came
 returns-then-end-len-clause-came c = came_same _ _ _ refl
 
 pub loop-init : goal.loop-init
-loop-init c = record { came = came_same _ _ _ refl; kept = record { config = refl; key = refl; machine = refl } }
+loop-init c = record { came = came_same _ _ _ refl; kept = record { config = refl; key = refl; machine = refl; owes = λ t e. e } }
 
 pub returns-in_err-raw-clause-came : goal.returns-in_err-raw-clause-came
 returns-in_err-raw-clause-came c = c.loop.invariant.came

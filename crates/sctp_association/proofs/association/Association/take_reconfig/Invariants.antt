@@ -1,5 +1,5 @@
 use Rattle.sctp_association.specs.Arrivals.{CallsArrive}
-use Rattle.sctp_association.specs.Beginnings.{IsKept}
+use Rattle.sctp_association.specs.Kept.{IsKept}
 use Rattle.sctp_association.specs.Halves.{halves_of}
 use Rattle.sctp_association.proofs.association.Association.take_reconfig.Given as goal
 

@@ -4,14 +4,14 @@ use Rattle.sctp_association.proofs.Known.{kept_by}
 use Rattle.sctp_association.proofs.association.Association.take_response.Goals as goal
 
 pub loop-stream-init : goal.loop-stream-init
-loop-stream-init c = (acknowledged_same _ _ _ refl, refl, record { config = refl; key = refl; machine = refl })
+loop-stream-init c = (acknowledged_same _ _ _ refl, refl, record { config = refl; key = refl; machine = refl; owes = λ t e. e })
 
 pub loop-stream-preserved : goal.loop-stream-preserved
 loop-stream-preserved c = (
   acknowledged_then _ _ _ _ c.loop-stream.invariant.0
       (acknowledged_restart_by _ _ _ c.reset.result c.reset.ensures.ok c.reset.ensures.accepted c.reset.ensures.err),
   c.loop-stream.invariant.1,
-  kept_by c.loop-stream.invariant.2 refl refl refl,
+  kept_by c.loop-stream.invariant.2 refl refl refl (λ t e. e),
 )
 
 pub returns-in-Err : goal.returns-in-Err
@@ -19,7 +19,12 @@ returns-in-Err c = record {
   hearing = acknowledged_then _ _ _ _ c.loop-stream.invariant.0
       (acknowledged_restart_by _ _ _ c.reset.result c.reset.ensures.ok c.reset.ensures.accepted c.reset.ensures.err);
   inbound = c.loop-stream.invariant.1;
-  kept = record { config = c.loop-stream.invariant.2.config; key = c.loop-stream.invariant.2.key; machine = c.loop-stream.invariant.2.machine };
+  kept = record {
+    config = c.loop-stream.invariant.2.config;
+    key = c.loop-stream.invariant.2.key;
+    machine = c.loop-stream.invariant.2.machine;
+    owes = c.loop-stream.invariant.2.owes;
+  };
 }
 
 pub returns-after-loop-stream-clause-hearing : goal.returns-after-loop-stream-clause-hearing

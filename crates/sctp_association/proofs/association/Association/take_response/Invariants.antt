@@ -1,6 +1,6 @@
 use Rattle.std.proofs.Common.{◌≡◌}
 use Rattle.sctp_association.specs.Arrivals.{HearsBy, IsRestart}
-use Rattle.sctp_association.specs.Beginnings.{IsKept}
+use Rattle.sctp_association.specs.Kept.{IsKept}
 use Rattle.sctp_association.proofs.association.Association.take_response.Given as goal
 
 -- streams are reset, and the receiver stays as it is

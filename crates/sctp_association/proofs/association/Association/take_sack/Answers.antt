@@ -10,7 +10,7 @@ pub returns-in-Err-ErrOutOfMemory-clause-came : goal.returns-in-Err-ErrOutOfMemo
 returns-in-Err-ErrOutOfMemory-clause-came c = came_same _ _ _ refl
 
 pub returns-in-Err : goal.returns-in-Err
-returns-in-Err c = record { came = came_same _ _ _ refl; peer = keeps_kept _ _ (record { config = refl; key = refl; machine = refl }); refused = search rules }
+returns-in-Err c = record { came = came_same _ _ _ refl; peer = keeps_kept _ _ (record { config = refl; key = refl; machine = refl; owes = λ t e. e }); refused = search rules }
 
 pub returns-in_err-take_sack-clause-came : goal.returns-in_err-take_sack-clause-came
 returns-in_err-take_sack-clause-came c =
@@ -27,4 +27,4 @@ returns-clause-came c =
 
 pub returns-clause-peer : goal.returns-clause-peer
 returns-clause-peer c =
-    let peer = c.end_with.ensures.peer in record { config = peer.config; key = peer.key; machine = peer.machine }
+    let peer = c.end_with.ensures.peer refl in record { config = peer.config; key = peer.key; machine = peer.machine; owes = peer.owes }

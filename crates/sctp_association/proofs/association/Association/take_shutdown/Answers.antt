@@ -29,9 +29,9 @@ returns-clause-came c =
 pub returns-in_err-_taken-clause-peer : goal.returns-in_err-_taken-clause-peer
 returns-in_err-_taken-clause-peer c =
     let on = c.follow.ensures.kept in
-    keeps_by _ _ _ (knows_shutdown _ _ _ c.shutdown-answer.ensures.takes) on.config on.key on.machine
+    keeps_by _ _ _ (knows_shutdown _ _ _ c.shutdown-answer.ensures.takes) on.config on.key on.machine on.owes
 
 pub returns-clause-peer : goal.returns-clause-peer
 returns-clause-peer c =
     let on = c.follow.ensures.kept in
-    keeps_by _ _ _ (knows_shutdown _ _ _ c.shutdown-answer.ensures.takes) on.config on.key on.machine
+    keeps_by _ _ _ (knows_shutdown _ _ _ c.shutdown-answer.ensures.takes) on.config on.key on.machine on.owes

@@ -29,4 +29,4 @@ returns-clause-came c =
 
 pub returns-clause-peer : goal.returns-clause-peer
 returns-clause-peer c =
-    let peer = c.end_by.ensures.peer in record { config = peer.config; key = peer.key; machine = peer.machine }
+    let peer = c.end_by.ensures.peer in record { config = peer.config; key = peer.key; machine = peer.machine; owes = peer.owes }

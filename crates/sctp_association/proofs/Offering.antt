@@ -1,0 +1,108 @@
+-- Which INIT and INIT ACK a datagram of this side has.
+use Rattle.std.proofs.Common.{◌≡◌, ℕ, List, [], ◌∷◌, ◌++◌, Bool, true, Option, Some, None, ap, map, sym, subst, ◌∙◌, append_assoc}
+use Rattle.std.proofs.lemmas.List.{append-nil}
+use Rattle.std.specs.List.{AllByRecursion}
+use Rattle.sctp_association.proofs.Putting.{all_put}
+use Rattle.sctp_association.specs.declared.association.Association.{Association}
+use Rattle.sctp_association.specs.declared.due.Alone.{Alone}
+use Rattle.sctp_association.specs.declared.due.AloneKind.{AloneKind}
+use Rattle.sctp_association.specs.Halves.{HalvesAlike, PutsOthers}
+use Rattle.sctp_association.specs.Kept.{IsUnmoved}
+use Rattle.sctp_association.specs.Offering.{HasFirst, IsInitDue, IsInitOf, IsInitWith, IsLonger, IsOffering, IsReplyOf, OffersAsDue, PutsReply}
+use Rattle.sctp_association.specs.Packets.{Adds, IsNoInit, IsOf, IsPacketOf, put_where}
+use Rattle.sctp_chunks.specs.Init.{Init}
+use Rattle.sctp_chunks.specs.Wire.{Wire, init_chunk}
+use Rattle.sctp_handshake.specs.declared.machine.Machine.{Machine}
+use Rattle.sctp_handshake.specs.declared.offer.Offer.{Offer}
+use Rattle.sctp_params.specs.declared.param.param_kind.ParamKind.{ParamKind}
+use Rattle.sctp_params.specs.Param.{Parameter}
+use Rattle.sctp_params.specs.ParamKind.{parameter_of}
+
+-- ## Chunk by chunk
+
+all-of : {X : Type 0} (P Q : X → Type 0) → ((x : X) → P x → Q x) → (xs : List X) → AllByRecursion P xs → AllByRecursion Q xs
+all-of P Q f [] h = tt
+all-of P Q f (x ∷ xs) h = (f x h.0, all-of P Q f xs h.1)
+
+no-reply : (key : List ℕ) (m : Machine) (kind : AloneKind) (w : Wire) → IsNoInit w → IsReplyOf key m kind w
+no-reply key m kind (init_chunk i) h = absurd h
+no-reply key m kind _ h = tt
+
+no-offering : (a : Association) (w : Wire) → IsNoInit w → IsOffering a w
+no-offering a (init_chunk i) h = absurd h
+no-offering a _ h = tt
+
+reply-offering : (a : Association) (due : Alone) → a.due.alone ≡ Some due → (w : Wire) → IsReplyOf a.key a.machine due.kind w → IsOffering a w
+reply-offering a due e (init_chunk i) h = subst (λ (o : Option Alone). IsInitDue a.key a.machine o i) (sym e) h
+reply-offering a due e _ h = tt
+
+-- ## A reply
+
+pub reply_others : (kind : AloneKind) (a b : Association) → PutsOthers a b → PutsReply kind a b
+reply_others kind a b p = record {
+  halves = p.halves;
+  chunks = p.chunks;
+  added = p.added;
+  own = p.own;
+  replies = all-of IsNoInit (IsReplyOf a.key a.machine kind) (no-reply a.key a.machine kind) p.chunks p.plain;
+  kept = p.kept;
+}
+
+pub reply_init : (k : Bool) (i : Init) (kind : AloneKind) (a b : Association) → Adds (put_where k (init_chunk i)) a.draft.bytes b.draft.bytes
+    → IsInitOf a.key a.machine kind i → HalvesAlike a b → IsUnmoved a b → PutsReply kind a b
+reply_init k i kind a b added of h u = record {
+  halves = h;
+  chunks = put_where k (init_chunk i);
+  added = added;
+  own = all_put (IsOf [] []) k (init_chunk i) tt;
+  replies = all_put (IsReplyOf a.key a.machine kind) k (init_chunk i) of;
+  kept = u;
+}
+
+-- ## A datagram
+
+packet-of : (P Q : Wire → Type 0) → ((w : Wire) → P w → Q w) → (bytes : List ℕ) → IsPacketOf P bytes → IsPacketOf Q bytes
+packet-of P Q f bytes p = record {
+  packet = p.packet;
+  is_zero = p.is_zero;
+  encoded = p.encoded;
+  encodings = p.encodings;
+  fits = p.fits;
+  own = all-of P Q f p.packet.chunks p.own;
+}
+
+pub offers_reply : (a : Association) (due : Alone) (bytes : List ℕ) → a.due.alone ≡ Some due
+    → IsPacketOf (IsReplyOf a.key a.machine due.kind) bytes → OffersAsDue a bytes
+offers_reply a due bytes e p = packet-of (IsReplyOf a.key a.machine due.kind) (IsOffering a) (reply-offering a due e) bytes p
+
+pub offers_none : (a : Association) (bytes : List ℕ) → IsPacketOf IsNoInit bytes → OffersAsDue a bytes
+offers_none a bytes p = packet-of IsNoInit (IsOffering a) (no-offering a) bytes p
+
+-- ## The parameters of an INIT
+
+pub longer_same : {A : Type 0} (xs : List A) → IsLonger xs xs
+longer_same xs = ([], sym (append-nil xs))
+
+pub longer_then : {A : Type 0} (xs ys zs : List A) → IsLonger xs ys → IsLonger ys zs → IsLonger xs zs
+longer_then xs ys zs f g = (f.0 ++ g.0, g.1 ∙ ap (λ l. l ++ g.0) f.1 ∙ append_assoc xs f.0 g.0)
+
+-- others behind the first change nothing
+pub first_stays : (o : Option (List ℕ)) (ps qs : List Parameter) → HasFirst o ps → HasFirst o (ps ++ qs)
+first_stays None ps qs h = tt
+first_stays (Some cookie) [] qs h = absurd h
+first_stays (Some cookie) (p ∷ ps) qs h = h
+
+pub first_map : (o : Option (List ℕ)) (xs ys : List ParamKind) → HasFirst o (map parameter_of xs) → HasFirst o (map parameter_of (xs ++ ys))
+first_map None xs ys h = tt
+first_map (Some cookie) [] ys h = absurd h
+first_map (Some cookie) (x ∷ xs) ys h = h
+
+module _ (o : Offer) (cookie : Option (List ℕ)) where
+  -- parameters behind those that were there
+  pub init_behind : (a b : Init) (more : List Parameter) → IsInitWith o cookie a → b ≡ record a { params = a.params ++ more } → IsInitWith o cookie b
+  init_behind a b more h e = record {
+    ack = ap (λ (i : Init). i.is_ack) e ∙ h.ack;
+    tag = ap (λ (i : Init). i.initiate_tag) e ∙ h.tag;
+    tsn = ap (λ (i : Init). i.initial_tsn) e ∙ h.tsn;
+    first = subst (HasFirst cookie) (sym (ap (λ (i : Init). i.params) e)) (first_stays cookie a.params more h.first);
+  }
