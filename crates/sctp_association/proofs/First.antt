@@ -3,7 +3,7 @@ use Rattle.std.proofs.Common.{◌≡◌, ◌⊎◌, ℕ, Bool, true, false, List
 use Rattle.std.proofs.lemmas.Bool.{eqb-false, eqb-true, false≢true}
 use Rattle.std.specs.Prelude.{◌==◌, Result, Ok, Err, IsOk, OnErr, is_ok}
 use Rattle.sctp_association.specs.Cookies.{cookie_in, IsAlive}
-use Rattle.sctp_association.specs.Tags.{AdmitsFirst, BeginsAny, BeginsByCookie, EndsWithFirst, FirstIs, FirstIsAlive, first_type, is_admitted}
+use Rattle.sctp_association.specs.Tags.{AdmitsFirst, BeginsByCookie, EndsWithFirst, FirstIs, FirstIsAlive, first_type, is_admitted, is_all_or_nothing}
 use Rattle.sctp_datagram.specs.declared.datagram.ChunkPlace.{ChunkPlace}
 use Rattle.sctp_datagram.specs.Places.{IsThere, Passes, TellsAll, behind, place_at}
 use Rattle.sctp_handshake.specs.declared.machine.Machine.{Machine}
@@ -72,17 +72,12 @@ one-row d rows (r ∷ []) end one passes (inr e) =
     absurd (none-there (drop end d) (subst (λ (n : ℕ). drop n d ≡ []) passes.3 one) e.0)
 one-row d rows (r ∷ q ∷ passed) end one passes e = absurd (none-there (drop (behind d 12) d) one passes.3.1)
 
-pub unless_none : (d : List ℕ) (rows : List ChunkPlace) (R : Type 0) → TellsAll place_at d rows → EndsWithFirst d → BeginsAny (first_type d)
-    → ((first : ChunkPlace) → rows ≡ first ∷ [] → BeginsAny first.typ → R) → R
+pub unless_none : (d : List ℕ) (rows : List ChunkPlace) (R : Type 0) → TellsAll place_at d rows → EndsWithFirst d
+    → is_all_or_nothing (first_type d) ≡ true → ((first : ChunkPlace) → rows ≡ first ∷ [] → is_all_or_nothing first.typ ≡ true → R) → R
 unless_none d rows R t one is f = elim (one-row d rows t.passed t.end one t.passes t.ended) [
-  | inl e ↦ absurd (never (subst (λ (bytes : List ℕ). BeginsAny (type_at bytes)) e.1 is))
-  | inr e ↦ f e.0 e.1 (subst BeginsAny (sym e.2) is)
+  | inl e ↦ absurd (false≢true (subst (λ (bytes : List ℕ). is_all_or_nothing (type_at bytes) ≡ true) e.1 is))
+  | inr e ↦ f e.0 e.1 (ap is_all_or_nothing e.2 ∙ is)
 ]
-  where
-    never : BeginsAny (type_at []) → ⊥
-    never (inl e) = omega (arith, e)
-    never (inr (inl e)) = omega (arith, e)
-    never (inr (inr e)) = omega (arith, e)
 
 -- ## Whose datagram it is not
 

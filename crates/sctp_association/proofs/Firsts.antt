@@ -1,5 +1,5 @@
 -- In the state Closed a cookie that is not too old begins an association, and its ticket has the peer's offer.
-use Rattle.std.proofs.Common.{◌≡◌, List, ℕ, Bool, true, false, Some, Option, refl, ap, sym, subst, ◌∙◌}
+use Rattle.std.proofs.Common.{◌≡◌, List, ℕ, Bool, true, false, Some, None, Option, refl, ap, sym, subst, ◌∙◌}
 use Rattle.std.proofs.lemmas.Bool.{false≢true}
 use Rattle.sctp_association.proofs.Stale.{is_stale_reply}
 use Rattle.sctp_association.specs.Arrivals.{Arrives, Halves}
@@ -24,7 +24,7 @@ use Rattle.sctp_util.specs.Field.{u32_at}
 abbrev Stands : Ticket → Step → Type 0
 Stands t s = is_stale_reply s.answer.reply ≡ false → (s.answer.told ≡ Some Connected) × (s.machine.peer ≡ Some t.peer)
 
-stands-unless : (stale : Bool) (t : Ticket) (m : Machine) → Stands t (unless_stale stale m (begins Connected t m))
+stands-unless : (stale : Bool) (t : Ticket) (m : Machine) → Stands t (unless_stale stale m (begins t m))
 stands-unless true t m e = absurd (false≢true (sym e))
 stands-unless false t m e = (refl, refl)
 
@@ -34,12 +34,13 @@ stands t stale m closed =
 
 module _ (key : List ℕ) (tag : ℕ) (cookie : List ℕ) (c : Config) (x y : Halves) where
   pub begins_by_ticket : (moment : ℕ) (made : IsSealedAt moment key tag cookie) (stale : Bool) (m n : Machine) (a : Answer) → m.state ≡ Closed
-      → Takes (on_cookie_echo made.ticket stale m) n a → is_stale_reply a.reply ≡ false → BeginsBy a.told n c x y → BeginsByTicket key tag cookie c x y
-  begins_by_ticket moment made stale m n a closed takes fresh begun =
+      → Takes (on_cookie_echo made.ticket stale m) n a → is_stale_reply a.reply ≡ false → x.receiver ≡ None → BeginsBy a.told n c x y
+      → BeginsByTicket key tag cookie c x y
+  begins_by_ticket moment made stale m n a closed takes fresh none begun =
       let all = stands made.ticket stale m closed (sym (ap (λ k. is_stale_reply k.reply) takes.answer) ∙ fresh) in
       let told : a.told ≡ Some Connected = ap (λ (k : Answer). k.told) takes.answer ∙ all.0 in
       let peer : n.peer ≡ Some made.ticket.peer = ap (λ (k : Machine). k.peer) takes.machine ∙ all.1 in
-      let first : Begins n.peer c x y = subst (λ (o : Option Told). BeginsBy o n c x y) told begun in
+      let first : Begins n.peer c x y = subst (λ (o : Option Told). BeginsBy o n c x y) told begun none in
       record { moment = moment; made = made; begins = subst (λ (o : Option Offer). Begins o c x y) peer first }
 
 pub by_datagram : (d key : List ℕ) (c : Config) (x m y : Halves) (p : ChunkPlace) → IsChunkOf d p → p.typ ≡ 10 → (tag : ℕ) → tag ≡ u32_at d 4

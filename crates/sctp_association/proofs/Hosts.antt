@@ -212,8 +212,8 @@ module _ (P Q : AnyCall → Type 0) (w : Way) where
         let same = ap (λ (n : ℕ). at_first n w.most (Some w.limits)) (sym fits.1.0) ∙ ap (λ (n : ℕ). at_first tsn n (Some w.limits)) (sym fits.1.1.0)
         ∙ ap (λ l. at_first tsn max (Some l)) (sym fits.1.1.1) in
         record {
-          sent = sent-same P forth new.sender (y.sends ∙ sym d.0);
-          led = led-same Q w back new.receiver (subst (λ o. IsReceiver w o back.session.receiving.receiver) (sym d.1) (first ∙ same));
+          sent = sent-same P forth new.sender (y.sends ∙ sym d.1.0);
+          led = led-same Q w back new.receiver (subst (λ o. IsReceiver w o back.session.receiving.receiver) (sym d.1.1) (first ∙ same));
         }
     take-one (renews tsn size max) old new forth back d fits of y room = absurd fits
 

@@ -1,5 +1,5 @@
 -- An INIT of a packet that is written, read where it lies.
-use Rattle.std.proofs.Common.{◌≡◌, ℕ, zero, suc, ◌+◌, ◌<◌, ◌≤◌, Bool, true, false, List, [], ◌∷◌, ◌++◌, length, drop, replicate, refl, sym, ap, ◌∙◌}
+use Rattle.std.proofs.Common.{◌≡◌, ℕ, zero, suc, ◌<◌, ◌≤◌, Bool, true, false, List, [], ◌∷◌, ◌++◌, length, drop, replicate, refl, sym, ap, ◌∙◌}
 use Rattle.std.proofs.Common.{append_assoc, arith, inl, inr, length-append, subst}
 use Rattle.std.proofs.lemmas.Bool.{false≢true}
 use Rattle.std.proofs.lemmas.List.{drop-drop, drop_at, length-replicate}
@@ -13,9 +13,6 @@ use Rattle.sctp_chunks.proofs.Again.{framed_declared, framed_value}
 use Rattle.sctp_chunks.specs.Framing.{declared_length, type_at, value_at}
 use Rattle.sctp_chunks.specs.Init.{Init, ack_type}
 use Rattle.sctp_chunks.specs.Wire.{HasEncoding, Wire, encoding_of, flags_of, init_chunk, type_of, value_of}
-use Rattle.sctp_chunks.specs.Wire.{abort_chunk, cookie_ack_chunk, cookie_echo_chunk, data_chunk, error_chunk, forward_tsn_chunk, heartbeat_ack_chunk}
-use Rattle.sctp_chunks.specs.Wire.{heartbeat_chunk, i_forward_tsn_chunk, reconfig_chunk, sack_chunk, shutdown_ack_chunk, shutdown_chunk}
-use Rattle.sctp_chunks.specs.Wire.{shutdown_complete_chunk}
 use Rattle.sctp_datagram.specs.Carried.{IsChunkOf}
 use Rattle.sctp_datagram.specs.Places.{IsThere, Passes, TellsAll, behind, place_at}
 use Rattle.sctp_datagram.specs.Types.{is_stopping}

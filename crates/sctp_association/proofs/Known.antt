@@ -28,21 +28,27 @@ knows_same m n e = record {
   asking = λ asks. subst (λ (k : Machine). is_asking k.state ≡ true) e asks;
   peer = λ o is. sym (ap (λ (k : Machine). k.peer) e) ∙ is;
   own = ap (λ (k : Machine). k.own) e;
+  restarted = ap (λ (k : Machine). k.has_restarted) e;
 }
 
 pub knows_then : (m n k : Machine) → KnowsNoMore m n → KnowsNoMore n k → KnowsNoMore m k
-knows_then m n k f g = record { asking = λ e. f.asking (g.asking e); peer = λ o e. f.peer o (g.peer o e); own = g.own ∙ f.own }
+knows_then m n k f g = record {
+  asking = λ e. f.asking (g.asking e);
+  peer = λ o e. f.peer o (g.peer o e);
+  own = g.own ∙ f.own;
+  restarted = g.restarted ∙ f.restarted;
+}
 
 knows-closed : (m : Machine) → KnowsNoMore m (closed m)
-knows-closed m = record { asking = λ e. absurd (false≢true e); peer = λ o e. absurd (none-some o e); own = refl }
+knows-closed m = record { asking = λ e. absurd (false≢true e); peer = λ o e. absurd (none-some o e); own = refl; restarted = refl }
 
 knows-into : (s : State) (m : Machine) → is_asking s ≡ false → KnowsNoMore m (into s m)
-knows-into s m is = record { asking = λ e. absurd (false≢true (sym is ∙ e)); peer = λ o e. e; own = refl }
+knows-into s m is = record { asking = λ e. absurd (false≢true (sym is ∙ e)); peer = λ o e. e; own = refl; restarted = refl }
 
 -- ## Inputs
 
 arrived-knows : (s : State) (m : Machine) → KnowsNoMore m (packet_arrived_row s true m).machine
-arrived-knows ShutdownSent m = record { asking = λ e. e; peer = λ o e. e; own = refl }
+arrived-knows ShutdownSent m = record { asking = λ e. e; peer = λ o e. e; own = refl; restarted = refl }
 arrived-knows _ m = knows_same m m refl
 
 abort-knows : (s : State) (m : Machine) → KnowsNoMore m (abort_row s m).machine
@@ -76,7 +82,7 @@ drained-knows _ m = knows_same m m refl
 
 -- the handshake begins again in CookieEchoed, where this side asks, too
 retried-knows : (b : Bool) (m : Machine) → m.state ≡ CookieEchoed → KnowsNoMore m (if b then begun_again m else failed m).machine
-retried-knows true m is = record { asking = λ e. ap is_asking is; peer = λ o e. absurd (none-some o e); own = refl }
+retried-knows true m is = record { asking = λ e. ap is_asking is; peer = λ o e. absurd (none-some o e); own = refl; restarted = refl }
 retried-knows false m is = knows-closed m
 
 stale-knows : (s : State) (m : Machine) → m.state ≡ s → KnowsNoMore m (stale_cookie_row s m).machine
@@ -85,7 +91,7 @@ stale-knows _ m is = knows_same m m refl
 
 -- the timer of the state ran out
 again-knows : (b : Bool) (r : Reply) (m : Machine) → KnowsNoMore m (if b then sent_again r m else failed m).machine
-again-knows true r m = record { asking = λ e. e; peer = λ o e. e; own = refl }
+again-knows true r m = record { asking = λ e. e; peer = λ o e. e; own = refl; restarted = refl }
 again-knows false r m = knows-closed m
 
 timed-knows : (s : State) (m : Machine) → KnowsNoMore m (timed_out_row s m).machine

@@ -37,5 +37,7 @@ pub mod PlainHosts
 pub mod OneLife
 pub mod Lives
 pub mod Links
+pub mod Setups
+pub mod SetupPairs
 pub mod PairOrder
 pub mod Pairs

@@ -9,7 +9,7 @@ use Rattle.sctp_association.proofs.Putting.{there}
 use Rattle.sctp_association.proofs.Readings.{answer_said, init_said}
 use Rattle.sctp_association.specs.Arrivals.{Arrival, ArrivesAs, Does, IsBroughtAs, begins, hears, receives, renews}
 use Rattle.sctp_association.specs.Beginnings.{AnswersInit, ArrivesAsOffered, BeginsToAsk, HasAsked, IsBegunBy, IsEchoed, IsKeptButMtu, IsMadeOf, IsOffered, KeepsPeer}
-use Rattle.sctp_association.specs.Beginnings.{OffersInit, by_init_ack, by_kept, by_ticket, init_alone}
+use Rattle.sctp_association.specs.Beginnings.{OffersInit, by_init_ack, by_kept, by_ticket}
 use Rattle.sctp_association.specs.declared.association.Association.{Association}
 use Rattle.sctp_association.specs.declared.config.Config.{Config}
 use Rattle.sctp_association.specs.declared.due.Alone.{Alone}
@@ -18,7 +18,7 @@ use Rattle.sctp_association.specs.declared.due.AloneKind.TheVariants as alone
 use Rattle.sctp_association.specs.declared.due.Due.{Due}
 use Rattle.sctp_association.specs.Halves.{halves_of}
 use Rattle.sctp_association.specs.Kept.{OwesTicket, ticket_due, ticket_in_kind}
-use Rattle.sctp_association.specs.Lives.{BeginsBySome, CameInInit, CameInInitAck, CameSo, DoesDeed, Deed, IsUnforged, Knows, Life, WasEchoed}
+use Rattle.sctp_association.specs.Lives.{BeginsBySome, CameInInit, CameInInitAck, CameSo, DoesDeed, Deed, IsUnforged, Knows, Life}
 use Rattle.sctp_association.specs.Lives.{asks, handles, life_after, new_life, resizes, stays, with_sealed, writes}
 use Rattle.sctp_association.specs.Offering.{IsInitDue, IsInitOf, IsOffering, OffersAsDue}
 use Rattle.sctp_association.specs.Packets.{sum_of}
@@ -70,15 +70,15 @@ resized a b l k h = record {
   sealed = h.sealed;
 }
 
-first-or-not : {X : Type 0} (x : X) (xs : List X) (y : X) → Contains (x ∷ xs) y → (x ≡ y) ⊎ Contains xs y
-first-or-not x xs y (zero, lt, e) = inl e
-first-or-not x xs y (suc k, lt, e) = inr (k, omega (arith, lt), e)
+pub first_or_not : {X : Type 0} (x : X) (xs : List X) (y : X) → Contains (x ∷ xs) y → (x ≡ y) ⊎ Contains xs y
+first_or_not x xs y (zero, lt, e) = inl e
+first_or_not x xs y (suc k, lt, e) = inr (k, omega (arith, lt), e)
 
 -- a ticket that is sealed was due
-sealed-of : (P : Ticket → Type 0) (o : Option Ticket) (ts : List Ticket) → ((t : Ticket) → o ≡ Some t → P t) → ((t : Ticket) → Contains ts t → P t)
+pub sealed_of : (P : Ticket → Type 0) (o : Option Ticket) (ts : List Ticket) → ((t : Ticket) → o ≡ Some t → P t) → ((t : Ticket) → Contains ts t → P t)
     → (t : Ticket) → Contains (with_sealed o ts) t → P t
-sealed-of P None ts due was t c = was t c
-sealed-of P (Some k) ts due was t c = elim (first-or-not k ts t c) [
+sealed_of P None ts due was t c = was t c
+sealed_of P (Some k) ts due was t c = elim (first_or_not k ts t c) [
   | inl e ↦ due t (ap Some e)
   | inr c ↦ was t c
 ]
@@ -88,7 +88,7 @@ wrote a b l d k h = record {
   key = k.key ∙ h.key;
   peer = λ o e. h.peer o (k.machine.peer o e);
   due = λ t e. h.due t (k.owes t e);
-  sealed = sealed-of (λ t. CameInInit l t.peer) (ticket_due a.due.alone) l.sealed h.due h.sealed;
+  sealed = sealed_of (λ t. CameInInit l t.peer) (ticket_due a.due.alone) l.sealed h.due h.sealed;
 }
 
 -- ## A datagram
@@ -120,11 +120,11 @@ module _ (d : List ℕ) (a b : Association) (l : Life) (f : ArrivesAsOffered d a
   handled = record {
     key = f.key ∙ h.key;
     peer = λ o e. elim (f.peer o e) [ inl known ↦ so-later o (h.peer o known) | inr offered ↦ offered-came o offered ];
-    due = λ t e. elim (f.owes t e) [ inl owed ↦ init-later t.peer (h.due t owed) | inr offered ↦ (d, now, offered) ];
+    due = λ t e. elim (f.owes t e) [ inl owed ↦ init-later t.peer (h.due t owed) | inr w ↦ (d, now, w.offered) ];
     sealed = λ t c. init-later t.peer (h.sealed t c);
   }
 
-  begun-so : (call : Arrival) → IsBegunBy d a call → BeginsBySome (CameSo after) a.config call
+  begun-so : (call : Arrival) → IsBegunBy d a b call → BeginsBySome (CameSo after) a.config call
   begun-so (receives c) r = tt
   begun-so (hears c) r = tt
   begun-so (begins tsn max limits) r = (r.peer, offered-came r.peer r.offered, r.is)
@@ -132,7 +132,7 @@ module _ (d : List ℕ) (a b : Association) (l : Life) (f : ArrivesAsOffered d a
 
   pub beginning_came : ArrivesAs (BeginsBySome (CameSo after) a.config) d (halves_of a) (halves_of b)
   beginning_came =
-      follows_of (IsBroughtAs (IsBegunBy d a) d) (IsBroughtAs (BeginsBySome (CameSo after) a.config) d) Does
+      follows_of (IsBroughtAs (IsBegunBy d a b) d) (IsBroughtAs (BeginsBySome (CameSo after) a.config) d) Does
       (λ call r. record { brought = r.brought; rule = begun-so call r.rule }) (halves_of a) (halves_of b) f.arrives
 
 pub deed_is_known : (deed : Deed) (a b : Association) (l : Life) → DoesDeed deed a b → Knows l a → Knows (life_after deed a l) b

@@ -4,7 +4,7 @@ use Rattle.sctp_association.proofs.Arrived.{came_alike, came_same}
 use Rattle.sctp_association.proofs.Arriving.{follows_of, follows_then}
 use Rattle.sctp_association.proofs.Known.{keeps_kept}
 use Rattle.sctp_association.specs.Arrivals.{Arrival, CallsArrive, Does, IsBroughtAs, IsOfHalf, begins, hears, receives, renews}
-use Rattle.sctp_association.specs.Beginnings.{ArrivesAsOffered, IsBegunBy, IsEchoed, IsOffered, IsOwnEchoed, KeepsPeer, OffersInit, begins_by}
+use Rattle.sctp_association.specs.Beginnings.{ArrivesAsOffered, IsBegunBy, IsEchoed, IsOffered, IsOwedFor, IsOwnEchoed, IsOwnOffer, KeepsPeer, begins_by}
 use Rattle.sctp_association.specs.Beginnings.{by_init_ack, by_kept, is_asking}
 use Rattle.sctp_association.specs.Kept.{IsKept, OwesNoMore, OwesTicket}
 use Rattle.sctp_association.specs.Beginnings.{by_ticket, renews_by}
@@ -19,17 +19,18 @@ use Rattle.sctp_handshake.specs.declared.ticket.Ticket.{Ticket}
 module _ (d : List ℕ) where
   -- ## Calls of halves that are there
 
-  half-begun : (a : Association) (call : Arrival) → IsOfHalf call → IsBegunBy d a call
-  half-begun a (receives c) h = tt
-  half-begun a (hears h) e = tt
-  half-begun a (begins tsn max limits) h = absurd h
-  half-begun a (renews tsn size max) h = absurd h
+  half-begun : (a b : Association) (call : Arrival) → IsOfHalf call → IsBegunBy d a b call
+  half-begun a b (receives c) h = tt
+  half-begun a b (hears h) e = tt
+  half-begun a b (begins tsn max limits) h = absurd h
+  half-begun a b (renews tsn size max) h = absurd h
 
   pub offered_calls : (a b : Association) → CallsArrive d (halves_of a) (halves_of b) → KeepsPeer a b → ArrivesAsOffered d a b
   offered_calls a b f k = record {
     arrives =
-        follows_of (IsBroughtAs IsOfHalf d) (IsBroughtAs (IsBegunBy d a) d) Does
-        (λ call h. record { brought = h.brought; rule = half-begun a call h.rule }) (halves_of a) (halves_of b) f;
+        follows_of (IsBroughtAs IsOfHalf d) (IsBroughtAs (IsBegunBy d a b) d) Does
+        (λ call h. record { brought = h.brought; rule = half-begun a b call h.rule }) (halves_of a) (halves_of b) f;
+    restarted = λ e. k.machine.restarted ∙ e;
     config = k.config;
     key = k.key;
     asking = k.machine.asking;
@@ -51,12 +52,13 @@ module _ (d : List ℕ) where
 
   -- a packet of one reply is due, and nothing else changes
   pub offered_due : (a b : Association) (due : Due) → b ≡ record a { due = due }
-      → ((t : Ticket) → OwesTicket b t → OwesTicket a t ⊎ OffersInit d t.peer) → ArrivesAsOffered d a b
+      → ((t : Ticket) → OwesTicket b t → OwesTicket a t ⊎ IsOwedFor d a t) → ArrivesAsOffered d a b
   offered_due a b due e owes = record {
     arrives =
-        follows_of (IsBroughtAs IsOfHalf d) (IsBroughtAs (IsBegunBy d a) d) Does
-        (λ call h. record { brought = h.brought; rule = half-begun a call h.rule }) (halves_of a) (halves_of b)
+        follows_of (IsBroughtAs IsOfHalf d) (IsBroughtAs (IsBegunBy d a b) d) Does
+        (λ call h. record { brought = h.brought; rule = half-begun a b call h.rule }) (halves_of a) (halves_of b)
         (came_same d (halves_of a) (halves_of b) (ap halves_of e));
+    restarted = λ is. ap (λ (x : Association). x.machine.has_restarted) e ∙ is;
     config = ap (λ (x : Association). x.config) e;
     key = ap (λ (x : Association). x.key) e;
     asking = λ asks. subst (λ (m : Machine). is_asking m.state ≡ true) (ap (λ (x : Association). x.machine) e) asks;
@@ -82,43 +84,55 @@ module _ (d : List ℕ) where
     ]
 
     -- what this side offers, too, and the INIT ACK that is due
-    own-back : (c : Association) → (c.machine.own ≡ b.machine.own) ⊎ IsOwnEchoed d b.key c.machine.own
-        → (c.machine.own ≡ a.machine.own) ⊎ IsOwnEchoed d a.key c.machine.own
-    own-back c (inl same) = elim f.own [
+    own-back : (o : Offer) → IsOwnOffer d b o → IsOwnOffer d a o
+    own-back o (inl same) = elim f.own [
       | inl first ↦ inl (same ∙ first)
       | inr echoed ↦ inr (subst (λ (o : Offer). IsOwnEchoed d a.key o) (sym same) echoed)
     ]
-    own-back c (inr echoed) = inr (subst (λ (k : List ℕ). IsOwnEchoed d k c.machine.own) f.key echoed)
+    own-back o (inr echoed) = inr (subst (λ (k : List ℕ). IsOwnEchoed d k o) f.key echoed)
 
-    owes-back : (t : Ticket) → OwesTicket b t ⊎ OffersInit d t.peer → OwesTicket a t ⊎ OffersInit d t.peer
+    owes-back : (t : Ticket) → OwesTicket b t ⊎ IsOwedFor d b t → OwesTicket a t ⊎ IsOwedFor d a t
     owes-back t (inl owed) = f.owes t owed
-    owes-back t (inr offered) = inr offered
+    owes-back t (inr w) = inr (record { offered = w.offered; own = w.own; is = own-back w.own w.is; tsn = w.tsn })
 
-    rule-back : (call : Arrival) → IsBegunBy d b call → IsBegunBy d a call
-    rule-back (receives c) r = tt
-    rule-back (hears h) r = tt
-    rule-back (begins tsn max limits) r = record {
+    rule-back : (c : Association) (call : Arrival) → IsBegunBy d b c call → IsBegunBy d a c call
+    rule-back c (receives call) r = tt
+    rule-back c (hears h) r = tt
+    rule-back c (begins tsn max limits) r = record {
       peer = r.peer;
       offered = offer-back r.peer r.offered;
-      is = subst (λ (c : Config). begins tsn max limits ≡ begins_by r.peer c) f.config r.is;
+      is = subst (λ (k : Config). begins tsn max limits ≡ begins_by r.peer k) f.config r.is;
     }
-    rule-back (renews tsn size max) r = record {
+    rule-back c (renews tsn size max) r = record {
       ticket = r.ticket;
       echoed = subst (λ (k : List ℕ). IsEchoed d k r.ticket) f.key r.echoed;
-      is = subst (λ (c : Config). renews tsn size max ≡ renews_by r.ticket.own.first_tsn c) f.config r.is;
+      is = subst (λ (k : Config). renews tsn size max ≡ renews_by r.ticket.own.first_tsn k) f.config r.is;
+      restarted = r.restarted;
     }
+
+    -- that the peer has begun again stays noted
+    rule-on : (c : Association) → (b.machine.has_restarted ≡ true → c.machine.has_restarted ≡ true) → (call : Arrival) → IsBegunBy d a b call
+        → IsBegunBy d a c call
+    rule-on c stays (receives call) r = tt
+    rule-on c stays (hears h) r = tt
+    rule-on c stays (begins tsn max limits) r = r
+    rule-on c stays (renews tsn size max) r = record { ticket = r.ticket; echoed = r.echoed; is = r.is; restarted = stays r.restarted }
 
     pub offered_then : (c : Association) → ArrivesAsOffered d b c → ArrivesAsOffered d a c
     offered_then c g = record {
       arrives =
-          follows_then (IsBroughtAs (IsBegunBy d a) d) Does (halves_of a) (halves_of b) (halves_of c) f.arrives (
-          follows_of (IsBroughtAs (IsBegunBy d b) d) (IsBroughtAs (IsBegunBy d a) d) Does
-          (λ call h. record { brought = h.brought; rule = rule-back call h.rule }) (halves_of b) (halves_of c) g.arrives
+          follows_then (IsBroughtAs (IsBegunBy d a c) d) Does (halves_of a) (halves_of b) (halves_of c) (
+          follows_of (IsBroughtAs (IsBegunBy d a b) d) (IsBroughtAs (IsBegunBy d a c) d) Does
+          (λ call h. record { brought = h.brought; rule = rule-on c g.restarted call h.rule }) (halves_of a) (halves_of b) f.arrives
+          ) (
+          follows_of (IsBroughtAs (IsBegunBy d b c) d) (IsBroughtAs (IsBegunBy d a c) d) Does
+          (λ call h. record { brought = h.brought; rule = rule-back c call h.rule }) (halves_of b) (halves_of c) g.arrives
           );
+      restarted = λ e. g.restarted (f.restarted e);
       config = g.config ∙ f.config;
       key = g.key ∙ f.key;
       asking = λ e. f.asking (g.asking e);
       peer = λ o e. elim (g.peer o e) [ inl known ↦ f.peer o known | inr offered ↦ inr (offer-back o offered) ];
-      own = own-back c g.own;
+      own = own-back c.machine.own g.own;
       owes = λ t e. owes-back t (g.owes t e);
     }

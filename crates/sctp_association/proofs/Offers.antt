@@ -5,11 +5,12 @@ use Rattle.std.proofs.lemmas.Option.{none-some, same_Some}
 use Rattle.sctp_association.proofs.Arriving.{follows_one, follows_same, follows_then}
 use Rattle.sctp_association.specs.Arrivals.{Arrival, Does, Follows, Halves, HasType, IsBroughtAs, by_type}
 use Rattle.sctp_association.specs.Beginnings.{AnswersInit, ArrivesAsOffered, Begins, BeginsAnew, BeginsBy, IsBegunBy, IsEchoed, IsOffered}
-use Rattle.sctp_association.specs.Beginnings.{IsOwnEchoed, OffersInit, begins_by, by_init_ack, by_kept, by_ticket, is_asking, renews_by}
+use Rattle.sctp_association.specs.Beginnings.{IsOwedFor, IsOwnEchoed, begins_by, by_init_ack, by_kept, by_ticket, is_asking, is_standing, renews_by}
 use Rattle.sctp_association.specs.Kept.{OwesNoMore}
 use Rattle.sctp_association.specs.declared.association.Association.{Association}
 use Rattle.sctp_association.specs.declared.config.Config.{Config}
-use Rattle.sctp_association.specs.Halves.{halves_of}
+use Rattle.sctp_association.specs.declared.inbound.Inbound.{Inbound}
+use Rattle.sctp_association.specs.Halves.{halves_of, receiver_of}
 use Rattle.sctp_chunks.specs.Framing.{value_at}
 use Rattle.sctp_datagram.specs.Carried.{IsChunkOf}
 use Rattle.sctp_datagram.specs.declared.datagram.ChunkPlace.{ChunkPlace}
@@ -27,7 +28,6 @@ use Rattle.sctp_handshake.specs.declared.answer.Told.TheVariants.{Connected, Res
 use Rattle.sctp_handshake.specs.declared.machine.cookies.CookieRow.{CookieRow}
 use Rattle.sctp_handshake.specs.declared.machine.cookies.CookieRow.TheVariants.{Collision, First, Late, Repeat, Restart, Unlisted}
 use Rattle.sctp_handshake.specs.declared.init_value.Said.{Said}
-use Rattle.sctp_handshake.specs.declared.machine.Fresh.{Fresh}
 use Rattle.sctp_handshake.specs.declared.machine.Machine.{Machine}
 use Rattle.sctp_handshake.specs.declared.offer.Offer.{Offer}
 use Rattle.sctp_handshake.specs.declared.offer.OfferFault.{OfferFault}
@@ -63,11 +63,14 @@ record Tells (Offered : Offer → Type 0) (Own : Offer → Type 0) (m : Machine)
   own : s.answer.told ≡ Some Restarted → Own s.machine.own
   anew : s.answer.told ≡ Some Restarted → (o : Offer) → s.machine.peer ≡ Some o → Offered o
   mine : (s.machine.own ≡ m.own) ⊎ Own s.machine.own
+  new : s.answer.told ≡ Some Connected → is_standing m.state ≡ false
+  restarted : m.has_restarted ≡ true → s.machine.has_restarted ≡ true
+  noted : s.answer.told ≡ Some Restarted → s.machine.has_restarted ≡ true
 
 module _ (d : List ℕ) (a b : Association) (Offered Own : Offer → Type 0) (offers : (o : Offer) → Offered o → IsOffered d a o)
     (s : Step) (t : Tells Offered Own a.machine s) (n : Machine) (answer : Answer) (takes : Takes s n answer) where
   abbrev Rule : Arrival → Type 0
-  Rule = IsBroughtAs (IsBegunBy d a) d
+  Rule = IsBroughtAs (IsBegunBy d a b) d
 
   same : (x y : Halves) → y ≡ x → Follows Rule Does x y
   same x y e = follows_same Rule Does x y e
@@ -83,29 +86,33 @@ module _ (d : List ℕ) (a b : Association) (Offered Own : Offer → Type 0) (of
         follows_one Rule Does (begins_by o a.config) x y
         (record { brought = by_type typ has begins'; rule = record { peer = o; offered = of o refl; is = refl } }) does
 
-    is-connected : s.answer.told ≡ Some Connected → (x y : Halves) → Begins n.peer a.config x y → Follows Rule Does x y
-    is-connected told x y b =
+    is-connected : s.answer.told ≡ Some Connected → (x y : Halves) → (is_standing a.machine.state ≡ false → x.receiver ≡ None)
+        → (x.receiver ≡ None → Begins n.peer a.config x y) → Follows Rule Does x y
+    is-connected told x y free b =
         receiver-begins n.peer x y (λ o e. elim (t.connected told o (known o e)) [
           | inl kept ↦ by_kept kept.0 kept.1
           | inr offered ↦ offers o offered
-        ]) b
+        ]) (b (free (t.new told)))
 
     -- where it tells that it began anew, a COOKIE-ECHO came
-    module _ (renewed : s.answer.told ≡ Some Restarted → HasType d 10 × ((own : Offer) → Own own → Rule (renews_by own.first_tsn a.config))) where
+    module _ (renewed : s.answer.told ≡ Some Restarted → HasType d 10
+        × ((own : Offer) → Own own → b.machine.has_restarted ≡ true → Rule (renews_by own.first_tsn a.config))) (is : b.machine ≡ s.machine) where
       is-anew : s.answer.told ≡ Some Restarted → (x y : Halves) → BeginsAnew n a.config x y → Follows Rule Does x y
-      is-anew told x y b =
+      is-anew told x y k =
+          let noted : b.machine.has_restarted ≡ true = ap (λ (j : Machine). j.has_restarted) is ∙ t.noted told in
           let own : Own n.own = subst (λ (k : Machine). Own k.own) (sym takes.machine) (t.own told) in
           let of : (o : Offer) → n.peer ≡ Some o → IsOffered d a o =
           λ o e. offers o (t.anew told o (known o e)) in
-          follows_then Rule Does x b.middle y
-          (follows_one Rule Does (renews_by n.own.first_tsn a.config) x b.middle ((renewed told).1 n.own own) b.renewed)
-          (receiver-begins n.peer b.middle y of b.begun)
+          follows_then Rule Does x k.middle y
+          (follows_one Rule Does (renews_by n.own.first_tsn a.config) x k.middle ((renewed told).1 n.own own noted) k.renewed)
+          (receiver-begins n.peer k.middle y of k.begun)
 
-      begun : (o : Option Told) → s.answer.told ≡ o → (x y : Halves) → BeginsBy o n a.config x y → Follows Rule Does x y
-      begun None e x y b = same x y b
-      begun (Some Connected) e x y b = is-connected e x y b
-      begun (Some Restarted) e x y b = is-anew e x y b
-      begun (Some _) e x y b = same x y b
+      begun : (o : Option Told) → s.answer.told ≡ o → (x y : Halves) → (is_standing a.machine.state ≡ false → x.receiver ≡ None)
+          → BeginsBy o n a.config x y → Follows Rule Does x y
+      begun None e x y free b = same x y b
+      begun (Some Connected) e x y free b = is-connected e x y free b
+      begun (Some Restarted) e x y free b = is-anew e x y b
+      begun (Some _) e x y free b = same x y b
 
   -- then what stays
   module _ (kept : IsLeft a n b) (echoes : (o : Offer) → Own o → IsOwnEchoed d a.key o) where
@@ -115,6 +122,7 @@ module _ (d : List ℕ) (a b : Association) (Offered Own : Offer → Type 0) (of
         let own : b.machine.own ≡ s.machine.own = ap (λ (k : Machine). k.own) is in
         record {
           arrives = arrives;
+          restarted = λ e. ap (λ (k : Machine). k.has_restarted) is ∙ t.restarted e;
           config = kept.config;
           key = kept.key;
           asking = λ e. t.asking (subst (λ (k : Machine). is_asking k.state ≡ true) is e);
@@ -127,10 +135,13 @@ module _ (d : List ℕ) (a b : Association) (Offered Own : Offer → Type 0) (of
         }
 
     begun-so : (typ : ℕ) → HasType d typ → (typ ≡ 10) ⊎ (typ ≡ 11)
-        → (s.answer.told ≡ Some Restarted → HasType d 10 × ((own : Offer) → Own own → Rule (renews_by own.first_tsn a.config)))
+        → (s.answer.told ≡ Some Restarted → HasType d 10
+        × ((own : Offer) → Own own → b.machine.has_restarted ≡ true → Rule (renews_by own.first_tsn a.config)))
+        → (is_standing a.machine.state ≡ false → a.inbound ≡ None)
         → BeginsBy answer.told n a.config (halves_of a) (halves_of b) → ArrivesAsOffered d a b
-    begun-so typ has begins' renewed b' =
-        so (begun typ has begins' renewed answer.told (sym (ap (λ (k : Answer). k.told) takes.answer)) (halves_of a) (halves_of b) b')
+    begun-so typ has begins' renewed free b' =
+        so (begun typ has begins' renewed (kept.machine ∙ takes.machine) answer.told (sym (ap (λ (k : Answer). k.told) takes.answer)) (halves_of a) (halves_of b)
+        (λ e. ap (λ (i : Option Inbound). receiver_of i) (free e)) b')
 
 -- ## A COOKIE-ECHO
 
@@ -147,24 +158,43 @@ module _ (t : Ticket) (m : Machine) where
     own = λ e. absurd (none-some Restarted (sym none ∙ e));
     anew = λ e. absurd (none-some Restarted (sym none ∙ e));
     mine = inl (ap (λ (k : Machine). k.own) is);
+    new = λ e. absurd (none-some Connected (sym none ∙ e));
+    restarted = λ e. ap (λ (k : Machine). k.has_restarted) is ∙ e;
+    noted = λ e. absurd (none-some Restarted (sym none ∙ e));
   }
 
-  cookie-begins : (told : Told) → OfTicket (cookies.begins told t m)
-  cookie-begins told = record {
+  cookie-begins : (is_standing m.state ≡ false) → OfTicket (cookies.begins t m)
+  cookie-begins new = record {
     asking = λ e. absurd (false≢true e);
     peer = λ o e. inr (same_Some t.peer o e);
     connected = λ _ o e. inr (same_Some t.peer o e);
     own = λ _. refl;
     anew = λ _ o e. same_Some t.peer o e;
     mine = inr refl;
+    new = λ _. new;
+    restarted = λ e. e;
+    noted = λ e. absurd (false≢true (ap is-new e));
   }
 
-  cookie-renews : (s : State) → OfTicket (renewal_row s t m)
-  cookie-renews Closed = cookie-begins Connected
-  cookie-renews CookieWait = cookie-begins Connected
-  cookie-renews CookieEchoed = cookie-begins Connected
-  cookie-renews ShutdownAckSent = cookie-same (renewal_row ShutdownAckSent t m) refl refl
-  cookie-renews _ = cookie-begins Restarted
+  cookie-restarts : OfTicket (cookies.restarts t m)
+  cookie-restarts = record {
+    asking = λ e. absurd (false≢true e);
+    peer = λ o e. inr (same_Some t.peer o e);
+    connected = λ _ o e. inr (same_Some t.peer o e);
+    own = λ _. refl;
+    anew = λ _ o e. same_Some t.peer o e;
+    mine = inr refl;
+    new = λ e. absurd (false≢true (sym (ap is-new e)));
+    restarted = λ _. refl;
+    noted = λ _. refl;
+  }
+
+  cookie-renews : (s : State) → m.state ≡ s → OfTicket (renewal_row s t m)
+  cookie-renews Closed is = cookie-begins (ap is_standing is)
+  cookie-renews CookieWait is = cookie-begins (ap is_standing is)
+  cookie-renews CookieEchoed is = cookie-begins (ap is_standing is)
+  cookie-renews ShutdownAckSent is = cookie-same (renewal_row ShutdownAckSent t m) refl refl
+  cookie-renews _ is = cookie-restarts
 
   -- both tags match: the association stands that this side has asked for
   cookie-repeats : (s : State) → m.state ≡ s → OfTicket (repeat_row s m)
@@ -175,6 +205,9 @@ module _ (t : Ticket) (m : Machine) where
     own = λ e. absurd (false≢true (ap is-new e));
     anew = λ e. absurd (false≢true (ap is-new e));
     mine = inl refl;
+    new = λ _. ap is_standing is;
+    restarted = λ e. e;
+    noted = λ e. absurd (false≢true (ap is-new e));
   }
   cookie-repeats _ is = cookie-same _ refl refl
 
@@ -183,27 +216,28 @@ module _ (t : Ticket) (m : Machine) where
   cookie-unless false s h = h
 
   cookie-row : (r : CookieRow) (stale : Bool) → OfTicket (cookie_step r t stale m)
-  cookie-row First stale = cookie-unless stale (renewal_row m.state t m) (cookie-renews m.state)
-  cookie-row Restart stale = cookie-unless stale (renewal_row m.state t m) (cookie-renews m.state)
-  cookie-row Collision stale = cookie-unless stale (renewal_row m.state t m) (cookie-renews m.state)
+  cookie-row First stale = cookie-unless stale (renewal_row m.state t m) (cookie-renews m.state refl)
+  cookie-row Restart stale = cookie-unless stale (renewal_row m.state t m) (cookie-renews m.state refl)
+  cookie-row Collision stale = cookie-unless stale (renewal_row m.state t m) (cookie-renews m.state refl)
   cookie-row Late stale = cookie-unless stale (dropped m) (cookie-same (dropped m) refl refl)
   cookie-row Repeat stale = cookie-repeats m.state refl
   cookie-row Unlisted stale = cookie-unless stale (dropped m) (cookie-same (dropped m) refl refl)
 
 module _ (d : List ℕ) (p : ChunkPlace) (own : IsChunkOf d p) (a b : Association) (n : Machine) (answer : Answer) where
   pub cookie_offered : p.typ ≡ 10 → (t : Ticket) → IsEchoed d a.key t → (stale : Bool) → Takes (on_cookie_echo t stale a.machine) n answer
-      → BeginsBy answer.told n a.config (halves_of a) (halves_of b) → IsLeft a n b → ArrivesAsOffered d a b
-  cookie_offered typ t echoed stale takes led left =
+      → (is_standing a.machine.state ≡ false → a.inbound ≡ None) → BeginsBy answer.told n a.config (halves_of a) (halves_of b) → IsLeft a n b
+      → ArrivesAsOffered d a b
+  cookie_offered typ t echoed stale takes free led left =
       let has : HasType d 10 = record { place = p; own = own; is = typ } in
       begun-so d a b (λ o. t.peer ≡ o) (λ mine. mine ≡ t.own) (λ o e. by_ticket t echoed e) (on_cookie_echo t stale a.machine)
       (cookie-row t a.machine (row_of t a.machine) stale) n answer takes left (λ o is. (t, echoed, sym is)) 10 has (inl refl)
       (λ told. (
         has,
-        λ mine is. record {
+        λ mine is noted. record {
           brought = by_type 10 has refl;
-          rule = record { ticket = t; echoed = echoed; is = ap (λ (o : Offer). renews_by o.first_tsn a.config) is };
+          rule = record { ticket = t; echoed = echoed; is = ap (λ (o : Offer). renews_by o.first_tsn a.config) is; restarted = noted };
         },
-      )) led
+      )) free led
 
   -- ## A COOKIE-ACK
 
@@ -215,6 +249,9 @@ module _ (d : List ℕ) (p : ChunkPlace) (own : IsChunkOf d p) (a b : Associatio
     own = λ e. absurd (false≢true (ap is-new e));
     anew = λ e. absurd (false≢true (ap is-new e));
     mine = inl refl;
+    new = λ _. ap is_standing is;
+    restarted = λ e. e;
+    noted = λ e. absurd (false≢true (ap is-new e));
   }
   ack-tells _ m is = record {
     asking = λ e. e;
@@ -223,15 +260,18 @@ module _ (d : List ℕ) (p : ChunkPlace) (own : IsChunkOf d p) (a b : Associatio
     own = λ e. absurd (none-some Restarted e);
     anew = λ e. absurd (none-some Restarted e);
     mine = inl refl;
+    new = λ e. absurd (none-some Connected e);
+    restarted = λ e. e;
+    noted = λ e. absurd (none-some Restarted e);
   }
 
-  pub ack_offered : p.typ ≡ 11 → Takes (on_cookie_ack a.machine) n answer → BeginsBy answer.told n a.config (halves_of a) (halves_of b)
-      → IsLeft a n b → ArrivesAsOffered d a b
-  ack_offered typ takes led left =
+  pub ack_offered : p.typ ≡ 11 → Takes (on_cookie_ack a.machine) n answer → (is_standing a.machine.state ≡ false → a.inbound ≡ None)
+      → BeginsBy answer.told n a.config (halves_of a) (halves_of b) → IsLeft a n b → ArrivesAsOffered d a b
+  ack_offered typ takes free led left =
       let has : HasType d 11 = record { place = p; own = own; is = typ } in
       let tells : Tells (λ o. ⊥) (λ mine. ⊥) a.machine (on_cookie_ack a.machine) = ack-tells a.machine.state a.machine refl in
       begun-so d a b (λ o. ⊥) (λ mine. ⊥) (λ o e. absurd e) (on_cookie_ack a.machine) tells n answer takes left (λ o never. absurd never) 11 has (inr refl)
-      (λ told. absurd (tells.own told)) led
+      (λ told. absurd (tells.own told)) free led
 
 -- ## An INIT ACK
 
@@ -241,6 +281,7 @@ record Hears (offer : Offer) (m : Machine) (s : Step) : Type 0 where
   peer : IsPeer (λ o. (is_asking m.state ≡ true) × (offer ≡ o)) m s.machine
   quiet : (n : Machine) (c : Config) (x y : Halves) → BeginsBy s.answer.told n c x y → y ≡ x
   own : s.machine.own ≡ m.own
+  restarted : s.machine.has_restarted ≡ m.has_restarted
 
 init-ack-checked : (f : Option OfferFault) (offer : Offer) (m : Machine) → m.state ≡ CookieWait → Hears offer m (init_ack_checked f offer m)
 init-ack-checked None offer m is = record {
@@ -248,18 +289,20 @@ init-ack-checked None offer m is = record {
   peer = λ o e. inr (ap is_asking is, same_Some offer o e);
   quiet = λ n c x y b. b;
   own = refl;
+  restarted = refl;
 }
-init-ack-checked (Some SmallWindow) offer m is = record { asking = λ e. e; peer = λ o e. inl e; quiet = λ n c x y b. b; own = refl }
+init-ack-checked (Some SmallWindow) offer m is = record { asking = λ e. e; peer = λ o e. inl e; quiet = λ n c x y b. b; own = refl; restarted = refl }
 init-ack-checked (Some _) offer m is = record {
   asking = λ e. absurd (false≢true e);
   peer = λ o e. absurd (none-some o e);
   quiet = λ n c x y b. b;
   own = refl;
+  restarted = refl;
 }
 
 init-ack-hears : (s : State) (offer : Offer) (m : Machine) → m.state ≡ s → Hears offer m (init_ack_row s offer m)
 init-ack-hears CookieWait offer m is = init-ack-checked (offer_fault offer) offer m is
-init-ack-hears _ offer m is = record { asking = λ e. e; peer = λ o e. inl e; quiet = λ n c x y b. b; own = refl }
+init-ack-hears _ offer m is = record { asking = λ e. e; peer = λ o e. inl e; quiet = λ n c x y b. b; own = refl; restarted = refl }
 
 module _ (d : List ℕ) (a b : Association) (n : Machine) (answer : Answer) (offer : Offer) where
   pub init_ack_offered : AnswersInit d offer → Takes (on_init_ack offer a.machine) n answer → BeginsBy answer.told n a.config (halves_of a) (halves_of b)
@@ -269,7 +312,8 @@ module _ (d : List ℕ) (a b : Association) (n : Machine) (answer : Answer) (off
       let is : b.machine ≡ (on_init_ack offer a.machine).machine = left.machine ∙ takes.machine in
       let told = subst (λ (o : Option Told). BeginsBy o n a.config (halves_of a) (halves_of b)) (ap (λ (k : Answer). k.told) takes.answer) begun in
       record {
-        arrives = follows_same (IsBroughtAs (IsBegunBy d a) d) Does (halves_of a) (halves_of b) (h.quiet n a.config (halves_of a) (halves_of b) told);
+        arrives = follows_same (IsBroughtAs (IsBegunBy d a b) d) Does (halves_of a) (halves_of b) (h.quiet n a.config (halves_of a) (halves_of b) told);
+        restarted = λ e. ap (λ (j : Machine). j.has_restarted) is ∙ h.restarted ∙ e;
         config = left.config;
         key = left.key;
         own = inl (ap (λ (j : Machine). j.own) is ∙ h.own);
@@ -283,35 +327,44 @@ module _ (d : List ℕ) (a b : Association) (n : Machine) (answer : Answer) (off
 
 -- ## An INIT
 
--- the offer in the ticket of a reply
-abbrev offer-in : Option Reply → Option Offer
-offer-in (Some (InitAck t)) = Some t.peer
-offer-in _ = None
+-- the ticket of a reply
+abbrev ticket-in : Option Reply → Option Ticket
+ticket-in (Some (InitAck t)) = Some t
+ticket-in _ = None
 
--- is that of the INIT, where it answers by an INIT ACK
-abbrev IsOfInit : Offer → Option Reply → Type 0
-IsOfInit peer o = (offer-in o ≡ Some peer) ⊎ (offer-in o ≡ None)
+-- it has the offer of the peer, and the first TSN of the machine
+record IsOfInit (peer : Offer) (m : Machine) (t : Ticket) : Type 0 where
+  offer : t.peer ≡ peer
+  tsn : t.own.first_tsn ≡ m.own.first_tsn
 
-row-offer : (s : State) (peer : Offer) (fresh : Fresh) (m : Machine) → IsOfInit peer (init_row s peer fresh m)
-row-offer ShutdownAckSent peer fresh m = inr refl
-row-offer _ peer fresh m = inl refl
+abbrev IsReplyTo : Offer → Machine → Option Reply → Type 0
+IsReplyTo peer m o = ((t : Ticket) × (ticket-in o ≡ Some t) × IsOfInit peer m t) ⊎ (ticket-in o ≡ None)
 
-checked-offer : (f : Option OfferFault) (peer : Offer) (fresh : Fresh) (m : Machine) → IsOfInit peer (init_checked f peer fresh m)
-checked-offer None peer fresh m = row-offer m.state peer fresh m
-checked-offer (Some NoTag) peer fresh m = inr refl
-checked-offer (Some _) peer fresh m = inr refl
+row-offer : (s : State) (peer : Offer) (tag : ℕ) (m : Machine) → IsReplyTo peer m (init_row s peer tag m)
+row-offer ShutdownAckSent peer tag m = inr refl
+row-offer _ peer tag m = inl (_, refl, record { offer = refl; tsn = refl })
 
-answers-offer : (peer : Offer) (fresh : Fresh) (m : Machine) (t : Ticket) → Some (InitAck t) ≡ init_reply peer fresh m → t.peer ≡ peer
-answers-offer peer fresh m t e = elim (checked-offer (offer_fault peer) peer fresh m) [
-  | inl is ↦ same_Some t.peer peer (ap offer-in e ∙ is)
-  | inr none ↦ absurd (none-some t.peer (sym none ∙ sym (ap offer-in e)))
+checked-offer : (f : Option OfferFault) (peer : Offer) (tag : ℕ) (m : Machine) → IsReplyTo peer m (init_checked f peer tag m)
+checked-offer None peer tag m = row-offer m.state peer tag m
+checked-offer (Some NoTag) peer tag m = inr refl
+checked-offer (Some _) peer tag m = inr refl
+
+answers-offer : (peer : Offer) (tag : ℕ) (m : Machine) (t : Ticket) → Some (InitAck t) ≡ init_reply peer tag m → IsOfInit peer m t
+answers-offer peer tag m t e = elim (checked-offer (offer_fault peer) peer tag m) [
+  | inl found ↦ subst (IsOfInit peer m) (sym (same_Some t found.0 (ap ticket-in e ∙ found.1))) found.2
+  | inr none ↦ absurd (none-some t (sym none ∙ sym (ap ticket-in e)))
 ]
 
-module _ (d : List ℕ) (p : ChunkPlace) (own : IsChunkOf d p) (typ : p.typ ≡ 1) (said : Said) where
+module _ (d : List ℕ) (p : ChunkPlace) (own : IsChunkOf d p) (typ : p.typ ≡ 1) (said : Said) (a : Association) where
   -- a ticket that is due was due before, or answers the INIT
-  pub init_answered : init_in (value_at (drop p.at d)) ≡ Ok said → (fresh : Fresh) (m : Machine) (r : Reply) → Some r ≡ init_reply said.offer fresh m
-      → (Before : Type 0) (t : Ticket) → Before ⊎ (r ≡ InitAck t) → Before ⊎ OffersInit d t.peer
-  init_answered reads fresh m r e Before t (inl before) = inl before
-  init_answered reads fresh m r e Before t (inr is) =
-      let same : t.peer ≡ said.offer = answers-offer said.offer fresh m t (ap Some (sym is) ∙ e) in
-      inr (subst (OffersInit d) (sym same) (record { place = p; own = own; typ = typ; cookie = said.cookie; reads = reads }))
+  pub init_answered : init_in (value_at (drop p.at d)) ≡ Ok said → (tag : ℕ) (r : Reply) → Some r ≡ init_reply said.offer tag a.machine
+      → (Before : Type 0) (t : Ticket) → Before ⊎ (r ≡ InitAck t) → Before ⊎ IsOwedFor d a t
+  init_answered reads tag r e Before t (inl before) = inl before
+  init_answered reads tag r e Before t (inr is) =
+      let of = answers-offer said.offer tag a.machine t (ap Some (sym is) ∙ e) in
+      inr (record {
+        offered = record { place = p; own = own; typ = typ; cookie = said.cookie; reads = reads ∙ ap (λ (o : Offer). Ok (record said { offer = o })) (sym of.offer) };
+        own = a.machine.own;
+        is = inl refl;
+        tsn = of.tsn;
+      })

@@ -75,21 +75,28 @@ module _ (ones others : List Brought) where
 
 -- ## Each half begins by an offer
 
-module _ (d : List ℕ) (a : Association) where
-  brought-steps : (calls : List Arrival) (x y : Halves) → Steps (IsBroughtAs (IsBegunBy d a) d) Does calls x y → Steps (IsBrought d) Does calls x y
+module _ (d : List ℕ) (a b : Association) where
+  pub brought-steps : (calls : List Arrival) (x y : Halves) → Steps (IsBroughtAs (IsBegunBy d a b) d) Does calls x y → Steps (IsBrought d) Does calls x y
   brought-steps [] x y r = r
   brought-steps (c ∷ calls) x y r = (r.0, (record { asked = r.1.0.asked.brought; does = r.1.0.does }, brought-steps calls r.0 y r.1.1))
 
-  calls-begun : (calls : List Arrival) (x y : Halves) (r : Steps (IsBroughtAs (IsBegunBy d a) d) Does calls x y)
-      → AreByRule (λ call h. IsBegunBy d a call) d calls x y (brought-steps calls x y r)
+  calls-begun : (calls : List Arrival) (x y : Halves) (r : Steps (IsBroughtAs (IsBegunBy d a b) d) Does calls x y)
+      → AreByRule (λ call h. IsBegunBy d a b call) d calls x y (brought-steps calls x y r)
   unfolding brought-steps
   calls-begun [] x y r = tt
   calls-begun (c ∷ calls) x y r = (r.1.0.asked.rule, calls-begun calls r.0 y r.1.1)
+
+  -- by another rule
+  pub calls-by : (R : Arrival → Halves → Type 0) → ((c : Arrival) (x y : Halves) → IsBegunBy d a b c → Does c x y → R c x) → (calls : List Arrival)
+      (x y : Halves) (r : Steps (IsBroughtAs (IsBegunBy d a b) d) Does calls x y) → AreByRule R d calls x y (brought-steps calls x y r)
+  unfolding brought-steps
+  calls-by R to [] x y r = tt
+  calls-by R to (c ∷ calls) x y r = (to c x r.0 r.1.0.asked.rule r.1.0.does, calls-by R to calls r.0 y r.1.1)
 
 pub each-offered : EachOfferedIsBrought
 each-offered d a b o =
     let calls = o.arrives.calls in
     let run = o.arrives.run in (
-      record { calls = calls; run = brought-steps d a calls (halves_of a) (halves_of b) run },
-      calls-begun d a calls (halves_of a) (halves_of b) run,
+      record { calls = calls; run = brought-steps d a b calls (halves_of a) (halves_of b) run },
+      calls-begun d a b calls (halves_of a) (halves_of b) run,
     )

@@ -95,7 +95,7 @@ pub data Arrival : Type 0 where
   hears : Hearing → Arrival
   -- a receiver: the first TSN of the peer, the longest message, and the limits
   begins : ℕ → ℕ → Limits → Arrival
-  -- a sender: the first TSN, the size of a fragment, and the longest message
+  -- a sender, and no receiver: the first TSN, the size of a fragment, and the longest message
   renews : ℕ → ℕ → ℕ → Arrival
 
 -- where there is a receiver
@@ -106,16 +106,17 @@ ReceivesIn call _ _ = ⊥
 abbrev pub new_sender : ℕ → ℕ → ℕ → Transmission
 new_sender tsn size max = with_reported Keep (with_nothing tsn size max)
 
--- the other half stays as it is
+-- the other half stays as it is. A receiver begins only where there is none; where a sender begins anew, the receiver goes
 abbrev pub Does : Arrival → Halves → Halves → Type 0
 Does (receives call) old new =
     (new.sender ≡ old.sender) × ReceivesIn call old.receiver new.receiver
 Does (hears call) old new =
     (new.receiver ≡ old.receiver) × Hears call old.sender new.sender
 Does (begins tsn max limits) old new =
-    (new.sender ≡ old.sender) × (new.receiver ≡ Some (at_first tsn max (Some limits)))
+    (old.receiver ≡ None) × ((new.sender ≡ old.sender)
+    × (new.receiver ≡ Some (at_first tsn max (Some limits))))
 Does (renews tsn size max) old new =
-    (new.receiver ≡ old.receiver) × (new.sender ≡ new_sender tsn size max)
+    (new.receiver ≡ None) × (new.sender ≡ new_sender tsn size max)
 
 -- ## What asks for a call
 

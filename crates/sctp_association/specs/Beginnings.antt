@@ -65,7 +65,7 @@ pub record BeginsAnew (m : Machine) (c : Config) (old new : Halves) : Type 0 whe
 -- by what is told, and what the machine knows then
 abbrev pub BeginsBy : Option Told → Machine → Config → Halves → Halves → Type 0
 BeginsBy None m c old new = new ≡ old
-BeginsBy (Some told.Connected) m c old new = Begins m.peer c old new
+BeginsBy (Some told.Connected) m c old new = old.receiver ≡ None → Begins m.peer c old new
 BeginsBy (Some told.Restarted) m c old new = BeginsAnew m c old new
 BeginsBy (Some told.ShutdownBegun) m c old new = new ≡ old
 BeginsBy (Some told.Closed) m c old new = new ≡ old
@@ -83,6 +83,17 @@ is_asking ShutdownPending = false
 is_asking ShutdownSent = false
 is_asking ShutdownReceived = false
 is_asking ShutdownAckSent = false
+
+-- an association stands
+abbrev pub is_standing : State → Bool
+is_standing Closed = false
+is_standing CookieWait = false
+is_standing CookieEchoed = false
+is_standing Established = true
+is_standing ShutdownPending = true
+is_standing ShutdownSent = true
+is_standing ShutdownReceived = true
+is_standing ShutdownAckSent = true
 
 -- a COOKIE-ECHO of the datagram has a cookie that this side has sealed under the key, over this ticket
 pub record IsEchoed (datagram key : List ℕ) (ticket : Ticket) : Type 0 where
@@ -127,38 +138,52 @@ pub record BeginsByOffer (datagram : List ℕ) (a : Association) (call : Arrival
   pub offered : IsOffered datagram a peer
   pub is : call ≡ begins_by peer a.config
 
--- the sender begins with the first TSN that this side offers in a ticket that the datagram echoes, and by the config
-pub record RenewsByTicket (datagram : List ℕ) (a : Association) (call : Arrival) : Type 0 where
+-- the sender begins with the first TSN that this side offers in a ticket that the datagram echoes, and by the config; and the peer has begun again
+pub record RenewsByTicket (datagram : List ℕ) (old new : Association) (call : Arrival)
+    : Type 0 where
   pub ticket : Ticket
-  pub echoed : IsEchoed datagram a.key ticket
-  pub is : call ≡ renews_by ticket.own.first_tsn a.config
+  pub echoed : IsEchoed datagram old.key ticket
+  pub is : call ≡ renews_by ticket.own.first_tsn old.config
+  pub restarted : new.machine.has_restarted ≡ true
 
 -- a call of a half that is there, or a half begins so
-abbrev pub IsBegunBy : List ℕ → Association → Arrival → Type 0
-IsBegunBy datagram a (receives call) = ⊤
-IsBegunBy datagram a (hears call) = ⊤
-IsBegunBy datagram a (begins tsn max limits) =
-    BeginsByOffer datagram a (begins tsn max limits)
-IsBegunBy datagram a (renews tsn size max) = RenewsByTicket datagram a (renews tsn size max)
+abbrev pub IsBegunBy : List ℕ → (old new : Association) → Arrival → Type 0
+IsBegunBy datagram old new (receives call) = ⊤
+IsBegunBy datagram old new (hears call) = ⊤
+IsBegunBy datagram old new (begins tsn max limits) =
+    BeginsByOffer datagram old (begins tsn max limits)
+IsBegunBy datagram old new (renews tsn size max) =
+    RenewsByTicket datagram old new (renews tsn size max)
 
 -- the offer of this side in a ticket that the datagram echoes
 abbrev pub IsOwnEchoed : (datagram key : List ℕ) → Offer → Type 0
 IsOwnEchoed datagram key offer = (ticket : Ticket) × IsEchoed datagram key ticket × (ticket.own ≡ offer)
 
+-- what this side offers, or what a ticket says that is echoed
+abbrev pub IsOwnOffer : (datagram : List ℕ) → Association → Offer → Type 0
+IsOwnOffer datagram a offer = (offer ≡ a.machine.own) ⊎ IsOwnEchoed datagram a.key offer
+
+-- the ticket has the offer of an INIT of the datagram, and the first TSN of this side
+pub record IsOwedFor (datagram : List ℕ) (a : Association) (ticket : Ticket) : Type 0 where
+  pub offered : OffersInit datagram ticket.peer
+  pub own : Offer
+  pub is : IsOwnOffer datagram a own
+  pub tsn : ticket.own.first_tsn ≡ own.first_tsn
+
 -- What the datagram brings, where each half that is new begins so. The peer is the one that was known, or one by whose offer the association may
 -- begin. This side asks no peer that it did not ask before, and offers what it offered, or what a ticket says that is echoed. An INIT ACK that is
--- due was due before, or its ticket has the offer of an INIT of the datagram.
+-- due was due before, or its ticket has the offer of an INIT of the datagram, and the first TSN of this side. That the peer has begun again stays noted.
 pub record ArrivesAsOffered (datagram : List ℕ) (old new : Association) : Type 0 where
-  pub arrives : ArrivesAs (IsBegunBy datagram old) datagram (halves_of old) (halves_of new)
+  pub arrives : ArrivesAs (IsBegunBy datagram old new) datagram (halves_of old) (halves_of new)
+  pub restarted : old.machine.has_restarted ≡ true → new.machine.has_restarted ≡ true
   pub config : new.config ≡ old.config
   pub key : new.key ≡ old.key
   pub asking : is_asking new.machine.state ≡ true → is_asking old.machine.state ≡ true
   pub peer : (offer : Offer) → new.machine.peer ≡ Some offer
       → (old.machine.peer ≡ Some offer) ⊎ IsOffered datagram old offer
-  pub own : (new.machine.own ≡ old.machine.own)
-      ⊎ IsOwnEchoed datagram old.key new.machine.own
+  pub own : IsOwnOffer datagram old new.machine.own
   pub owes : (ticket : Ticket) → OwesTicket new ticket
-      → OwesTicket old ticket ⊎ OffersInit datagram ticket.peer
+      → OwesTicket old ticket ⊎ IsOwedFor datagram old ticket
 
 -- ## What stays
 
@@ -167,6 +192,7 @@ pub record KnowsNoMore (old new : Machine) : Type 0 where
   pub asking : is_asking new.state ≡ true → is_asking old.state ≡ true
   pub peer : (offer : Offer) → new.peer ≡ Some offer → old.peer ≡ Some offer
   pub own : new.own ≡ old.own
+  pub restarted : new.has_restarted ≡ old.has_restarted
 
 -- the peer is the one that was known, or is forgotten
 pub record KeepsPeer (old new : Association) : Type 0 where

@@ -29,6 +29,7 @@ pub mod Runs
 pub mod Sending
 pub mod Served
 pub mod Sessions
+pub mod Setups
 pub mod Steps
 pub mod Still
 pub mod StreamSet

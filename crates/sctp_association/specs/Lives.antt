@@ -1,6 +1,6 @@
 -- The life of an association: by which datagrams it knows its peer (RFC 9260 5.1).
 use Rattle.std.specs.Prelude.{◌≡◌, ◌⊎◌, ⊤, ℕ, List, [], ◌∷◌, Contains, Option, Some, None}
-use Rattle.sctp_association.specs.Arrivals.{Arrival, ArrivesAs, begins, hears, receives, renews}
+use Rattle.sctp_association.specs.Arrivals.{Arrival, ArrivesAs, begins}
 use Rattle.sctp_association.specs.Beginnings.{AnswersInit, ArrivesAsOffered, BeginsToAsk, HasAsked, IsEchoed, IsKeptButMtu, IsMadeOf, KeepsPeer}
 use Rattle.sctp_association.specs.Beginnings.{OffersInit, begins_by}
 use Rattle.sctp_association.specs.Halves.{halves_of}

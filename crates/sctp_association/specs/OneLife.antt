@@ -316,5 +316,5 @@ abbrev pub EachOfferedIsBrought : Type 0
 EachOfferedIsBrought =
     (datagram : List ℕ) (a b : Association) → ArrivesAsOffered datagram a b
     → (came : Arrives datagram (halves_of a) (halves_of b))
-    × AreByRule (λ call found. IsBegunBy datagram a call) datagram came.calls
+    × AreByRule (λ call found. IsBegunBy datagram a b call) datagram came.calls
     (halves_of a) (halves_of b) came.run

@@ -1,17 +1,18 @@
 -- What a caller of two associations says of its calls: the moves that they are (`Hosts`), and what its logs have then (`HostCalls`).
-use Rattle.std.specs.Prelude.{◌≡◌, ℕ, ◌+◌, ◌^◌, ◌<◌, Bool, true, not, if◌then◌else◌, List, [], ◌∷◌, All, Contains, map, Option, Some}
+use Rattle.std.specs.Prelude.{◌≡◌, ℕ, zero, suc, ◌+◌, ◌^◌, ◌<◌, Bool, true, false, not, if◌then◌else◌, List, [], ◌∷◌, All, Contains, map, Option, Some}
 use Rattle.std.specs.List.{list_all}
 use Rattle.std.specs.Option.{option_map}
 use Rattle.std.proofs.Math.ListN.{replicate}
 use Rattle.sctp_association.specs.declared.association.Association.{Association}
 use Rattle.sctp_association.specs.declared.config.Config.{Config}
 use Rattle.sctp_association.specs.Asked.{calls_on}
-use Rattle.sctp_association.specs.Beginnings.{HasAsked, IsUnbegun}
+use Rattle.sctp_association.specs.Beginnings.{ArrivesAsOffered, HasAsked, IsUnbegun}
 use Rattle.sctp_association.specs.Halves.{fragment_size}
-use Rattle.sctp_association.specs.HostCalls.{Log, asked_of, host_of}
+use Rattle.sctp_association.specs.HostCalls.{Log, asked_of, host_of, sent_of}
 use Rattle.sctp_association.specs.Hosts.{Act, ArePlainMoves, Host, IsFit, Move, MovesTo, Way, asks, bytes_of, handles, hosts, one_acts, other_acts, polls}
 use Rattle.sctp_association.specs.Links.{AreInOrder, AreLinked, IsPlainLink, Party, host_at, party}
 use Rattle.sctp_association.specs.Reached.{limits_of}
+use Rattle.sctp_association.specs.Setups.{AreSetUp, BringsOwnCookies}
 use Rattle.sctp_data.specs.declared.chunk.chunk_payload_data.PayloadProtocolIdentifier.{PayloadProtocolIdentifier}
 use Rattle.sctp_delivery.specs.SenderCalls.{Write, writes, written_after}
 use Rattle.sctp_reassembly.specs.declared.reassembly_queue.chunks.Chunks.{Chunks}
@@ -30,15 +31,43 @@ way_between tsn from to = record {
   limits = limits_of to;
 }
 
--- the two are linked, no datagram has come that is not plain, and the numbers are fit
+-- the two are linked, and set up with each other; no datagram has come that is not plain, and the numbers are fit
 pub record BeginLinked (forth back : Way) (one other : Party) : Type 0 where
   pub link : AreLinked forth back one other
   pub plain : IsPlainLink forth back one other link
+  pub set : AreSetUp forth back one other
   pub fit : IsFit forth × IsFit back
 
 -- the first one has asked the peer for an association, and the second one was not begun: an INIT begins it
 abbrev pub FirstHasAsked : (one other : Association) → Type 0
 FirstHasAsked one other = HasAsked one × IsUnbegun other
+
+-- ## What stays set up
+
+-- where both were set up, they are set up after it, whatever the other is
+abbrev pub StaysSetUp : (old : Association) (before : Log) (new : Association) (after : Log) → Type 0
+StaysSetUp old before new after =
+    (forth back : Way) (other : Party) → AreSetUp forth back (party old before) other
+    → AreSetUp forth back (party new after) other
+
+-- the datagram comes so many times, each time as `handle_datagram` says
+abbrev pub ComesOffered : (datagram : List ℕ) (times : ℕ) (old new : Association) → Type 0
+ComesOffered datagram zero old new = new ≡ old
+ComesOffered datagram (suc n) old new =
+    (mid : Association) × ComesOffered datagram n old mid × ArrivesAsOffered datagram mid new
+
+-- where both were set up, they are set up after that, if the peer wrote the datagram, it has no forged cookie, and the peer has not begun again. It has
+-- no forged cookie then, too
+abbrev pub KeepsSetUp : (datagram : List ℕ) (old new : Association) → Type 0
+KeepsSetUp datagram old new =
+    (forth back : Way) (l : Log) (peer : Party) (set : AreSetUp forth back (party old l) peer)
+    → Contains peer.log.sent datagram → BringsOwnCookies set.life datagram
+    → new.machine.has_restarted ≡ false
+    → (next : AreSetUp forth back (party new l) peer) × BringsOwnCookies next.life datagram
+
+abbrev pub ComesSetUp : (datagram : List ℕ) (times : ℕ) (old new : Association) → Type 0
+ComesSetUp datagram times old new =
+    ComesOffered datagram times old new × KeepsSetUp datagram old new
 
 -- ## Calls of one
 
@@ -73,6 +102,12 @@ abbrev pub passes : Bool → ℕ → List ℕ → List Move
 passes is_sent times datagram =
     one_acts (polls is_sent datagram)
     ∷ (if is_sent then comes times datagram else [])
+
+-- so both stay set up: the one that wrote it, and after it came so many times the other
+abbrev pub PassesSetUp : Bool → ℕ → (one other next_one next_other : Association) → Type 0
+PassesSetUp is_sent times one other next_one next_other =
+    ((l : Log) → StaysSetUp one l next_one (sent_of is_sent next_one l))
+    × (is_sent ≡ true → ComesSetUp next_one.draft.bytes times other next_other)
 
 -- such moves led from there to here
 pub record Led (one other next_one next_other : Party) : Type 0 where

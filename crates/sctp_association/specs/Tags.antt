@@ -1,5 +1,5 @@
 -- Whose packet it is (RFC 9260 8.5, 8.5.1).
-use Rattle.std.specs.Prelude.{◌≡◌, ◌⊎◌, ℕ, ◌==◌, ◌&&◌, ◌||◌, bit_and, not, Bool, true, false, if◌then◌else◌, List, [], ◌∷◌, length, drop, Option, Some, None}
+use Rattle.std.specs.Prelude.{◌≡◌, ℕ, ◌==◌, ◌&&◌, ◌||◌, bit_and, not, Bool, true, false, if◌then◌else◌, List, [], ◌∷◌, length, drop, Option, Some, None}
 use Rattle.sctp_association.specs.Cookies.{cookie_in, IsAlive, IsSealed}
 use Rattle.sctp_chunks.specs.Framing.{type_at}
 use Rattle.sctp_util.specs.Field.{u32_at}
@@ -71,6 +71,6 @@ pub record BeginsByCookie (datagram : List ℕ) (key : List ℕ) (now life : ℕ
 abbrev pub EndsWithFirst : List ℕ → Type 0
 EndsWithFirst datagram = drop (behind datagram 12) datagram ≡ []
 
--- an INIT, an INIT ACK or a COOKIE-ECHO
-abbrev pub BeginsAny : ℕ → Type 0
-BeginsAny typ = (typ ≡ 1) ⊎ (typ ≡ 2) ⊎ (typ ≡ 10)
+-- where memory is wanting, a chunk of this type has changed nothing. DATA and FORWARD-TSN may have opened streams, and a RE-CONFIG may have reset some
+abbrev pub is_all_or_nothing : ℕ → Bool
+is_all_or_nothing typ = not ((typ == 0) || (typ == 130) || (typ == 192))

@@ -204,6 +204,14 @@ impl Association {
         self.machine.state()
     }
 
+    /// Whether the peer has begun again since the association stood first (RFC 9260 5.2.4 A): `Event::Restarted` was told, and what was under
+    /// way is gone.
+    pub fn has_restarted(&self) -> bool
+        ensures { result ≡ self.now.machine.has_restarted }
+    {
+        self.machine.has_restarted()
+    }
+
     /// The next event, if there is one: it waited, and is told once.
     pub fn poll(&mut self) -> Option<Event>
         ensures told { IfSome result (IsTold self.old.events self.new.events) }

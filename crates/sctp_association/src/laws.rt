@@ -8,6 +8,7 @@ ghost use Rattle.sctp_association.specs.Links.{EachLinkDelivers, EachLinkGoesOn,
 ghost use Rattle.sctp_association.specs.Lives.{EachBeginningCame, EachDeedIsKnown, EachLifeBegins, EachOfferIsRead, EachUnforgedCame};
 ghost use Rattle.sctp_association.specs.OneLife.{EachDatagramBrings, EachDeliversAny, EachLinkDeliversAny, EachOneLifeBegins, EachOneLifeGoesOn, EachOneLifeTurns, EachOfferedIsBrought, EachPlainIsOneLife};
 ghost use Rattle.sctp_association.specs.Sessions.{EachIsSent};
+ghost use Rattle.sctp_association.specs.Setups.{EachDatagramKeeps, EachQuietCallKeeps, EachSetUpDelivers, EachSetUpTurns, EachTwoAreSetUp, EachWrittenKeeps};
 
 /// Whatever a peer sends, and whatever calls an association had, what it holds of the peer's messages is within its `Config`. By 400 a
 /// chunk, the chunks count for no more than `window` and one chunk for each TSN within `reach`; with their bytes, for no more than
@@ -95,4 +96,16 @@ pub fn each_receiver_begins_by_what_came()
     ensures came { EachBeginningCame }
     ensures unforged { EachUnforgedCame }
     ensures read { EachOfferIsRead }
+{}
+
+/// Two associations, from `new` on, whatever calls they have and whichever datagrams of the peer come: each receiver begins once, with the
+/// peer's first TSN, while no cookie is forged and no datagram brings a restart of the peer (RFC 9260 5.2.4 A). So
+/// `whatever_is_reset_what_is_read_was_written` holds of them.
+pub fn two_associations_begin_once()
+    ensures begun { EachTwoAreSetUp }
+    ensures quiet { EachQuietCallKeeps }
+    ensures written { EachWrittenKeeps }
+    ensures handled { EachDatagramKeeps }
+    ensures turned { EachSetUpTurns }
+    ensures delivered { EachSetUpDelivers }
 {}

@@ -11,18 +11,20 @@ ghost use Rattle.sctp_association.specs.Hosts.{MovesTo, hosts};
 ghost use Rattle.sctp_association.specs.Links.{party};
 ghost use Rattle.sctp_association.specs.declared.fault.Fault.TheVariants.{BadConfig};
 ghost use Rattle.sctp_delivery.specs.SenderCalls.{writes, written_after};
-ghost use Rattle.sctp_association.specs.Pairs.{BeginLinked, Comes, Delivers, DeliversOne, Exchanges, FirstHasAsked, Transfers, acts_of_write, answer_of, passes, way_between, write_of};
+ghost use Rattle.sctp_association.specs.Pairs.{BeginLinked, Comes, ComesSetUp, Delivers, DeliversOne, Exchanges, FirstHasAsked, PassesSetUp, StaysSetUp, Transfers, acts_of_write, answer_of, passes, way_between, write_of};
 
 use crate::association::Association;
 use crate::config::{Config, Secrets};
 use crate::fault::Fault;
-use crate::laws::{each_call_is_what_a_host_does, two_associations_go_on};
+use crate::laws::{
+    each_call_is_what_a_host_does, two_associations_begin_once, two_associations_go_on,
+};
 use bytes::Bytes;
 use sctp_data::chunk::chunk_payload_data::PayloadProtocolIdentifier;
 use sctp_reassembly::Chunks;
 use std::alloc::Global;
 
-/// Answers two new associations, by their configs and secrets. They are linked. The first one has asked for the association at `now`, in
+/// Answers two new associations, by their configs and secrets. They are linked, and set up with each other. The first one has asked for the association at `now`, in
 /// nanoseconds: its INIT is due. The second one waits for that. Refuses with `BadConfig`, where a tag is 0 or a config is out of range.
 pub fn begin(
     alloc: Global,
@@ -41,6 +43,7 @@ pub fn begin(
 {
     each_call_is_what_a_host_does();
     two_associations_go_on();
+    two_associations_begin_once();
     let mut one = Association::new(alloc, config, secrets)?;
     one.connect(now)?;
     match Association::new(alloc, peer_config, peer_secrets) {
@@ -63,19 +66,24 @@ pub fn send(
     ensures acts { OnOk result ((l : Log) → Leads one.old l
         (acts_of_write stream ppi bytes.now one.old)
         one.new (write_of stream ppi bytes.now one.old l)) }
+    ensures set_up { OnOk result ((l : Log)
+        → StaysSetUp one.old l one.new (write_of stream ppi bytes.now one.old l)) }
     ensures err { OnErr result (one.new ≡ one.old) }
 {
     each_call_is_what_a_host_does();
+    two_associations_begin_once();
     one.write(stream, ppi, bytes)
 }
 
 /// Answers the next message of a stream, as `Association::read` does at `now`, in nanoseconds: None, where no complete message is there. It is
 /// never refused.
 pub fn take(one: &mut Association, stream: u16, now: u64) -> Option<Chunks>
-    ensures { (l : Log) → Leads one.old l (acts_of_read stream one.old.inbound)
+    ensures acts { (l : Log) → Leads one.old l (acts_of_read stream one.old.inbound)
         one.new (answer_of stream result l) }
+    ensures set_up { (l : Log) → StaysSetUp one.old l one.new (answer_of stream result l) }
 {
     each_call_is_what_a_host_does();
+    two_associations_begin_once();
     match one.read(stream, now) {
         Ok(message) => message,
         // It is never refused.
@@ -92,9 +100,12 @@ pub fn hand_over(
     now: u64,
 ) -> Result<(), Fault>
     ensures ok { OnOk result (Comes datagram.now times other.old other.new) }
+    // Both stay set up with each other, where the datagram has no forged cookie and brings no restart.
+    ensures set_up { OnOk result (ComesSetUp datagram.now times other.old other.new) }
     ensures err { OnErr result ((count : ℕ) × Comes datagram.now count other.old other.new) }
 {
     each_call_is_what_a_host_does();
+    two_associations_begin_once();
     for _time in 0..times {
         other.handle_datagram(datagram, now)?;
     }
@@ -114,10 +125,13 @@ pub fn pass(
         (hosts (host_of one.old l) (host_of other.old m))
         (passes is_sent times one.new.draft.bytes)
         (hosts (host_of one.new (sent_of is_sent one.new l)) (host_of other.new m))) }
+    ensures set_up { IfOk result (λ is_sent.
+        PassesSetUp is_sent times one.old other.old one.new other.new) }
     ensures err { OnErr result ((l m : Log)
         → Exchanges one.old other.old one.new other.new l m) }
 {
     each_call_is_what_a_host_does();
+    two_associations_begin_once();
     if !one.poll_transmit(now)? {
         return Ok(false);
     }

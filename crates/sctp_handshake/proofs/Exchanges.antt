@@ -4,7 +4,6 @@ use Rattle.std.specs.Prelude.{Option, Some, None}
 use Rattle.sctp_handshake.specs.declared.answer.AbortCause.TheVariants.{InvalidMandatoryParameter, UserInitiatedAbort}
 use Rattle.sctp_handshake.specs.declared.answer.Reply.TheVariants as reply
 use Rattle.sctp_handshake.specs.declared.answer.Told.TheVariants as told
-use Rattle.sctp_handshake.specs.declared.machine.Fresh.{Fresh}
 use Rattle.sctp_handshake.specs.declared.machine.Machine.{Machine}
 use Rattle.sctp_handshake.specs.declared.offer.Offer.{Offer}
 use Rattle.sctp_handshake.specs.declared.state.State.{State}
@@ -45,19 +44,20 @@ a = endpoint 11 100
 abbrev z : Machine
 z = endpoint 22 200
 
-abbrev fresh : Fresh
-fresh = record { tag = 33; first_tsn = 300 }
+-- the tag that is drawn for an INIT which comes
+abbrev fresh : ℕ
+fresh = 33
 
 abbrev tie : ℕ → ℕ → Option TieTags
 tie own peer = Some (record { own = own; peer = peer })
 
 -- Z has no association yet, and answers the INIT of A
 abbrev ticket : Ticket
-ticket = record { own = fitted_offer 33 300; peer = offer 11 100; tie_tags = None }
+ticket = record { own = fitted_offer 33 200; peer = offer 11 100; tie_tags = None }
 
 -- ## 5.1.6: an example of normal establishment
 
-establishment_a : answers_to (connect ∷ init_ack (fitted_offer 33 300) ∷ cookie_ack ∷ []) a
+establishment_a : answers_to (connect ∷ init_ack (fitted_offer 33 200) ∷ cookie_ack ∷ []) a
     ≡ replied reply.Init ∷ replied reply.CookieEcho ∷ noticed told.Connected ∷ []
 establishment_a = refl
 
@@ -69,15 +69,15 @@ establishment_z = refl
 
 -- A and Z when the association stands
 abbrev a_up : Machine
-a_up = after (connect ∷ init_ack (fitted_offer 33 300) ∷ cookie_ack ∷ []) a
+a_up = after (connect ∷ init_ack (fitted_offer 33 200) ∷ cookie_ack ∷ []) a
 
 abbrev z_up : Machine
 z_up = after (cookie_echo ticket false ∷ []) z
 
-established_a : a_up ≡ record a { state = Established; peer = Some (fitted_offer 33 300) }
+established_a : a_up ≡ record a { state = Established; peer = Some (fitted_offer 33 200) }
 established_a = refl
 
-established_z : z_up ≡ record z { state = Established; own = fitted_offer 33 300; peer = Some (offer 11 100) }
+established_z : z_up ≡ record z { state = Established; own = fitted_offer 33 200; peer = Some (offer 11 100) }
 established_z = refl
 
 -- a COOKIE ACK that was lost: the COOKIE ECHO comes again, though it is old by now (5.2.4 D)
@@ -139,7 +139,7 @@ echoed_init = refl
 
 -- row A: Z began anew, with tag 44; the INIT ACK of A has a fresh tag, and the tags of the association as tie-tags
 abbrev restart_ticket : Ticket
-restart_ticket = record { own = fitted_offer 33 300; peer = offer 44 400; tie_tags = tie 11 22 }
+restart_ticket = record { own = fitted_offer 33 100; peer = offer 44 400; tie_tags = tie 11 22 }
 
 abbrev a_of_22 : Machine
 a_of_22 = after (init_ack (fitted_offer 22 200) ∷ cookie_ack ∷ []) a_waits
@@ -151,7 +151,7 @@ restart : answers_to (cookie_echo restart_ticket false ∷ []) a_of_22 ≡ both 
 restart = refl
 
 restarted : after (cookie_echo restart_ticket false ∷ []) a_of_22
-    ≡ record a { state = Established; own = fitted_offer 33 300; peer = Some (offer 44 400) }
+    ≡ record a { state = Established; own = fitted_offer 33 100; peer = Some (offer 44 400); has_restarted = true }
 restarted = refl
 
 -- row A with a stale cookie
@@ -176,7 +176,7 @@ late : answers_to (cookie_echo (record ticket_a { own = offer 10 90 }) false ∷
     ≡ silent ∷ []
 late = refl
 
--- an old cookie of the peer whose INIT was answered before, with another fresh tag
+-- an old cookie of the peer whose INIT was answered before, with another tag
 old_cookie : answers_to (cookie_echo (record ticket { own = offer 32 290; peer = offer 10 90 }) false ∷ []) z_up ≡ silent ∷ []
 old_cookie = refl
 

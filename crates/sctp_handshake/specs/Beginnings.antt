@@ -1,10 +1,9 @@
 -- How an association begins: INIT and INIT ACK (RFC 9260 5.1, 5.2).
-use Rattle.std.specs.Prelude.{min, Option, Some, None}
+use Rattle.std.specs.Prelude.{ℕ, min, Option, Some, None}
 use Rattle.sctp_handshake.specs.declared.answer.AbortCause.TheVariants.{InvalidMandatoryParameter}
 use Rattle.sctp_handshake.specs.declared.answer.Reply.{Reply}
 use Rattle.sctp_handshake.specs.declared.answer.Reply.TheVariants as reply
 use Rattle.sctp_handshake.specs.declared.answer.Told.TheVariants as told
-use Rattle.sctp_handshake.specs.declared.machine.Fresh.{Fresh}
 use Rattle.sctp_handshake.specs.declared.machine.Machine.{Machine}
 use Rattle.sctp_handshake.specs.declared.offer.Offer.{Offer}
 use Rattle.sctp_handshake.specs.declared.offer.OfferFault.{OfferFault}
@@ -24,9 +23,9 @@ on_connect m = record { machine = into CookieWait m; answer = replied reply.Init
 
 -- ## `init`: it never changes anything
 
--- the offer with a new tag and a new first TSN
-abbrev pub renewed : Fresh → Offer → Offer
-renewed fresh own = record own { tag = fresh.tag; first_tsn = fresh.first_tsn }
+-- the offer with a new tag: all else is copied (RFC 9260 5.2.2)
+abbrev pub renewed : ℕ → Offer → Offer
+renewed tag own = record own { tag = tag }
 
 -- the offer to one who takes fewer streams (RFC 9260 3.3.3: not more than the MIS of the INIT)
 abbrev pub fitted : Offer → Offer → Offer
@@ -38,26 +37,26 @@ init_ack_of own peer tie_tags =
     Some (reply.InitAck (record { own = fitted peer own; peer = peer; tie_tags = tie_tags }))
 
 -- Where an association stands, its tags tie the new one to it (RFC 9260 5.2.2); one that is being set up keeps its tag (5.2.1).
-abbrev pub init_row : State → Offer → Fresh → Machine → Option Reply
-init_row Closed peer fresh m = init_ack_of (renewed fresh m.own) peer None
-init_row CookieWait peer fresh m = init_ack_of m.own peer None
-init_row CookieEchoed peer fresh m = init_ack_of m.own peer (tie_tags_of m)
-init_row Established peer fresh m = init_ack_of (renewed fresh m.own) peer (tie_tags_of m)
-init_row ShutdownPending peer fresh m = init_ack_of (renewed fresh m.own) peer (tie_tags_of m)
-init_row ShutdownSent peer fresh m = init_ack_of (renewed fresh m.own) peer (tie_tags_of m)
-init_row ShutdownReceived peer fresh m = init_ack_of (renewed fresh m.own) peer (tie_tags_of m)
+abbrev pub init_row : State → Offer → ℕ → Machine → Option Reply
+init_row Closed peer tag m = init_ack_of (renewed tag m.own) peer None
+init_row CookieWait peer tag m = init_ack_of m.own peer None
+init_row CookieEchoed peer tag m = init_ack_of m.own peer (tie_tags_of m)
+init_row Established peer tag m = init_ack_of (renewed tag m.own) peer (tie_tags_of m)
+init_row ShutdownPending peer tag m = init_ack_of (renewed tag m.own) peer (tie_tags_of m)
+init_row ShutdownSent peer tag m = init_ack_of (renewed tag m.own) peer (tie_tags_of m)
+init_row ShutdownReceived peer tag m = init_ack_of (renewed tag m.own) peer (tie_tags_of m)
 -- (RFC 9260 9.2)
-init_row ShutdownAckSent peer fresh m = Some reply.ShutdownAck
+init_row ShutdownAckSent peer tag m = Some reply.ShutdownAck
 
 -- an offer without a tag is dropped, another that can't stand is answered by an ABORT (RFC 9260 3.3.2)
-abbrev pub init_checked : Option OfferFault → Offer → Fresh → Machine → Option Reply
-init_checked None peer fresh m = init_row m.state peer fresh m
-init_checked (Some NoTag) peer fresh m = None
-init_checked (Some NoStreams) peer fresh m = Some (reply.Abort InvalidMandatoryParameter)
-init_checked (Some SmallWindow) peer fresh m = Some (reply.Abort InvalidMandatoryParameter)
+abbrev pub init_checked : Option OfferFault → Offer → ℕ → Machine → Option Reply
+init_checked None peer tag m = init_row m.state peer tag m
+init_checked (Some NoTag) peer tag m = None
+init_checked (Some NoStreams) peer tag m = Some (reply.Abort InvalidMandatoryParameter)
+init_checked (Some SmallWindow) peer tag m = Some (reply.Abort InvalidMandatoryParameter)
 
-abbrev pub init_reply : Offer → Fresh → Machine → Option Reply
-init_reply peer fresh m = init_checked (offer_fault peer) peer fresh m
+abbrev pub init_reply : Offer → ℕ → Machine → Option Reply
+init_reply peer tag m = init_checked (offer_fault peer) peer tag m
 
 -- ## `init_ack` (RFC 9260 5.1 C)
 

@@ -1,7 +1,6 @@
 -- How an association stands: COOKIE ECHO and COOKIE ACK (RFC 9260 5.1 D and E, 5.2.4 to 5.2.6).
 use Rattle.std.specs.Prelude.{ℕ, ◌+◌, Bool, true, false, ◌&&◌, ◌==◌, nat_lt, is_none, if◌then◌else◌, Option, Some, None}
 use Rattle.sctp_handshake.specs.declared.answer.Reply.TheVariants as reply
-use Rattle.sctp_handshake.specs.declared.answer.Told.{Told}
 use Rattle.sctp_handshake.specs.declared.answer.Told.TheVariants as told
 use Rattle.sctp_handshake.specs.declared.machine.cookies.CookieRow.{CookieRow}
 use Rattle.sctp_handshake.specs.declared.machine.cookies.CookieRow.TheVariants.{First, Restart, Collision, Late, Repeat, Unlisted}
@@ -55,22 +54,29 @@ established_by t m =
 abbrev pub established : Machine → Machine
 established m = record m { state = Established; attempts = 0; stale = 0 }
 
-abbrev pub begins : Told → Ticket → Machine → Step
-begins t ticket m = record {
+abbrev pub begins : Ticket → Machine → Step
+begins ticket m = record {
   machine = established_by ticket m;
-  answer = both reply.CookieAck t;
+  answer = both reply.CookieAck told.Connected;
+}
+
+-- it begins anew
+abbrev pub restarts : Ticket → Machine → Step
+restarts ticket m = record {
+  machine = record (established_by ticket m) { has_restarted = true };
+  answer = both reply.CookieAck told.Restarted;
 }
 
 -- The association begins, or begins anew. Rows A and B do the same: RFC 9260 has the state entered and the peer's tag taken, and dcSCTP and
 -- usrsctp take all of the ticket. In ShutdownAckSent it goes on ending, for row B too, as in usrsctp.
 abbrev pub renewal_row : State → Ticket → Machine → Step
-renewal_row Closed t m = begins told.Connected t m
-renewal_row CookieWait t m = begins told.Connected t m
-renewal_row CookieEchoed t m = begins told.Connected t m
-renewal_row Established t m = begins told.Restarted t m
-renewal_row ShutdownPending t m = begins told.Restarted t m
-renewal_row ShutdownSent t m = begins told.Restarted t m
-renewal_row ShutdownReceived t m = begins told.Restarted t m
+renewal_row Closed t m = begins t m
+renewal_row CookieWait t m = begins t m
+renewal_row CookieEchoed t m = begins t m
+renewal_row Established t m = restarts t m
+renewal_row ShutdownPending t m = restarts t m
+renewal_row ShutdownSent t m = restarts t m
+renewal_row ShutdownReceived t m = restarts t m
 renewal_row ShutdownAckSent t m = answered reply.CookieWhileShuttingDown m
 
 -- row D: the own association stands now, or the COOKIE ACK was lost

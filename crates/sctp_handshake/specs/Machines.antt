@@ -14,8 +14,15 @@ use Rattle.sctp_handshake.specs.declared.ticket.TieTags.{TieTags}
 use Rattle.sctp_handshake.specs.Answers.{silent, replied, noticed}
 
 abbrev pub new_machine : Offer → Limits → Machine
-new_machine own limits =
-    record { state = Closed; own = own; peer = None; limits = limits; attempts = 0; stale = 0 }
+new_machine own limits = record {
+  state = Closed;
+  own = own;
+  peer = None;
+  limits = limits;
+  attempts = 0;
+  stale = 0;
+  has_restarted = false;
+}
 
 -- the peer is known from the INIT ACK on (RFC 9260 5.1 C)
 abbrev pub knows_peer : State → Bool

@@ -11,7 +11,7 @@ pub mod ticket;
 
 pub use answer::{AbortCause, Answer, Reply, Told};
 pub use init_value::{InitFault, Reported, Said};
-pub use machine::{Agreed, ConnectError, Fresh, Limits, Machine};
+pub use machine::{Agreed, ConnectError, Limits, Machine};
 pub use offer::{Offer, OfferFault};
 pub use state::{State, Timer};
 pub use ticket::{TICKET_LENGTH, Ticket, TicketFault, TieTags};

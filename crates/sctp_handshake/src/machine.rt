@@ -21,15 +21,6 @@ pub struct Limits {
     pub association_max_retrans: u32,
 }
 
-/// A verification tag and a first TSN that the caller drew for one INIT that came.
-#[derive(Clone, Copy, Debug, PartialEq, Eq)]
-pub struct Fresh {
-    /// The tag: not 0, and never used before (RFC 9260 5.3.1).
-    pub tag: u32,
-    /// The first TSN.
-    pub first_tsn: u32,
-}
-
 /// What both sides agreed on (RFC 9260 5.1.1; RFC 3758 3.3; RFC 6525 5). Whether a checksum of 0 may be sent is the peer's alone to say
 /// (RFC 9653 5.2).
 #[derive(Clone, Copy, Debug, PartialEq, Eq)]
@@ -57,6 +48,8 @@ pub struct Machine {
     attempts: u32,
     // How many cookies of this association were stale.
     stale: u32,
+    // Whether the peer has begun again.
+    has_restarted: bool,
 }
 
 impl Machine {
@@ -73,6 +66,7 @@ impl Machine {
             limits,
             attempts: 0,
             stale: 0,
+            has_restarted: false,
         }
     }
 
@@ -95,6 +89,13 @@ impl Machine {
         ensures { result ≡ self.now.peer }
     {
         self.peer
+    }
+
+    /// Whether the peer has begun again since the association stood first (RFC 9260 5.2.4 A): `Restarted` was told.
+    pub fn has_restarted(&self) -> bool
+        ensures { result ≡ self.now.has_restarted }
+    {
+        self.has_restarted
     }
 
     /// What both sides agreed on, where the peer's offer is known.

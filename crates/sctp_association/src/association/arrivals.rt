@@ -9,7 +9,7 @@ ghost use Rattle.sctp_association.specs.Cookies.{IsAlive, IsSealed, cookie_in};
 ghost use Rattle.sctp_association.specs.Halves.{HalvesAlike, halves_of};
 ghost use Rattle.sctp_association.specs.Reached.{most_user_data};
 ghost use Rattle.sctp_association.specs.Steps.{is_taken};
-ghost use Rattle.sctp_association.specs.Tags.{AdmitsFirst, BeginsAny, BeginsByCookie, EndsWithFirst, FirstIs, FirstIsAlive, IsFor, first_type, is_admitted};
+ghost use Rattle.sctp_association.specs.Tags.{AdmitsFirst, BeginsByCookie, EndsWithFirst, FirstIs, FirstIsAlive, IsFor, first_type, is_admitted, is_all_or_nothing};
 ghost use Rattle.sctp_association.specs.declared.association.Reason.{Reason};
 ghost use Rattle.sctp_association.specs.declared.association.Reason.TheVariants.{Tag};
 ghost use Rattle.sctp_association.specs.declared.association.Taken.TheVariants.{Accepted, Dropped};
@@ -116,8 +116,9 @@ impl Association {
         ensures first { self.old.machine.state ≡ Closed → (self.new.machine.state ≡ Closed → ⊥)
             → BeginsByDatagram datagram.now self.old.key self.old.config
             (halves_of self.old) (halves_of self.new) }
-        // Where memory is wanting, a datagram of one INIT, INIT ACK or COOKIE-ECHO and no other chunk has changed nothing.
-        ensures memory { EndsWithFirst datagram.now → BeginsAny (first_type datagram.now)
+        // Where memory is wanting, a datagram of one chunk has changed nothing, unless that is DATA, FORWARD-TSN or RE-CONFIG.
+        ensures memory { EndsWithFirst datagram.now
+            → is_all_or_nothing (first_type datagram.now) ≡ true
             → OnErr result (self.new ≡ self.old) }
     {
         let zero = if self.config.zero_checksum {
@@ -190,7 +191,7 @@ impl Association {
             → BeginsByDatagram datagram.now self.old.key self.old.config
             (halves_of self.old) (halves_of self.new) }
         ensures memory { (first : ChunkPlace) → chunks.entry.left ≡ first ∷ []
-            → BeginsAny first.typ → OnErr result (self.new ≡ self.old) }
+            → is_all_or_nothing first.typ ≡ true → OnErr result (self.new ≡ self.old) }
     {
         let mut chunks = chunks;
         let tag = chunks.header().verification_tag;
@@ -240,9 +241,7 @@ impl Association {
         ensures init_stops { chunk.typ ≡ 1 → result ≡ Ok step.Next → ⊥ }
         ensures cookie { chunk.typ ≡ 10 → IfOk result (λ s. is_taken s ≡ true
             → IsSealed self.old.key tag (cookie_in datagram.now chunk)) }
-        ensures init_err { chunk.typ ≡ 1 → OnErr result (self.new ≡ self.old) }
-        ensures ack_err { chunk.typ ≡ 2 → OnErr result (self.new ≡ self.old) }
-        ensures cookie_err { chunk.typ ≡ 10 → OnErr result (self.new ≡ self.old) }
+        ensures err { is_all_or_nothing chunk.typ ≡ true → OnErr result (self.new ≡ self.old) }
         ensures closed_next { self.old.machine.state ≡ Closed → result ≡ Ok step.Next
             → (chunk.typ ≡ 10) × IsAlive now self.old.config.cookie_life
             self.old.key tag (cookie_in datagram.now chunk) }
@@ -336,9 +335,7 @@ impl Association {
         ensures init_stops { chunk.typ ≡ 1 → result ≡ Ok step.Next → ⊥ }
         ensures cookie { chunk.typ ≡ 10 → IfOk result (λ s. is_taken s ≡ true
             → IsSealed self.old.key tag (cookie_in datagram.now chunk)) }
-        ensures init_err { chunk.typ ≡ 1 → OnErr result (self.new ≡ self.old) }
-        ensures ack_err { chunk.typ ≡ 2 → OnErr result (self.new ≡ self.old) }
-        ensures cookie_err { chunk.typ ≡ 10 → OnErr result (self.new ≡ self.old) }
+        ensures err { is_all_or_nothing chunk.typ ≡ true → OnErr result (self.new ≡ self.old) }
         ensures closed_next { self.old.machine.state ≡ Closed → result ≡ Ok step.Next
             → (chunk.typ ≡ 10) × IsAlive now self.old.config.cookie_life
             self.old.key tag (cookie_in datagram.now chunk) }
@@ -443,6 +440,7 @@ impl Association {
         ensures came { CallsArrive datagram.now (halves_of self.old) (halves_of self.new) }
         ensures peer { KeepsPeer self.old self.new }
         ensures refused { (r : Reason) → result ≡ Ok (step.Refused r) → self.new ≡ self.old }
+        ensures err { OnErr result (self.new ≡ self.old) }
     {
         if !self.machine.state().takes_sacks() {
             return Ok(Step::Refused(Reason::Unexpected));
@@ -489,6 +487,7 @@ impl Association {
         requires own { IsChunkOf datagram.now chunk }
         ensures came { ArrivesAsOffered datagram.now self.old self.new }
         ensures refused { (r : Reason) → result ≡ Ok (step.Refused r) → self.new ≡ self.old }
+        ensures err { OnErr result (self.new ≡ self.old) }
     {
         match chunk.typ {
             4 => self.take_heartbeat(datagram, chunk),
@@ -502,11 +501,7 @@ impl Association {
                 Ok(self.take_answer(before, answer, tag, now))
             }
             9 => Ok(self.take_error(datagram, chunk, now)),
-            11 => {
-                let before = self.machine.state();
-                let answer = self.machine.cookie_ack();
-                Ok(self.take_answer(before, answer, 0, now))
-            }
+            11 => Ok(self.take_cookie_ack(datagram, chunk, now)),
             14 => {
                 let before = self.machine.state();
                 let answer = self.machine.shutdown_complete();
@@ -525,7 +520,7 @@ impl Association {
     }
 
     // Follows what the machine answered a chunk; where that is nothing the chunk is not expected.
-    fn take_answer(&mut self, before: State, answer: Answer, tag: u32, now: u64) -> Step
+    pub(super) fn take_answer(&mut self, before: State, answer: Answer, tag: u32, now: u64) -> Step
         ensures refused { (r : Reason) → result ≡ step.Refused r
             → (answer ≡ silent) × (self.new ≡ self.old) }
         ensures kept { IsKept self.old self.new }
@@ -565,23 +560,26 @@ impl Association {
         ensures came { CallsArrive datagram.now (halves_of self.old) (halves_of self.new) }
         ensures peer { KeepsPeer self.old self.new }
         ensures refused { (r : Reason) → result ≡ Ok (step.Refused r) → self.new ≡ self.old }
+        ensures err { OnErr result (self.new ≡ self.old) }
     {
         let Some(shutdown) = self.read_chunk::<ChunkShutdown>(datagram, chunk)? else {
             return Ok(Step::Refused(Reason::NoPacket));
         };
         let before = self.machine.state();
-        let answer = self.machine.shutdown();
+        let mut machine = self.machine;
+        let answer = machine.shutdown();
         // Once shutdown is received, the peer's further SHUTDOWNs say nothing but what came (RFC 9260 9.2).
         let is_again = before == State::ShutdownReceived;
         if answer.reply.is_none() && answer.told.is_none() && !is_again {
             return Ok(Step::Refused(Reason::Unexpected));
         }
-        self.follow(before, answer, 0, now);
         let tsn = shutdown.cumulative_tsn_ack;
         // One that acknowledges what was not sent acknowledges nothing: peers are known to write a TSN of their own there.
         let _taken = self
             .outbound
             .take_shutdown(self.alloc, tsn, &mut self.events.low, now)?;
+        self.machine = machine;
+        self.follow(before, answer, 0, now);
         Ok(Step::Next)
     }
 
@@ -591,6 +589,7 @@ impl Association {
         ensures refused { (r : Reason) → result ≡ Ok (step.Refused r) → self.new ≡ self.old }
         ensures halves { HalvesAlike self.old self.new }
         ensures kept { IsKept self.old self.new }
+        ensures err { OnErr result (self.new ≡ self.old) }
     {
         // Who asks answers from COOKIE-ECHOED on, who is asked once the association stands (RFC 9260 8.3).
         if self.machine.peer().is_none() {
@@ -618,6 +617,7 @@ impl Association {
         ensures refused { (r : Reason) → result ≡ Ok (step.Refused r) → self.new ≡ self.old }
         ensures halves { HalvesAlike self.old self.new }
         ensures kept { IsKept self.old self.new }
+        ensures err { OnErr result (self.new ≡ self.old) }
     {
         let Some(ack) = self.read_chunk::<ChunkHeartbeatAck>(datagram, chunk)? else {
             return Ok(Step::Refused(Reason::NoPacket));

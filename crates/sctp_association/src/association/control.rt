@@ -13,7 +13,7 @@ use crate::event::Ending;
 use crate::inbound::{Inbound, InboundConfig};
 use crate::outbound::Outbound;
 use sctp_cookie::{HmacSha256, Mac};
-use sctp_handshake::{AbortCause, Answer, Fresh, Offer, Reply, State, Told};
+use sctp_handshake::{AbortCause, Answer, Offer, Reply, State, Told};
 use sctp_path::Heartbeat;
 use sctp_receiver::receiver::limits::Limits;
 use sctp_reset::{OwnRequests, PeerRequests};
@@ -24,13 +24,6 @@ fn code_of(cause: AbortCause) -> u16 {
         AbortCause::InvalidMandatoryParameter => 7,
         AbortCause::UserInitiatedAbort => 12,
     }
-}
-
-// Four bytes as a number.
-fn number_at(code: &[u8; 32], at: usize) -> u32
-    requires { at + 4 ≤ 32 }
-{
-    u32::from_be_bytes([code[at], code[at + 1], code[at + 2], code[at + 3]])
 }
 
 impl Association {
@@ -152,6 +145,7 @@ impl Association {
                 self.events.connected = true;
             }
             Told::Restarted => {
+                self.inbound = None;
                 let first_tsn = self.machine.own().first_tsn;
                 self.outbound = Outbound::new(self.alloc, outbound_config(&self.config, first_tsn));
                 self.requests = OwnRequests::new(self.alloc, first_tsn);
@@ -168,8 +162,9 @@ impl Association {
     // The association stands, by what both sides offered.
     fn begin(&mut self, now: u64)
         ensures kept { IsKept self.old self.new }
-        // The receiver has the first TSN of the peer's offer.
-        ensures begun { Begins self.old.machine.peer self.old.config
+        // Where there is no receiver, one begins, with the first TSN of the peer's offer.
+        ensures begun { (halves_of self.old).receiver ≡ None
+            → Begins self.old.machine.peer self.old.config
             (halves_of self.old) (halves_of self.new) }
     {
         let (Some(peer), Some(agreed)) = (self.machine.peer(), self.machine.agreed()) else {
@@ -246,22 +241,13 @@ impl Association {
         self.owe_farewell(peer.tag, kind);
     }
 
-    /// A tag and a first TSN for one INIT (RFC 9260 5.3.1): nobody without the key can guess them. While no association stands the first TSN
-    /// is the own one, since what was written already has it.
-    pub(super) fn fresh(&self, peer: Offer, now: u64) -> Fresh {
+    /// A tag for one INIT (RFC 9260 5.2.2, 5.3.1): nobody without the key can guess it.
+    pub(super) fn fresh_tag(&self, peer: Offer, now: u64) -> u32 {
         let mut message = [0u8; 16];
         message[..8].copy_from_slice(&now.to_be_bytes());
         message[8..12].copy_from_slice(&peer.tag.to_be_bytes());
         message[12..].copy_from_slice(&peer.first_tsn.to_be_bytes());
         let code = HmacSha256.code(&self.key, &message);
-        let first_tsn = if self.machine.state() == State::Closed {
-            self.machine.own().first_tsn
-        } else {
-            number_at(&code, 4)
-        };
-        Fresh {
-            tag: number_at(&code, 0).max(1),
-            first_tsn,
-        }
+        u32::from_be_bytes([code[0], code[1], code[2], code[3]]).max(1)
     }
 }

@@ -1,7 +1,7 @@
 //! INIT, INIT ACK and the cookie (RFC 9260 5).
 
-ghost use Rattle.std.specs.Prelude.{◌≡◌, ◌≢◌, ◌⊎◌, Ok, IfOk, OnErr, true};
-ghost use Rattle.sctp_association.specs.Beginnings.{ArrivesAsOffered, BeginsByTicket, KeepsPeer, OffersInit};
+ghost use Rattle.std.specs.Prelude.{◌≡◌, ◌≢◌, ◌⊎◌, Ok, IfOk, OnErr, None, true, false};
+ghost use Rattle.sctp_association.specs.Beginnings.{ArrivesAsOffered, BeginsByTicket, IsOwedFor, KeepsPeer, is_standing};
 ghost use Rattle.sctp_association.specs.Kept.{OwesNoMore, OwesTicket};
 ghost use Rattle.sctp_association.specs.Cookies.{IsAlive, IsSealed, cookie_in};
 ghost use Rattle.sctp_association.specs.Halves.{HalvesAlike, halves_of};
@@ -40,9 +40,9 @@ impl Association {
         ensures refused { (r : Reason) → result ≡ Ok (step.Refused r) → self.new ≡ self.old }
         ensures err { OnErr result (self.new ≡ self.old) }
         ensures due { self.new ≡ record self.old { due = self.new.due } }
-        // The ticket of an INIT ACK that is due has the offer of this INIT.
+        // The ticket of an INIT ACK that is due has the offer of this INIT, and the first TSN of this side.
         ensures owes { (ticket : Ticket) → OwesTicket self.new ticket
-            → OwesTicket self.old ticket ⊎ OffersInit datagram.now ticket.peer }
+            → OwesTicket self.old ticket ⊎ IsOwedFor datagram.now self.old ticket }
         ensures stops { result ≡ Ok step.Next → ⊥ }
     {
         let Ok(value) = init_value(bytes_of(datagram, chunk)) else {
@@ -51,8 +51,8 @@ impl Association {
         let Ok(said) = Said::read_init(value) else {
             return Ok(Step::Refused(Reason::NoPacket));
         };
-        let fresh = self.fresh(said.offer, now);
-        match self.machine.init(said.offer, fresh) {
+        let tag = self.fresh_tag(said.offer, now);
+        match self.machine.init(said.offer, tag) {
             Some(reply) => {
                 self.due.unknown_params = self.reported_in(value)?;
                 self.owe_answer(reply, said.offer.tag);
@@ -190,6 +190,9 @@ impl Association {
         if ticket.own.tag != tag {
             return Ok(Step::Refused(Reason::Tag));
         }
+        if !self.may_begin() {
+            return Ok(Step::Refused(Reason::Unexpected));
+        }
         let is_old = is_stale(moment, now, self.config.cookie_life);
         let before = self.machine.state();
         let answer = self.machine.cookie_echo(ticket, is_old);
@@ -200,6 +203,32 @@ impl Association {
         match answer.reply {
             Some(Reply::StaleCookie) => Ok(Step::Stop),
             _ => Ok(Step::Next),
+        }
+    }
+
+    /// Takes a COOKIE ACK (RFC 9260 5.1 E).
+    pub(super) fn take_cookie_ack(&mut self, datagram: &Bytes, chunk: ChunkPlace, now: u64) -> Step
+        requires own { IsChunkOf datagram.now chunk }
+        requires typ { chunk.typ ≡ 11 }
+        ensures came { ArrivesAsOffered datagram.now self.old self.new }
+        ensures refused { (r : Reason) → result ≡ step.Refused r → self.new ≡ self.old }
+    {
+        if !self.may_begin() {
+            return Step::Refused(Reason::Unexpected);
+        }
+        let before = self.machine.state();
+        let answer = self.machine.cookie_ack();
+        self.take_answer(before, answer, 0, now)
+    }
+
+    // Whether an association may begin: it begins once, so no receiver is there of one that does not stand any more.
+    fn may_begin(&self) -> bool
+        ensures { result ≡ true → is_standing self.now.machine.state ≡ false
+            → self.now.inbound ≡ None }
+    {
+        match self.machine.state() {
+            State::Closed | State::CookieWait | State::CookieEchoed => self.inbound.is_none(),
+            _ => true,
         }
     }
 }

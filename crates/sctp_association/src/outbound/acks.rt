@@ -81,7 +81,7 @@ impl Outbound {
         ensures back { self.new.came_back ≡ self.old.came_back }
         ensures counts { IsCountedAlike self.old self.new }
         ensures forged { result ≡ Ok Forged → self.new ≡ self.old }
-        ensures err { OnErr result (self.new ≡ self.old) }
+        ensures err { OnErr result ((self.new ≡ self.old) × (low.new ≡ low.old)) }
     {
         let sack = ChunkSelectiveAck {
             cumulative_tsn_ack: tsn,
@@ -117,7 +117,7 @@ impl Outbound {
             self.old.sender self.new.sender }
         ensures counts { IsCountedAlike self.old self.new }
         ensures forged { result ≡ Ok Forged → self.new ≡ self.old }
-        ensures err { OnErr result (self.new ≡ self.old) }
+        ensures err { OnErr result ((self.new ≡ self.old) × (low.new ≡ low.old)) }
     {
         let before = self.sender.acked_tsn();
         if sna32lt(sack.cumulative_tsn_ack, before) {

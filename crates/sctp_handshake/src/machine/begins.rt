@@ -4,7 +4,7 @@ ghost use Rattle.std.specs.Prelude.{◌≡◌, ◌↔◌, ◌≢◌, IfOk, OnErr
 ghost use Rattle.sctp_handshake.specs.declared.machine.begins.ConnectError.TheVariants as refusal;
 ghost use Rattle.sctp_handshake.specs.declared.state.State.TheVariants as state;
 
-use super::{Fresh, Machine};
+use super::Machine;
 use crate::answer::{AbortCause, Answer, Reply, Told};
 use crate::offer::{Offer, OfferFault};
 use crate::state::State;
@@ -38,10 +38,10 @@ impl Machine {
     }
 
     /// What an INIT is answered (RFC 9260 5.1 B, 5.2.1, 5.2.2, 9.2). It changes nothing in any state: all that the answer rests on is in
-    /// the ticket. `fresh` is for this INIT alone; so an old cookie never has the tag of an association that began with another one.
-    /// An ABORT has the tag of the INIT.
-    pub fn init(&self, peer: Offer, fresh: Fresh) -> Option<Reply>
-        ensures { result ≡ init_reply peer fresh self.now }
+    /// the ticket. `tag` is not 0, and drawn for this INIT alone; so an old cookie never has the tag of an association that began with
+    /// another one. What else this side offers stays, its first TSN too (5.2.2). An ABORT has the tag of the INIT.
+    pub fn init(&self, peer: Offer, tag: u32) -> Option<Reply>
+        ensures { result ≡ init_reply peer tag self.now }
     {
         match peer.fault() {
             Some(OfferFault::NoTag) => return None,
@@ -52,10 +52,7 @@ impl Machine {
         match self.state {
             State::ShutdownAckSent => return Some(Reply::ShutdownAck),
             State::CookieWait | State::CookieEchoed => {}
-            _ => {
-                own.tag = fresh.tag;
-                own.first_tsn = fresh.first_tsn;
-            }
+            _ => own.tag = tag,
         }
         own.outbound_streams = own.outbound_streams.min(peer.inbound_streams);
         let tie_tags = match self.state {

@@ -85,7 +85,10 @@ impl Machine {
         let told = match self.state {
             State::ShutdownAckSent => return Answer::replied(Reply::CookieWhileShuttingDown),
             State::Closed | State::CookieWait | State::CookieEchoed => Told::Connected,
-            _ => Told::Restarted,
+            _ => {
+                self.has_restarted = true;
+                Told::Restarted
+            }
         };
         self.establish();
         self.own = ticket.own;

@@ -1,7 +1,9 @@
 use Rattle.std.proofs.Common.{◌≡◌, ◌∙◌, [], refl, arith, rules}
 use Rattle.sctp_association.specs.HostCalls.{host_of, no_log}
 use Rattle.sctp_association.specs.Hosts.{first_host}
+use Rattle.sctp_association.specs.Beginnings.{BeginsToAsk, HasAsked}
 use Rattle.sctp_association.specs.Links.{party}
+use Rattle.sctp_association.specs.Lives.{asks}
 use Rattle.sctp_association.specs.Pairs.{way_between}
 use Rattle.sctp_association.proofs.pair.begin.Goals as goal
 
@@ -17,7 +19,13 @@ returns-in-Ok-clause-linked c =
     let same : host_of one no_log ≡ host_of new no_log = law.quiet new one no_log c.connect.ensures.halves [] in
     let second : host_of other no_log ≡ first_host back = law.begun back c.args.peer_config.mtu other refl c.in-Ok.ensures.halves in
     let linked = c.two_associations_go_on.ensures.begun forth back (party one no_log) (party other no_log) (same ∙ first) second in
-    record { link = linked.0; plain = linked.1; fit = ((search rules, omega arith), (search rules, omega arith)) }
+    let set = c.two_associations_begin_once.ensures in
+    let made = set.begun forth back (party new no_log) (party other no_log) c.args.config c.args.peer_config c.args.secrets.cookie_key
+    c.args.peer_secrets.cookie_key first second c.in_ok-one.ensures.made c.in-Ok.ensures.made (record { most = refl; limits = refl })
+    (record { most = refl; limits = refl }) in
+    let asked : BeginsToAsk new one × HasAsked one = (search rules, search rules) in
+    let next = set.quiet forth back asks [] (party new no_log) (party one no_log) (party other no_log) made refl asked tt same refl in
+    record { link = linked.0; plain = linked.1; set = next.next; fit = ((search rules, omega arith), (search rules, omega arith)) }
 
 pub invariant_of-one : goal.invariant_of-one
 invariant_of-one c = record { limited = c.connect.new.self.limited }

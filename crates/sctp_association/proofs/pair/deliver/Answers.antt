@@ -25,4 +25,4 @@ returns-in_err-exchange-clause-err c =
 pub returns-clause-ok : goal.returns-clause-ok
 returns-clause-ok c =
     delivered c.args.stream c.args.ppi c.args.bytes.now c.take.result (acts_of_read c.args.stream c.exchange.new.other.inbound) c.args.one.now c.send.new.one
-    c.exchange.new.one c.args.other.now c.exchange.new.other c.take.new.one c.in_ok-send.ensures.acts c.exchange.ensures c.take.ensures
+    c.exchange.new.one c.args.other.now c.exchange.new.other c.take.new.one c.in_ok-send.ensures.acts c.exchange.ensures c.take.ensures.acts

@@ -1,4 +1,4 @@
-use Rattle.std.proofs.Common.{ap, rules, ◌≡◌, ◌∙◌}
+use Rattle.std.proofs.Common.{ap, ◌∙◌}
 use Rattle.sctp_association.proofs.Known.{keeps_as, knows_abort_of, owes_none}
 use Rattle.sctp_association.specs.declared.association.Association.{Association}
 use Rattle.sctp_association.specs.Kept.{ticket_due}

@@ -1,9 +1,9 @@
-use Rattle.std.proofs.Common.{Ok, ap, inl, inr, refl, rules, sym, ◌≡◌, ◌∙◌}
+use Rattle.std.proofs.Common.{Ok, ap, refl, rules, sym, ◌≡◌, ◌∙◌}
 use Rattle.sctp_association.proofs.Arrived.{arrives_of, came_alike}
 use Rattle.sctp_association.proofs.First.{not_ok, on_err, one_first, unless_admitted}
 use Rattle.sctp_association.proofs.Firsts.{by_datagram}
 use Rattle.sctp_association.proofs.Offered.{offered_alike, offered_kept, offered_same, offered_then}
-use Rattle.sctp_association.specs.Tags.{AdmitsFirst}
+use Rattle.sctp_association.specs.Tags.{AdmitsFirst, is_all_or_nothing}
 use Rattle.sctp_association.specs.declared.association.arrivals.Step.TheVariants as step
 use Rattle.sctp_util.specs.Field.{u32_at}
 use Rattle.sctp_association.proofs.Carrying.{all_own, next_own}
@@ -48,7 +48,7 @@ returns-clause-came c =
 -- where memory is wanting, and the chunk is no COOKIE-ECHO, it may stand there
 pub returns-in_err-reason-clause-foreign : goal.returns-in_err-reason-clause-foreign
 returns-in_err-reason-clause-foreign c other =
-    unless_admitted _ _ _ _ _ _ c.in-Some.ensures.place _ c.in_err-reason.ensures.cookie_err other _ _
+    unless_admitted _ _ _ _ _ _ c.in-Some.ensures.place _ (λ e. c.in_err-reason.ensures.err (ap is_all_or_nothing e)) other _ _
     (c.header-tag.ensures.verification_tag ∙ ap (λ l. u32_at l 4) c.requires.whole) c.left-count.ensures
     (λ no. let is = c.in_err-reason.ensures.foreign no in cc)
 
@@ -91,12 +91,7 @@ returns-clause-first c closed stands =
 pub returns-in_err-reason-clause-memory : goal.returns-in_err-reason-clause-memory
 returns-in_err-reason-clause-memory c first are is =
     let same = one_first _ _ _ (sym c.in-Some.ensures.place ∙ are) in
-    let err = c.in_err-reason.ensures in
-    on_err _ (elim is [
-      | inl e ↦ err.init_err (ap (λ (p : ChunkPlace). p.typ) same.0 ∙ e)
-      | inr (inl e) ↦ err.ack_err (ap (λ (p : ChunkPlace). p.typ) same.0 ∙ e)
-      | inr (inr e) ↦ err.cookie_err (ap (λ (p : ChunkPlace). p.typ) same.0 ∙ e)
-    ])
+    on_err _ (c.in_err-reason.ensures.err (ap (λ (p : ChunkPlace). is_all_or_nothing p.typ) same.0 ∙ is))
 
 -- nothing stands behind the only chunk
 pub returns-in_err-taken-clause-memory : goal.returns-in_err-taken-clause-memory

@@ -1,9 +1,7 @@
-use Rattle.std.proofs.Common.{rules, ◌≡◌}
 use Rattle.sctp_association.proofs.Arrived.{came_alike, came_same}
 use Rattle.sctp_association.proofs.Begun.{quiet_complete, quiet_shutdown_ack}
 use Rattle.sctp_association.proofs.Known.{keeps_by, knows_complete, knows_shutdown_ack}
 use Rattle.sctp_association.proofs.Offered.{offered_alike, offered_calls, offered_kept, offered_less}
-use Rattle.sctp_association.proofs.Offers.{ack_offered}
 use Rattle.sctp_association.proofs.association.Association.take_control.Goals as goal
 
 pub returns-in-4-clause-came : goal.returns-in-4-clause-came
@@ -28,11 +26,7 @@ pub returns-in-9-clause-came : goal.returns-in-9-clause-came
 returns-in-9-clause-came c = offered_alike _ _ _ c.take_error.ensures.halves c.take_error.ensures.peer
 
 pub returns-in-11-clause-came : goal.returns-in-11-clause-came
-returns-in-11-clause-came c =
-    let typ : c.args.chunk.typ ≡ 11 = search rules in
-    let kept = c.take_answer-in-11.ensures.kept in
-    ack_offered _ _ c.requires.own _ _ _ _ typ c.cookie_ack-answer.ensures.takes c.take_answer-in-11.ensures.begun
-    (record { config = kept.config; key = kept.key; machine = kept.machine; owes = kept.owes })
+returns-in-11-clause-came c = c.take_cookie_ack.ensures.came
 
 pub returns-in-14-clause-came : goal.returns-in-14-clause-came
 returns-in-14-clause-came c =

@@ -1,13 +1,15 @@
 use Rattle.std.proofs.Common.{rules, ◌≡◌, ap, refl, sym, ◌∙◌}
-use Rattle.std.specs.Prelude.{Some, false}
+use Rattle.std.specs.Prelude.{Option, Some, false}
 use Rattle.sctp_association.proofs.Arrived.{came_same}
 use Rattle.sctp_association.proofs.Firsts.{begins_by_ticket}
 use Rattle.sctp_association.proofs.Kept.{same_machine}
 use Rattle.sctp_association.proofs.Offered.{offered_kept, offered_same}
 use Rattle.sctp_association.proofs.Offers.{cookie_offered}
 use Rattle.sctp_association.proofs.Stale.{is_stale_reply, stale_keeps}
-use Rattle.sctp_association.specs.Beginnings.{IsEchoed}
+use Rattle.sctp_association.specs.Beginnings.{IsEchoed, is_standing}
 use Rattle.sctp_association.specs.Cookies.{IsSealedAt, cookie_in}
+use Rattle.sctp_association.specs.declared.inbound.Inbound.{Inbound}
+use Rattle.sctp_association.specs.Halves.{receiver_of}
 use Rattle.sctp_association.proofs.association.Association.take_cookie.Goals as goal
 use Rattle.sctp_handshake.specs.declared.answer.Reply.TheVariants as reply
 
@@ -39,8 +41,8 @@ returns-in-Some-StaleCookie-clause-came c =
       is = refl;
     } in
     let kept = c.follow.ensures.kept in
-    cookie_offered _ _ c.requires.own _ _ _ _ c.requires.typ _ echoed _ c.cookie_echo-answer.ensures.takes c.follow.ensures.begun
-    (record { config = kept.config; key = kept.key; machine = kept.machine; owes = kept.owes })
+    cookie_offered _ _ c.requires.own _ _ _ _ c.requires.typ _ echoed _ c.cookie_echo-answer.ensures.takes
+    (c.may_begin.ensures (search rules)) c.follow.ensures.begun (record { config = kept.config; key = kept.key; machine = kept.machine; owes = kept.owes })
 
 pub returns-in_default-reply-2-clause-came : goal.returns-in_default-reply-2-clause-came
 returns-in_default-reply-2-clause-came c =
@@ -53,8 +55,8 @@ returns-in_default-reply-2-clause-came c =
       is = refl;
     } in
     let kept = c.follow.ensures.kept in
-    cookie_offered _ _ c.requires.own _ _ _ _ c.requires.typ _ echoed _ c.cookie_echo-answer.ensures.takes c.follow.ensures.begun
-    (record { config = kept.config; key = kept.key; machine = kept.machine; owes = kept.owes })
+    cookie_offered _ _ c.requires.own _ _ _ _ c.requires.typ _ echoed _ c.cookie_echo-answer.ensures.takes
+    (c.may_begin.ensures (search rules)) c.follow.ensures.begun (record { config = kept.config; key = kept.key; machine = kept.machine; owes = kept.owes })
 
 -- what is answered by a stale cookie changed nothing
 pub returns-in-Some-StaleCookie-clause-stale : goal.returns-in-Some-StaleCookie-clause-stale
@@ -80,8 +82,8 @@ returns-in_default-reply-clause-came c =
       is = refl;
     } in
     let kept = c.follow.ensures.kept in
-    cookie_offered _ _ c.requires.own _ _ _ _ c.requires.typ _ echoed _ c.cookie_echo-answer.ensures.takes c.follow.ensures.begun
-    (record { config = kept.config; key = kept.key; machine = kept.machine; owes = kept.owes })
+    cookie_offered _ _ c.requires.own _ _ _ _ c.requires.typ _ echoed _ c.cookie_echo-answer.ensures.takes
+    (c.may_begin.ensures (search rules)) c.follow.ensures.begun (record { config = kept.config; key = kept.key; machine = kept.machine; owes = kept.owes })
 
 pub returns-in_default-reply-clause-first : goal.returns-in_default-reply-clause-first
 returns-in_default-reply-clause-first c closed next =
@@ -94,5 +96,6 @@ returns-in_default-reply-clause-first c closed next =
     } in
     let is = c.in_default-reply.is in
     let fresh : is_stale_reply c.cookie_echo-answer.result.reply ≡ false = search rules in
+    let none = ap (λ (i : Option Inbound). receiver_of i) (c.may_begin.ensures (search rules) (ap is_standing closed)) in
     begins_by_ticket _ _ _ _ _ _ _ made _ c.args.self.now.machine c.cookie_echo-answer.new.self c.cookie_echo-answer.result closed
-    c.cookie_echo-answer.ensures.takes fresh c.follow.ensures.begun
+    c.cookie_echo-answer.ensures.takes fresh none c.follow.ensures.begun

@@ -17,19 +17,13 @@ returns-then-not-is_again-clause-came c = came_same _ _ _ refl
 pub returns-in_err-_taken-clause-came : goal.returns-in_err-_taken-clause-came
 returns-in_err-_taken-clause-came c =
     let reads : ReadsChunk (drop c.args.chunk.at c.args.datagram.now) (shutdown_chunk c.in-Some.shutdown.cumulative_tsn_ack) = search rules in
-    came_then _ _ _ _ (came_same _ _ _ (quiet_shutdown _ _ _ _ _ _ c.follow.ensures.begun c.shutdown-answer.ensures.takes.answer))
-    (sender_came _ _ c.requires.own _ reads _ _ _ c.take_shutdown.ensures.hearing)
+    sender_came _ _ c.requires.own _ reads _ _ _ c.take_shutdown.ensures.hearing
 
 pub returns-clause-came : goal.returns-clause-came
 returns-clause-came c =
     let reads : ReadsChunk (drop c.args.chunk.at c.args.datagram.now) (shutdown_chunk c.in-Some.shutdown.cumulative_tsn_ack) = search rules in
-    came_then _ _ _ _ (came_same _ _ _ (quiet_shutdown _ _ _ _ _ _ c.follow.ensures.begun c.shutdown-answer.ensures.takes.answer))
-    (sender_came _ _ c.requires.own _ reads _ _ _ c.take_shutdown.ensures.hearing)
-
-pub returns-in_err-_taken-clause-peer : goal.returns-in_err-_taken-clause-peer
-returns-in_err-_taken-clause-peer c =
-    let on = c.follow.ensures.kept in
-    keeps_by _ _ _ (knows_shutdown _ _ _ c.shutdown-answer.ensures.takes) on.config on.key on.machine on.owes
+    came_then _ _ _ _ (sender_came _ _ c.requires.own _ reads _ _ _ c.take_shutdown.ensures.hearing)
+    (came_same _ _ _ (quiet_shutdown _ _ _ _ _ _ c.follow.ensures.begun c.shutdown-answer.ensures.takes.answer))
 
 pub returns-clause-peer : goal.returns-clause-peer
 returns-clause-peer c =

@@ -1,7 +1,7 @@
-use Rattle.std.proofs.Common.{ap, refl, rules, ◌≡◌}
+use Rattle.std.proofs.Common.{None, ap, refl, rules, ◌≡◌}
 use Rattle.sctp_association.proofs.Begun.{begun_by}
 use Rattle.sctp_association.specs.Arrivals.{halves, new_sender}
-use Rattle.sctp_association.specs.Halves.{fragment_size, halves_of, receiver_of}
+use Rattle.sctp_association.specs.Halves.{fragment_size, halves_of}
 use Rattle.sctp_association.proofs.association.Association.tell.Goals as goal
 use Rattle.sctp_handshake.specs.declared.answer.Told.TheVariants as told
 
@@ -18,9 +18,9 @@ returns-in-Restarted-clause-begun c =
     let sender : c.new.result.sender
     ≡ new_sender c.args.self.now.machine.own.first_tsn (fragment_size c.args.self.now.config.mtu) c.args.self.now.config.max_message_size = search rules in
     begun_by _ _ _ _ _ _ is (record {
-      middle = halves c.new.result.sender (receiver_of c.args.self.now.inbound);
+      middle = halves c.new.result.sender None;
       renewed = (refl, sender);
-      begun = c.begin-in-Restarted.ensures.begun;
+      begun = c.begin-in-Restarted.ensures.begun refl;
     })
 
 pub returns-in-ShutdownBegun-clause-begun : goal.returns-in-ShutdownBegun-clause-begun
