@@ -17,8 +17,8 @@ whose first line begins with "First: "; a crate of whose wrong bodies the gate t
 2_bodies.md, .., in as few as have at most one in each function. A file whose first line begins with "Alone: " stays as it is. Each body keeps
 its texts and its title; the body of a file without titles takes the file's name as its title, in words.
 
-With --texts it tries nothing either: it prints each text of all crates' wrong bodies that does not stand once in its file, and ends with a count; the
-exit status is 0 where there is none.
+With --texts it tries nothing either: it prints each text of all crates' wrong bodies that does not stand once in its file, or that has a backslash and
+an n outside of a string, which is no line break. It ends with a count; the exit status is 0 where there is none.
 """
 import importlib.machinery
 import importlib.util
@@ -34,6 +34,7 @@ FIRST = "First: "
 ENDINGS = (".edit", ".md")
 HEAD = """Each title is a wrong body of its own, in a function of its own; each is refused in that function (docs/GATE.md says how they were tried).
 """
+QUOTED = re.compile(r"""\"(?:[^\"\\]|\\.)*\"|'(?:[^'\\]|\\.)'""")
 FN = re.compile(r'\s*(?:pub(?:\([a-z]+\))?\s+)?(?:const\s+)?(?:extern "C" )?fn\s+(\w+)')
 
 
@@ -201,7 +202,7 @@ def check_packed(folder, before, written):
 
 
 def misplaced(folder):
-    """Returns a line for each text of a crate's wrong bodies that does not stand once in its file."""
+    """Returns a line for each text of a crate's wrong bodies that does not stand once in its file, or can't be read."""
     room, found = f"{folder}/must-fail", []
     for edit in sorted(it for it in os.listdir(room) if it.endswith(ENDINGS)):
         for name, pairs in named(f"{room}/{edit}"):
@@ -210,6 +211,8 @@ def misplaced(folder):
                 text = texts.get(path) or source_of(folder, path)
                 if text.count(old) != 1:
                     found.append(f"{room}/{name}: stands {text.count(old)} times in {path}: {old}")
+                if "\\n" in QUOTED.sub("", new):
+                    found.append(f"{room}/{name}: has a line break that is none: {new}")
                 texts[path] = text.replace(old, new)
     return found
 
