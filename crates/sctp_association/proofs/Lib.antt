@@ -28,6 +28,7 @@ pub mod Offers
 pub mod Carrying
 pub mod Cut
 pub mod Named
+pub mod Idle
 pub mod HostSteps
 pub mod Tsns
 pub mod Hosts

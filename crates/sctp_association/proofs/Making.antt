@@ -34,10 +34,10 @@ use Rattle.sctp_sender.specs.Sender.{Transmission, after_send, with_flight}
 use Rattle.sctp_sender.specs.SenderRuns.{held_by_sender}
 use Rattle.sctp_serial.specs.DataChunks.{has_tsn}
 
-some-none : {X : Type 0} (x : X) → Some x ≡ None → ⊥
+pub some-none : {X : Type 0} (x : X) → Some x ≡ None → ⊥
 some-none x e = cc
 
-of-some : {X : Type 0} (x y : X) → Some x ≡ Some y → x ≡ y
+pub of-some : {X : Type 0} (x y : X) → Some x ≡ Some y → x ≡ y
 of-some x y e = cc
 
 -- ## The sender
@@ -59,7 +59,7 @@ skip_put_where room o c b t old new e past ended names added =
     (subst (λ o. IfSome o (λ c. is_end c.new_cumulative_tsn t.flight ≡ true)) e ended)
     (subst (λ o. IfSome o (λ c. Name c.streams.items (named_up_to c.new_cumulative_tsn t.flight))) e names) added
 
-none-of : {X Y : Type 0} (f : X → Y) (o : Option X) → None ≡ option_map f o → o ≡ None
+pub none-of : {X Y : Type 0} (f : X → Y) (o : Option X) → None ≡ option_map f o → o ≡ None
 none-of f None e = refl
 none-of f (Some x) e = absurd (cc)
 
@@ -102,7 +102,7 @@ module _ (now : ℕ) (t u : Transmission) (exact : u ≡ after_send now t) (held
   pub none_put : (x : List ℕ) → PutsOut t u x x
   none_put x = puts_none (sends now) t u x (refl, (held, (exact, (accepted, tt))))
 
-told-once : {X : Type 0} (n tsn : ℕ) (o : Option X) → Some tsn ≡ option_map (λ _. n) o → (tsn ≡ n) × (o ≢ None)
+pub told-once : {X : Type 0} (n tsn : ℕ) (o : Option X) → Some tsn ≡ option_map (λ _. n) o → (tsn ≡ n) × (o ≢ None)
 told-once n tsn None e = absurd (cc)
 told-once n tsn (Some x) e = (of-some tsn n e, λ none. some-none x none)
 

@@ -9,10 +9,12 @@ pub mod Delivered
 pub mod Drafts
 pub mod Events
 pub mod Failing
+pub mod Filled
 pub mod Halves
 pub mod Held
 pub mod HostCalls
 pub mod Hosts
+pub mod Idle
 pub mod Kept
 pub mod Links
 pub mod Lives

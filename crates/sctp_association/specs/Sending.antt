@@ -23,12 +23,12 @@ abbrev pub base_of : ℕ → Option ℕ → ℕ
 base_of flight None = flight
 base_of flight (Some base) = base
 
--- so of what is in flight, which are fewer chunks than at most may be
+-- so of what is in flight, which are fewer chunks than at most may be; one may be in any case
 abbrev pub may_send_next : (bytes most peer_window : ℕ) → Option ℕ → Control
     → List ChunkPayloadData → Bool
 may_send_next bytes most peer_window burst c chunks =
     let flight = (outstanding_of chunks).bytes in
-    nat_lt (length chunks) most
+    nat_lt (length chunks) (max 1 most)
     && may_send_data bytes flight peer_window (base_of flight burst) c
 
 -- a time to send begins: the moment is later than that at which nothing more left

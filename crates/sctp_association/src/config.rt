@@ -87,7 +87,7 @@ impl Config {
     /// Whether an association can have these numbers: a packet takes any control chunk, and the window tells at least what an INIT may (RFC
     /// 9260 3.3.2).
     pub(crate) fn is_usable(&self) -> bool
-        ensures { result ≡ true → 512 ≤ self.now.mtu }
+        ensures { result ≡ true → (512 ≤ self.now.mtu) × (self.now.mtu ≤ 65535) }
     {
         self.mtu >= 512
             && self.mtu <= 65_535

@@ -1,9 +1,10 @@
 //! The packet that is being written.
 
-ghost use Rattle.std.specs.Prelude.{◌≡◌, ◌≤◌, nat_le, max, false, OnErr, OnOk, [], length};
+ghost use Rattle.std.specs.Prelude.{◌≡◌, ◌+◌, ◌-◌, ◌≤◌, ◌++◌, nat_le, max, min, true, false, OnErr, OnOk, [], length};
+ghost use Rattle.sctp_chunks.specs.Wire.{HasEncoding};
 ghost use Rattle.sctp_association.specs.Packets.{Adds, put_where, sum_of};
 ghost use Rattle.sctp_packets.specs.Draft.{IsDraft, headed};
-ghost use Rattle.sctp_packets.specs.Packet.{Parts, packet_encoding};
+ghost use Rattle.sctp_packets.specs.Packet.{Parts, packet_encoding, padded_encoding};
 
 use sctp_chunks::chunk::Chunk;
 use sctp_packets::PacketWriter;
@@ -12,6 +13,12 @@ use sctp_packets::packet::{CommonHeader, PACKET_HEADER_SIZE};
 use sctp_util::util::Checksum;
 use std::alloc::{AllocError, Global};
 use std::marker::Model;
+
+// A packet has at least as many bytes: its header, and a SACK without blocks (RFC 9260 3.3.4).
+const LEAST: usize = PACKET_HEADER_SIZE + 16;
+
+// A packet has at most so many bytes, so that a chunk in it has a length (RFC 9260 3.2).
+const MOST: usize = 65_535;
 
 /// The checksum 0 of a path whose lower layer detects damage (RFC 9653 5.2).
 #[derive(Clone, Copy)]
@@ -42,27 +49,29 @@ impl Model for Draft {
 
     ghost view = { λ d. record { bytes = bytes_in d.writer; limit = d.limit } };
 
-    ghost invariant = { λ d. (12 ≤ d.limit) × (limit_in d.limit d.writer ≡ d.limit)
+    ghost invariant = { λ d. (28 ≤ d.limit) × (d.limit ≤ 65535)
+        × (limit_in d.limit d.writer ≡ d.limit)
         × (length (bytes_in d.writer) ≤ d.limit) };
 }
 
 impl Draft {
-    /// No packet. It takes no memory.
+    /// No packet. It has room for its header and a SACK at least. It takes no memory.
     pub(crate) fn new(alloc: Global, limit: usize) -> Draft
-        ensures { result ≡ record { bytes = []; limit = max 12 limit } }
+        ensures { result ≡ record { bytes = []; limit = min 65535 (max 28 limit) } }
     {
         Draft {
             alloc,
-            limit: limit.max(PACKET_HEADER_SIZE),
+            limit: limit.max(LEAST).min(MOST),
             writer: None,
         }
     }
 
     /// Begins a packet. Refuses only for memory; no other call takes any.
-    #[tactic(auto, using(crate::proofs::Drafting::headed_within))]
+    #[tactic(auto, using(crate::proofs::Drafting::headed_within, crate::proofs::Drafting::headed_length))]
     pub(crate) fn begin(&mut self, header: CommonHeader) -> Result<(), AllocError>
         ensures begun { OnOk result (IsDraft (headed header) self.new.bytes) }
         ensures limit { self.new.limit ≡ self.old.limit }
+        ensures head { OnOk result (length self.new.bytes ≡ 12) }
         ensures err { OnErr result (self.new ≡ self.old) }
     {
         if self.writer.is_none() {
@@ -78,7 +87,11 @@ impl Draft {
     }
 
     /// How many bytes the packet has room for.
-    pub(crate) fn room(&self) -> usize {
+    pub(crate) fn room(&self) -> usize
+        ensures value { result ≡ self.now.limit - length self.now.bytes }
+        ensures least { 28 ≤ self.now.limit }
+        ensures most { self.now.limit ≤ 65535 }
+    {
         self.limit.saturating_sub(self.bytes().len())
     }
 
@@ -88,6 +101,13 @@ impl Draft {
         ensures added { Adds (put_where result (K.wire chunk.now)) self.old.bytes self.new.bytes }
         ensures limit { self.new.limit ≡ self.old.limit }
         ensures full { result ≡ false → self.new ≡ self.old }
+        ensures grows { length self.old.bytes ≤ length self.new.bytes }
+        ensures put { result ≡ true
+            → self.new.bytes ≡ self.old.bytes ++ padded_encoding (K.wire chunk.now) }
+        // It fits where the packet was begun, and has room for it.
+        ensures fits { HasEncoding (K.wire chunk.now) → 12 ≤ length self.old.bytes
+            → length self.old.bytes + length (padded_encoding (K.wire chunk.now))
+            ≤ self.old.limit → result ≡ true }
     {
         match &mut self.writer {
             Some(writer) => match writer.put(chunk) {

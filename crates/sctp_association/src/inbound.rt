@@ -2,12 +2,14 @@
 
 ghost use Rattle.std.specs.Prelude.{◌≡◌, ◌==◌, ◌<◌, ◌≤◌, ℕ, Ok, IfOk, IsOk, OnOk, Some, length, option_map, true, false};
 ghost use Rattle.sctp_association.specs.Arrivals.{AsksFor, IsOpening, IsOpeningNamed, IsReset, Received};
+ghost use Rattle.sctp_association.specs.Filled.{IfNonePut};
 ghost use Rattle.sctp_association.specs.Packets.{PutsIn};
 ghost use Rattle.sctp_association.specs.Reached.{IsLimited, most_user_data};
 ghost use Rattle.sctp_association.specs.StreamSet.{is_in};
 ghost use Rattle.sctp_chunks.specs.Wire.{data_chunk, forward_tsn_chunk};
 ghost use Rattle.sctp_data.specs.ForwardTsn.{forward_tsn_of};
 ghost use Rattle.sctp_data.specs.PayloadData.{data_of};
+ghost use Rattle.sctp_path.specs.Timers.{is_due};
 ghost use Rattle.sctp_params.specs.declared.param.param_reconfig_response.ReconfigResult.TheVariants.{SuccessPerformed};
 ghost use Rattle.sctp_reassembly.specs.reassembly_queue.ReassemblyQueue.{at_start};
 ghost use Rattle.sctp_receiver.specs.declared.receiver.refusal.ReceiverRefusal.TheVariants.{MessageTooLarge};
@@ -385,6 +387,10 @@ impl Inbound {
     ) -> Result<(), Fault>
         ensures made { PutsIn self.old.receiver self.new.receiver packet.old.bytes
             packet.new.bytes }
+        ensures grows { length packet.old.bytes ≤ length packet.new.bytes }
+        // Where nothing was put, none is due.
+        ensures idle { OnOk result (IfNonePut packet.old.bytes packet.new.bytes
+            (is_due now self.new.delay.due ≡ false)) }
         ensures limits { (self.new.receiver.limits ≡ self.old.receiver.limits)
             × (self.new.streams ≡ self.old.streams) }
     {

@@ -5,9 +5,10 @@
 //!
 //! `now` is a moment in nanoseconds, by the caller's clock.
 
-ghost use Rattle.std.specs.Prelude.{◌≡◌, ◌⊎◌, ℕ, ◌<◌, All, IfErr, IfOk, IfSome, OnErr, OnOk, length};
+ghost use Rattle.std.specs.Prelude.{◌≡◌, ◌⊎◌, ℕ, ◌<◌, All, IfErr, IfOk, IfSome, Ok, OnErr, OnOk, false, length};
 ghost use Rattle.sctp_association.specs.HostCalls.{Leads, Log, acts_of_read, host_of, no_log, sent_of};
 ghost use Rattle.sctp_association.specs.Hosts.{MovesTo, hosts};
+ghost use Rattle.sctp_association.specs.Idle.{IsIdle, MaySend};
 ghost use Rattle.sctp_association.specs.Links.{party};
 ghost use Rattle.sctp_association.specs.declared.fault.Fault.TheVariants.{BadConfig};
 ghost use Rattle.sctp_delivery.specs.SenderCalls.{writes, written_after};
@@ -127,6 +128,7 @@ pub fn pass(
         (hosts (host_of one.new (sent_of is_sent one.new l)) (host_of other.new m))) }
     ensures set_up { IfOk result (λ is_sent.
         PassesSetUp is_sent times one.old other.old one.new other.new) }
+    ensures idle { result ≡ Ok false → MaySend one.new → IsIdle now one.new }
     ensures err { OnErr result ((l m : Log)
         → Exchanges one.old other.old one.new other.new l m) }
 {

@@ -3,13 +3,18 @@
 ghost use Rattle.std.specs.Prelude.{◌≡◌, ◌≤◌, None, Ok, IfOk, OnOk, [], map, true, false, length};
 ghost use Rattle.sctp_association.specs.Beginnings.{KeepsPeer};
 ghost use Rattle.sctp_association.specs.Halves.{HalvesAlike, PutsOthers, is_sent, sides_of};
+ghost use Rattle.sctp_association.specs.Filled.{IfNonePut};
+ghost use Rattle.sctp_association.specs.Idle.{HasNoSackDue, IsIdle, MaySend, WaitsForSacks, in_flight, sack_delay, sends};
 ghost use Rattle.sctp_association.specs.Kept.{IsUnmoved};
 ghost use Rattle.sctp_association.specs.Offering.{HasFirst, IsInitWith, IsReplyOf, OffersAsDue, PutsReply};
+ghost use Rattle.sctp_association.specs.Sending.{IsTimed};
 ghost use Rattle.sctp_association.specs.Packets.{IsNoInit, IsPacketOf, IsWritten, Puts, Transmits};
 ghost use Rattle.sctp_chunks.specs.Init.{init_of};
 ghost use Rattle.sctp_cookie.specs.Cookie.{sealed};
 ghost use Rattle.sctp_cookie.specs.Hmac.{hmac_sha256};
 ghost use Rattle.sctp_handshake.specs.Tickets.{ticket_bytes};
+ghost use Rattle.sctp_packets.specs.Draft.{IsDraft};
+ghost use Rattle.sctp_packets.specs.Packet.{Parts};
 ghost use Rattle.sctp_params.specs.ParamKind.{parameter_of};
 
 use super::Association;
@@ -47,6 +52,8 @@ impl Association {
         // An INIT has the first TSN of this side; an INIT ACK has a cookie over the ticket that was due.
         ensures offers { is_sent result ≡ true → OffersAsDue self.old self.new.draft.bytes }
         ensures peer { KeepsPeer self.old self.new }
+        // Where there is no datagram though DATA may leave: what waits or is to be sent again waits for a SACK, or for T3-rtx.
+        ensures idle { result ≡ Ok false → MaySend self.new → IsIdle now self.new }
     {
         if let Some(alone) = self.due.alone {
             self.put_alone(alone, now)?;
@@ -71,6 +78,8 @@ impl Association {
         ensures made { Transmits (is_sent result) (sides_of self.old) (sides_of self.new) }
         ensures plain { is_sent result ≡ true → IsPacketOf IsNoInit self.new.draft.bytes }
         ensures kept { IsUnmoved self.old self.new }
+        ensures idle { result ≡ Ok false → sends self.new.machine.state ≡ true
+            → IsIdle now self.new }
     {
         self.draft.begin(header)?;
         let filled = self.fill(now);
@@ -210,6 +219,7 @@ impl Association {
     #[inline(never)]
     fn put_error(&mut self, code: u16, info: &[u8]) -> Result<(), Fault>
         ensures others { PutsOthers self.old self.new }
+        ensures acks { sack_delay self.new ≡ sack_delay self.old }
     {
         let error = ChunkError {
             error_causes: self.causes(code, info)?,
@@ -245,6 +255,9 @@ impl Association {
     fn fill(&mut self, now: u64) -> Result<(), Fault>
         ensures made { Puts (sides_of self.old) (sides_of self.new) }
         ensures kept { IsUnmoved self.old self.new }
+        ensures idle { OnOk result (sends self.new.machine.state ≡ true → (p : Parts)
+            → IsDraft p self.old.draft.bytes → length self.new.draft.bytes ≤ 12
+            → IsIdle now self.new) }
     {
         self.put_cookies();
         if self.machine.state() == State::CookieEchoed {
@@ -264,6 +277,7 @@ impl Association {
     fn put_control(&mut self, now: u64) -> Result<(), Fault>
         ensures made { Puts (sides_of self.old) (sides_of self.new) }
         ensures kept { IsUnmoved self.old self.new }
+        ensures acks { sack_delay self.new ≡ sack_delay self.old }
     {
         self.put_shutdown();
         self.put_heartbeats(now)?;
@@ -276,6 +290,11 @@ impl Association {
     fn put_data(&mut self, now: u64) -> Result<(), Fault>
         ensures made { Puts (sides_of self.old) (sides_of self.new) }
         ensures kept { IsUnmoved self.old self.new }
+        ensures acks { sack_delay self.new ≡ sack_delay self.old }
+        ensures idle { OnOk result (sends self.new.machine.state ≡ true
+            → IfNonePut self.old.draft.bytes self.new.draft.bytes
+            (WaitsForSacks self.new.draft.limit self.new.outbound.sender
+            × IsTimed (in_flight self.new.outbound.sender) self.new.outbound.timer.at)) }
     {
         if !self.machine.state().sends_data() {
             return Ok(());
@@ -337,6 +356,8 @@ impl Association {
     fn put_sack(&mut self, now: u64) -> Result<(), Fault>
         ensures made { Puts (sides_of self.old) (sides_of self.new) }
         ensures kept { IsUnmoved self.old self.new }
+        ensures idle { OnOk result (IfNonePut self.old.draft.bytes self.new.draft.bytes
+            (HasNoSackDue now self.new)) }
     {
         let has_data = self.outbound.has_data() && self.machine.state().sends_data();
         match &mut self.inbound {
@@ -349,6 +370,7 @@ impl Association {
     fn put_shutdown(&mut self)
         ensures made { Puts (sides_of self.old) (sides_of self.new) }
         ensures kept { IsUnmoved self.old self.new }
+        ensures acks { sack_delay self.new ≡ sack_delay self.old }
     {
         self.put_shutdown_asked();
         self.put_shutdown_ack();
@@ -359,6 +381,7 @@ impl Association {
     fn put_shutdown_asked(&mut self)
         ensures made { Puts (sides_of self.old) (sides_of self.new) }
         ensures kept { IsUnmoved self.old self.new }
+        ensures acks { sack_delay self.new ≡ sack_delay self.old }
     {
         if !self.due.shutdown {
             return;
@@ -378,6 +401,7 @@ impl Association {
     #[tactic(auto, using(crate::proofs::Others::others_one, crate::proofs::Others::others_none, crate::proofs::Others::others_then))]
     fn put_shutdown_ack(&mut self)
         ensures others { PutsOthers self.old self.new }
+        ensures acks { sack_delay self.new ≡ sack_delay self.old }
     {
         if self.due.shutdown_ack && self.draft.put(&ChunkShutdownAck) {
             self.due.shutdown_ack = false;
@@ -388,6 +412,7 @@ impl Association {
     #[tactic(auto, using(crate::proofs::Others::others_one, crate::proofs::Others::others_none, crate::proofs::Others::others_then))]
     fn put_heartbeats(&mut self, now: u64) -> Result<(), Fault>
         ensures others { PutsOthers self.old self.new }
+        ensures acks { sack_delay self.new ≡ sack_delay self.old }
     {
         if self.due.heartbeat.is_some() {
             self.put_heartbeat_ack()?;
@@ -403,6 +428,7 @@ impl Association {
     #[inline(never)]
     fn put_heartbeat_ack(&mut self) -> Result<(), Fault>
         ensures others { PutsOthers self.old self.new }
+        ensures acks { sack_delay self.new ≡ sack_delay self.old }
     {
         let Some(info) = self.due.heartbeat.take() else {
             return Ok(());
@@ -420,6 +446,7 @@ impl Association {
     #[inline(never)]
     fn put_heartbeat(&mut self, now: u64) -> Result<(), Fault>
         ensures others { PutsOthers self.old self.new }
+        ensures acks { sack_delay self.new ≡ sack_delay self.old }
     {
         let Some(heartbeat) = &mut self.heartbeat else {
             return Ok(());
@@ -439,6 +466,7 @@ impl Association {
     #[tactic(auto, using(crate::proofs::Others::others_one, crate::proofs::Others::others_none, crate::proofs::Others::others_then))]
     fn put_unknown_stream(&mut self) -> Result<(), Fault>
         ensures others { PutsOthers self.old self.new }
+        ensures acks { sack_delay self.new ≡ sack_delay self.old }
     {
         let Some(inbound) = &mut self.inbound else {
             return Ok(());

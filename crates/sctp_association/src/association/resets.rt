@@ -5,6 +5,7 @@ ghost use Rattle.sctp_association.specs.Arrivals.{CallsArrive, HearsBy, Does, Fo
 ghost use Rattle.sctp_association.specs.Kept.{IsKept};
 ghost use Rattle.sctp_association.specs.Calls.{is_resettable};
 ghost use Rattle.sctp_association.specs.Halves.{HalvesAlike, PutsOthers, halves_of, receiver_of};
+ghost use Rattle.sctp_association.specs.Idle.{sack_delay};
 ghost use Rattle.sctp_association.specs.declared.fault.Fault.TheVariants.{NoSuchStream, OutOfMemory};
 ghost use Rattle.sctp_association.specs.declared.association.Reason.{Reason};
 ghost use Rattle.sctp_association.specs.declared.association.arrivals.Step.TheVariants as step;
@@ -92,6 +93,7 @@ impl Association {
     #[tactic(auto, using(crate::proofs::Others::others_one, crate::proofs::Others::others_none, crate::proofs::Others::others_then))]
     pub(super) fn put_resets(&mut self, now: u64) -> Result<(), Fault>
         ensures others { PutsOthers self.old self.new }
+        ensures acks { sack_delay self.new ≡ sack_delay self.old }
     {
         if self.draft.room() < MOST_BYTES {
             return Ok(());
@@ -108,6 +110,7 @@ impl Association {
     #[tactic(auto, using(crate::proofs::Others::others_one, crate::proofs::Others::others_none, crate::proofs::Others::others_then))]
     fn next_response(&mut self) -> Option<ParamReconfigResponse>
         ensures others { PutsOthers self.old self.new }
+        ensures acks { sack_delay self.new ≡ sack_delay self.old }
     {
         match &mut self.peer_requests {
             Some(peer) => peer.take_response(),
@@ -125,6 +128,7 @@ impl Association {
         now: u64,
     )
         ensures others { PutsOthers self.old self.new }
+        ensures acks { sack_delay self.new ≡ sack_delay self.old }
     {
         let is_asking = request.is_some();
         let Some(chunk) = reconfig(response, request) else {
@@ -139,6 +143,7 @@ impl Association {
     #[tactic(auto, using(crate::proofs::Others::others_one, crate::proofs::Others::others_none, crate::proofs::Others::others_then))]
     fn next_request(&mut self, now: u64) -> Result<Option<ParamOutgoingResetRequest>, Fault>
         ensures others { PutsOthers self.old self.new }
+        ensures acks { sack_delay self.new ≡ sack_delay self.old }
     {
         if self.requests.is_idle() {
             return Ok(None);
@@ -150,6 +155,7 @@ impl Association {
     #[inline(never)]
     fn next_asked(&mut self, now: u64) -> Result<Option<ParamOutgoingResetRequest>, Fault>
         ensures others { PutsOthers self.old self.new }
+        ensures acks { sack_delay self.new ≡ sack_delay self.old }
     {
         self.begin_request(now)?;
         self.request_due(now)
@@ -159,6 +165,7 @@ impl Association {
     #[tactic(auto, using(crate::proofs::Others::others_one, crate::proofs::Others::others_none, crate::proofs::Others::others_then))]
     fn begin_request(&mut self, now: u64) -> Result<(), Fault>
         ensures others { PutsOthers self.old self.new }
+        ensures acks { sack_delay self.new ≡ sack_delay self.old }
     {
         let sender = &self.outbound.sender;
         let last_tsn = sender.next_tsn().wrapping_sub(1);
@@ -179,6 +186,7 @@ impl Association {
     #[tactic(auto, using(crate::proofs::Others::others_one, crate::proofs::Others::others_none, crate::proofs::Others::others_then))]
     fn request_due(&mut self, now: u64) -> Result<Option<ParamOutgoingResetRequest>, Fault>
         ensures others { PutsOthers self.old self.new }
+        ensures acks { sack_delay self.new ≡ sack_delay self.old }
     {
         let Some(request) = self.requests.due(now) else {
             return Ok(None);

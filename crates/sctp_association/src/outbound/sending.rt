@@ -1,19 +1,24 @@
 //! What goes into a packet (RFC 9260 6.1, 6.10).
 
-ghost use Rattle.std.specs.Prelude.{◌≡◌, ◌<◌, ◌≤◌, true, false, None, Some, IfOk, IfSome, OnErr, find, length};
+ghost use Rattle.std.specs.Prelude.{◌≡◌, ◌⊎◌, ◌+◌, ◌-◌, ◌^◌, ◌<◌, ◌≤◌, [], min, true, false, None, Some, IfOk, IfSome, OnErr, OnOk, find, length};
 ghost use Rattle.sctp_association.specs.Counts.{IsCountedAlike, IsCountedOn};
+ghost use Rattle.sctp_association.specs.Filled.{IfNonePut};
+ghost use Rattle.sctp_association.specs.Idle.{IsMarkedBehind, SendsNoneAgain, SendsNoneNew, WaitsBehind, WaitsForSacks, in_flight};
 ghost use Rattle.sctp_association.specs.Packets.{PutsOut};
 ghost use Rattle.sctp_association.specs.Sending.{IsTimed, idle_times, is_early, is_later, lowered_times, lowered, may_send_again, may_send_next, sent_at};
-ghost use Rattle.sctp_outbound.specs.pending_queue.PendingQueue.{next_pending};
+ghost use Rattle.sctp_outbound.specs.Outstanding.{outstanding_of};
+ghost use Rattle.sctp_outbound.specs.pending_queue.PendingQueue.{chunk_count, next_pending};
 ghost use Rattle.sctp_path.specs.Rto.{smoothed_of};
-ghost use Rattle.sctp_sender.specs.Resending.{is_to_resend};
+ghost use Rattle.sctp_sender.specs.Resending.{is_to_resend, next_within};
 ghost use Rattle.sctp_stream.specs.Stats.{count_up};
+ghost use Rattle.sctp_util.specs.Padding.{padded_length};
 
 use super::{DATA_HEADER, Outbound};
 use crate::draft::Draft;
 use crate::fault::Fault;
 use sctp_sender::replay;
 use sctp_sender::sender::refusal::SenderRefusal;
+use sctp_util::util::get_padding_size;
 
 // More chunks than a packet has room for.
 const MOST_CHUNKS: usize = 4096;
@@ -22,8 +27,10 @@ const MOST_CHUNKS: usize = 4096;
 const MOST_HALVINGS: u64 = 64;
 
 // How long a DATA chunk with so many bytes of user data is, with its padding.
-fn data_length(bytes: usize) -> usize {
-    DATA_HEADER.saturating_add(bytes.saturating_add(3) & !3)
+fn data_length(bytes: usize) -> usize
+    ensures { result ≡ min (16 + padded_length bytes) (2 ^ 64 - 1) }
+{
+    DATA_HEADER.saturating_add(bytes.saturating_add(get_padding_size(bytes)))
 }
 
 impl Outbound {
@@ -34,6 +41,10 @@ impl Outbound {
         ensures timed { IsTimed self.new.sender.flight.queue.inflight.chunks self.new.timer.at }
         ensures counts { IsCountedOn self.old self.new }
         ensures limit { packet.new.limit ≡ packet.old.limit }
+        ensures grows { length packet.old.bytes ≤ length packet.new.bytes }
+        // Where nothing was put: what waits, or is to be sent again, waits for a SACK.
+        ensures idle { OnOk result (IfNonePut packet.old.bytes packet.new.bytes
+            (WaitsForSacks packet.old.limit self.new.sender)) }
     {
         let filled = self.put_all(packet, now);
         self.run_timer(now);
@@ -45,6 +56,9 @@ impl Outbound {
         ensures made { PutsOut self.old.sender self.new.sender packet.old.bytes packet.new.bytes }
         ensures counts { IsCountedOn self.old self.new }
         ensures limit { packet.new.limit ≡ packet.old.limit }
+        ensures grows { length packet.old.bytes ≤ length packet.new.bytes }
+        ensures idle { OnOk result (IfNonePut packet.old.bytes packet.new.bytes
+            (WaitsForSacks packet.old.limit self.new.sender)) }
     {
         self.put_skip(packet)?;
         self.put_lost(packet, now)?;
@@ -57,6 +71,7 @@ impl Outbound {
         ensures limit { packet.new.limit ≡ packet.old.limit }
         ensures rest { self.new ≡ record self.old { is_skip_due = self.new.is_skip_due } }
         ensures err { OnErr result (self.new ≡ self.old) }
+        ensures grows { length packet.old.bytes ≤ length packet.new.bytes }
     {
         if !self.is_skip_due {
             return Ok(());
@@ -74,6 +89,9 @@ impl Outbound {
         ensures made { PutsOut self.old.sender self.new.sender packet.old.bytes packet.new.bytes }
         ensures counts { IsCountedOn self.old self.new }
         ensures limit { packet.new.limit ≡ packet.old.limit }
+        ensures grows { length packet.old.bytes ≤ length packet.new.bytes }
+        ensures idle { OnOk result (IfNonePut packet.old.bytes packet.new.bytes
+            (SendsNoneAgain (packet.old.limit - length packet.old.bytes) self.old self.new)) }
     {
         let flight = self.flight();
         self.put_marked(packet, self.is_fast, flight, now)
@@ -90,8 +108,15 @@ impl Outbound {
         ensures made { PutsOut self.old.sender self.new.sender packet.old.bytes packet.new.bytes }
         ensures counts { IsCountedOn self.old self.new }
         ensures limit { packet.new.limit ≡ packet.old.limit }
+        ensures grows { length packet.old.bytes ≤ length packet.new.bytes }
+        ensures idle { OnOk result (IfNonePut packet.old.bytes packet.new.bytes
+            (flight ≡ (outstanding_of (in_flight self.old.sender)).bytes
+            → SendsNoneAgain (packet.old.limit - length packet.old.bytes) self.old self.new)) }
     {
-        for _ in 0..MOST_CHUNKS {
+        if !self.put_again(packet, is_fast, flight, now)? {
+            return Ok(());
+        }
+        for _ in 1..MOST_CHUNKS {
             if !self.put_again(packet, is_fast, flight, now)? {
                 break;
             }
@@ -123,6 +148,12 @@ impl Outbound {
             → (self.new.sender ≡ self.old.sender) × (packet.new ≡ packet.old)) }
         ensures err { OnErr result ((self.new ≡ self.old) × (packet.new ≡ packet.old)) }
         ensures limit { packet.new.limit ≡ packet.old.limit }
+        ensures grows { length packet.old.bytes ≤ length packet.new.bytes }
+        ensures put { 12 ≤ length packet.old.bytes
+            → IfOk result (λ sent. sent ≡ true → 12 < length packet.new.bytes) }
+        ensures none { IfOk result (λ sent. sent ≡ false
+            → flight ≡ (outstanding_of (in_flight self.old.sender)).bytes
+            → SendsNoneAgain (packet.old.limit - length packet.old.bytes) self.old self.new) }
     {
         if !self.may_send_again(is_fast, flight, now) {
             return Ok(false);
@@ -137,10 +168,11 @@ impl Outbound {
 
     // Whether DATA may be sent again (RFC 9260 6.3.3 E3, 7.2.4). `is_fast` and `flight` are as they were when the packet began.
     fn may_send_again(&self, is_fast: bool, flight: usize, now: u64) -> bool
-        ensures { result ≡ may_send_again is_fast
+        ensures value { result ≡ may_send_again is_fast
             (is_early flight now self.now.timed_out (smoothed_of self.now.rto.trips)
             (sent_at (find is_to_resend self.now.sender.flight.queue.inflight.chunks)))
             flight self.now.congestion }
+        ensures first { flight ≡ 0 → result ≡ true }
     {
         if is_fast {
             return true;
@@ -151,8 +183,9 @@ impl Outbound {
     // Whether the chunk that is to be sent again first waits: a SACK of its first sending may still come, and something is outstanding. It is
     // looked for only in the round trip after T3-rtx expired.
     fn is_early(&self, flight: usize, now: u64) -> bool
-        ensures { result ≡ is_early flight now self.now.timed_out (smoothed_of self.now.rto.trips)
+        ensures value { result ≡ is_early flight now self.now.timed_out (smoothed_of self.now.rto.trips)
             (sent_at (find is_to_resend self.now.sender.flight.queue.inflight.chunks)) }
+        ensures first { flight ≡ 0 → result ≡ false }
     {
         let Some(trip) = self.rto.smoothed() else {
             return false;
@@ -182,6 +215,11 @@ impl Outbound {
             → (self.new.sender ≡ self.old.sender) × (packet.new ≡ packet.old)) }
         ensures err { OnErr result ((self.new ≡ self.old) × (packet.new ≡ packet.old)) }
         ensures limit { packet.new.limit ≡ packet.old.limit }
+        ensures grows { length packet.old.bytes ≤ length packet.new.bytes }
+        ensures put { 12 ≤ length packet.old.bytes
+            → IfOk result (λ sent. sent ≡ true → 12 < length packet.new.bytes) }
+        ensures none { IfOk result (λ sent. sent ≡ false → next_within
+            (packet.old.limit - length packet.old.bytes) self.old.sender.flight ≡ None) }
     {
         let Some(chunk) = self.sender.resend_next(now, packet.room())? else {
             return Ok(false);
@@ -229,6 +267,9 @@ impl Outbound {
     fn begin_new(&mut self, now: u64) -> bool
         ensures sender { self.new.sender ≡ self.old.sender }
         ensures counts { IsCountedAlike self.old self.new }
+        ensures lost { self.new.has_lost ≡ self.old.has_lost }
+        ensures none { result ≡ false → (self.old.has_lost ≡ true)
+            ⊎ (chunk_count self.old.sender.flight.queue.pending ≡ 0) }
     {
         self.begin_burst(now);
         if self.has_lost || self.sender.outbound().pending_len() == 0 {
@@ -245,11 +286,17 @@ impl Outbound {
         ensures made { PutsOut self.old.sender self.new.sender packet.old.bytes packet.new.bytes }
         ensures counts { IsCountedAlike self.old self.new }
         ensures limit { packet.new.limit ≡ packet.old.limit }
+        ensures grows { length packet.old.bytes ≤ length packet.new.bytes }
+        ensures idle { OnOk result (IfNonePut packet.old.bytes packet.new.bytes
+            (SendsNoneNew (packet.old.limit - length packet.old.bytes) self.old self.new)) }
     {
         if !self.begin_new(now) {
             return Ok(());
         }
-        for _ in 0..MOST_CHUNKS {
+        if !self.put_next(packet, now)? {
+            return Ok(());
+        }
+        for _ in 1..MOST_CHUNKS {
             if !self.put_next(packet, now)? {
                 break;
             }
@@ -287,10 +334,11 @@ impl Outbound {
 
     // Whether so many bytes more may be sent, by both windows, the burst and the most chunks in flight (RFC 9260 6.1 A, B, D).
     fn may_send(&self, bytes: usize) -> bool
-        ensures { result ≡ may_send_next bytes self.now.most_in_flight self.now.peer_window
+        ensures value { result ≡ may_send_next bytes self.now.most_in_flight self.now.peer_window
             self.now.burst self.now.congestion self.now.sender.flight.queue.inflight.chunks }
+        ensures first { in_flight self.now.sender ≡ [] → result ≡ true }
     {
-        if self.sender.outbound().inflight_len() >= self.most_in_flight {
+        if self.sender.outbound().inflight_len() >= self.most_in_flight.max(1) {
             return false;
         }
         let flight = self.flight();
@@ -322,6 +370,11 @@ impl Outbound {
             → (self.new ≡ self.old) × (packet.new ≡ packet.old)) }
         ensures err { OnErr result ((self.new ≡ self.old) × (packet.new ≡ packet.old)) }
         ensures limit { packet.new.limit ≡ packet.old.limit }
+        ensures grows { length packet.old.bytes ≤ length packet.new.bytes }
+        ensures put { 12 ≤ length packet.old.bytes
+            → IfOk result (λ sent. sent ≡ true → 12 < length packet.new.bytes) }
+        ensures none { IfOk result (λ sent. sent ≡ false
+            → WaitsBehind (packet.old.limit - length packet.old.bytes) self.old.sender) }
     {
         let Some(chunk) = self.sender.outbound().peek_pending() else {
             return Ok(false);

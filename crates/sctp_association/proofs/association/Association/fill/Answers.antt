@@ -1,4 +1,8 @@
+use Rattle.std.proofs.Common.{◌≡◌, arith, false, subst, sym, ◌∙◌}
+use Rattle.std.specs.Prelude.{IfSome}
+use Rattle.sctp_association.proofs.Idle.{added_longer, on_ok_so}
 use Rattle.sctp_association.proofs.Putting.{and_then}
+use Rattle.sctp_path.specs.Timers.{is_due}
 use Rattle.sctp_association.proofs.Others.{others_puts, others_then}
 use Rattle.sctp_association.proofs.association.Association.fill.Goals as goal
 
@@ -18,3 +22,22 @@ returns-then-is_empty-clause-made c = others_puts _ _ c.put_cookies.ensures.othe
 
 pub returns-else-is_empty-clause-made : goal.returns-else-is_empty-clause-made
 returns-else-is_empty-clause-made c = others_puts _ _ (others_then _ _ _ c.put_cookies.ensures.others c.put_report.ensures.others)
+
+pub returns-clause-idle : goal.returns-clause-idle
+returns-clause-idle c = on_ok_so c.put_data.result (λ then_sent state p draft short.
+    let cookies = c.put_cookies.ensures.others.added in
+    let sack = c.put_sack.ensures.made.added in
+    let control = c.put_control.ensures.made.added in
+    let one = cookies.draft p draft in
+    let two = sack.draft _ one in
+    let three = control.draft _ two in
+    let more = added_longer _ _ _ _ sack one in
+    let further = added_longer _ _ _ _ control two in
+    let last = added_longer _ _ _ _ c.put_data.ensures.made.added three in
+    let sent = then_sent state last.0 short in
+    record {
+      acked = subst (λ d. IfSome d (λ d. is_due c.args.now d.due ≡ false)) (sym (c.put_data.ensures.acks ∙ c.put_control.ensures.acks))
+          (c.in_ok-put_sack.ensures.idle more.0 (omega (arith, short, further.1, last.1)));
+      sent = sent.0;
+      timed = sent.1;
+    }) c.put_data.ensures.idle

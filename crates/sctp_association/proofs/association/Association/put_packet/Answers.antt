@@ -1,8 +1,13 @@
-use Rattle.std.proofs.Common.{[], ap}
+use Rattle.std.proofs.Common.{[], ap, subst, sym, ◌∙◌}
+use Rattle.std.proofs.lemmas.Bool.{leb-true}
 use Rattle.sctp_association.proofs.Others.{none_sent_so, plain_after, sealed_after, sent_same, unsent, unsent_after, unsent_err}
 use Rattle.sctp_association.proofs.Putting.{nothing}
 use Rattle.sctp_association.proofs.association.Association.put_packet.Goals as goal
+use Rattle.sctp_association.specs.declared.outbound.Outbound.{Outbound}
 use Rattle.sctp_association.specs.Halves.{sides_of}
+use Rattle.sctp_association.specs.Idle.{WaitsForSacks, in_flight}
+use Rattle.sctp_association.specs.Sending.{IsTimed}
+use Rattle.sctp_packets.specs.Draft.{headed}
 
 pub returns-in_err-begin-clause-made : goal.returns-in_err-begin-clause-made
 returns-in_err-begin-clause-made c = none_sent_so _ _ _ c.from_residual.ensures.0 (unsent _ _ _ _ _ (nothing (sides_of c.args.self.now)))
@@ -25,3 +30,16 @@ returns-in_err-filled-clause-plain c = unsent_err _ c.from_residual-in_err-fille
 pub returns-clause-plain : goal.returns-clause-plain
 returns-clause-plain c _ =
     plain_after _ _ _ _ [] _ _ c.fill-filled.ensures.made c.args.header c.args.is_zero _ c.in_ok-begin.ensures.begun c.seal.ensures.sealed
+
+-- ## Where nothing was put
+
+pub returns-then-is_empty-clause-idle : goal.returns-then-is_empty-clause-idle
+returns-then-is_empty-clause-idle c _ state =
+    let short = leb-true _ 12 (sym c.is_empty.ensures ∙ c.if-is_empty.true) in
+    let idle = c.in_ok-filled.ensures.idle state (headed c.args.header) c.in_ok-begin.ensures.begun short in
+    let limit = c.fill-filled.new.self.draft.limit in
+    record {
+      acked = idle.acked;
+      sent = subst (λ (o : Outbound). WaitsForSacks limit o.sender) (sym c.pause.ensures) idle.sent;
+      timed = subst (λ (o : Outbound). IsTimed (in_flight o.sender) o.timer.at) (sym c.pause.ensures) idle.timed;
+    }

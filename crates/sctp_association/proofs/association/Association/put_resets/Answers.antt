@@ -1,7 +1,6 @@
 use Rattle.sctp_association.proofs.Others.{others_then}
 use Rattle.sctp_association.proofs.association.Association.put_resets.Goals as goal
 
-pub returns-then-is_some : goal.returns-then-is_some
-returns-then-is_some c = record {
-  others = others_then _ _ _ (others_then _ _ _ c.next_request.ensures.others c.next_response-response.ensures.others) c.put_reconfig.ensures.others;
-}
+pub returns-then-is_some-clause-others : goal.returns-then-is_some-clause-others
+returns-then-is_some-clause-others c =
+    others_then _ _ _ (others_then _ _ _ c.next_request.ensures.others c.next_response-response.ensures.others) c.put_reconfig.ensures.others

@@ -3,11 +3,45 @@ use Rattle.sctp_association.proofs.Putting.{nothing, out_then}
 use Rattle.sctp_association.proofs.outbound.Outbound.put_marked.Goals as goal
 
 pub loop-init : goal.loop-init
-loop-init c = (refl, record { resent = omega arith; timeouts = refl }, λ r. nothing _)
+loop-init c = (refl, record { resent = omega arith; timeouts = refl }, λ r. nothing _, omega arith)
 
 pub loop-preserved : goal.loop-preserved
 loop-preserved c = (
-  c.put_again.ensures.limit ∙ c.loop.invariant.0,
-  record { resent = omega arith; timeouts = c.put_again.ensures.counts.timeouts ∙ c.loop.invariant.1.timeouts },
-  out_then _ _ _ _ _ _ c.loop.invariant.2 c.put_again.ensures.made,
+  c.put_again-in-loop.ensures.limit ∙ c.loop.invariant.0,
+  record { resent = omega arith; timeouts = c.put_again-in-loop.ensures.counts.timeouts ∙ c.loop.invariant.1.timeouts },
+  out_then _ _ _ _ _ _ c.loop.invariant.2 c.put_again-in-loop.ensures.made,
+  omega (arith, c.loop.invariant.3, c.put_again-in-loop.ensures.grows),
 )
+
+pub returns-in_err-put_again-2-clause-made : goal.returns-in_err-put_again-2-clause-made
+returns-in_err-put_again-2-clause-made c =
+    out_then _ _ _ _ _ _ c.put_again.ensures.made (out_then _ _ _ _ _ _ c.loop.invariant.2 c.put_again-in-loop.ensures.made)
+
+pub returns-in_err-put_again-2-clause-grows : goal.returns-in_err-put_again-2-clause-grows
+returns-in_err-put_again-2-clause-grows c = omega (arith, c.put_again.ensures.grows, c.loop.invariant.3, c.put_again-in-loop.ensures.grows)
+
+pub returns-after-loop-clause-made : goal.returns-after-loop-clause-made
+returns-after-loop-clause-made c = out_then _ _ _ _ _ _ c.put_again.ensures.made c.loop.invariant.2
+
+pub returns-after-loop-clause-grows : goal.returns-after-loop-clause-grows
+returns-after-loop-clause-grows c = omega (arith, c.put_again.ensures.grows, c.loop.invariant.3)
+
+pub returns-after-loop-clause-idle : goal.returns-after-loop-clause-idle
+returns-after-loop-clause-idle c head short _ =
+    absurd (omega (arith, short, c.in_ok-put_again.ensures.put head c.if-not-branch.false, c.loop.invariant.3))
+
+pub returns-then-not-branch-2-clause-made : goal.returns-then-not-branch-2-clause-made
+returns-then-not-branch-2-clause-made c =
+    out_then _ _ _ _ _ _ c.put_again.ensures.made (out_then _ _ _ _ _ _ c.loop.invariant.2 c.put_again-in-loop.ensures.made)
+
+pub returns-then-not-branch-2-clause-grows : goal.returns-then-not-branch-2-clause-grows
+returns-then-not-branch-2-clause-grows c = omega (arith, c.put_again.ensures.grows, c.loop.invariant.3, c.put_again-in-loop.ensures.grows)
+
+pub returns-then-not-branch-2-clause-idle : goal.returns-then-not-branch-2-clause-idle
+returns-then-not-branch-2-clause-idle c head short _ = absurd (omega (
+  arith,
+  short,
+  c.in_ok-put_again.ensures.put head c.if-not-branch.false,
+  c.loop.invariant.3,
+  c.put_again-in-loop.ensures.grows,
+))

@@ -1,30 +1,81 @@
-use Rattle.std.proofs.Common.{refl, ◌∙◌}
+use Rattle.std.proofs.Common.{◌-◌, ap, arith, length, refl, subst, ◌∙◌}
+use Rattle.sctp_association.proofs.Idle.{waits_not}
 use Rattle.sctp_association.proofs.Putting.{from_same, kept, nothing, out_then}
 use Rattle.sctp_association.proofs.outbound.Outbound.put_new.Goals as goal
+use Rattle.sctp_association.specs.declared.outbound.Outbound.{Outbound}
+use Rattle.sctp_association.specs.Idle.{WaitsBehind}
+use Rattle.sctp_sender.specs.Sender.{Transmission}
 
 pub returns-then-not-begin_new-clause-made : goal.returns-then-not-begin_new-clause-made
 returns-then-not-begin_new-clause-made c = kept _ _ _ _ c.begin_new.ensures.sender refl
 
+pub returns-then-not-begin_new-clause-idle : goal.returns-then-not-begin_new-clause-idle
+returns-then-not-begin_new-clause-idle c head short = record {
+  sender = c.begin_new.ensures.sender;
+  waiting = waits_not _ c.args.self.now.sender c.args.self.now.has_lost (c.begin_new.ensures.none c.if-not-begin_new.true);
+}
+
+pub returns-in_err-put_next-clause-made : goal.returns-in_err-put_next-clause-made
+returns-in_err-put_next-clause-made c = from_same _ _ _ _ _ c.begin_new.ensures.sender c.put_next.ensures.made
+
+pub returns-then-not-branch-clause-made : goal.returns-then-not-branch-clause-made
+returns-then-not-branch-clause-made c = from_same _ _ _ _ _ c.begin_new.ensures.sender c.put_next.ensures.made
+
+pub returns-then-not-branch-clause-idle : goal.returns-then-not-branch-clause-idle
+returns-then-not-branch-clause-idle c head short =
+    let held = c.in_ok-put_next.ensures.held c.if-not-branch.true in
+    record {
+      sender = ap (λ (o : Outbound). o.sender) held.0 ∙ c.begin_new.ensures.sender;
+      waiting = λ _. subst (λ (t : Transmission). WaitsBehind (c.args.packet.now.limit - length c.args.packet.now.bytes) t) c.begin_new.ensures.sender
+          (c.in_ok-put_next.ensures.none c.if-not-branch.true);
+    }
+
 pub loop-init : goal.loop-init
-loop-init c = (refl, record { resent = refl; timeouts = refl }, λ r. nothing _)
+loop-init c = (refl, record { resent = refl; timeouts = refl }, λ r. nothing _, omega arith)
 
 pub loop-preserved : goal.loop-preserved
 loop-preserved c = (
-  c.put_next.ensures.limit ∙ c.loop.invariant.0,
+  c.put_next-in-loop.ensures.limit ∙ c.loop.invariant.0,
   record {
-    resent = c.put_next.ensures.counts.resent ∙ c.loop.invariant.1.resent;
-    timeouts = c.put_next.ensures.counts.timeouts ∙ c.loop.invariant.1.timeouts;
+    resent = c.put_next-in-loop.ensures.counts.resent ∙ c.loop.invariant.1.resent;
+    timeouts = c.put_next-in-loop.ensures.counts.timeouts ∙ c.loop.invariant.1.timeouts;
   },
-  out_then _ _ _ _ _ _ c.loop.invariant.2 c.put_next.ensures.made,
+  out_then _ _ _ _ _ _ c.loop.invariant.2 c.put_next-in-loop.ensures.made,
+  omega (arith, c.loop.invariant.3, c.put_next-in-loop.ensures.grows),
 )
 
-pub returns-in_err-put_next-clause-made : goal.returns-in_err-put_next-clause-made
-returns-in_err-put_next-clause-made c =
-    from_same _ _ _ _ _ c.begin_new.ensures.sender (out_then _ _ _ _ _ _ c.loop.invariant.2 c.put_next.ensures.made)
+pub returns-in_err-put_next-2-clause-made : goal.returns-in_err-put_next-2-clause-made
+returns-in_err-put_next-2-clause-made c = from_same _ _ _ _ _ c.begin_new.ensures.sender (
+    out_then _ _ _ _ _ _ c.put_next.ensures.made (out_then _ _ _ _ _ _ c.loop.invariant.2 c.put_next-in-loop.ensures.made)
+    )
+
+pub returns-in_err-put_next-2-clause-grows : goal.returns-in_err-put_next-2-clause-grows
+returns-in_err-put_next-2-clause-grows c = omega (arith, c.put_next.ensures.grows, c.loop.invariant.3, c.put_next-in-loop.ensures.grows)
 
 pub returns-after-loop-clause-made : goal.returns-after-loop-clause-made
-returns-after-loop-clause-made c = from_same _ _ _ _ _ c.begin_new.ensures.sender c.loop.invariant.2
+returns-after-loop-clause-made c =
+    from_same _ _ _ _ _ c.begin_new.ensures.sender (out_then _ _ _ _ _ _ c.put_next.ensures.made c.loop.invariant.2)
 
-pub returns-then-not-branch-clause-made : goal.returns-then-not-branch-clause-made
-returns-then-not-branch-clause-made c =
-    from_same _ _ _ _ _ c.begin_new.ensures.sender (out_then _ _ _ _ _ _ c.loop.invariant.2 c.put_next.ensures.made)
+pub returns-after-loop-clause-grows : goal.returns-after-loop-clause-grows
+returns-after-loop-clause-grows c = omega (arith, c.put_next.ensures.grows, c.loop.invariant.3)
+
+pub returns-after-loop-clause-idle : goal.returns-after-loop-clause-idle
+returns-after-loop-clause-idle c head short =
+    absurd (omega (arith, short, c.in_ok-put_next.ensures.put head c.if-not-branch.false, c.loop.invariant.3))
+
+pub returns-then-not-branch-2-clause-made : goal.returns-then-not-branch-2-clause-made
+returns-then-not-branch-2-clause-made c = from_same _ _ _ _ _ c.begin_new.ensures.sender (
+    out_then _ _ _ _ _ _ c.put_next.ensures.made (out_then _ _ _ _ _ _ c.loop.invariant.2 c.put_next-in-loop.ensures.made)
+    )
+
+pub returns-then-not-branch-2-clause-grows : goal.returns-then-not-branch-2-clause-grows
+returns-then-not-branch-2-clause-grows c = omega (arith, c.put_next.ensures.grows, c.loop.invariant.3, c.put_next-in-loop.ensures.grows)
+
+pub returns-then-not-branch-2-clause-idle : goal.returns-then-not-branch-2-clause-idle
+returns-then-not-branch-2-clause-idle c head short = absurd (omega (
+  arith,
+  short,
+  c.in_ok-put_next.ensures.put head c.if-not-branch.false,
+  c.loop.invariant.3,
+  c.put_next-in-loop.ensures.grows,
+))

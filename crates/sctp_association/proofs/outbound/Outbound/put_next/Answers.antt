@@ -1,10 +1,13 @@
-use Rattle.std.proofs.Common.{ap, refl, sym, ◌∙◌}
+use Rattle.std.proofs.Common.{ℕ, Some, ap, arith, length, min, refl, sym, ◌∙◌, ◌≡◌, ◌+◌, ◌-◌, ◌^◌}
+use Rattle.sctp_association.proofs.Idle.{data_put, fits_so, lent_fits}
 use Rattle.sctp_association.proofs.Making.{lent_put, none_put, sent_there}
 use Rattle.sctp_association.proofs.Putting.{kept, nothing}
 use Rattle.sctp_association.proofs.outbound.Outbound.put_next.Goals as goal
 use Rattle.sctp_association.specs.declared.outbound.Outbound.{Outbound}
 use Rattle.sctp_outbound.specs.outbound_queue.OutboundQueue.{Outbound as Queue}
+use Rattle.sctp_outbound.specs.pending_queue.PendingQueue.{next_pending}
 use Rattle.sctp_sender.specs.Sender.{Transmission}
+use Rattle.sctp_util.specs.Padding.{padded_length}
 use Rattle.sctp_serial.specs.DataChunks.{has_tsn}
 use Rattle.std.specs.Prelude.{find}
 
@@ -25,6 +28,9 @@ returns-in-Err c = record {
   held = tt;
   err = (ap (λ (s : Transmission). let y : Outbound = record c.args.self.now { sender = s } in y) c.in-Err.ensures.err, refl);
   limit = refl;
+  grows = omega arith;
+  put = λ _. tt;
+  none = tt;
 }
 
 pub returns-in-Some-get-clause-made : goal.returns-in-Some-get-clause-made
@@ -44,3 +50,18 @@ unreachable-requires c =
 pub returns-in_default-sent-clause-made : goal.returns-in_default-sent-clause-made
 returns-in_default-sent-clause-made c =
     none_put c.args.now c.args.self.now.sender c.send_next_tsn.new.sender c.in-Ok.ensures.ok c.in-Ok.ensures.bytes (c.in-Ok.ensures.accepted refl) _
+
+pub returns-in-Some-get-clause-put : goal.returns-in-Some-get-clause-put
+returns-in-Some-get-clause-put c head _ =
+    let t : Transmission = c.args.self.now.sender in
+    let e : next_pending t.flight.queue.pending ≡ Some c.in-Some.chunk.now =
+    sym (c.in-Some.ensures.value ∙ ap (λ (o : Queue). next_pending o.pending) c.outbound.ensures) in
+    let length : c.data_length.result ≡ min (16 + padded_length (length c.in-Some.chunk.now.user_data)) (2 ^ 64 - 1) =
+    c.data_length.ensures ∙ ap {B = ℕ} (λ (n : ℕ). min (16 + padded_length n) (2 ^ 64 - 1)) c.len-bytes.ensures.value in
+    let fit = fits_so c.data_length.result c.room.result c.in-Some.chunk.now length
+    (omega (arith, c.if-data_length-room.false)) (omega (arith, c.room.ensures.value, c.room.ensures.most)) in
+    data_put c.in-Some-get.chunk.now c.room.result _ _ _ c.put.result (
+    lent_fits c.args.now c.room.result t c.send_next_tsn.new.sender c.in-Some-sent.tsn c.in-Some.chunk.now c.in-Some-get.chunk.now
+    (sym c.in-Some-sent.is ∙ c.in-Ok.ensures.answer) c.in-Ok.ensures.noted
+    (c.in-Some-get.ensures ∙ ap (λ (o : Queue). find (has_tsn c.in-Some-sent.tsn) o.inflight.chunks) c.outbound-in-Some-sent.ensures) e fit
+    ) c.room.ensures.value c.room.ensures.most c.put.ensures.fits c.put.ensures.put head

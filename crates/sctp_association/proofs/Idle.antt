@@ -1,0 +1,254 @@
+-- When nothing was put into a packet, and why.
+use Rattle.std.proofs.Common.{◌≡◌, ◌≢◌, ◌⊎◌, inl, inr, ℕ, ◌+◌, ◌*◌, ◌-◌, ◌<◌, ◌≤◌, Bool, true, false, List, [], ◌∷◌, ◌++◌, length, Option, Some, None, Result, Ok, Err, refl, ap, sym, subst}
+use Rattle.std.proofs.Common.{◌∙◌, arith, length-append}
+use Rattle.std.specs.Prelude.{◌^◌, ◌&&◌, IfOk, IfSome, OnOk, find, if◌then◌else◌, max, min, nat_le, not, slice_get}
+use Rattle.std.specs.List.{count_by}
+use Rattle.std.specs.Option.{option_map}
+use Rattle.std.proofs.lemmas.Bool.{false≢true, leb-true, le-leb}
+use Rattle.std.proofs.lemmas.List.Concat.{flat_map-append}
+use Rattle.std.proofs.lemmas.List.Sums.{sum_by-cons}
+use Rattle.sctp_association.proofs.Making.{of-some, some-none, told-once}
+use Rattle.sctp_association.specs.Idle.{IsMarkedBehind, WaitsBehind, in_flight, sends}
+use Rattle.sctp_association.specs.Packets.{Adds, with_chunks}
+use Rattle.sctp_association.specs.Sending.{is_early}
+use Rattle.sctp_chunks.proofs.Lengths.{length_data_value, length_sack_value}
+use Rattle.sctp_chunks.specs.Wire.{HasEncoding, Wire, data_chunk, sack_chunk, value_of}
+use Rattle.sctp_data.specs.declared.chunk.chunk_payload_data.ChunkPayloadData.{ChunkPayloadData}
+use Rattle.sctp_data.specs.PayloadData.{data_of}
+use Rattle.sctp_data.specs.SelectiveAck.{Sack}
+use Rattle.sctp_outbound.specs.declared.pending_queue.Selected.{Selected}
+use Rattle.sctp_outbound.specs.Outstanding.{outstanding_of}
+use Rattle.sctp_outbound.specs.pending_queue.PendingQueue.{Pending, chunk_count, front_of, list_of, next_pending, next_pending_of}
+use Rattle.sctp_packets.proofs.Sealed.{length_head_encoding}
+use Rattle.sctp_packets.proofs.Written.{length_padded_encoding}
+use Rattle.sctp_packets.specs.Draft.{IsDraft}
+use Rattle.sctp_packets.specs.Packet.{Parts, body_of, head_of, padded_encoding}
+use Rattle.sctp_delivery.specs.SenderCalls.{next_chunk}
+use Rattle.sctp_handshake.specs.declared.state.State.{State}
+use Rattle.sctp_handshake.specs.declared.state.State.TheVariants.{Closed, CookieWait, CookieEchoed, Established}
+use Rattle.sctp_handshake.specs.declared.state.State.TheVariants.{ShutdownPending, ShutdownSent, ShutdownReceived, ShutdownAckSent}
+use Rattle.sctp_handshake.specs.States.{sends_data}
+use Rattle.sctp_sender.proofs.Sent.{as-noted}
+use Rattle.sctp_sender.specs.declared.sender.refusal.SenderRefusal.{SenderRefusal}
+use Rattle.sctp_sender.specs.declared.sender.refusal.SenderRefusal.TheVariants.{SsnsUsedUp, TsnsUsedUp}
+use Rattle.sctp_sender.specs.Flight.{Flight, may_send}
+use Rattle.sctp_sender.specs.Numbers.{is_too_far, refusal_of, send_refusal}
+use Rattle.sctp_sender.specs.Resending.{count_again, fits, if_it_fits, is_to_resend, next_within, sent_again}
+use Rattle.sctp_sender.specs.Sender.{Transmission}
+use Rattle.sctp_serial.specs.DataChunks.{has_tsn}
+use Rattle.sctp_util.specs.Padding.{four_zeroes, padded_length, padding_of}
+
+-- ## What is found
+
+one-more : {X : Type 0} (p : X → Bool) (x : X) (xs : List X) → count_by p (x ∷ xs) ≡ (if p x then 1 else 0) + count_by p xs
+one-more p x xs = sum_by-cons (λ c. if p c then 1 else 0) x xs
+
+found-first : {X : Type 0} (p : X → Bool) (x : X) (xs : List X) (b : Bool) → p x ≡ b → count_by p (x ∷ xs) ≡ 0 → find p xs ≡ None → find p (x ∷ xs) ≡ None
+found-first p x xs true is e rest = absurd (omega (arith, e, one-more p x xs, ap {B = ℕ} (λ b. if b then 1 else 0) is))
+found-first p x xs false is e rest = rw is rest
+
+-- none is found where none is counted
+pub none_found : {X : Type 0} (p : X → Bool) (xs : List X) → count_by p xs ≡ 0 → find p xs ≡ None
+none_found p [] e = refl
+none_found p (x ∷ xs) e = found-first p x xs (p x) refl e (none_found p xs (omega (arith, e, one-more p x xs)))
+
+pub found_there : {X : Type 0} (p : X → Bool) (xs : List X) (x : X) → find p xs ≡ Some x → xs ≡ [] → ⊥
+found_there p [] x e n = cc
+found_there p (y ∷ ys) x e n = cc
+
+pub if_none : (P : ChunkPayloadData → Type 0) (o : Option ChunkPayloadData) → o ≡ None → IfSome o P
+if_none P o e = subst (λ o. IfSome o P) (sym e) tt
+
+pub if_any : (P : ChunkPayloadData → Type 0) (o : Option ChunkPayloadData) → ((c : ChunkPayloadData) → o ≡ Some c → P c) → IfSome o P
+if_any P None h = tt
+if_any P (Some c) h = h c refl
+
+-- ## What waits
+
+no_front : (xs ys : List ChunkPayloadData) → length ys + length xs ≡ 0 → front_of xs ys ≡ None
+no_front [] [] e = refl
+no_front [] (y ∷ ys) e = absurd (omega (arith, e))
+no_front (x ∷ xs) ys e = absurd (omega (arith, e))
+
+no_first : (xs : List ChunkPayloadData) → length xs ≡ 0 → slice_get xs 0 ≡ None
+no_first [] e = refl
+no_first (x ∷ xs) e = absurd (omega (arith, e))
+
+no-next : (q : Pending) (s : Option Selected) → length q.ordered + length q.unordered ≡ 0 → next_pending_of s q ≡ None
+no-next q None e = no_front q.unordered q.ordered e
+no-next q (Some s) e = by s.unordered
+  where
+    by : (b : Bool) → slice_get (list_of b q) 0 ≡ None
+    by true = no_first q.unordered (omega (arith, e))
+    by false = no_first q.ordered (omega (arith, e))
+
+pub none_waits : (q : Pending) → chunk_count q ≡ 0 → next_pending q ≡ None
+none_waits q e = no-next q q.selected e
+
+pub waits_not : (room : ℕ) (t : Transmission) (lost : Bool) → (lost ≡ true) ⊎ (chunk_count t.flight.queue.pending ≡ 0) → lost ≡ false → WaitsBehind room t
+waits_not room t lost (inl there) e = absurd (false≢true (sym e ∙ there))
+waits_not room t lost (inr none) e =
+    if_none (λ c. fits room c ≡ true → in_flight t ≢ []) (next_pending t.flight.queue.pending) (none_waits t.flight.queue.pending none)
+
+pub none_marked : (room : ℕ) (t : Transmission) → (outstanding_of (in_flight t)).marked ≡ 0 → IsMarkedBehind room t
+none_marked room t e = if_none (λ c. fits room c ≡ true → 0 < (outstanding_of (in_flight t)).bytes) (find is_to_resend (in_flight t))
+    (none_found is_to_resend (in_flight t) e)
+
+-- ## What fits
+
+unfit-by : (P : Type 0) (c : ChunkPayloadData) (b : Bool) → (if b then Some c else None) ≡ None → b ≡ true → P
+unfit-by P c true e h = absurd (some-none c e)
+unfit-by P c false e h = absurd (false≢true h)
+
+-- what is none fits nowhere
+pub unfit : (room : ℕ) (P : Type 0) (o : Option ChunkPayloadData) → if_it_fits room o ≡ None → IfSome o (λ c. fits room c ≡ true → P)
+unfit room P None e = tt
+unfit room P (Some c) e = unfit-by P c (fits room c) e
+
+-- more room takes what less takes
+pub fits_more : (a b : ℕ) (c : ChunkPayloadData) → a ≤ b → fits a c ≡ true → fits b c ≡ true
+fits_more a b c le h = le-leb _ b (omega (arith, le, leb-true _ a h))
+
+pub fits_not : (room : ℕ) (c : ChunkPayloadData) → room < 16 + padded_length (length c.user_data) → fits room c ≡ true → ⊥
+fits_not room c lt h = omega (arith, lt, leb-true _ room h)
+
+padding_16 : (n : ℕ) → padding_of (16 + n) ≡ padding_of n
+padding_16 n = omega arith
+
+-- a DATA chunk that fits can be put
+pub data_fits : (c : ChunkPayloadData) (old limit : ℕ) → fits (limit - old) c ≡ true → limit ≤ 65535
+    → HasEncoding (data_chunk (data_of c)) × (old + length (padded_encoding (data_chunk (data_of c))) ≤ limit)
+data_fits c old limit fit most =
+    let w : Wire = data_chunk (data_of c) in
+    let le = leb-true _ (limit - old) fit in
+    let value = length_data_value (data_of c) in
+    let four : 4 + length (value_of w) ≡ 16 + length c.user_data = omega (arith, value) in
+    let zeros = ap padding_of four ∙ padding_16 (length c.user_data) in
+    ((tt, omega (arith, le, most, value)), omega (arith, le, four, zeros, length_padded_encoding w))
+
+-- so can a SACK, where there is no other chunk
+pub sack_fits : (s : Sack) (old limit : ℕ) → 16 + 4 * (length s.gap_ack_blocks + length s.duplicate_tsn) ≤ max 16 (limit - old)
+    → length s.gap_ack_blocks + length s.duplicate_tsn ≤ 16379 → old ≤ 12 → 28 ≤ limit
+    → HasEncoding (sack_chunk s) × (old + length (padded_encoding (sack_chunk s)) ≤ limit)
+sack_fits s old limit fit few head least =
+    let w : Wire = sack_chunk s in
+    let value = length_sack_value s in
+    let four : 4 + length (value_of w) ≡ 4 * (4 + (length s.gap_ack_blocks + length s.duplicate_tsn)) = omega (arith, value) in
+    let zeros : padding_of (4 + length (value_of w)) ≡ 0 = ap padding_of four ∙ omega arith in
+    ((tt, omega (arith, few, value)), omega (arith, fit, head, least, four, zeros, length_padded_encoding w))
+
+-- ## What is sent
+
+resent-if : (now room : ℕ) (chunk c : ChunkPayloadData) (b : Bool) → fits room c ≡ b
+    → Some chunk ≡ option_map (λ c. sent_again (count_again c) now c) (if b then Some c else None) → fits room chunk ≡ true
+resent-if now room chunk c true is e = subst (λ m. fits room m ≡ true) (sym (of-some chunk (sent_again (count_again c) now c) e)) is
+resent-if now room chunk c false is e = absurd (some-none chunk e)
+
+resent-by : (now room : ℕ) (chunk : ChunkPayloadData) (o : Option ChunkPayloadData)
+    → Some chunk ≡ option_map (λ c. sent_again (count_again c) now c) (if_it_fits room o) → fits room chunk ≡ true
+resent-by now room chunk None e = absurd (some-none chunk e)
+resent-by now room chunk (Some c) e = resent-if now room chunk c (fits room c) refl e
+
+-- what is sent again fits
+pub resent_fits : (now room : ℕ) (f : Flight) (chunk : ChunkPayloadData)
+    → Some chunk ≡ option_map (λ c. sent_again (count_again c) now c) (next_within room f) → fits room chunk ≡ true
+resent_fits now room f chunk e = resent-by now room chunk (find is_to_resend f.queue.inflight.chunks) e
+
+-- what waited fits once it is sent
+pub sent_fits : (now room : ℕ) (t : Transmission) (c chunk : ChunkPayloadData) → next_pending t.flight.queue.pending ≡ Some c → Some chunk ≡ next_chunk now t
+    → fits room c ≡ true → fits room chunk ≡ true
+sent_fits now room t c chunk e is h =
+    subst (λ (m : ChunkPayloadData). fits room m ≡ true) (as-noted t.flight.queue t.flight.next_tsn now c chunk e is) h
+
+-- nothing is early where nothing is outstanding
+pub never_early : (now expired : ℕ) (trip sent : Option ℕ) → is_early 0 now expired trip sent ≡ false
+never_early now expired None sent = refl
+never_early now expired (Some trip) None = refl
+never_early now expired (Some trip) (Some sent) = refl
+
+far-not : (b x : Bool) (n : ℕ) → n ≡ 0 → (b && (nat_le (2 ^ 14) n && x)) ≡ false
+far-not false x n e = refl
+far-not true x n e = rw e refl
+
+no-ssns : (o : Option ChunkPayloadData) (f : Flight) → f.queue.inflight.chunks ≡ [] → refusal_of o f ≡ Some SsnsUsedUp → ⊥
+no-ssns None f e r = some-none SsnsUsedUp (sym r)
+no-ssns (Some c) f e r = by (may_send f) (is_too_far f c) (far-not _ _ (length f.queue.inflight.chunks) (ap length e)) r
+  where
+    by : (m b : Bool) → b ≡ false → (if not m then Some TsnsUsedUp else (if b then Some SsnsUsedUp else None)) ≡ Some SsnsUsedUp → ⊥
+    by true true k r = false≢true (sym k)
+    by true false k r = some-none SsnsUsedUp (sym r)
+    by false b k r = cc
+
+-- where it was found to fit
+pub fits_so : (n room : ℕ) (c : ChunkPayloadData) → n ≡ min (16 + padded_length (length c.user_data)) (2 ^ 64 - 1) → n ≤ room → room ≤ 65535 → fits room c ≡ true
+fits_so n room c is le most = le-leb _ room (omega (arith, is, le, most))
+
+-- what is sent fits, where it is lent by its TSN
+pub lent_fits : (now room : ℕ) (t u : Transmission) (tsn : ℕ) (peeked chunk : ChunkPayloadData)
+    → Some tsn ≡ option_map (λ _. t.flight.next_tsn) (next_pending t.flight.queue.pending)
+    → (next_pending t.flight.queue.pending ≢ None → find (has_tsn t.flight.next_tsn) u.flight.queue.inflight.chunks ≡ next_chunk now t)
+    → Some chunk ≡ find (has_tsn tsn) u.flight.queue.inflight.chunks → next_pending t.flight.queue.pending ≡ Some peeked → fits room peeked ≡ true
+    → fits room chunk ≡ true
+lent_fits now room t u tsn peeked chunk answer noted lent e fit =
+    let told = told-once t.flight.next_tsn tsn (next_pending t.flight.queue.pending) answer in
+    sent_fits now room t peeked chunk e (lent ∙ ap (λ n. find (has_tsn n) u.flight.queue.inflight.chunks) told.0 ∙ noted told.1) fit
+
+-- numbers of messages are not used up where nothing is in flight
+pub ssns_left : (f : Flight) → f.queue.inflight.chunks ≡ [] → send_refusal f ≡ Some SsnsUsedUp → ⊥
+ssns_left f e r = no-ssns (next_pending f.queue.pending) f e r
+
+pub sends_then : (s : State) → sends s ≡ true → sends_data s ≡ true
+sends_then Closed h = absurd (false≢true h)
+sends_then CookieWait h = absurd (false≢true h)
+sends_then CookieEchoed h = refl
+sends_then Established h = refl
+sends_then ShutdownPending h = refl
+sends_then ShutdownSent h = absurd (false≢true h)
+sends_then ShutdownReceived h = refl
+sends_then ShutdownAckSent h = absurd (false≢true h)
+
+-- ## A packet gets no shorter
+
+pub put_longer : (w : Wire) (old new : List ℕ) → new ≡ old ++ padded_encoding w → 12 ≤ length old → 12 < length new
+put_longer w old new e head = omega (arith, head, ap length e, length-append old (padded_encoding w), length_padded_encoding w)
+
+-- a DATA chunk that fits is put
+pub data_put : (c : ChunkPayloadData) (room limit : ℕ) (old new : List ℕ) (b : Bool) → fits room c ≡ true → room ≡ limit - length old → limit ≤ 65535
+    → (HasEncoding (data_chunk (data_of c)) → 12 ≤ length old → length old + length (padded_encoding (data_chunk (data_of c))) ≤ limit → b ≡ true)
+    → (b ≡ true → new ≡ old ++ padded_encoding (data_chunk (data_of c))) → 12 ≤ length old → 12 < length new
+data_put c room limit old new b fit is most fitting put head =
+    let h = data_fits c (length old) limit (subst (λ r. fits r c ≡ true) is fit) most in
+    put_longer (data_chunk (data_of c)) old new (put (fitting h.0 head h.1)) head
+
+draft-length : (p : Parts) (bytes : List ℕ) → IsDraft p bytes → length bytes ≡ 12 + length (body_of p.chunks)
+draft-length p bytes draft = omega (
+  arith,
+  ap length draft.unsealed,
+  length-append (head_of p ++ four_zeroes) (body_of p.chunks),
+  length-append (head_of p) four_zeroes,
+  length_head_encoding p.source_port p.destination_port p.verification_tag,
+)
+
+body-append : (ws vs : List Wire) → body_of (ws ++ vs) ≡ body_of ws ++ body_of vs
+body-append ws vs = rw flat_map-append refl
+
+pub added_longer : (ws : List Wire) (p : Parts) (old new : List ℕ) → Adds ws old new → IsDraft p old → (12 ≤ length old) × (length old ≤ length new)
+added_longer ws p old new added draft =
+    let before = draft-length p old draft in
+    let after = draft-length (with_chunks ws p) new (added.draft p draft) in
+    let body = ap length (body-append p.chunks ws) ∙ length-append (body_of p.chunks) (body_of ws) in
+    (omega (arith, before), omega (arith, before, after, body))
+
+-- ## What calls answer
+
+-- of what is answered both say so
+pub both_so : {E : Type 0} (A B C : Bool → Type 0) (r : Result Bool E) → ((s : Bool) → A s → B s → C s) → IfOk r A → IfOk r B → IfOk r C
+both_so A B C (Ok s) f a b = f s a b
+both_so A B C (Err e) f a b = tt
+
+pub ok_is : {X E : Type 0} (P : X → Type 0) (r : Result X E) (x : X) → r ≡ Ok x → IfOk r P → P x
+ok_is P r x e h = subst (λ r. IfOk r P) e h
+
+pub on_ok_so : {X E P Q : Type 0} (r : Result X E) → (Q → P) → OnOk r Q → OnOk r P
+on_ok_so (Ok x) f h = f h
+on_ok_so (Err e) f h = tt

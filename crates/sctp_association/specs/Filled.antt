@@ -1,0 +1,6 @@
+-- A packet in which nothing was put.
+use Rattle.std.specs.Prelude.{ℕ, ◌≤◌, List, length}
+
+-- so much is said where a packet that was begun, with its header of 12 bytes, has no chunk
+abbrev pub IfNonePut : (old new : List ℕ) → Type 0 → Type 0
+IfNonePut old new P = 12 ≤ length old → length new ≤ 12 → P
