@@ -121,6 +121,7 @@ pub(crate) fn print_answer<W: Write>(answer: &Answer, output: &mut W) -> io::Res
     match answer {
         Answer::Done => Ok(()),
         Answer::Taken(Taken::Accepted) => write!(output, "accepted\n"),
+        Answer::Taken(Taken::Partly) => write!(output, "partly\n"),
         Answer::Taken(Taken::Dropped(reason)) => {
             write!(output, "dropped {}\n", word_of_reason(*reason))
         }

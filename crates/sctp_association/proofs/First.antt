@@ -1,9 +1,11 @@
 -- The first chunk of a datagram begins behind the header.
-use Rattle.std.proofs.Common.{◌≡◌, ◌⊎◌, ℕ, Bool, true, false, List, [], ◌∷◌, ◌++◌, drop, length, ap, arith, refl, subst, sym, ◌∙◌, inl, inr}
-use Rattle.std.proofs.lemmas.Bool.{eqb-false, eqb-true, false≢true}
-use Rattle.std.specs.Prelude.{◌==◌, Result, Ok, Err, IsOk, OnErr, is_ok}
+use Rattle.std.proofs.Common.{◌≡◌, ◌⊎◌, ℕ, true, false, List, [], ◌∷◌, ◌++◌, drop, length, ap, arith, subst, sym, ◌∙◌, inl, inr}
+use Rattle.std.specs.Prelude.{Result, Ok, Err, IfOk, OnErr}
 use Rattle.sctp_association.specs.Cookies.{cookie_in, IsAlive}
-use Rattle.sctp_association.specs.Tags.{AdmitsFirst, BeginsByCookie, EndsWithFirst, FirstIs, FirstIsAlive, first_type, is_admitted, is_all_or_nothing}
+use Rattle.sctp_association.specs.Steps.{is_accepted}
+use Rattle.sctp_association.specs.declared.association.Taken.{Taken}
+use Rattle.sctp_association.specs.declared.fault.Fault.{Fault}
+use Rattle.sctp_association.specs.Tags.{AdmitsFirst, BeginsByCookie, EndsWithFirst, FirstIs, FirstIsAlive, IsFor, first_type, is_all_or_nothing}
 use Rattle.sctp_datagram.specs.declared.datagram.ChunkPlace.{ChunkPlace}
 use Rattle.sctp_datagram.specs.Places.{IsThere, Passes, TellsAll, behind, place_at}
 use Rattle.sctp_handshake.specs.declared.machine.Machine.{Machine}
@@ -44,15 +46,12 @@ begins d rows key now life t f = record {
 
 -- ## A datagram of one chunk
 
-pub one_first : (x y : ChunkPlace) (xs : List ChunkPlace) → x ∷ xs ≡ y ∷ [] → (x ≡ y) × (xs ≡ [])
-one_first x y xs e = (cc, cc)
-
 pub on_err : {T E : Type 0} {X : Type 0} (r : Result T E) → X → OnErr r X
 on_err (Ok x) h = tt
 on_err (Err e) h = h
 
-pub not_ok : {T E : Type 0} (r : Result T E) (e : E) → r ≡ Err e → IsOk r → ⊥
-not_ok r e is ok = false≢true (sym (ap is_ok is) ∙ ok)
+pub one_first : (x y : ChunkPlace) (xs : List ChunkPlace) → x ∷ xs ≡ y ∷ [] → (x ≡ y) × (xs ≡ [])
+one_first x y xs e = (cc, cc)
 
 -- there is none, or it is the first one
 abbrev OneRow : List ℕ → List ChunkPlace → Type 0
@@ -72,28 +71,17 @@ one-row d rows (r ∷ []) end one passes (inr e) =
     absurd (none-there (drop end d) (subst (λ (n : ℕ). drop n d ≡ []) passes.3 one) e.0)
 one-row d rows (r ∷ q ∷ passed) end one passes e = absurd (none-there (drop (behind d 12) d) one passes.3.1)
 
-pub unless_none : (d : List ℕ) (rows : List ChunkPlace) (R : Type 0) → TellsAll place_at d rows → EndsWithFirst d
-    → is_all_or_nothing (first_type d) ≡ true → ((first : ChunkPlace) → rows ≡ first ∷ [] → is_all_or_nothing first.typ ≡ true → R) → R
-unless_none d rows R t one is f = elim (one-row d rows t.passed t.end one t.passes t.ended) [
-  | inl e ↦ absurd (false≢true (subst (λ (bytes : List ℕ). is_all_or_nothing (type_at bytes) ≡ true) e.1 is))
-  | inr e ↦ f e.0 e.1 (ap is_all_or_nothing e.2 ∙ is)
+-- its type is that of its chunk, and of one without chunks that of DATA
+pub type_of_one : (d : List ℕ) (rows : List ChunkPlace) → TellsAll place_at d rows → EndsWithFirst d
+    → ((first : ChunkPlace) → rows ≡ first ∷ [] → is_all_or_nothing first.typ ≡ false) → is_all_or_nothing (first_type d) ≡ false
+type_of_one d rows t one f = elim (one-row d rows t.passed t.end one t.passes t.ended) [
+  | inl e ↦ ap (λ (bytes : List ℕ). is_all_or_nothing (type_at bytes)) e.1
+  | inr e ↦ sym (ap is_all_or_nothing e.2) ∙ f e.0 e.1
 ]
 
--- ## Whose datagram it is not
+-- ## Whose datagram it is
 
--- the first chunk may not stand there, or is a COOKIE-ECHO
-module _ (d : List ℕ) (rows rest : List ChunkPlace) (first : ChunkPlace) (key : List ℕ) (m : Machine) (are : rows ≡ first ∷ rest) (X : Type 0)
-    (cookie : first.typ ≡ 10 → X) (other : AdmitsFirst d rows key m → ⊥) where
-  by-type : (b : Bool) → (first.typ == 10) ≡ b → is_admitted first (u32_at d 4) (length rows) m ≡ true → X
-  by-type true e admitted = cookie (eqb-true first.typ 10 e)
-  by-type false e admitted =
-      absurd (other (record { first = first; rest = rest; are = are; admitted = admitted; cookie = λ is. absurd (eqb-false first.typ 10 e is) }))
-
-  by-tag : (b : Bool) → is_admitted first (u32_at d 4) (length rows) m ≡ b → (is_admitted first (u32_at d 4) (length rows) m ≡ false → X) → X
-  by-tag true e refused = by-type (first.typ == 10) refl e
-  by-tag false e refused = refused e
-
-  pub unless_admitted : (tag count : ℕ) → tag ≡ u32_at d 4 → count ≡ length rows → (is_admitted first tag count m ≡ false → X) → X
-  unless_admitted tag count t n refused =
-      let so = subst (λ k. is_admitted first (u32_at d 4) k m ≡ false → X) n (subst (λ k. is_admitted first k count m ≡ false → X) t refused) in
-      by-tag (is_admitted first (u32_at d 4) (length rows) m) refl so
+pub for_admitted : (d : List ℕ) (rows : List ChunkPlace) (key : List ℕ) (m : Machine) → TellsAll place_at d rows → (r : Result Taken Fault)
+    → IfOk r (λ t. is_accepted t ≡ true → AdmitsFirst d rows key m) → IfOk r (λ t. is_accepted t ≡ true → IsFor d key m)
+for_admitted d rows key m all (Ok t) h = λ e. record { chunks = rows; tells = all; admits = h e }
+for_admitted d rows key m all (Err e) h = tt

@@ -1,8 +1,10 @@
 -- An association that only looks different is the same: there is one proof that its receiver has the limits of its config.
-use Rattle.std.proofs.Common.{◌≡◌, ◌≤◌, Some, ap, ◌∙◌}
+use Rattle.std.proofs.Common.{◌≡◌, ◌≤◌, Some, ap, sym, subst, ◌∙◌}
 use Rattle.std.proofs.Props.{props}
-use Rattle.std.specs.Prelude.{IfSome}
+use Rattle.std.specs.Prelude.{IfSome, Option}
 use Rattle.sctp_association.specs.declared.association.Association.{Association}
+use Rattle.sctp_association.specs.declared.event.Events.{Events}
+use Rattle.sctp_association.specs.declared.inbound.Inbound.{Inbound}
 use Rattle.sctp_association.specs.Reached.{limits_of}
 use Rattle.sctp_handshake.specs.declared.machine.Machine.{Machine}
 
@@ -14,3 +16,12 @@ one_proof a = hlevel props
 
 pub same_machine : (a : Association) (m : Machine) (p : IsWithin a) → m ≡ a.machine → record a { machine = m; limited = p } ≡ a
 same_machine a m p e = ap (λ m. record a { machine = m; limited = p }) e ∙ ap (λ l. record a { limited = l }) (one_proof a p a.limited)
+
+abbrev IsIn : Association → Option Inbound → Type 0
+IsIn a o = IfSome o (λ i. (i.receiver.limits ≡ Some (limits_of a.config)) × (i.streams ≤ a.config.inbound_streams))
+
+pub same_inbound : (a : Association) (o : Option Inbound) (e : Events) (p : IsIn a o) → o ≡ a.inbound → e ≡ a.events
+    → record a { inbound = o; events = e; limited = p } ≡ a
+same_inbound a o e p same told =
+    let P : Option Inbound → Type 0 = λ x. (q : IsIn a x) → record a { inbound = x; events = e; limited = q } ≡ a in
+    subst P (sym same) (λ q. ap (λ v. record a { events = v; limited = q }) told ∙ ap (λ l. record a { limited = l }) (one_proof a q a.limited)) p

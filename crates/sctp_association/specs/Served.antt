@@ -1,9 +1,14 @@
 -- Streams on which the peer's messages are taken.
-use Rattle.std.specs.Prelude.{◌≡◌, ℕ, ◌<◌, true, false, All}
+use Rattle.std.specs.Prelude.{◌≡◌, ℕ, ◌<◌, nat_lt, Bool, true, false, not, ◌&&◌, All}
 use Rattle.sctp_association.specs.declared.inbound.Inbound.{Inbound}
 use Rattle.sctp_association.specs.StreamSet.{is_in}
 use Rattle.sctp_data.specs.ForwardTsn.{ForwardTsn}
 use Rattle.sctp_receiver.specs.Receiver.{is_open}
+
+-- it is to be opened by what comes on it: it was agreed on, is not open, and no message on it was too long
+abbrev pub is_to_open : ℕ → Inbound → Bool
+is_to_open stream i =
+    not (is_open stream i.receiver) && (nat_lt stream i.streams && not (is_in stream i.discarded))
 
 -- the stream is open, if it is one of those that were agreed on, and no message on it was too long
 abbrev pub IsServed : ℕ → Inbound → Type 0

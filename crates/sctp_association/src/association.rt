@@ -44,6 +44,9 @@ use std::alloc::Global;
 pub enum Taken {
     /// It is for this association, and its chunks were taken.
     Accepted,
+    /// It is for this association, and memory was wanting behind its first change: the chunks before were taken, and those from the refused
+    /// one on count as lost. The peer sends them again.
+    Partly,
     /// It is dropped, and changed nothing.
     Dropped(Reason),
 }

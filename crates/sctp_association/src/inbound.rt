@@ -1,11 +1,12 @@
 //! What comes of the peer's messages, and when it is acknowledged (RFC 9260 6.2, 6.5; RFC 3758 3.6).
 
-ghost use Rattle.std.specs.Prelude.{◌≡◌, ◌==◌, ◌<◌, ◌≤◌, ℕ, Ok, IfOk, IsOk, OnOk, Some, length, option_map, true, false};
+ghost use Rattle.std.specs.Prelude.{◌≡◌, ◌==◌, ◌<◌, ◌≤◌, ℕ, Ok, IfOk, IsOk, OnErr, OnOk, Some, length, option_map, true, false};
 ghost use Rattle.sctp_association.specs.Arrivals.{AsksFor, IsOpening, IsOpeningNamed, IsReset, Received};
 ghost use Rattle.sctp_association.specs.Filled.{IfNonePut};
 ghost use Rattle.sctp_association.specs.Packets.{PutsIn};
 ghost use Rattle.sctp_association.specs.Reached.{IsLimited, most_user_data};
 ghost use Rattle.sctp_association.specs.StreamSet.{is_in};
+ghost use Rattle.sctp_association.specs.declared.inbound.Followed.TheVariants.{Wanting};
 ghost use Rattle.sctp_chunks.specs.Wire.{data_chunk, forward_tsn_chunk};
 ghost use Rattle.sctp_data.specs.ForwardTsn.{forward_tsn_of};
 ghost use Rattle.sctp_data.specs.PayloadData.{data_of};
@@ -52,6 +53,8 @@ pub(crate) enum Followed {
     Abort(AbortCause),
     /// It has no user data: the association is to end with cause 9 (RFC 9260 6.2, 3.3.10.9).
     NoUserData(u32),
+    /// Memory was wanting, where its stream was to be opened: that may have begun.
+    Wanting,
 }
 
 /// The receiving half.
@@ -72,7 +75,7 @@ pub(crate) struct Inbound {
 
 impl Inbound {
     ghost use Rattle.sctp_association.specs.Reads.{IsReadOff};
-    ghost use Rattle.sctp_association.specs.Served.{AreServed, IsServed};
+    ghost use Rattle.sctp_association.specs.Served.{AreServed, IsServed, is_to_open};
 
     /// Nothing came. It takes no memory.
     #[tactic(auto, using(crate::proofs::Reaching::begun))]
@@ -98,8 +101,8 @@ impl Inbound {
         }
     }
 
-    /// Takes a DATA chunk. What repeats, fills a gap or leaves one is acknowledged at once (RFC 9260 6.2, 6.7).
-    #[tactic(auto, using(crate::proofs::Reaching::data_led, crate::proofs::Reaching::taken_limits))]
+    /// Takes a DATA chunk. What repeats, fills a gap or leaves one is acknowledged at once (RFC 9260 6.2, 6.7). Refuses only for memory, and
+    /// nothing has changed then.
     pub(crate) fn take_data(
         &mut self,
         chunk: &ChunkPayloadData,
@@ -112,12 +115,58 @@ impl Inbound {
             self.old.receiver self.new.receiver }
         ensures limits { (self.new.receiver.limits ≡ self.old.receiver.limits)
             × (self.new.streams ≡ self.old.streams) }
+        // Where memory is wanting something may have changed only if the stream of the chunk was to be opened.
+        ensures wanting { result ≡ Ok Wanting
+            → is_to_open chunk.now.stream_identifier self.old ≡ true }
+        ensures err { OnErr result ((self.new ≡ self.old) × (events.new ≡ events.old)) }
     {
         if chunk.user_data.is_empty() {
             return Ok(Followed::NoUserData(chunk.tsn));
         }
+        if !self.is_to_open(chunk.stream_identifier) {
+            return self.take_on(chunk, events, now);
+        }
+        match self.open_and_take(chunk, events, now) {
+            Ok(followed) => Ok(followed),
+            Err(_) => Ok(Followed::Wanting),
+        }
+    }
+
+    // Opens the stream of a DATA chunk, and takes the chunk.
+    #[inline(never)]
+    fn open_and_take(
+        &mut self,
+        chunk: &ChunkPayloadData,
+        events: &mut Events,
+        now: u64,
+    ) -> Result<Followed, Fault>
+        requires short { length chunk.now.user_data ≤ most_user_data }
+        ensures received { Received (AsksFor (data_chunk (data_of chunk.now)))
+            self.old.receiver self.new.receiver }
+        ensures limits { (self.new.receiver.limits ≡ self.old.receiver.limits)
+            × (self.new.streams ≡ self.old.streams) }
+    {
+        self.open_agreed(chunk.stream_identifier, events)?;
+        self.take_on(chunk, events, now)
+    }
+
+    // Takes a DATA chunk, and opens no stream for it.
+    #[tactic(auto, using(crate::proofs::Reaching::data_led, crate::proofs::Reaching::taken_limits))]
+    fn take_on(
+        &mut self,
+        chunk: &ChunkPayloadData,
+        events: &mut Events,
+        now: u64,
+    ) -> Result<Followed, Fault>
+        requires short { length chunk.now.user_data ≤ most_user_data }
+        ensures received { Received (AsksFor (data_chunk (data_of chunk.now)))
+            self.old.receiver self.new.receiver }
+        ensures limits { (self.new.receiver.limits ≡ self.old.receiver.limits)
+            × (self.new.streams ≡ self.old.streams) }
+        ensures whole { result ≡ Ok Wanting → ⊥ }
+        ensures err { OnErr result ((self.new ≡ self.old) × (events.new ≡ events.old)) }
+    {
         let stream = chunk.stream_identifier;
-        self.open(stream, events)?;
         let had_gap = self.receiver.has_gaps();
         let _tsn = chunk.tsn;
         match self.receiver.data(chunk) {
@@ -158,6 +207,15 @@ impl Inbound {
             self.delay.packet_came(now, at_once);
             self.came = None;
         }
+    }
+
+    // Whether a stream is to be opened: it is one of those that were agreed, not open, and no message of the peer on it was too long.
+    fn is_to_open(&self, stream: u16) -> bool
+        ensures { result ≡ is_to_open stream self.now }
+    {
+        self.receiver.stats(stream).is_none()
+            && stream < self.streams
+            && !self.discarded.contains(stream)
     }
 
     // Opens a stream, if it is one of those that were agreed, and not open, and the peer's messages on it were not too long.
@@ -225,6 +283,8 @@ impl Inbound {
             × (self.new.streams ≡ self.old.streams) }
         ensures kept { (n : ℕ) → is_in n self.old.discarded ≡ true
             → is_in n self.new.discarded ≡ true }
+        ensures whole { result ≡ Ok Wanting → ⊥ }
+        ensures err { OnErr result ((self.new ≡ self.old) × (events.new ≡ events.old)) }
     {
         let stream = chunk.stream_identifier;
         match advise(refusal, chunk, &self.receiver) {

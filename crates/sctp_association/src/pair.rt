@@ -93,7 +93,8 @@ pub fn take(one: &mut Association, stream: u16, now: u64) -> Option<Chunks>
 }
 
 /// Hands a datagram over, so many times, each at `now`, in nanoseconds: one that the peer has written, however long ago. One that is dropped
-/// is no error. Refuses as `Association::handle_datagram` does, for memory: then it was handed over fewer times, or the last time in part.
+/// is no error, nor is one that is taken in part. Refuses as `Association::handle_datagram` does, for memory: then it was handed over fewer
+/// times.
 pub fn hand_over(
     other: &mut Association,
     datagram: &Bytes,

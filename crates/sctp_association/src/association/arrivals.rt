@@ -1,6 +1,6 @@
 //! What comes in a datagram (RFC 9260 5, 6, 8.5, 9).
 
-ghost use Rattle.std.specs.Prelude.{◌≡◌, ◌≤◌, [], ◌∷◌, None, Ok, IfOk, IfSome, IsOk, OnErr, true, false, drop, length};
+ghost use Rattle.std.specs.Prelude.{◌≡◌, ◌≤◌, [], ◌∷◌, None, Ok, IfOk, IfSome, OnErr, true, false, drop, length};
 ghost use Rattle.std.specs.List.{AllByRecursion};
 ghost use Rattle.sctp_association.specs.Arrivals.{Arrives, CallsArrive};
 ghost use Rattle.sctp_association.specs.Beginnings.{ArrivesAsOffered, BeginsBy, BeginsByDatagram, BeginsByTicket, KeepsPeer};
@@ -8,11 +8,11 @@ ghost use Rattle.sctp_association.specs.Kept.{IsKept, OwesNoMore, ticket_in_kind
 ghost use Rattle.sctp_association.specs.Cookies.{IsAlive, IsSealed, cookie_in};
 ghost use Rattle.sctp_association.specs.Halves.{HalvesAlike, halves_of};
 ghost use Rattle.sctp_association.specs.Reached.{most_user_data};
-ghost use Rattle.sctp_association.specs.Steps.{is_taken};
+ghost use Rattle.sctp_association.specs.Steps.{is_accepted, is_taken};
 ghost use Rattle.sctp_association.specs.Tags.{AdmitsFirst, BeginsByCookie, EndsWithFirst, FirstIs, FirstIsAlive, IsFor, first_type, is_admitted, is_all_or_nothing};
 ghost use Rattle.sctp_association.specs.declared.association.Reason.{Reason};
 ghost use Rattle.sctp_association.specs.declared.association.Reason.TheVariants.{Tag};
-ghost use Rattle.sctp_association.specs.declared.association.Taken.TheVariants.{Accepted, Dropped};
+ghost use Rattle.sctp_association.specs.declared.association.Taken.TheVariants.{Dropped, Partly};
 ghost use Rattle.sctp_association.specs.declared.association.arrivals.Step.TheVariants as step;
 ghost use Rattle.sctp_chunks.specs.Wire.{ReadsChunk, data_chunk};
 ghost use Rattle.sctp_data.specs.PayloadData.{data_of};
@@ -43,11 +43,14 @@ use sctp_util::error::Error;
 use sctp_util::field::read_u16;
 
 // What became of a chunk.
+#[derive(Drop)]
 pub(super) enum Step {
     // It was taken, or is passed over.
     Next,
     // Nothing more of the datagram is looked at.
     Stop,
+    // Memory was wanting, and something may have changed: nothing more of the datagram is looked at.
+    Cut,
     // It is not for this association, or not expected.
     Refused(Reason),
 }
@@ -84,7 +87,7 @@ fn ending_of(followed: Followed) -> Option<AloneKind>
     ensures { IfSome result (λ kind. ticket_in_kind kind ≡ None) }
 {
     match followed {
-        Followed::Done => None,
+        Followed::Done | Followed::Wanting => None,
         Followed::NoUserData(tsn) => Some(AloneKind::NoUserData(tsn)),
         Followed::Abort(AbortCause::OutOfResource) => Some(AloneKind::Abort(4)),
         Followed::Abort(AbortCause::ProtocolViolation) => Some(AloneKind::Abort(13)),
@@ -92,9 +95,9 @@ fn ending_of(followed: Followed) -> Option<AloneKind>
 }
 
 impl Association {
-    /// Takes a datagram of the peer. One that is dropped changes nothing. Where memory is wanting, the chunks before are taken, and those
-    /// from the refused one on count as lost: the peer sends them again. Of SACK, SHUTDOWN, RE-CONFIG and FORWARD-TSN the first one in the
-    /// datagram counts, of COOKIE-ECHO one that stands first; others are passed over.
+    /// Takes a datagram of the peer. One that is dropped changes nothing. Refuses only for memory, and nothing has changed then. Where memory
+    /// is wanting behind the first change, the datagram is taken in part (`Taken::Partly`). Of SACK, SHUTDOWN, RE-CONFIG and FORWARD-TSN the
+    /// first one in the datagram counts, of COOKIE-ECHO one that stands first; others are passed over.
     pub fn handle_datagram(&mut self, datagram: &Bytes, now: u64) -> Result<Taken, Fault>
         ensures dropped { (r : Reason) → result ≡ Ok (Dropped r) → self.new ≡ self.old }
         // Whatever it answers: the receiver and the sender are called for chunks that the datagram carries, and for nothing else.
@@ -102,8 +105,8 @@ impl Association {
         // And a half is a new one only with the first TSN of a ticket that this side has sealed, or, where it has asked, of the INIT ACK.
         ensures offered { ArrivesAsOffered datagram.now self.old self.new }
         // Whose packet it is not is not accepted, and changes nothing (RFC 9260 8.5, 5.1.5).
-        ensures accepted { result ≡ Ok Accepted
-            → IsFor datagram.now self.old.key self.old.machine }
+        ensures accepted { IfOk result (λ t. is_accepted t ≡ true
+            → IsFor datagram.now self.old.key self.old.machine) }
         ensures foreign { (IsFor datagram.now self.old.key self.old.machine → ⊥)
             → self.new ≡ self.old }
         // An INIT changes nothing but what is due: the one reply (RFC 9260 5.1 B).
@@ -116,10 +119,11 @@ impl Association {
         ensures first { self.old.machine.state ≡ Closed → (self.new.machine.state ≡ Closed → ⊥)
             → BeginsByDatagram datagram.now self.old.key self.old.config
             (halves_of self.old) (halves_of self.new) }
-        // Where memory is wanting, a datagram of one chunk has changed nothing, unless that is DATA, FORWARD-TSN or RE-CONFIG.
-        ensures memory { EndsWithFirst datagram.now
-            → is_all_or_nothing (first_type datagram.now) ≡ true
-            → OnErr result (self.new ≡ self.old) }
+        // Where it is refused nothing has changed.
+        ensures memory { OnErr result (self.new ≡ self.old) }
+        // A datagram of one chunk is taken in part only if that is DATA, FORWARD-TSN or RE-CONFIG.
+        ensures partly { result ≡ Ok Partly → EndsWithFirst datagram.now
+            → is_all_or_nothing (first_type datagram.now) ≡ false }
     {
         let zero = if self.config.zero_checksum {
             ZeroChecksum::Allowed
@@ -148,8 +152,9 @@ impl Association {
     #[inline(never)]
     fn take_after_end(&mut self, chunks: Datagram) -> Taken
         ensures dropped { (r : Reason) → result ≡ Dropped r → self.new ≡ self.old }
-        ensures accepted { result ≡ Accepted → AdmitsFirst
+        ensures accepted { is_accepted result ≡ true → AdmitsFirst
             chunks.entry.bytes chunks.entry.left self.old.key self.old.machine }
+        ensures whole { result ≡ Partly → ⊥ }
         ensures rest { self.new ≡ record self.old { due = self.new.due } }
         ensures owes { OwesNoMore self.old self.new }
     {
@@ -177,8 +182,8 @@ impl Association {
         requires all { TellsAll place_at datagram.now chunks.left }
         ensures came { ArrivesAsOffered datagram.now self.old self.new }
         ensures dropped { (r : Reason) → result ≡ Ok (Dropped r) → self.new ≡ self.old }
-        ensures accepted { result ≡ Ok Accepted
-            → AdmitsFirst datagram.now chunks.entry.left self.old.key self.old.machine }
+        ensures accepted { IfOk result (λ t. is_accepted t ≡ true
+            → AdmitsFirst datagram.now chunks.entry.left self.old.key self.old.machine) }
         ensures foreign { (AdmitsFirst datagram.now chunks.entry.left
             self.old.key self.old.machine → ⊥)
             → self.new ≡ self.old }
@@ -190,8 +195,9 @@ impl Association {
         ensures first { self.old.machine.state ≡ Closed → (self.new.machine.state ≡ Closed → ⊥)
             → BeginsByDatagram datagram.now self.old.key self.old.config
             (halves_of self.old) (halves_of self.new) }
-        ensures memory { (first : ChunkPlace) → chunks.entry.left ≡ first ∷ []
-            → is_all_or_nothing first.typ ≡ true → OnErr result (self.new ≡ self.old) }
+        ensures memory { OnErr result (self.new ≡ self.old) }
+        ensures partly { (first : ChunkPlace) → chunks.entry.left ≡ first ∷ []
+            → result ≡ Ok Partly → is_all_or_nothing first.typ ≡ false }
     {
         let mut chunks = chunks;
         let tag = chunks.header().verification_tag;
@@ -202,13 +208,27 @@ impl Association {
         match self.take_first(datagram, first, tag, count, now)? {
             Step::Refused(reason) => return Ok(Taken::Dropped(reason)),
             Step::Stop => return Ok(Taken::Accepted),
+            Step::Cut => {
+                self.end_datagram(now);
+                return Ok(Taken::Partly);
+            }
             Step::Next => {}
         }
-        let taken = self.take_others(datagram, chunks, first.typ, now);
-        self.datagram_ended(now);
-        taken?;
-        self.settle(now);
+        let is_whole = self.take_others(datagram, chunks, first.typ, now);
+        self.end_datagram(now);
+        if !is_whole {
+            return Ok(Taken::Partly);
+        }
         Ok(Taken::Accepted)
+    }
+
+    // The datagram has ended, or the rest of it counts as lost: what follows from the chunks that were taken.
+    fn end_datagram(&mut self, now: u64)
+        ensures halves { HalvesAlike self.old self.new }
+        ensures peer { KeepsPeer self.old self.new }
+    {
+        self.datagram_ended(now);
+        self.settle(now);
     }
 
     // The datagram has ended: what came in it may be acknowledged.
@@ -241,7 +261,9 @@ impl Association {
         ensures init_stops { chunk.typ ≡ 1 → result ≡ Ok step.Next → ⊥ }
         ensures cookie { chunk.typ ≡ 10 → IfOk result (λ s. is_taken s ≡ true
             → IsSealed self.old.key tag (cookie_in datagram.now chunk)) }
-        ensures err { is_all_or_nothing chunk.typ ≡ true → OnErr result (self.new ≡ self.old) }
+        ensures err { OnErr result (self.new ≡ self.old) }
+        ensures cut { result ≡ Ok step.Cut → is_all_or_nothing chunk.typ ≡ false }
+        ensures closed_cut { self.old.machine.state ≡ Closed → result ≡ Ok step.Cut → ⊥ }
         ensures closed_next { self.old.machine.state ≡ Closed → result ≡ Ok step.Next
             → (chunk.typ ≡ 10) × IsAlive now self.old.config.cookie_life
             self.old.key tag (cookie_in datagram.now chunk) }
@@ -261,18 +283,13 @@ impl Association {
         }
     }
 
-    // Takes the chunks behind the first one, up to one that ends the packet or cannot be read. No INIT is among them, which stands alone.
-    fn take_others(
-        &mut self,
-        datagram: &Bytes,
-        chunks: Datagram,
-        first: u8,
-        now: u64,
-    ) -> Result<(), Fault>
+    // Takes the chunks behind the first one, up to one that ends the packet, cannot be read, or is refused for memory. Answers whether memory
+    // sufficed. No INIT is among them, which stands alone.
+    fn take_others(&mut self, datagram: &Bytes, chunks: Datagram, first: u8, now: u64) -> bool
         requires whole { chunks.bytes ≡ datagram.now }
         requires own { AllByRecursion (IsChunkOf datagram.now) chunks.left }
         ensures came { ArrivesAsOffered datagram.now self.old self.new }
-        ensures none { chunks.entry.left ≡ [] → IsOk result }
+        ensures none { chunks.entry.left ≡ [] → result ≡ true }
     {
         let mut chunks = chunks;
         let tag = chunks.header().verification_tag;
@@ -284,13 +301,14 @@ impl Association {
             if !once.counts(chunk.typ) {
                 continue;
             }
-            match self.take_chunk(datagram, chunk, tag, 2, now)? {
+            match self.take_chunk(datagram, chunk, tag, 2, now) {
                 // What is not expected is passed over, and not what stands behind it.
-                Step::Next | Step::Refused(Reason::Unexpected) => {}
-                Step::Stop | Step::Refused(_) => break,
+                Ok(Step::Next) | Ok(Step::Refused(Reason::Unexpected)) => {}
+                Ok(Step::Stop) | Ok(Step::Refused(_)) => break,
+                Ok(Step::Cut) | Err(_) => return false,
             }
         }
-        Ok(())
+        true
     }
 
     // Whether a chunk may stand in a packet with this tag, of so many chunks (RFC 9260 8.5, 8.5.1). The tag of a COOKIE-ECHO is looked at with
@@ -335,7 +353,9 @@ impl Association {
         ensures init_stops { chunk.typ ≡ 1 → result ≡ Ok step.Next → ⊥ }
         ensures cookie { chunk.typ ≡ 10 → IfOk result (λ s. is_taken s ≡ true
             → IsSealed self.old.key tag (cookie_in datagram.now chunk)) }
-        ensures err { is_all_or_nothing chunk.typ ≡ true → OnErr result (self.new ≡ self.old) }
+        ensures err { OnErr result (self.new ≡ self.old) }
+        ensures cut { result ≡ Ok step.Cut → is_all_or_nothing chunk.typ ≡ false }
+        ensures closed_cut { self.old.machine.state ≡ Closed → result ≡ Ok step.Cut → ⊥ }
         ensures closed_next { self.old.machine.state ≡ Closed → result ≡ Ok step.Next
             → (chunk.typ ≡ 10) × IsAlive now self.old.config.cookie_life
             self.old.key tag (cookie_in datagram.now chunk) }
@@ -372,6 +392,7 @@ impl Association {
         ensures came { CallsArrive datagram.now (halves_of self.old) (halves_of self.new) }
         ensures peer { KeepsPeer self.old self.new }
         ensures refused { (r : Reason) → result ≡ Ok (step.Refused r) → self.new ≡ self.old }
+        ensures err { OnErr result (self.new ≡ self.old) }
     {
         if !self.machine.state().takes_data() {
             return Ok(Step::Refused(Reason::Unexpected));
@@ -381,6 +402,9 @@ impl Association {
             return Ok(Step::Refused(Reason::Unexpected));
         };
         let followed = inbound.take_data(&data, &mut self.events, now)?;
+        if let Followed::Wanting = followed {
+            return Ok(Step::Cut);
+        }
         let before = self.machine.state();
         let answer = self.machine.packet_arrived(true);
         self.run_again(answer, now);
@@ -398,7 +422,7 @@ impl Association {
         }
     }
 
-    // Takes a FORWARD-TSN.
+    // Takes a FORWARD-TSN. Where memory is wanting for a stream that it names, others may be open.
     #[inline(never)]
     fn take_skip(&mut self, datagram: &Bytes, chunk: ChunkPlace, now: u64) -> Result<Step, Fault>
         requires place { IsPlace datagram.now chunk }
@@ -406,6 +430,7 @@ impl Association {
         ensures came { CallsArrive datagram.now (halves_of self.old) (halves_of self.new) }
         ensures peer { KeepsPeer self.old self.new }
         ensures refused { (r : Reason) → result ≡ Ok (step.Refused r) → self.new ≡ self.old }
+        ensures err { OnErr result (self.new ≡ self.old) }
     {
         if !self.machine.state().takes_data() {
             return Ok(Step::Refused(Reason::Unexpected));
@@ -416,7 +441,9 @@ impl Association {
         let Some(inbound) = &mut self.inbound else {
             return Ok(Step::Refused(Reason::Unexpected));
         };
-        let followed = inbound.take_skip(&skip, &mut self.events, now)?;
+        let Ok(followed) = inbound.take_skip(&skip, &mut self.events, now) else {
+            return Ok(Step::Cut);
+        };
         Ok(self.end_by(followed))
     }
 
@@ -441,6 +468,7 @@ impl Association {
         ensures peer { KeepsPeer self.old self.new }
         ensures refused { (r : Reason) → result ≡ Ok (step.Refused r) → self.new ≡ self.old }
         ensures err { OnErr result (self.new ≡ self.old) }
+        ensures whole { result ≡ Ok step.Cut → ⊥ }
     {
         if !self.machine.state().takes_sacks() {
             return Ok(Step::Refused(Reason::Unexpected));
@@ -488,6 +516,7 @@ impl Association {
         ensures came { ArrivesAsOffered datagram.now self.old self.new }
         ensures refused { (r : Reason) → result ≡ Ok (step.Refused r) → self.new ≡ self.old }
         ensures err { OnErr result (self.new ≡ self.old) }
+        ensures whole { result ≡ Ok step.Cut → ⊥ }
     {
         match chunk.typ {
             4 => self.take_heartbeat(datagram, chunk),
@@ -526,6 +555,7 @@ impl Association {
         ensures kept { IsKept self.old self.new }
         ensures begun { BeginsBy answer.told self.old.machine self.old.config
             (halves_of self.old) (halves_of self.new) }
+        ensures whole { result ≡ step.Cut → ⊥ }
     {
         if answer.reply.is_none() && answer.told.is_none() {
             return Step::Refused(Reason::Unexpected);
@@ -539,6 +569,7 @@ impl Association {
         ensures refused { (r : Reason) → result ≡ step.Refused r → self.new ≡ self.old }
         ensures halves { HalvesAlike self.old self.new }
         ensures peer { KeepsPeer self.old self.new }
+        ensures whole { result ≡ step.Cut → ⊥ }
     {
         let answer = self.machine.abort();
         if answer.told.is_none() {
@@ -561,6 +592,7 @@ impl Association {
         ensures peer { KeepsPeer self.old self.new }
         ensures refused { (r : Reason) → result ≡ Ok (step.Refused r) → self.new ≡ self.old }
         ensures err { OnErr result (self.new ≡ self.old) }
+        ensures whole { result ≡ Ok step.Cut → ⊥ }
     {
         let Some(shutdown) = self.read_chunk::<ChunkShutdown>(datagram, chunk)? else {
             return Ok(Step::Refused(Reason::NoPacket));
@@ -590,6 +622,7 @@ impl Association {
         ensures halves { HalvesAlike self.old self.new }
         ensures kept { IsKept self.old self.new }
         ensures err { OnErr result (self.new ≡ self.old) }
+        ensures whole { result ≡ Ok step.Cut → ⊥ }
     {
         // Who asks answers from COOKIE-ECHOED on, who is asked once the association stands (RFC 9260 8.3).
         if self.machine.peer().is_none() {
@@ -618,6 +651,7 @@ impl Association {
         ensures halves { HalvesAlike self.old self.new }
         ensures kept { IsKept self.old self.new }
         ensures err { OnErr result (self.new ≡ self.old) }
+        ensures whole { result ≡ Ok step.Cut → ⊥ }
     {
         let Some(ack) = self.read_chunk::<ChunkHeartbeatAck>(datagram, chunk)? else {
             return Ok(Step::Refused(Reason::NoPacket));
@@ -654,6 +688,7 @@ impl Association {
         ensures refused { (r : Reason) → result ≡ step.Refused r → self.new ≡ self.old }
         ensures halves { HalvesAlike self.old self.new }
         ensures peer { KeepsPeer self.old self.new }
+        ensures whole { result ≡ step.Cut → ⊥ }
     {
         let end = chunk.at.saturating_add(chunk.length);
         if end > datagram.len() || chunk.at.saturating_add(8) > end {

@@ -44,6 +44,7 @@ impl Association {
         ensures owes { (ticket : Ticket) → OwesTicket self.new ticket
             → OwesTicket self.old ticket ⊎ IsOwedFor datagram.now self.old ticket }
         ensures stops { result ≡ Ok step.Next → ⊥ }
+        ensures whole { result ≡ Ok step.Cut → ⊥ }
     {
         let Ok(value) = init_value(bytes_of(datagram, chunk)) else {
             return Ok(Step::Refused(Reason::NoPacket));
@@ -86,6 +87,7 @@ impl Association {
         requires typ { chunk.typ ≡ 2 }
         ensures refused { (r : Reason) → result ≡ Ok (step.Refused r) → self.new ≡ self.old }
         ensures err { OnErr result (self.new ≡ self.old) }
+        ensures whole { result ≡ Ok step.Cut → ⊥ }
         ensures came { ArrivesAsOffered datagram.now self.old self.new }
     {
         let Ok(value) = init_value(bytes_of(datagram, chunk)) else {
@@ -131,6 +133,7 @@ impl Association {
         ensures taken { self.old.machine.state ≡ CookieWait → IfOk (init_in value.now)
             (λ said. said.offer.tag ≢ 0 → result ≡ step.Stop) }
         ensures never { result ≡ step.Next → ⊥ }
+        ensures whole { result ≡ step.Cut → ⊥ }
         ensures refused { (r : Reason) → result ≡ step.Refused r → self.new ≡ self.old }
         ensures halves { HalvesAlike self.old self.new }
         ensures peer { KeepsPeer self.old self.new }
@@ -176,6 +179,7 @@ impl Association {
             (halves_of self.old) (halves_of self.new) }
         // A cookie that is too old begins nothing (RFC 9260 5.1.5).
         ensures stale { result ≡ Ok step.Stop → self.new.machine ≡ self.old.machine }
+        ensures whole { result ≡ Ok step.Cut → ⊥ }
     {
         let raw = bytes_of(datagram, chunk);
         if chunk.length > raw.len() || chunk.length < 4 {
@@ -212,6 +216,7 @@ impl Association {
         requires typ { chunk.typ ≡ 11 }
         ensures came { ArrivesAsOffered datagram.now self.old self.new }
         ensures refused { (r : Reason) → result ≡ step.Refused r → self.new ≡ self.old }
+        ensures whole { result ≡ step.Cut → ⊥ }
     {
         if !self.may_begin() {
             return Step::Refused(Reason::Unexpected);

@@ -206,7 +206,7 @@ impl Association {
     }
 
     /// Takes a RE-CONFIG chunk: of its parameters those that are requests or responses, and of requests to reset streams the first (RFC 6525
-    /// 3.1). So a chunk resets each of the agreed streams at most once, or those that it lists.
+    /// 3.1). So a chunk resets each of the agreed streams at most once, or those that it lists. Where memory is wanting some may be reset.
     #[inline(never)]
     pub(super) fn take_reconfig(
         &mut self,
@@ -220,6 +220,7 @@ impl Association {
         ensures came { CallsArrive datagram.now (halves_of self.old) (halves_of self.new) }
         ensures kept { IsKept self.old self.new }
         ensures refused { (r : Reason) → result ≡ Ok (step.Refused r) → self.new ≡ self.old }
+        ensures err { OnErr result (self.new ≡ self.old) }
     {
         if !self.machine.state().takes_data() && !self.machine.state().takes_sacks() {
             return Ok(Step::Refused(Reason::Unexpected));
@@ -228,10 +229,10 @@ impl Association {
         if end > datagram.len() || chunk.at > end {
             return Ok(Step::Refused(Reason::NoPacket));
         }
+        let raw = datagram.slice(chunk.at..end)?;
         let mut at = 4;
         let mut has_request = false;
         for _ in 0..MOST_PARAMS {
-            let raw = datagram.slice(chunk.at..end)?;
             if at >= raw.len() {
                 break;
             }
@@ -243,7 +244,9 @@ impl Association {
                 break;
             }
             has_request = has_request || is_request;
-            self.take_param(&raw, at, place.typ, now)?;
+            let Ok(()) = self.take_param(&raw, at, place.typ, now) else {
+                return Ok(Step::Cut);
+            };
             at = place.next;
         }
         Ok(Step::Next)

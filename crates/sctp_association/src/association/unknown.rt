@@ -55,6 +55,7 @@ impl Association {
         }) }
         ensures refused { (r : Reason) → result ≡ Ok (step.Refused r) → self.new ≡ self.old }
         ensures goes_on { IfOk result (λ s. s ≡ step.Next) }
+        ensures whole { result ≡ Ok step.Cut → ⊥ }
         ensures rest { self.new ≡ record self.old { due = self.new.due } }
         ensures owes { OwesNoMore self.old self.new }
         ensures err { OnErr result (self.new ≡ self.old) }

@@ -1,7 +1,8 @@
 use Rattle.std.proofs.Common.{ap, refl, rules}
+use Rattle.std.proofs.lemmas.Bool.{false≢true}
 use Rattle.sctp_association.proofs.Arrived.{arrives_of, arrives_same}
 use Rattle.sctp_association.specs.Halves.{halves_of}
-use Rattle.sctp_association.proofs.First.{begins, first_is, unless_none}
+use Rattle.sctp_association.proofs.First.{begins, first_is, for_admitted, type_of_one}
 use Rattle.sctp_association.proofs.Offered.{offered_less, offered_same}
 use Rattle.sctp_association.proofs.association.Association.handle_datagram.Goals as goal
 use Rattle.sctp_datagram.specs.Places.{TellsAll, place_at}
@@ -22,12 +23,13 @@ returns-in-Err c = record {
   dropped = λ r e. refl;
   came = arrives_same _ _ _ refl;
   offered = offered_same _ _ _ refl;
-  accepted = λ e. cc;
+  accepted = λ e. absurd (false≢true e);
   foreign = λ other. refl;
   init = λ begun. refl;
   begun = λ closed stands. absurd (stands closed);
   first = λ closed stands. absurd (stands closed);
-  memory = λ one is. tt;
+  memory = tt;
+  partly = λ e. cc;
 }
 
 pub returns-in-Err-ErrOutOfMemory-clause-came : goal.returns-in-Err-ErrOutOfMemory-clause-came
@@ -57,7 +59,12 @@ returns-then-header-self-clause-offered c = offered_same _ _ _ refl
 pub returns-then-self-2-clause-offered : goal.returns-then-self-2-clause-offered
 returns-then-self-2-clause-offered c = offered_less _ _ _ _ c.take_after_end.ensures.rest c.take_after_end.ensures.owes
 
-pub returns-clause-memory : goal.returns-clause-memory
-returns-clause-memory c one is =
+pub returns-clause-accepted : goal.returns-clause-accepted
+returns-clause-accepted c =
     let all : TellsAll place_at c.args.datagram.now c.in-Ok.chunks.left = search rules in
-    unless_none _ _ _ all one is c.take_chunks.ensures.memory
+    for_admitted _ _ _ _ all _ c.take_chunks.ensures.accepted
+
+pub returns-clause-partly : goal.returns-clause-partly
+returns-clause-partly c is one =
+    let all : TellsAll place_at c.args.datagram.now c.in-Ok.chunks.left = search rules in
+    type_of_one _ _ all one (λ first are. c.take_chunks.ensures.partly first are is)

@@ -1,7 +1,8 @@
-use Rattle.std.proofs.Common.{refl, ◌∙◌}
+use Rattle.std.proofs.Common.{Some, ap, refl, sym, ◌∙◌}
 use Rattle.sctp_association.proofs.Arrived.{came_alike, came_same, came_then, receiver_came}
 use Rattle.sctp_association.proofs.Begun.{quiet_arrived}
-use Rattle.sctp_association.proofs.Kept.{same_machine}
+use Rattle.sctp_association.proofs.First.{on_err}
+use Rattle.sctp_association.proofs.Kept.{same_inbound, same_machine}
 use Rattle.sctp_association.proofs.Known.{keeps_by, keeps_then, knows_arrived}
 use Rattle.sctp_association.proofs.association.Association.take_data.Goals as goal
 
@@ -18,6 +19,10 @@ pub returns-in_err-followed-clause-came : goal.returns-in_err-followed-clause-ca
 returns-in_err-followed-clause-came c =
     receiver_came _ _ c.requires.own _ c.in_ok-data.ensures.found _ _ _ _ c.take_data.new.self c.in-Some.is refl c.take_data.ensures.received
 
+pub returns-in-Wanting-clause-came : goal.returns-in-Wanting-clause-came
+returns-in-Wanting-clause-came c =
+    receiver_came _ _ c.requires.own _ c.in_ok-data.ensures.found _ _ _ _ c.take_data.new.self c.in-Some.is refl c.take_data.ensures.received
+
 pub returns-clause-came : goal.returns-clause-came
 returns-clause-came c =
     came_then _ _ _ _ (
@@ -28,6 +33,10 @@ returns-clause-came c =
     (came_alike _ _ _ c.end_by.ensures.halves)
     )
     )
+
+pub returns-in_err-followed-clause-err : goal.returns-in_err-followed-clause-err
+returns-in_err-followed-clause-err c =
+    on_err _ (same_inbound c.args.self.now _ _ _ (ap Some c.in_err-followed.ensures.err.0 ∙ sym c.in-Some.is) c.in_err-followed.ensures.err.1)
 
 pub returns-in_default-clause-refused : goal.returns-in_default-clause-refused
 returns-in_default-clause-refused c = λ r e. same_machine c.args.self.now c.args.self.now.machine _ refl

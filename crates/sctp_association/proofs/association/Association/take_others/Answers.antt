@@ -23,8 +23,14 @@ loop-preserved c = record {
 pub take_chunk-requires-clause-own : goal.take_chunk-requires-clause-own
 take_chunk-requires-clause-own c = (next_own _ _ _ _ c.in-Some.ensures.place c.loop.invariant.own).0
 
-pub returns-in_err-take_chunk : goal.returns-in_err-take_chunk
-returns-in_err-take_chunk c = record {
+pub returns-in-Ok-Cut : goal.returns-in-Ok-Cut
+returns-in-Ok-Cut c = record {
+  none = λ e. absurd (omega (arith, c.left-end.ensures, ap length e, c.loop-test.true));
+  came = offered_then _ _ _ c.loop.invariant.came _ c.take_chunk.ensures.came;
+}
+
+pub returns-in-Ok-Cut-2 : goal.returns-in-Ok-Cut-2
+returns-in-Ok-Cut-2 c = record {
   none = λ e. absurd (omega (arith, c.left-end.ensures, ap length e, c.loop-test.true));
   came = offered_then _ _ _ c.loop.invariant.came _ c.take_chunk.ensures.came;
 }
@@ -35,8 +41,8 @@ returns-after-loop c = record { came = c.loop.invariant.came; none = λ e. refl 
 pub returns-in_default : goal.returns-in_default
 returns-in_default c = record { came = c.loop.invariant.came; none = λ e. refl }
 
-pub returns-in-Stop : goal.returns-in-Stop
-returns-in-Stop c = record { came = offered_then _ _ _ c.loop.invariant.came _ c.take_chunk.ensures.came; none = λ e. refl }
+pub returns-in-Ok-Stop : goal.returns-in-Ok-Stop
+returns-in-Ok-Stop c = record { came = offered_then _ _ _ c.loop.invariant.came _ c.take_chunk.ensures.came; none = λ e. refl }
 
-pub returns-in-Stop-2 : goal.returns-in-Stop-2
-returns-in-Stop-2 c = record { came = offered_then _ _ _ c.loop.invariant.came _ c.take_chunk.ensures.came; none = λ e. refl }
+pub returns-in-Ok-Stop-2 : goal.returns-in-Ok-Stop-2
+returns-in-Ok-Stop-2 c = record { came = offered_then _ _ _ c.loop.invariant.came _ c.take_chunk.ensures.came; none = λ e. refl }

@@ -14,23 +14,14 @@ pub loop-init : goal.loop-init
 loop-init c = record { came = came_same _ _ _ refl; kept = record { config = refl; key = refl; machine = refl; owes = λ t e. e } }
 
 pub returns-in_err-raw-clause-came : goal.returns-in_err-raw-clause-came
-returns-in_err-raw-clause-came c = c.loop.invariant.came
+returns-in_err-raw-clause-came c = came_same _ _ _ refl
 
-pub returns-then-at-len-clause-came : goal.returns-then-at-len-clause-came
-returns-then-at-len-clause-came c = c.loop.invariant.came
-
-pub returns-in_default-clause-came : goal.returns-in_default-clause-came
-returns-in_default-clause-came c = c.loop.invariant.came
-
-pub returns-then-has_request-clause-came : goal.returns-then-has_request-clause-came
-returns-then-has_request-clause-came c = c.loop.invariant.came
-
-pub returns-after-loop-clause-came : goal.returns-after-loop-clause-came
-returns-after-loop-clause-came c = c.loop.invariant.came
+pub returns-clause-came : goal.returns-clause-came
+returns-clause-came c = c.loop.invariant.came
 
 -- a parameter of the chunk came
-pub returns-in_err-take_param-clause-came : goal.returns-in_err-take_param-clause-came
-returns-in_err-take_param-clause-came c =
+pub returns-in_default-take_param-clause-came : goal.returns-in_default-take_param-clause-came
+returns-in_default-take_param-clause-came c =
     let cut = cut_whole _ _ c.requires.place c.in_ok-raw.raw _ c.in_ok-raw.ensures.ok c.saturating_add-end.ensures (omega (arith, c.len.ensures)) in
     came_then _ _ _ _ c.loop.invariant.came (param_came _ _ c.requires.own c.requires.typ _ _ cut _ _ c.take_param.ensures.came)
 

@@ -10,7 +10,13 @@ pub returns-in-Err-ErrOutOfMemory-clause-came : goal.returns-in-Err-ErrOutOfMemo
 returns-in-Err-ErrOutOfMemory-clause-came c = came_same _ _ _ refl
 
 pub returns-in-Err : goal.returns-in-Err
-returns-in-Err c = record { came = came_same _ _ _ refl; peer = keeps_kept _ _ (record { config = refl; key = refl; machine = refl; owes = λ t e. e }); refused = search rules; err = search rules }
+returns-in-Err c = record {
+  came = came_same _ _ _ refl;
+  peer = keeps_kept _ _ (record { config = refl; key = refl; machine = refl; owes = λ t e. e });
+  refused = search rules;
+  err = search rules;
+  whole = search rules;
+}
 
 pub returns-in_err-take_sack-clause-came : goal.returns-in_err-take_sack-clause-came
 returns-in_err-take_sack-clause-came c =

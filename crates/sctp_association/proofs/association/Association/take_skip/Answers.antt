@@ -16,8 +16,8 @@ returns-in_default-clause-came c = came_same _ _ _ refl
 pub returns-in_default-inbound-clause-came : goal.returns-in_default-inbound-clause-came
 returns-in_default-inbound-clause-came c = came_same _ _ _ refl
 
-pub returns-in_err-followed-clause-came : goal.returns-in_err-followed-clause-came
-returns-in_err-followed-clause-came c =
+pub returns-in_default-take_skip-clause-came : goal.returns-in_default-take_skip-clause-came
+returns-in_default-take_skip-clause-came c =
     let reads : ReadsChunk (drop c.args.chunk.at c.args.datagram.now) (forward_tsn_chunk (forward_tsn_of c.in-Some.skip)) = search rules in
     receiver_came _ _ c.requires.own _ reads _ _ _ _ c.take_skip.new.self c.in-Some-inbound.is refl c.take_skip.ensures.received
 

@@ -1,0 +1,5 @@
+use Rattle.sctp_association.proofs.Known.{keeps_kept, keeps_then}
+use Rattle.sctp_association.proofs.association.Association.end_datagram.Goals as goal
+
+pub returns-clause-peer : goal.returns-clause-peer
+returns-clause-peer c = keeps_then _ _ _ (keeps_kept _ _ c.datagram_ended.ensures.kept) c.settle.ensures.peer
