@@ -33,6 +33,7 @@ pub mod HostSteps
 pub mod Tsns
 pub mod Hosts
 pub mod HostCalls
+pub mod Sized
 pub mod Rules
 pub mod PlainHosts
 pub mod OneLife

@@ -32,6 +32,7 @@ pub mod Sending
 pub mod Served
 pub mod Sessions
 pub mod Setups
+pub mod Sized
 pub mod Steps
 pub mod Still
 pub mod StreamSet
