@@ -1,10 +1,10 @@
 -- No chunk of a sender has more user data than it was cut for, whatever calls it has and whatever comes.
-use Rattle.std.proofs.Common.{◌≡◌, ◌+◌, ◌-◌, ◌≤◌, ◌∙◌, ℕ, zero, suc, Bool, true, false, List, [], ◌∷◌, length, get_or, drop, Option, Some, None, refl, ap}
+use Rattle.std.proofs.Common.{◌≡◌, ◌+◌, ◌-◌, ◌≤◌, ◌∙◌, ℕ, zero, suc, Bool, true, false, List, [], ◌∷◌, length, get_or, drop, Option, Some, None, refl, ap, inl, inr}
 use Rattle.std.proofs.Common.{sym, subst, arith}
 use Rattle.std.proofs.lemmas.List.{length-take}
-use Rattle.std.proofs.lemmas.Bool.{false≢true}
+use Rattle.std.proofs.lemmas.Bool.{cases_lt, false≢true}
 use Rattle.std.proofs.lemmas.Bool.Decides.{nat_tests}
-use Rattle.std.specs.Prelude.{All, IfSome, if◌then◌else◌, max, nat_le, option_map}
+use Rattle.std.specs.Prelude.{All, IfSome, if◌then◌else◌, nat_le, option_map}
 use Rattle.sctp_association.specs.Acks.{without_blocks}
 use Rattle.sctp_association.specs.Arrivals.{Arrival, Does, Halves, Hearing, Hears, IsBroughtAs, Steps, acks, begins, counts, hears, new_sender, passes}
 use Rattle.sctp_association.specs.Arrivals.{receives, renews, restarts}
@@ -14,8 +14,8 @@ use Rattle.sctp_association.specs.declared.association.Association.{Association}
 use Rattle.sctp_association.specs.declared.config.Config.{Config}
 use Rattle.sctp_association.specs.Halves.{expires_t3, fragment_size, halves_of, marked}
 use Rattle.sctp_association.specs.Runs.{Runs, SendsBy, is_sending, made_by}
-use Rattle.sctp_association.specs.Sized.{AreSmall, AreSmallKept, EachAskIsCut, EachChunkFits, EachDatagramIsCut, EachEmptyIsCut, EachIsCutFirst}
-use Rattle.sctp_association.specs.Sized.{EachOtherIsCut, EachPollIsCut, EachSizeIsCut, EachTimeoutIsCut, IsCutFor, IsSized, size_set}
+use Rattle.sctp_association.specs.Sized.{AreSmall, AreSmallKept, EachAskIsCut, EachChunkFits, EachDatagramIsCut, EachIsCutFirst, HoldsNothing}
+use Rattle.sctp_association.specs.Sized.{EachOtherIsCut, EachPollIsCut, EachSizeIsCut, EachTimeoutIsCut, IsCut, IsSized, size_set}
 use Rattle.sctp_data.specs.declared.chunk.chunk_payload_data.ChunkPayloadData.{ChunkPayloadData}
 use Rattle.sctp_data.specs.SelectiveAck.{Sack}
 use Rattle.sctp_delivery.proofs.Cases.{at-if}
@@ -57,8 +57,8 @@ module _ (n : ℕ) where
   abbrev pub IsSmall : ChunkPayloadData → Type 0
   IsSmall c = length c.user_data ≤ n
 
-  abbrev pub IsCut : OutboundStream → Type 0
-  IsCut l = l.max_payload_size ≤ n
+  abbrev pub IsCutStream : OutboundStream → Type 0
+  IsCutStream l = l.max_payload_size ≤ n
 
   abbrev pub IsKept : Option (List ℕ) → Type 0
   IsKept k = IfSome k (λ bytes. length bytes ≤ n)
@@ -120,24 +120,24 @@ module _ (n : ℕ) where
   -- ## Streams
 
   pub changed-cut : (p : OutboundStream → Bool) (f : OutboundStream → OutboundStream) → ((l : OutboundStream) → (f l).max_payload_size ≡ l.max_payload_size)
-      → (ls : List OutboundStream) → Every IsCut ls → Every IsCut (change_where p f ls)
-  changed-cut p f same ls h = every-changed IsCut p f (λ l _ i. subst (λ m. m ≤ n) (sym (same l)) i) ls h
+      → (ls : List OutboundStream) → Every IsCutStream ls → Every IsCutStream (change_where p f ls)
+  changed-cut p f same ls h = every-changed IsCutStream p f (λ l _ i. subst (λ m. m ≤ n) (sym (same l)) i) ls h
 
   expiry-same : (unordered : Bool) (bytes : ℕ) (l : OutboundStream) → (after_expiry unordered bytes l).max_payload_size ≡ l.max_payload_size
   expiry-same true bytes l = refl
   expiry-same false bytes l = refl
 
-  released-cut : (rs : List Released) (ls : List OutboundStream) → Every IsCut ls → Every IsCut (after_releases rs ls)
+  released-cut : (rs : List Released) (ls : List OutboundStream) → Every IsCutStream ls → Every IsCutStream (after_releases rs ls)
   released-cut [] ls h = h
   released-cut (r ∷ rs) ls h = released-cut rs (change_where (has_number r.stream) (less_by r.bytes) ls)
       (changed-cut (has_number r.stream) (less_by r.bytes) (λ l. refl) ls h)
 
-  left-cut : (gs : List AbandonedMessage) (ls : List OutboundStream) → Every IsCut ls → Every IsCut (after_leaving gs ls)
+  left-cut : (gs : List AbandonedMessage) (ls : List OutboundStream) → Every IsCutStream ls → Every IsCutStream (after_leaving gs ls)
   left-cut [] ls h = h
   left-cut (g ∷ gs) ls h = left-cut gs (change_where (has_number g.stream) (less_by g.bytes) ls)
       (changed-cut (has_number g.stream) (less_by g.bytes) (λ l. refl) ls h)
 
-  returned-cut : (rs : List TakenBack) (ls : List OutboundStream) → Every IsCut ls → Every IsCut (after_returns rs ls)
+  returned-cut : (rs : List TakenBack) (ls : List OutboundStream) → Every IsCutStream ls → Every IsCutStream (after_returns rs ls)
   returned-cut [] ls h = h
   returned-cut (r ∷ rs) ls h = returned-cut rs (change_where (has_number r.stream) (more_by r.bytes) ls)
       (changed-cut (has_number r.stream) (more_by r.bytes) (λ l. refl) ls h)
@@ -146,7 +146,7 @@ module _ (n : ℕ) where
 
   pub record Small (t : Transmission) : Type 0 where
     pub size : t.fragment_size ≤ n
-    pub streams : Every IsCut t.streams
+    pub streams : Every IsCutStream t.streams
     pub queue : EachIs IsSmall IsSmall t.flight.queue
     pub kept : AreKept t.kept
 
@@ -171,7 +171,23 @@ module _ (n : ℕ) where
 
   pub resized : (size : ℕ) (t : Transmission) → size ≤ n → Small t → Small (with_fragment_size size t)
   resized size t few s =
-      record { size = few; streams = every-made IsCut (with_size size) (λ l. few) t.streams; queue = s.queue; kept = s.kept }
+      record { size = few; streams = every-made IsCutStream (with_size size) (λ l. few) t.streams; queue = s.queue; kept = s.kept }
+
+  pub resized-empty : (size : ℕ) (t : Transmission) → size ≤ n → HoldsNothing t → Small (with_fragment_size size t)
+  resized-empty size t few none = record {
+    size = few;
+    streams = every-made IsCutStream (with_size size) (λ l. few) t.streams;
+    queue = record {
+      ordered = subst (Every IsSmall) (sym none.ordered) tt;
+      unordered = subst (Every IsSmall) (sym none.unordered) tt;
+      inflight = subst (Every IsSmall) (sym none.inflight) tt;
+    };
+    kept = by t.kept none.kept;
+  }
+    where
+      by : (o : Option (List (Option (List ℕ)))) → IfSome o (λ ks. ks ≡ []) → AreKept o
+      by None e = tt
+      by (Some ks) e = subst (Every IsKept) (sym e) tt
 
   -- ## Its calls
 
@@ -192,16 +208,16 @@ module _ (n : ℕ) where
 
     -- by a call that writes nothing, and leaves what is kept and how long fragments are
     calm : (call : SenderCall) → is_write call ≡ false → SenderMakes call t u → (v : Transmission) → u ≡ v → v.fragment_size ≡ t.fragment_size
-        → v.kept ≡ t.kept → Every IsCut v.streams → Small u
+        → v.kept ≡ t.kept → Every IsCutStream v.streams → Small u
     calm call o m v e size kept ls = record {
       size = subst (λ m. m ≤ n) (sym (ap (λ (w : Transmission). w.fragment_size) e ∙ size)) s.size;
-      streams = subst (λ (w : Transmission). Every IsCut w.streams) (sym e) ls;
+      streams = subst (λ (w : Transmission). Every IsCutStream w.streams) (sym e) ls;
       queue = each-call IsSmall IsSmall t keeps s.queue u call o m.0 m.1.0;
       kept = subst AreKept (sym (ap (λ (w : Transmission). w.kept) e ∙ kept)) s.kept;
     }
 
     pub stays-small : (call : SenderCall) → size_set call ≤ n → SenderMakes call t u → Small u
-    stays-small (opens stream) z m = calm (opens stream) refl m _ m.0 refl refl (every-joined IsCut t.streams _ s.streams (s.size, tt))
+    stays-small (opens stream) z m = calm (opens stream) refl m _ m.0 refl refl (every-joined IsCutStream t.streams _ s.streams (s.size, tt))
     stays-small (sets_mode stream unordered reliability value) z m = calm (sets_mode stream unordered reliability value) refl m _ m.0 refl refl
         (changed-cut (has_number stream) (with_mode unordered reliability value) (λ l. refl) t.streams s.streams)
     stays-small (sets_low stream bytes) z m = calm (sets_low stream bytes) refl m _ m.0 refl refl
@@ -210,7 +226,7 @@ module _ (n : ℕ) where
     stays-small (writes stream ppi []) z m = same (m.1.0.0 refl)
     stays-small (writes stream ppi (b ∷ bs)) z m =
         let l = accepted-stream stream (length (b ∷ bs)) t m.1.1.0 in
-        let cut : l.0.max_payload_size ≤ n = every-found IsCut (has_number stream) t.streams l.0 l.1 s.streams in
+        let cut : l.0.max_payload_size ≤ n = every-found IsCutStream (has_number stream) t.streams l.0 l.1 s.streams in
         subst Small (sym (m.1.0.1 (omega arith) l.0 l.1)) (record {
           size = s.size;
           streams = changed-cut (has_number stream) (wrote ppi (b ∷ bs)) (λ k. refl) t.streams s.streams;
@@ -298,7 +314,7 @@ module _ (n : ℕ) where
   pub small-of : (t : Transmission) → IsSized n t → Small t
   small-of t h = record {
     size = h.size;
-    streams = every-of-all IsCut t.streams h.streams;
+    streams = every-of-all IsCutStream t.streams h.streams;
     queue = record {
       ordered = every-of-all IsSmall t.flight.queue.pending.ordered h.ordered;
       unordered = every-of-all IsSmall t.flight.queue.pending.unordered h.unordered;
@@ -314,7 +330,7 @@ module _ (n : ℕ) where
   pub of-small : (t : Transmission) → Small t → IsSized n t
   of-small t s = record {
     size = s.size;
-    streams = all-of-every IsCut t.streams s.streams;
+    streams = all-of-every IsCutStream t.streams s.streams;
     ordered = all-of-every IsSmall t.flight.queue.pending.ordered s.queue.ordered;
     unordered = all-of-every IsSmall t.flight.queue.pending.unordered s.queue.unordered;
     inflight = all-of-every IsSmall t.flight.queue.inflight.chunks s.queue.inflight;
@@ -326,6 +342,9 @@ module _ (n : ℕ) where
       by (Some ks) h = all-of-every IsKept ks h
 
 -- ## More
+
+greater : (mtu next : ℕ) → mtu ≤ next → fragment_size mtu ≤ fragment_size next
+greater mtu next le = omega (arith, le)
 
 module _ (n m : ℕ) (le : n ≤ m) where
   more-kept : (o : Option (List (Option (List ℕ)))) → AreKept n o → AreKept m o
@@ -342,7 +361,7 @@ module _ (n m : ℕ) (le : n ≤ m) where
   pub more-small : (t : Transmission) → Small n t → Small m t
   more-small t s = record {
     size = (let h = s.size in omega (arith, h, le));
-    streams = every-of (IsCut n) (IsCut m) (λ l i. omega (arith, i, le)) t.streams s.streams;
+    streams = every-of (IsCutStream n) (IsCutStream m) (λ l i. omega (arith, i, le)) t.streams s.streams;
     queue = record {
       ordered = more-each t.flight.queue.pending.ordered s.queue.ordered;
       unordered = more-each t.flight.queue.pending.unordered s.queue.unordered;
@@ -353,93 +372,60 @@ module _ (n m : ℕ) (le : n ≤ m) where
 
 -- ## An association
 
-greater : (mtu next : ℕ) → mtu ≤ next → fragment_size mtu ≤ fragment_size next
-greater mtu next le = omega (arith, le)
+abbrev size-in : Association → ℕ
+size-in a = fragment_size a.config.mtu
 
-module _ (mtu : ℕ) (a b : Association) (h : IsCutFor mtu a) where
-  before : Small (fragment_size mtu) a.outbound.sender
-  before = small-of (fragment_size mtu) a.outbound.sender h.sender
+same-size : (a b : Association) → b.config ≡ a.config → size-in b ≡ size-in a
+same-size a b e = ap (λ (c : Config). fragment_size c.mtu) e
 
-  -- the packets are as long as before
-  then-cut : b.config ≡ a.config → Small (fragment_size mtu) b.outbound.sender → IsCutFor mtu b
-  then-cut e s = record {
-    config = subst (λ (c : Config). c.mtu ≤ mtu) (sym e) h.config;
-    sender = of-small (fragment_size mtu) b.outbound.sender s;
-  }
+-- packets are as long as before
+then-cut : (a b : Association) → b.config ≡ a.config → Small (size-in a) b.outbound.sender → IsCut b
+then-cut a b e s = subst (λ m. IsSized m b.outbound.sender) (sym (same-size a b e)) (of-small (size-in a) b.outbound.sender s)
+
+before : (a : Association) → IsCut a → Small (size-in a) a.outbound.sender
+before a h = small-of (size-in a) a.outbound.sender h
 
 pub each-first : EachIsCutFirst
 each-first c tsn most a config e =
-    let few : fragment_size c.mtu ≤ fragment_size c.mtu = omega arith in
-    let same : a.config.mtu ≡ c.mtu = ap (λ (k : Config). k.mtu) config in
-    record {
-      config = omega (arith, same);
-      sender = subst (λ (x : Halves). IsSized (fragment_size c.mtu) x.sender) (sym e)
-          (of-small (fragment_size c.mtu) (new_sender tsn (fragment_size c.mtu) most) (new-small (fragment_size c.mtu) tsn (fragment_size c.mtu) most few));
-    }
+    let n = fragment_size c.mtu in
+    let few : n ≤ n = omega arith in
+    subst (λ (k : Config). IsSized (fragment_size k.mtu) a.outbound.sender) (sym config)
+    (subst (λ (x : Halves). IsSized n x.sender) (sym e) (of-small n (new_sender tsn n most) (new-small n tsn n most few)))
 
 pub each-ask : EachAskIsCut
-each-ask mtu stream call a b r z config h =
-    then-cut mtu a b h config (asked-small (fragment_size mtu) stream call a.outbound.sender b.outbound.sender z r (before mtu a b h))
+each-ask stream call a b r z config h =
+    then-cut a b config (asked-small (size-in a) stream call a.outbound.sender b.outbound.sender z r (before a h))
 
+-- fragments of as many bytes or more; or the sender held nothing
 pub each-size : EachSizeIsCut
-each-size mtu next a b r config h =
-    let most = max mtu next in
-    let size = fragment_size most in
-    let wide : fragment_size mtu ≤ size = greater mtu most (omega arith) in
-    let few : fragment_size next ≤ size = greater next most (omega arith) in
-    record {
-      config = omega (arith, config);
-      sender = of-small size b.outbound.sender
-          (subst (Small size) (sym r.sender)
-          (resized size (fragment_size next) a.outbound.sender few (more-small (fragment_size mtu) size wide a.outbound.sender (before mtu a b h))));
-    }
-
-pub each-empty : EachEmptyIsCut
-each-empty next a b r config none =
-    let size = fragment_size next in
-    let few : size ≤ size = omega arith in
-    let t = a.outbound.sender in
-    record {
-      config = omega (arith, config);
-      sender = of-small size b.outbound.sender (subst (Small size) (sym r.sender) (record {
-        size = few;
-        streams = every-made (IsCut size) (with_size size) (λ l. few) t.streams;
-        queue = record {
-          ordered = subst (Every (IsSmall size)) (sym none.ordered) tt;
-          unordered = subst (Every (IsSmall size)) (sym none.unordered) tt;
-          inflight = subst (Every (IsSmall size)) (sym none.inflight) tt;
-        };
-        kept = by size t.kept none.kept;
-      }));
-    }
-  where
-    by : (n : ℕ) (o : Option (List (Option (List ℕ)))) → IfSome o (λ ks. ks ≡ []) → AreKept n o
-    by n None e = tt
-    by n (Some ks) e = subst (Every (IsKept n)) (sym e) tt
+each-size mtu a b r config lower h =
+    let few : fragment_size mtu ≤ fragment_size mtu = omega arith in
+    subst (λ m. IsSized (fragment_size m) b.outbound.sender) (sym config)
+    (of-small (fragment_size mtu) b.outbound.sender (subst (Small (fragment_size mtu)) (sym r.sender)
+    (elim (cases_lt mtu a.config.mtu) [
+      | inl lt ↦ resized-empty (fragment_size mtu) (fragment_size mtu) a.outbound.sender few (lower lt)
+      | inr ge ↦ resized (fragment_size mtu) (fragment_size mtu) a.outbound.sender few
+          (more-small (size-in a) (fragment_size mtu) (greater a.config.mtu mtu ge) a.outbound.sender (before a h))
+    ])))
 
 pub each-timeout : EachTimeoutIsCut
-each-timeout mtu now a b r config h = then-cut mtu a b h config (by (expires_t3 now a) r.sender)
+each-timeout now a b r config h = then-cut a b config (by (expires_t3 now a) r.sender)
   where
-    n : ℕ
-    n = fragment_size mtu
-
-    by : (e : Bool) → b.outbound.sender ≡ (if e then marked a.outbound.sender else a.outbound.sender) → Small n b.outbound.sender
-    by true e = stays-small n a.outbound.sender b.outbound.sender (before mtu a b h) marks (omega arith) (e, (tt, (tt, tt)))
-    by false e = subst (Small n) (sym e) (before mtu a b h)
+    by : (e : Bool) → b.outbound.sender ≡ (if e then marked a.outbound.sender else a.outbound.sender) → Small (size-in a) b.outbound.sender
+    by true e = stays-small (size-in a) a.outbound.sender b.outbound.sender (before a h) marks (omega arith) (e, (tt, (tt, tt)))
+    by false e = subst (Small (size-in a)) (sym e) (before a h)
 
 pub each-poll : EachPollIsCut
-each-poll mtu is_sent a b r config h =
-    then-cut mtu a b h config
-    (sent-small (fragment_size mtu) r.sent.calls r.made a.outbound.sender b.outbound.sender r.sent.run (before mtu a b h))
+each-poll is_sent a b r config h =
+    then-cut a b config (sent-small (size-in a) r.sent.calls r.made a.outbound.sender b.outbound.sender r.sent.run (before a h))
 
 pub each-datagram : EachDatagramIsCut
-each-datagram mtu d a b f h =
-    let few : fragment_size a.config.mtu ≤ fragment_size mtu = greater a.config.mtu mtu h.config in
-    then-cut mtu a b h f.config
-    (came-small (fragment_size mtu) d a b few f.arrives.calls (halves_of a) (halves_of b) f.arrives.run (before mtu a b h))
+each-datagram d a b f h =
+    let few : size-in a ≤ size-in a = omega arith in
+    then-cut a b f.config (came-small (size-in a) d a b few f.arrives.calls (halves_of a) (halves_of b) f.arrives.run (before a h))
 
 pub each-other : EachOtherIsCut
-each-other mtu a b e config h = then-cut mtu a b h config (subst (Small (fragment_size mtu)) (sym e) (before mtu a b h))
+each-other a b e config h = then-cut a b config (subst (Small (size-in a)) (sym e) (before a h))
 
 -- ## What fits
 
@@ -448,13 +434,13 @@ padded-fits : (mtu len : ℕ) → 32 ≤ mtu → len ≤ fragment_size mtu → n
 padded-fits mtu len least short = grind (arith, nat_tests)
 
 pub each-fits : EachChunkFits
-each-fits mtu a least h =
+each-fits a least h =
     let t = a.outbound.sender in
     record {
-      ordered = those t.flight.queue.pending.ordered h.sender.ordered;
-      unordered = those t.flight.queue.pending.unordered h.sender.unordered;
-      inflight = those t.flight.queue.inflight.chunks h.sender.inflight;
+      ordered = those t.flight.queue.pending.ordered h.ordered;
+      unordered = those t.flight.queue.pending.unordered h.unordered;
+      inflight = those t.flight.queue.inflight.chunks h.inflight;
     }
   where
-    those : (cs : List ChunkPayloadData) → AreSmall (fragment_size mtu) cs → All (λ c. fits (mtu - 12) c ≡ true) cs
-    those cs s k d lt = padded-fits mtu (length (get_or cs k d).user_data) least (s k d lt)
+    those : (cs : List ChunkPayloadData) → AreSmall (size-in a) cs → All (λ c. fits (a.config.mtu - 12) c ≡ true) cs
+    those cs s k d lt = padded-fits a.config.mtu (length (get_or cs k d).user_data) least (s k d lt)

@@ -4,7 +4,7 @@ use Rattle.std.specs.Prelude.{◌∷◌, Option, Some, None, IfSome, is_some, �
 use Rattle.sctp_data.specs.declared.chunk.chunk_payload_data.ChunkPayloadData.{ChunkPayloadData}
 use Rattle.sctp_data.specs.Reliability.{is_past}
 use Rattle.sctp_outbound.specs.Outstanding.{outstanding_of}
-use Rattle.sctp_outbound.specs.pending_queue.PendingQueue.{next_pending}
+use Rattle.sctp_outbound.specs.pending_queue.PendingQueue.{chunk_count, next_pending}
 use Rattle.sctp_path.specs.Congestion.{Control, after_idling, burst_limit, may_send}
 use Rattle.sctp_path.specs.Timers.{started}
 use Rattle.sctp_sender.specs.Sender.{Transmission}
@@ -88,6 +88,11 @@ lowered_times (suc n) c = lowered (lowered_times n c)
 abbrev pub is_none_of : List ChunkPayloadData → Bool
 is_none_of [] = true
 is_none_of (c ∷ cs) = false
+
+-- nothing waits, and nothing is in flight
+abbrev pub holds_nothing : Transmission → Bool
+holds_nothing t =
+    is_none_of t.flight.queue.inflight.chunks && (chunk_count t.flight.queue.pending == 0)
 
 -- it runs while something is in flight, and not else
 abbrev pub t3_after : ℕ → ℕ → List ChunkPayloadData → Option ℕ → Option ℕ

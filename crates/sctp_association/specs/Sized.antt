@@ -1,5 +1,5 @@
 -- Each chunk of an association's sender fits into a packet: what is cut, and what was.
-use Rattle.std.specs.Prelude.{◌≡◌, ℕ, ◌-◌, ◌≤◌, Bool, List, [], length, max, Option, IfSome}
+use Rattle.std.specs.Prelude.{◌≡◌, ℕ, ◌-◌, ◌<◌, ◌≤◌, Bool, List, [], length, Option, IfSome}
 use Rattle.std.specs.List.{All, AllPass}
 use Rattle.sctp_association.specs.declared.association.Association.{Association}
 use Rattle.sctp_association.specs.declared.config.Config.{Config}
@@ -46,10 +46,9 @@ pub record AllFit (room : ℕ) (t : Transmission) : Type 0 where
 
 -- ## An association
 
--- its packets have at most so many bytes, and no chunk of its sender has more user data than a DATA chunk that fills one
-pub record IsCutFor (mtu : ℕ) (a : Association) : Type 0 where
-  pub config : a.config.mtu ≤ mtu
-  pub sender : IsSized (fragment_size mtu) a.outbound.sender
+-- no chunk of its sender has more user data than a DATA chunk that fills a packet, and what is written is cut so
+abbrev pub IsCut : Association → Type 0
+IsCut a = IsSized (fragment_size a.config.mtu) a.outbound.sender
 
 -- ## The law
 
@@ -57,7 +56,7 @@ pub record IsCutFor (mtu : ℕ) (a : Association) : Type 0 where
 abbrev pub EachIsCutFirst : Type 0
 EachIsCutFirst =
     (c : Config) (tsn most : ℕ) (a : Association) → a.config ≡ c
-    → halves_of a ≡ first_halves tsn c.mtu most → IsCutFor c.mtu a
+    → halves_of a ≡ first_halves tsn c.mtu most → IsCut a
 
 -- the size of a fragment that the call sets; 0 where it sets none
 abbrev pub size_set : SenderCall → ℕ
@@ -67,47 +66,40 @@ size_set _ = 0
 -- `write`, `set_mode`, `set_buffered_amount_low_threshold`: calls of the sender
 abbrev pub EachAskIsCut : Type 0
 EachAskIsCut =
-    (mtu stream : ℕ) (call : SenderCall) (a b : Association)
+    (stream : ℕ) (call : SenderCall) (a b : Association)
     → AsksOn stream call a.outbound.sender b.outbound.sender
-    → size_set call ≤ fragment_size mtu → b.config ≡ a.config → IsCutFor mtu a → IsCutFor mtu b
+    → size_set call ≤ fragment_size a.config.mtu → b.config ≡ a.config → IsCut a → IsCut b
 
--- `set_mtu`: the greater of both counts from then on
+-- `set_mtu`
 abbrev pub EachSizeIsCut : Type 0
 EachSizeIsCut =
-    (mtu next : ℕ) (a b : Association) → SetsFragmentSize next a b → b.config.mtu ≡ next
-    → IsCutFor mtu a → IsCutFor (max mtu next) b
-
--- where the sender holds nothing, the new one counts alone
-abbrev pub EachEmptyIsCut : Type 0
-EachEmptyIsCut =
-    (next : ℕ) (a b : Association) → SetsFragmentSize next a b → b.config.mtu ≡ next
-    → HoldsNothing a.outbound.sender → IsCutFor next b
+    (mtu : ℕ) (a b : Association) → SetsFragmentSize mtu a b → b.config.mtu ≡ mtu
+    → (mtu < a.config.mtu → HoldsNothing a.outbound.sender) → IsCut a → IsCut b
 
 -- `handle_timeout`
 abbrev pub EachTimeoutIsCut : Type 0
 EachTimeoutIsCut =
-    (mtu now : ℕ) (a b : Association) → MarksByT3 now a b → b.config ≡ a.config
-    → IsCutFor mtu a → IsCutFor mtu b
+    (now : ℕ) (a b : Association) → MarksByT3 now a b → b.config ≡ a.config → IsCut a → IsCut b
 
 -- `poll_transmit`
 abbrev pub EachPollIsCut : Type 0
 EachPollIsCut =
-    (mtu : ℕ) (is_sent : Bool) (a b : Association) → Transmits is_sent (sides_of a) (sides_of b)
-    → b.config ≡ a.config → IsCutFor mtu a → IsCutFor mtu b
+    (is_sent : Bool) (a b : Association) → Transmits is_sent (sides_of a) (sides_of b)
+    → b.config ≡ a.config → IsCut a → IsCut b
 
 -- `handle_datagram`, whatever comes
 abbrev pub EachDatagramIsCut : Type 0
 EachDatagramIsCut =
-    (mtu : ℕ) (datagram : List ℕ) (a b : Association) → ArrivesAsOffered datagram a b
-    → IsCutFor mtu a → IsCutFor mtu b
+    (datagram : List ℕ) (a b : Association) → ArrivesAsOffered datagram a b → IsCut a → IsCut b
 
 -- `connect`, `shutdown`, `abort`, `reset_stream`, `read`, `poll`: the sender stays
 abbrev pub EachOtherIsCut : Type 0
 EachOtherIsCut =
-    (mtu : ℕ) (a b : Association) → b.outbound.sender ≡ a.outbound.sender → b.config ≡ a.config
-    → IsCutFor mtu a → IsCutFor mtu b
+    (a b : Association) → b.outbound.sender ≡ a.outbound.sender → b.config ≡ a.config
+    → IsCut a → IsCut b
 
--- what a packet of so many bytes has behind its common header is room for each chunk
+-- what a packet has behind its common header is room for each chunk
 abbrev pub EachChunkFits : Type 0
 EachChunkFits =
-    (mtu : ℕ) (a : Association) → 32 ≤ mtu → IsCutFor mtu a → AllFit (mtu - 12) a.outbound.sender
+    (a : Association) → 32 ≤ a.config.mtu → IsCut a
+    → AllFit (a.config.mtu - 12) a.outbound.sender

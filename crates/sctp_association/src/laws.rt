@@ -9,7 +9,7 @@ ghost use Rattle.sctp_association.specs.Lives.{EachBeginningCame, EachDeedIsKnow
 ghost use Rattle.sctp_association.specs.OneLife.{EachDatagramBrings, EachDeliversAny, EachLinkDeliversAny, EachOneLifeBegins, EachOneLifeGoesOn, EachOneLifeTurns, EachOfferedIsBrought, EachPlainIsOneLife};
 ghost use Rattle.sctp_association.specs.Sessions.{EachIsSent};
 ghost use Rattle.sctp_association.specs.Setups.{EachDatagramKeeps, EachQuietCallKeeps, EachSetUpDelivers, EachSetUpTurns, EachTwoAreSetUp, EachWrittenKeeps};
-ghost use Rattle.sctp_association.specs.Sized.{EachAskIsCut, EachChunkFits, EachDatagramIsCut, EachEmptyIsCut, EachIsCutFirst, EachOtherIsCut, EachPollIsCut, EachSizeIsCut, EachTimeoutIsCut};
+ghost use Rattle.sctp_association.specs.Sized.{EachAskIsCut, EachChunkFits, EachDatagramIsCut, EachIsCutFirst, EachOtherIsCut, EachPollIsCut, EachSizeIsCut, EachTimeoutIsCut};
 
 /// Whatever a peer sends, and whatever calls an association had, what it holds of the peer's messages is within its `Config`. By 400 a
 /// chunk, the chunks count for no more than `window` and one chunk for each TSN within `reach`; with their bytes, for no more than
@@ -112,13 +112,11 @@ pub fn two_associations_begin_once()
 {}
 
 /// Each chunk fits a packet, from `new` on, whatever calls an association has and whatever datagrams come: no chunk that waits or is in flight
-/// has more user data than a DATA chunk that fills one. Packets have as many bytes as `new` or the last `set_mtu` took; where a lower MTU is set
-/// while the sender holds something, as many as before.
+/// has more user data than a DATA chunk that fills one. Packets have as many bytes as `new` or the last `set_mtu` took.
 pub fn each_chunk_fits_a_packet()
     ensures begun { EachIsCutFirst }
     ensures asked { EachAskIsCut }
     ensures sized { EachSizeIsCut }
-    ensures emptied { EachEmptyIsCut }
     ensures timed { EachTimeoutIsCut }
     ensures polled { EachPollIsCut }
     ensures handled { EachDatagramIsCut }

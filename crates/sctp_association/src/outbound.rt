@@ -8,10 +8,10 @@ ghost use Rattle.sctp_association.specs.Counts.{IsCountedAlike};
 ghost use Rattle.sctp_association.specs.Halves.{fragment_size};
 ghost use Rattle.sctp_association.specs.Runs.{Sends};
 ghost use Rattle.sctp_association.specs.Waiting.{IsRefusal, closed_where, fault_of, opened, waiting_fault};
-ghost use Rattle.sctp_sender.specs.Settings.{with_fragment_size, with_low_on};
+ghost use Rattle.sctp_sender.specs.Settings.{IsKeptWithin, with_fragment_size, with_low_on};
 ghost use Rattle.sctp_stream.specs.Stats.{count_up};
 ghost use Rattle.sctp_stream.specs.declared.outbound_stream.OutboundStream.{OutboundStream};
-ghost use Rattle.sctp_association.specs.Sending.{EndsWithin, IsTimed, is_none_of, may_drop, t3_after, t3_time};
+ghost use Rattle.sctp_association.specs.Sending.{EndsWithin, IsTimed, holds_nothing, is_none_of, may_drop, t3_after, t3_time};
 ghost use Rattle.sctp_delivery.specs.SenderCalls.{sets_low, sets_mode, writes};
 ghost use Rattle.sctp_outbound.specs.Outstanding.{outstanding_of};
 ghost use Rattle.sctp_outbound.specs.pending_queue.PendingQueue.{chunk_count};
@@ -279,6 +279,7 @@ impl Outbound {
     pub(crate) fn set_mtu(&mut self, mtu: usize)
         ensures sender { self.new.sender
             ≡ with_fragment_size (fragment_size mtu) self.old.sender }
+        ensures kept { IsKeptWithin self.old.sender }
         ensures counts { IsCountedAlike self.old self.new }
     {
         self.mtu = mtu;
@@ -317,7 +318,9 @@ impl Outbound {
     }
 
     /// Whether nothing waits and nothing is in flight.
-    pub(crate) fn is_drained(&self) -> bool {
+    pub(crate) fn is_drained(&self) -> bool
+        ensures { result ≡ holds_nothing self.now.sender }
+    {
         !self.is_in_flight() && !self.is_waiting()
     }
 

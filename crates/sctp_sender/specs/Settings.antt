@@ -1,5 +1,5 @@
 -- What is set of a sender and of its streams.
-use Rattle.std.specs.Prelude.{ℕ, Bool, not, ◌||◌, if◌then◌else◌, map, Option, Some, None}
+use Rattle.std.specs.Prelude.{ℕ, ◌≤◌, Bool, not, ◌||◌, if◌then◌else◌, length, map, Option, Some, None, IfSome}
 use Rattle.std.specs.List.{list_any}
 use Rattle.sctp_util.specs.Lists.{change_where}
 use Rattle.sctp_serial.specs.DataChunks.{is_on}
@@ -12,6 +12,10 @@ use Rattle.sctp_sender.specs.Sender.{Transmission, is_open, with_streams}
 abbrev pub with_fragment_size : ℕ → Transmission → Transmission
 with_fragment_size size t =
     record t { streams = map (with_size size) t.streams; fragment_size = size }
+
+-- what is kept of what was reported goes no farther than what is in flight
+abbrev pub IsKeptWithin : Transmission → Type 0
+IsKeptWithin t = IfSome t.kept (λ ks. length ks ≤ length t.flight.queue.inflight.chunks)
 
 abbrev pub with_low_on : ℕ → ℕ → Transmission → Transmission
 with_low_on s bytes t =

@@ -5,6 +5,7 @@ ghost use Rattle.sctp_association.specs.declared.fault.Fault.{Fault};
 ghost use Rattle.sctp_association.specs.Asked.{AsksOn};
 ghost use Rattle.sctp_association.specs.Beginnings.{IsKeptButMtu};
 ghost use Rattle.sctp_association.specs.Halves.{SetsFragmentSize};
+ghost use Rattle.sctp_association.specs.Sized.{HoldsNothing};
 ghost use Rattle.sctp_association.specs.Waiting.{IsRefusal, opened};
 ghost use Rattle.sctp_delivery.specs.SenderCalls.{sets_low, sets_mode, writes};
 ghost use Rattle.sctp_sender.specs.Sender.{stream_of, with_mode_on, written_to};
@@ -164,6 +165,8 @@ impl Association {
     pub fn set_mtu(&mut self, mtu: usize) -> Result<(), Fault>
         ensures ok { OnOk result ((self.new.config.mtu ≡ mtu) × (self.new.draft.limit ≡ mtu)) }
         ensures halves { OnOk result (SetsFragmentSize mtu self.old self.new) }
+        ensures lower { OnOk result (mtu < self.old.config.mtu
+            → HoldsNothing self.old.outbound.sender) }
         ensures kept { IsKeptButMtu self.old self.new }
         ensures err { OnErr result (self.new ≡ self.old) }
     {

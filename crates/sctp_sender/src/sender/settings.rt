@@ -9,14 +9,16 @@ use sctp_stream::outbound_stream::OutboundStream;
 
 impl Sender {
     ghost use Rattle.sctp_sender.specs.Sender.{is_open};
-    ghost use Rattle.sctp_sender.specs.Settings.{is_drained, reset_on, reset_refusal, with_fragment_size, with_low_on};
+    ghost use Rattle.sctp_sender.specs.Settings.{IsKeptWithin, is_drained, reset_on, reset_refusal, with_fragment_size, with_low_on};
 
     /// Sets how many bytes a fragment of a later write has at most, on each stream, as where the path MTU changes (RFC 4821). What
     /// was written keeps its fragments. It takes no memory.
     /// Precondition: `size` is 1 to 65,519.
     pub fn set_fragment_size(&mut self, size: u32)
         requires { (0 < size) × (size ≤ 65519) }
-        ensures { self.new ≡ with_fragment_size size self.old }
+        ensures sized { self.new ≡ with_fragment_size size self.old }
+        // Of what was reported nothing is kept past what is in flight.
+        ensures kept { IsKeptWithin self.old }
     {
         self.streams.set_fragment_size(size);
         self.fragment_size = size;

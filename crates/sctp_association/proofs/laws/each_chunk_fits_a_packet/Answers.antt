@@ -6,7 +6,6 @@ returns c = record {
   begun = sized.each-first;
   asked = sized.each-ask;
   sized = sized.each-size;
-  emptied = sized.each-empty;
   timed = sized.each-timeout;
   polled = sized.each-poll;
   handled = sized.each-datagram;
