@@ -1,6 +1,8 @@
 -- The first chunk of a datagram begins behind the header.
 use Rattle.std.proofs.Common.{◌≡◌, ◌⊎◌, ℕ, true, false, List, [], ◌∷◌, ◌++◌, drop, length, ap, arith, subst, sym, ◌∙◌, inl, inr}
 use Rattle.std.specs.Prelude.{Result, Ok, Err, IfOk, OnErr}
+use Rattle.sctp_association.specs.Coming.{TakesDataAt, TakesOnlyData}
+use Rattle.sctp_association.specs.declared.association.Association.{Association}
 use Rattle.sctp_association.specs.Cookies.{cookie_in, IsAlive}
 use Rattle.sctp_association.specs.Steps.{is_accepted}
 use Rattle.sctp_association.specs.declared.association.Taken.{Taken}
@@ -50,6 +52,9 @@ pub on_err : {T E : Type 0} {X : Type 0} (r : Result T E) → X → OnErr r X
 on_err (Ok x) h = tt
 on_err (Err e) h = h
 
+none-first : (x : ChunkPlace) (xs : List ChunkPlace) → [] ≡ x ∷ xs → ⊥
+none-first x xs e = cc
+
 pub one_first : (x y : ChunkPlace) (xs : List ChunkPlace) → x ∷ xs ≡ y ∷ [] → (x ≡ y) × (xs ≡ [])
 one_first x y xs e = (cc, cc)
 
@@ -77,6 +82,17 @@ pub type_of_one : (d : List ℕ) (rows : List ChunkPlace) → TellsAll place_at 
 type_of_one d rows t one f = elim (one-row d rows t.passed t.end one t.passes t.ended) [
   | inl e ↦ ap (λ (bytes : List ℕ). is_all_or_nothing (type_at bytes)) e.1
   | inr e ↦ sym (ap is_all_or_nothing e.2) ∙ f e.0 e.1
+]
+
+-- what DATA comes to
+pub only_data : (d : List ℕ) (rows : List ChunkPlace) (key : List ℕ) (m : Machine) (a : Association) → TellsAll place_at d rows → EndsWithFirst d
+    → first_type d ≡ 0 → AdmitsFirst d rows key m
+    → ((first : ChunkPlace) → rows ≡ first ∷ [] → first.typ ≡ 0 → (a.is_over ≡ true) ⊎ TakesDataAt first.at d a) → TakesOnlyData d a
+only_data d rows key m a t one typ admits f = elim (one-row d rows t.passed t.end one t.passes t.ended) [
+  | inl e ↦ absurd (none-first admits.first admits.rest (sym e.0 ∙ admits.are))
+  | inr e ↦
+      let place : e.0 ≡ place_at d 12 = first_place d (e.0 ∷ []) (rw (sym e.1) t) in
+      subst (λ (p : ChunkPlace). (a.is_over ≡ true) ⊎ TakesDataAt p.at d a) place (f e.0 e.1 (e.2 ∙ typ))
 ]
 
 -- ## Whose datagram it is

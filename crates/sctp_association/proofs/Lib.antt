@@ -26,6 +26,7 @@ pub mod Known
 pub mod Offered
 pub mod Offers
 pub mod Carrying
+pub mod Coming
 pub mod Cut
 pub mod Named
 pub mod Idle

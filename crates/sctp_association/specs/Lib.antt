@@ -3,6 +3,7 @@ pub mod Arrivals
 pub mod Asked
 pub mod Beginnings
 pub mod Calls
+pub mod Coming
 pub mod Cookies
 pub mod Counts
 pub mod Delivered

@@ -6,7 +6,7 @@ ghost use Rattle.sctp_association.specs.Filled.{IfNonePut};
 ghost use Rattle.sctp_association.specs.Packets.{PutsIn};
 ghost use Rattle.sctp_association.specs.Reached.{IsLimited, most_user_data};
 ghost use Rattle.sctp_association.specs.StreamSet.{is_in};
-ghost use Rattle.sctp_association.specs.declared.inbound.Followed.TheVariants.{Wanting};
+ghost use Rattle.sctp_association.specs.declared.inbound.Followed.TheVariants.{Done, Wanting};
 ghost use Rattle.sctp_chunks.specs.Wire.{data_chunk, forward_tsn_chunk};
 ghost use Rattle.sctp_data.specs.ForwardTsn.{forward_tsn_of};
 ghost use Rattle.sctp_data.specs.PayloadData.{data_of};
@@ -14,7 +14,7 @@ ghost use Rattle.sctp_path.specs.Timers.{is_due};
 ghost use Rattle.sctp_params.specs.declared.param.param_reconfig_response.ReconfigResult.TheVariants.{SuccessPerformed};
 ghost use Rattle.sctp_reassembly.specs.reassembly_queue.ReassemblyQueue.{at_start};
 ghost use Rattle.sctp_receiver.specs.declared.receiver.refusal.ReceiverRefusal.TheVariants.{MessageTooLarge};
-ghost use Rattle.sctp_receiver.specs.Receiver.{at_first, is_open, message_on};
+ghost use Rattle.sctp_receiver.specs.Receiver.{arrival_refusal, at_first, is_open, message_on};
 ghost use Rattle.sctp_util.specs.Serial.{comes_before};
 
 use crate::draft::Draft;
@@ -74,6 +74,7 @@ pub(crate) struct Inbound {
 }
 
 impl Inbound {
+    ghost use Rattle.sctp_association.specs.Coming.{HasComeOrIsDropped};
     ghost use Rattle.sctp_association.specs.Reads.{IsReadOff};
     ghost use Rattle.sctp_association.specs.Served.{AreServed, IsServed, is_to_open};
 
@@ -118,6 +119,8 @@ impl Inbound {
         // Where memory is wanting something may have changed only if the stream of the chunk was to be opened.
         ensures wanting { result ≡ Ok Wanting
             → is_to_open chunk.now.stream_identifier self.old ≡ true }
+        // Its TSN has come, or the receiver refuses it still.
+        ensures takes { result ≡ Ok Done → HasComeOrIsDropped chunk.now (Some self.new.receiver) }
         ensures err { OnErr result ((self.new ≡ self.old) × (events.new ≡ events.old)) }
     {
         if chunk.user_data.is_empty() {
@@ -145,6 +148,7 @@ impl Inbound {
             self.old.receiver self.new.receiver }
         ensures limits { (self.new.receiver.limits ≡ self.old.receiver.limits)
             × (self.new.streams ≡ self.old.streams) }
+        ensures takes { result ≡ Ok Done → HasComeOrIsDropped chunk.now (Some self.new.receiver) }
     {
         self.open_agreed(chunk.stream_identifier, events)?;
         self.take_on(chunk, events, now)
@@ -164,6 +168,7 @@ impl Inbound {
         ensures limits { (self.new.receiver.limits ≡ self.old.receiver.limits)
             × (self.new.streams ≡ self.old.streams) }
         ensures whole { result ≡ Ok Wanting → ⊥ }
+        ensures takes { result ≡ Ok Done → HasComeOrIsDropped chunk.now (Some self.new.receiver) }
         ensures err { OnErr result ((self.new ≡ self.old) × (events.new ≡ events.old)) }
     {
         let stream = chunk.stream_identifier;
@@ -185,8 +190,10 @@ impl Inbound {
                 self.note_data(true);
                 Ok(Followed::Done)
             }
-            Err(ReceiverRefusal::OutOfMemory) => Err(Fault::OutOfMemory),
-            Err(refusal) => self.follow(refusal, chunk, events, now),
+            Err(refusal) => match refusal {
+                ReceiverRefusal::OutOfMemory => Err(Fault::OutOfMemory),
+                _ => self.follow(refusal, chunk, events, now),
+            },
         }
     }
 
@@ -284,6 +291,8 @@ impl Inbound {
         ensures kept { (n : ℕ) → is_in n self.old.discarded ≡ true
             → is_in n self.new.discarded ≡ true }
         ensures whole { result ≡ Ok Wanting → ⊥ }
+        ensures takes { arrival_refusal chunk.now self.old.receiver ≡ Some refusal
+            → result ≡ Ok Done → HasComeOrIsDropped chunk.now (Some self.new.receiver) }
         ensures err { OnErr result ((self.new ≡ self.old) × (events.new ≡ events.old)) }
     {
         let stream = chunk.stream_identifier;

@@ -1,10 +1,11 @@
 //! What comes in a datagram (RFC 9260 5, 6, 8.5, 9).
 
-ghost use Rattle.std.specs.Prelude.{◌≡◌, ◌≤◌, [], ◌∷◌, None, Ok, IfOk, IfSome, OnErr, true, false, drop, length};
+ghost use Rattle.std.specs.Prelude.{◌≡◌, ◌⊎◌, ◌<◌, ◌≤◌, [], ◌∷◌, None, Ok, IfOk, IfSome, OnErr, true, false, drop, length};
 ghost use Rattle.std.specs.List.{AllByRecursion};
 ghost use Rattle.sctp_association.specs.Arrivals.{Arrives, CallsArrive};
 ghost use Rattle.sctp_association.specs.Beginnings.{ArrivesAsOffered, BeginsBy, BeginsByDatagram, BeginsByTicket, KeepsPeer};
 ghost use Rattle.sctp_association.specs.Kept.{IsKept, OwesNoMore, ticket_in_kind};
+ghost use Rattle.sctp_association.specs.Coming.{FollowsData, TakesDataAt, TakesOnlyData};
 ghost use Rattle.sctp_association.specs.Cookies.{IsAlive, IsSealed, cookie_in};
 ghost use Rattle.sctp_association.specs.Halves.{HalvesAlike, halves_of};
 ghost use Rattle.sctp_association.specs.Reached.{most_user_data};
@@ -12,8 +13,9 @@ ghost use Rattle.sctp_association.specs.Steps.{is_accepted, is_taken};
 ghost use Rattle.sctp_association.specs.Tags.{AdmitsFirst, BeginsByCookie, EndsWithFirst, FirstIs, FirstIsAlive, IsFor, first_type, is_admitted, is_all_or_nothing};
 ghost use Rattle.sctp_association.specs.declared.association.Reason.{Reason};
 ghost use Rattle.sctp_association.specs.declared.association.Reason.TheVariants.{Tag};
-ghost use Rattle.sctp_association.specs.declared.association.Taken.TheVariants.{Dropped, Partly};
+ghost use Rattle.sctp_association.specs.declared.association.Taken.TheVariants.{Accepted, Dropped, Partly};
 ghost use Rattle.sctp_association.specs.declared.association.arrivals.Step.TheVariants as step;
+ghost use Rattle.sctp_association.specs.declared.inbound.Followed.TheVariants.{Done, Wanting};
 ghost use Rattle.sctp_chunks.specs.Wire.{ReadsChunk, data_chunk};
 ghost use Rattle.sctp_data.specs.PayloadData.{data_of};
 ghost use Rattle.sctp_datagram.specs.Carried.{IsChunkOf};
@@ -84,7 +86,8 @@ fn read_data(datagram: &Bytes, chunk: ChunkPlace) -> Result<ChunkPayloadData, Fa
 // The ABORT that what came asks for.
 #[inline(always)]
 fn ending_of(followed: Followed) -> Option<AloneKind>
-    ensures { IfSome result (λ kind. ticket_in_kind kind ≡ None) }
+    ensures silent { IfSome result (λ kind. ticket_in_kind kind ≡ None) }
+    ensures none { result ≡ None → (followed ≡ Done) ⊎ (followed ≡ Wanting) }
 {
     match followed {
         Followed::Done | Followed::Wanting => None,
@@ -124,6 +127,9 @@ impl Association {
         // A datagram of one chunk is taken in part only if that is DATA, FORWARD-TSN or RE-CONFIG.
         ensures partly { result ≡ Ok Partly → EndsWithFirst datagram.now
             → is_all_or_nothing (first_type datagram.now) ≡ false }
+        // DATA that is accepted as the only chunk has come, or its receiver refuses it still; or the association is over.
+        ensures takes { EndsWithFirst datagram.now → first_type datagram.now ≡ 0
+            → result ≡ Ok Accepted → TakesOnlyData datagram.now self.new }
     {
         let zero = if self.config.zero_checksum {
             ZeroChecksum::Allowed
@@ -198,6 +204,9 @@ impl Association {
         ensures memory { OnErr result (self.new ≡ self.old) }
         ensures partly { (first : ChunkPlace) → chunks.entry.left ≡ first ∷ []
             → result ≡ Ok Partly → is_all_or_nothing first.typ ≡ false }
+        ensures takes { (first : ChunkPlace) → chunks.entry.left ≡ first ∷ [] → first.typ ≡ 0
+            → result ≡ Ok Accepted → (self.new.is_over ≡ true)
+            ⊎ TakesDataAt first.at datagram.now self.new }
     {
         let mut chunks = chunks;
         let tag = chunks.header().verification_tag;
@@ -263,6 +272,8 @@ impl Association {
             → IsSealed self.old.key tag (cookie_in datagram.now chunk)) }
         ensures err { OnErr result (self.new ≡ self.old) }
         ensures cut { result ≡ Ok step.Cut → is_all_or_nothing chunk.typ ≡ false }
+        ensures takes { count < 2 → chunk.typ ≡ 0
+            → IfOk result (λ s. FollowsData chunk.at datagram.now s self.new) }
         ensures closed_cut { self.old.machine.state ≡ Closed → result ≡ Ok step.Cut → ⊥ }
         ensures closed_next { self.old.machine.state ≡ Closed → result ≡ Ok step.Next
             → (chunk.typ ≡ 10) × IsAlive now self.old.config.cookie_life
@@ -289,7 +300,7 @@ impl Association {
         requires whole { chunks.bytes ≡ datagram.now }
         requires own { AllByRecursion (IsChunkOf datagram.now) chunks.left }
         ensures came { ArrivesAsOffered datagram.now self.old self.new }
-        ensures none { chunks.entry.left ≡ [] → result ≡ true }
+        ensures none { chunks.entry.left ≡ [] → (result ≡ true) × (self.new ≡ self.old) }
     {
         let mut chunks = chunks;
         let tag = chunks.header().verification_tag;
@@ -355,6 +366,8 @@ impl Association {
             → IsSealed self.old.key tag (cookie_in datagram.now chunk)) }
         ensures err { OnErr result (self.new ≡ self.old) }
         ensures cut { result ≡ Ok step.Cut → is_all_or_nothing chunk.typ ≡ false }
+        ensures takes { chunk.typ ≡ 0
+            → IfOk result (λ s. FollowsData chunk.at datagram.now s self.new) }
         ensures closed_cut { self.old.machine.state ≡ Closed → result ≡ Ok step.Cut → ⊥ }
         ensures closed_next { self.old.machine.state ≡ Closed → result ≡ Ok step.Next
             → (chunk.typ ≡ 10) × IsAlive now self.old.config.cookie_life
@@ -393,6 +406,7 @@ impl Association {
         ensures peer { KeepsPeer self.old self.new }
         ensures refused { (r : Reason) → result ≡ Ok (step.Refused r) → self.new ≡ self.old }
         ensures err { OnErr result (self.new ≡ self.old) }
+        ensures takes { IfOk result (λ s. FollowsData chunk.at datagram.now s self.new) }
     {
         if !self.machine.state().takes_data() {
             return Ok(Step::Refused(Reason::Unexpected));
@@ -451,6 +465,8 @@ impl Association {
     #[inline(always)]
     fn end_by(&mut self, followed: Followed) -> Step
         ensures never { (r : Reason) → result ≡ step.Refused r → ⊥ }
+        ensures next { result ≡ step.Next → (followed ≡ Done) ⊎ (followed ≡ Wanting) }
+        ensures over { result ≡ step.Stop → self.new.is_over ≡ true }
         ensures halves { HalvesAlike self.old self.new }
         ensures peer { KeepsPeer self.old self.new }
     {

@@ -1,8 +1,10 @@
-use Rattle.std.proofs.Common.{ap, refl, rules}
+use Rattle.std.proofs.Common.{ap, inl, refl, rules, ◌∙◌}
 use Rattle.std.proofs.lemmas.Bool.{false≢true}
 use Rattle.sctp_association.proofs.Arrived.{arrives_of, arrives_same}
 use Rattle.sctp_association.specs.Halves.{halves_of}
-use Rattle.sctp_association.proofs.First.{begins, first_is, for_admitted, type_of_one}
+use Rattle.sctp_association.specs.declared.association.Association.{Association}
+use Rattle.sctp_association.proofs.Coming.{if_ok}
+use Rattle.sctp_association.proofs.First.{begins, first_is, for_admitted, only_data, type_of_one}
 use Rattle.sctp_association.proofs.Offered.{offered_less, offered_same}
 use Rattle.sctp_association.proofs.association.Association.handle_datagram.Goals as goal
 use Rattle.sctp_datagram.specs.Places.{TellsAll, place_at}
@@ -30,6 +32,7 @@ returns-in-Err c = record {
   first = λ closed stands. absurd (stands closed);
   memory = tt;
   partly = λ e. cc;
+  takes = λ one typ e. cc;
 }
 
 pub returns-in-Err-ErrOutOfMemory-clause-came : goal.returns-in-Err-ErrOutOfMemory-clause-came
@@ -68,3 +71,11 @@ pub returns-clause-partly : goal.returns-clause-partly
 returns-clause-partly c is one =
     let all : TellsAll place_at c.args.datagram.now c.in-Ok.chunks.left = search rules in
     type_of_one _ _ all one (λ first are. c.take_chunks.ensures.partly first are is)
+
+pub returns-then-self-2-clause-takes : goal.returns-then-self-2-clause-takes
+returns-then-self-2-clause-takes c one typ is = inl (ap (λ (a : Association). a.is_over) c.take_after_end.ensures.rest ∙ c.if-self-2.true)
+
+pub returns-clause-takes : goal.returns-clause-takes
+returns-clause-takes c one typ is =
+    let all : TellsAll place_at c.args.datagram.now c.in-Ok.chunks.left = search rules in
+    only_data _ _ _ _ _ all one typ (if_ok _ _ _ is c.take_chunks.ensures.accepted refl) (λ first are t. c.take_chunks.ensures.takes first are t is)

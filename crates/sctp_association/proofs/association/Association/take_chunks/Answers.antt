@@ -1,10 +1,14 @@
-use Rattle.std.proofs.Common.{Ok, ap, refl, rules, sym, ◌≡◌, ◌∙◌}
+use Rattle.std.proofs.Common.{Ok, ap, arith, inl, inr, length, refl, rules, subst, sym, ◌≡◌, ◌<◌, ◌∙◌}
 use Rattle.std.proofs.lemmas.Bool.{false≢true}
 use Rattle.sctp_association.proofs.Arrived.{arrives_of}
+use Rattle.sctp_association.proofs.Coming.{if_ok, takes_still}
 use Rattle.sctp_association.proofs.First.{one_first}
 use Rattle.sctp_association.proofs.Firsts.{by_datagram}
 use Rattle.sctp_association.proofs.Offered.{offered_alike, offered_same, offered_then}
+use Rattle.sctp_association.specs.Coming.{TakesDataAt}
+use Rattle.sctp_association.specs.Halves.{receiver_of}
 use Rattle.sctp_association.specs.Tags.{AdmitsFirst, is_all_or_nothing}
+use Rattle.sctp_association.specs.declared.association.Association.{Association}
 use Rattle.sctp_association.specs.declared.association.arrivals.Step.TheVariants as step
 use Rattle.sctp_util.specs.Field.{u32_at}
 use Rattle.sctp_association.proofs.Carrying.{all_own, next_own}
@@ -96,4 +100,23 @@ returns-in-Cut-clause-partly c first are is =
 pub returns-then-not-is_whole-clause-partly : goal.returns-then-not-is_whole-clause-partly
 returns-then-not-is_whole-clause-partly c first are is =
     let same = one_first _ _ _ (sym c.in-Some.ensures.place ∙ are) in
-    absurd (false≢true (sym c.if-not-is_whole.true ∙ c.take_others-is_whole.ensures.none same.1))
+    absurd (false≢true (sym c.if-not-is_whole.true ∙ (c.take_others-is_whole.ensures.none same.1).0))
+
+-- ## DATA as the only chunk
+
+pub returns-in-Stop-clause-takes : goal.returns-in-Stop-clause-takes
+returns-in-Stop-clause-takes c first are typ is =
+    let same = one_first _ _ _ (sym c.in-Some.ensures.place ∙ are) in
+    let stop : c.take_first.result ≡ Ok step.Stop = search rules in
+    let alone : c.left-count.result < 2 = omega (arith, c.left-count.ensures, ap length are) in
+    inl (if_ok _ _ _ stop (c.take_first.ensures.takes alone (ap (λ (p : ChunkPlace). p.typ) same.0 ∙ typ)))
+
+pub returns-clause-takes : goal.returns-clause-takes
+returns-clause-takes c first are typ is =
+    let same = one_first _ _ _ (sym c.in-Some.ensures.place ∙ are) in
+    let next : c.take_first.result ≡ Ok step.Next = search rules in
+    let alone : c.left-count.result < 2 = omega (arith, c.left-count.ensures, ap length are) in
+    let came = if_ok _ _ _ next (c.take_first.ensures.takes alone (ap (λ (p : ChunkPlace). p.typ) same.0 ∙ typ)) in
+    let idle = (c.take_others-is_whole.ensures.none same.1).1 in
+    inr (subst (λ (p : ChunkPlace). TakesDataAt p.at c.args.datagram.now c.end_datagram-2.new.self) same.0
+    (takes_still _ _ _ _ (c.end_datagram-2.ensures.halves.receiver ∙ ap (λ (a : Association). receiver_of a.inbound) idle) came))

@@ -1,5 +1,8 @@
-use Rattle.std.proofs.Common.{Some, ap, refl, sym, ◌∙◌}
+use Rattle.std.proofs.Common.{Ok, Some, ap, refl, subst, sym, ◌∙◌}
 use Rattle.sctp_association.proofs.Arrived.{came_alike, came_same, came_then, receiver_came}
+use Rattle.sctp_association.proofs.Coming.{done_unless, follows_data}
+use Rattle.sctp_association.specs.Arrivals.{Halves}
+use Rattle.sctp_association.specs.Coming.{HasComeOrIsDropped}
 use Rattle.sctp_association.proofs.Begun.{quiet_arrived}
 use Rattle.sctp_association.proofs.First.{on_err}
 use Rattle.sctp_association.proofs.Kept.{same_inbound, same_machine}
@@ -49,3 +52,16 @@ returns-clause-peer c =
     (keeps_by _ _ _ (knows_arrived _ _ _ c.packet_arrived-answer.ensures) (on.config ∙ again.config) (on.key ∙ again.key) (on.machine ∙ again.machine)
     (λ t e. again.owes t (on.owes t e)))
     c.end_by.ensures.peer
+
+pub returns-clause-takes : goal.returns-clause-takes
+returns-clause-takes c =
+    let chunk = c.in_ok-data.data in
+    let still = c.end_by.ensures.halves.receiver
+    ∙ ap (λ (h : Halves). h.receiver) (quiet_arrived _ _ _ _ _ _ c.follow.ensures.begun c.packet_arrived-answer.ensures.answer)
+    ∙ c.run_again.ensures.halves.receiver in
+    follows_data _ _ _ _ (λ next. record {
+      chunk = chunk;
+      reads = c.in_ok-data.ensures.found;
+      taken = subst (HasComeOrIsDropped chunk) (sym still) (
+          done_unless _ _ (c.end_by.ensures.next next) c.in_default-followed.not-Wanting (λ e. c.take_data.ensures.takes (c.in_ok-followed.was ∙ ap Ok e)));
+    }) c.end_by.ensures.over

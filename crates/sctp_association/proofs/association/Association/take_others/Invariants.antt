@@ -1,4 +1,4 @@
-use Rattle.std.proofs.Common.{◌≡◌}
+use Rattle.std.proofs.Common.{◌≡◌, []}
 use Rattle.std.specs.List.{AllByRecursion}
 use Rattle.sctp_association.specs.Beginnings.{ArrivesAsOffered}
 use Rattle.sctp_datagram.specs.Carried.{IsChunkOf}
@@ -10,4 +10,5 @@ invariant-loop l = record {
   bytes : l.chunks.bytes ≡ l.initial.chunks.bytes;
   own : AllByRecursion (IsChunkOf l.datagram) l.chunks.left;
   came : ArrivesAsOffered l.datagram l.initial.self l.self;
+  idle : l.initial.chunks.left ≡ [] → l.self ≡ l.initial.self;
 }

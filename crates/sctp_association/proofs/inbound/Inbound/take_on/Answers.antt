@@ -1,6 +1,11 @@
-use Rattle.std.proofs.Common.{ap, rules, ◌<◌, ◌^◌}
+use Rattle.std.proofs.Common.{ap, inl, refl, rules, ◌<◌, ◌^◌, ◌∙◌}
 use Rattle.sctp_association.proofs.Arriving.{received_data, received_same, received_then}
 use Rattle.sctp_association.proofs.inbound.Inbound.take_on.Goals as goal
+use Rattle.std.specs.Prelude.{IsOk}
+use Rattle.sctp_association.proofs.Coming.{refused_for}
+use Rattle.sctp_association.specs.declared.inbound.Inbound.{Inbound}
+use Rattle.sctp_receiver.specs.Receiver.{arrival_refusal, filter_of}
+use Rattle.sctp_receiver.specs.TsnFilter.{has_come}
 use Rattle.sctp_association.proofs.Reaching.{data_led}
 
 pub invariant_of-self : goal.invariant_of-self
@@ -24,12 +29,32 @@ returns-in-Ok-Repeat-clause-received c =
     received_then _ _ _ _ (received_data c.args.chunk.now _ _ _ fits c.data.ensures)
     (received_same _ _ _ (ap (λ i. i.receiver) c.note_data-in-Ok-Repeat.ensures))
 
-pub returns-in-Err-OutOfMemory-clause-received : goal.returns-in-Err-OutOfMemory-clause-received
-returns-in-Err-OutOfMemory-clause-received c =
+pub returns-in-OutOfMemory-clause-received : goal.returns-in-OutOfMemory-clause-received
+returns-in-OutOfMemory-clause-received c =
     let fits : c.args.chunk.now.tsn < 2 ^ 32 = search rules in
     received_data c.args.chunk.now _ _ _ fits c.data.ensures
 
-pub returns-in-Err-clause-received : goal.returns-in-Err-clause-received
-returns-in-Err-clause-received c =
+pub returns-in_default-clause-received : goal.returns-in_default-clause-received
+returns-in_default-clause-received c =
     let fits : c.args.chunk.now.tsn < 2 ^ 32 = search rules in
     received_then _ _ _ _ (received_data c.args.chunk.now _ _ _ fits c.data.ensures) c.follow.ensures.received
+
+pub returns-then-is_readable-clause-takes : goal.returns-then-is_readable-clause-takes
+returns-then-is_readable-clause-takes c is =
+    let ok : IsOk c.data.result = search rules in
+    inl (ap (λ (i : Inbound). has_come c.args.chunk.now.tsn (filter_of i.receiver)) c.note_data.ensures ∙ c.data.ensures.came ok)
+
+pub returns-else-complete-clause-takes : goal.returns-else-complete-clause-takes
+returns-else-complete-clause-takes c is =
+    let ok : IsOk c.data.result = search rules in
+    inl (ap (λ (i : Inbound). has_come c.args.chunk.now.tsn (filter_of i.receiver)) c.note_data.ensures ∙ c.data.ensures.came ok)
+
+pub returns-in-Ok-Repeat-clause-takes : goal.returns-in-Ok-Repeat-clause-takes
+returns-in-Ok-Repeat-clause-takes c is =
+    let ok : IsOk c.data.result = search rules in
+    inl (ap (λ (i : Inbound). has_come c.args.chunk.now.tsn (filter_of i.receiver)) c.note_data-in-Ok-Repeat.ensures ∙ c.data.ensures.came ok)
+
+pub returns-in_default-clause-takes : goal.returns-in_default-clause-takes
+returns-in_default-clause-takes c is =
+    let why = ap (arrival_refusal c.args.chunk.now) c.in-Err.ensures.err ∙ refused_for _ _ c.in_default.not-OutOfMemory c.in-Err.ensures.refused in
+    c.follow.ensures.takes why is

@@ -1,0 +1,39 @@
+-- DATA that comes is taken, or refused still.
+use Rattle.std.proofs.Common.{◌≡◌, ℕ, true, List, Option, Some, Result, Ok, ap, inl, inr, refl, sym, subst, ◌∙◌}
+use Rattle.std.specs.Prelude.{◌⊎◌, IfOk}
+use Rattle.sctp_association.specs.Coming.{FollowsData, HasComeOrIsDropped, TakesDataAt}
+use Rattle.sctp_association.specs.Halves.{receiver_of}
+use Rattle.sctp_association.specs.declared.association.Association.{Association}
+use Rattle.sctp_association.specs.declared.association.arrivals.Step.{Step}
+use Rattle.sctp_association.specs.declared.association.arrivals.Step.TheVariants.{Next, Stop, Cut, Refused}
+use Rattle.sctp_association.specs.declared.inbound.Followed.{Followed}
+use Rattle.sctp_association.specs.declared.inbound.Followed.TheVariants.{Done, Wanting}
+use Rattle.sctp_receiver.specs.Receiver.{Reception, IsRefusedFor, close_stream, filter_of}
+use Rattle.sctp_receiver.specs.TsnFilter.{has_come}
+use Rattle.sctp_receiver.specs.declared.receiver.refusal.ReceiverRefusal.{ReceiverRefusal}
+use Rattle.sctp_receiver.specs.declared.receiver.refusal.ReceiverRefusal.TheVariants.{OutOfMemory}
+
+pub if_ok : {T E : Type 0} (P : T → Type 0) (r : Result T E) (x : T) → r ≡ Ok x → IfOk r P → P x
+if_ok P r x e h = subst (λ s. IfOk s P) e h
+
+pub takes_still : (at : ℕ) (d : List ℕ) (a b : Association) → receiver_of b.inbound ≡ receiver_of a.inbound → TakesDataAt at d a → TakesDataAt at d b
+takes_still at d a b e t = record { chunk = t.chunk; reads = t.reads; taken = subst (HasComeOrIsDropped t.chunk) (sym e) t.taken }
+
+pub follows_data : (at : ℕ) (d : List ℕ) (s : Step) (a : Association) → (s ≡ Next → TakesDataAt at d a) → (s ≡ Stop → a.is_over ≡ true)
+    → FollowsData at d s a
+follows_data at d Next a next stop = next refl
+follows_data at d Stop a next stop = stop refl
+follows_data at d Cut a next stop = tt
+follows_data at d (Refused r) a next stop = tt
+
+pub refused_for : (reason : Option ReceiverRefusal) (e : ReceiverRefusal) → (e ≡ OutOfMemory → ⊥) → IsRefusedFor reason e → reason ≡ Some e
+refused_for reason e not (inl h) = absurd (not h.0)
+refused_for reason e not (inr h) = h
+
+pub closed_came : (tsn s : ℕ) (m r : Reception) → r ≡ close_stream s m → has_come tsn (filter_of m) ≡ true → has_come tsn (filter_of r) ≡ true
+closed_came tsn s m r e h = ap (λ (q : Reception). has_come tsn (filter_of q)) e ∙ h
+
+-- what is followed and ends no association is done, unless memory was wanting
+pub done_unless : (f : Followed) (X : Type 0) → (f ≡ Done) ⊎ (f ≡ Wanting) → (f ≡ Wanting → ⊥) → (f ≡ Done → X) → X
+done_unless f X (inl e) not done = done e
+done_unless f X (inr e) not done = absurd (not e)
