@@ -1,7 +1,8 @@
 """Two associations of which one is refused an allocation: a handshake, messages of each mode, a reset both ways, a heartbeat, loss, and a shutdown.
 
 Each allocation of it is refused in turn, one in a run (refuse.c). No run may crash, and in each all reliable messages come, once and in order, and both
-associations end by the shutdown. What is refused is asked for again by the driver, as a program does; a datagram that is refused counts as lost.
+associations end by the shutdown. What is refused is asked for again by the driver, as a program does. So is a datagram, since one that is refused has
+changed nothing; of one that is taken in part the rest counts as lost.
 """
 import os
 import shutil
@@ -28,7 +29,7 @@ class Host:
     def __init__(self, program, env):
         self.process = subprocess.Popen([program], stdin=subprocess.PIPE, stdout=subprocess.PIPE, text=True, env=env)
         self.outs, self.read, self.closed, self.reset, self.refusals, self.lines = [], {}, None, 0, 0, 0
-        self.up, self.next = False, None
+        self.up, self.next, self.parts = False, None, 0
 
     def once(self, line):
         """Gives a line; returns what it answers, and takes its datagrams and events."""
@@ -81,6 +82,13 @@ class Host:
             self.refusals += 1
         raise Wrong(f"refused again and again: {line[:60]}")
 
+    def take(self, line):
+        """Gives a datagram, again where it is refused for memory."""
+        told = [it for it in self.ask(line) if not it.startswith("event ")]
+        if len(told) != 1 or told[0].split()[0] not in ("accepted", "partly", "dropped"):
+            raise Wrong(f"{line[:60]}: {told}")
+        self.parts += told == ["partly"]
+
     def drain(self, now, stream):
         while True:
             message = next((it for it in self.ask(f"read {now} {stream}") if it.startswith("message ")), None)
@@ -123,7 +131,7 @@ class Exchange:
         due = [it for it in self.flights if it[0] <= self.now]
         self.flights = [it for it in self.flights if it[0] > self.now]
         for _, number, datagram in due:
-            self.hosts[number].once(f"in {self.now} {datagram}")
+            self.hosts[number].take(f"in {self.now} {datagram}")
         for host in self.hosts:
             if host.next is not None and host.next <= self.now:
                 host.once(f"timeout {self.now}")
@@ -205,16 +213,18 @@ def refuse_each(program, every):
         source = os.path.join(os.path.dirname(os.path.abspath(__file__)), "refuse.c")
         subprocess.run([os.environ.get("CC", "gcc"), "-shared", "-fPIC", "-O1", source, "-o", library], check=True)
         whole, count = run(program, library, folder, 0)
-        refusals = died = 0
+        refusals = parts = died = 0
         for number in range(1, count + 1, every):
             exchange, _ = run(program, library, folder, number)
             if exchange is None:
                 died += 1
             else:
                 refusals += exchange.hosts[0].refusals
+                parts += exchange.hosts[0].parts
         if died > 4:
             raise Wrong(f"{died} refusals end the program")
-        print(f"{count} allocations, each {every}th refused once: {died} before the first line, {refusals} calls asked again", flush=True)
+        print(f"{count} allocations, each {every}th refused once: {died} before the first line, {refusals} calls asked again, "
+              f"{parts} datagrams taken in part", flush=True)
         return whole.all
 
 

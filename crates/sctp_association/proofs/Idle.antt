@@ -1,16 +1,15 @@
 -- When nothing was put into a packet, and why.
 use Rattle.std.proofs.Common.{◌≡◌, ◌≢◌, ◌⊎◌, inl, inr, ℕ, ◌+◌, ◌*◌, ◌-◌, ◌<◌, ◌≤◌, Bool, true, false, List, [], ◌∷◌, ◌++◌, length, Option, Some, None, Result, Ok, Err, refl, ap, sym, subst}
 use Rattle.std.proofs.Common.{◌∙◌, arith, length-append}
-use Rattle.std.specs.Prelude.{◌^◌, ◌&&◌, IfOk, IfSome, OnOk, find, if◌then◌else◌, max, min, nat_le, not, slice_get}
+use Rattle.std.specs.Prelude.{◌^◌, IfOk, IfSome, OnOk, find, if◌then◌else◌, max, min, slice_get}
 use Rattle.std.specs.List.{count_by}
 use Rattle.std.specs.Option.{option_map}
 use Rattle.std.proofs.lemmas.Bool.{false≢true, leb-true, le-leb}
 use Rattle.std.proofs.lemmas.List.Concat.{flat_map-append}
 use Rattle.std.proofs.lemmas.List.Sums.{sum_by-cons}
 use Rattle.sctp_association.proofs.Making.{of-some, some-none, told-once}
-use Rattle.sctp_association.specs.Idle.{IsMarkedBehind, WaitsBehind, in_flight, sends}
+use Rattle.sctp_association.specs.Idle.{IsMarkedBehind, WaitsBehind, in_flight}
 use Rattle.sctp_association.specs.Packets.{Adds, with_chunks}
-use Rattle.sctp_association.specs.Sending.{is_early}
 use Rattle.sctp_chunks.proofs.Lengths.{length_data_value, length_sack_value}
 use Rattle.sctp_chunks.specs.Wire.{HasEncoding, Wire, data_chunk, sack_chunk, value_of}
 use Rattle.sctp_data.specs.declared.chunk.chunk_payload_data.ChunkPayloadData.{ChunkPayloadData}
@@ -24,15 +23,8 @@ use Rattle.sctp_packets.proofs.Written.{length_padded_encoding}
 use Rattle.sctp_packets.specs.Draft.{IsDraft}
 use Rattle.sctp_packets.specs.Packet.{Parts, body_of, head_of, padded_encoding}
 use Rattle.sctp_delivery.specs.SenderCalls.{next_chunk}
-use Rattle.sctp_handshake.specs.declared.state.State.{State}
-use Rattle.sctp_handshake.specs.declared.state.State.TheVariants.{Closed, CookieWait, CookieEchoed, Established}
-use Rattle.sctp_handshake.specs.declared.state.State.TheVariants.{ShutdownPending, ShutdownSent, ShutdownReceived, ShutdownAckSent}
-use Rattle.sctp_handshake.specs.States.{sends_data}
 use Rattle.sctp_sender.proofs.Sent.{as-noted}
-use Rattle.sctp_sender.specs.declared.sender.refusal.SenderRefusal.{SenderRefusal}
-use Rattle.sctp_sender.specs.declared.sender.refusal.SenderRefusal.TheVariants.{SsnsUsedUp, TsnsUsedUp}
-use Rattle.sctp_sender.specs.Flight.{Flight, may_send}
-use Rattle.sctp_sender.specs.Numbers.{is_too_far, refusal_of, send_refusal}
+use Rattle.sctp_sender.specs.Flight.{Flight}
 use Rattle.sctp_sender.specs.Resending.{count_again, fits, if_it_fits, is_to_resend, next_within, sent_again}
 use Rattle.sctp_sender.specs.Sender.{Transmission}
 use Rattle.sctp_serial.specs.DataChunks.{has_tsn}
@@ -52,16 +44,8 @@ pub none_found : {X : Type 0} (p : X → Bool) (xs : List X) → count_by p xs �
 none_found p [] e = refl
 none_found p (x ∷ xs) e = found-first p x xs (p x) refl e (none_found p xs (omega (arith, e, one-more p x xs)))
 
-pub found_there : {X : Type 0} (p : X → Bool) (xs : List X) (x : X) → find p xs ≡ Some x → xs ≡ [] → ⊥
-found_there p [] x e n = cc
-found_there p (y ∷ ys) x e n = cc
-
 pub if_none : (P : ChunkPayloadData → Type 0) (o : Option ChunkPayloadData) → o ≡ None → IfSome o P
 if_none P o e = subst (λ o. IfSome o P) (sym e) tt
-
-pub if_any : (P : ChunkPayloadData → Type 0) (o : Option ChunkPayloadData) → ((c : ChunkPayloadData) → o ≡ Some c → P c) → IfSome o P
-if_any P None h = tt
-if_any P (Some c) h = h c refl
 
 -- ## What waits
 
@@ -104,13 +88,6 @@ unfit-by P c false e h = absurd (false≢true h)
 pub unfit : (room : ℕ) (P : Type 0) (o : Option ChunkPayloadData) → if_it_fits room o ≡ None → IfSome o (λ c. fits room c ≡ true → P)
 unfit room P None e = tt
 unfit room P (Some c) e = unfit-by P c (fits room c) e
-
--- more room takes what less takes
-pub fits_more : (a b : ℕ) (c : ChunkPayloadData) → a ≤ b → fits a c ≡ true → fits b c ≡ true
-fits_more a b c le h = le-leb _ b (omega (arith, le, leb-true _ a h))
-
-pub fits_not : (room : ℕ) (c : ChunkPayloadData) → room < 16 + padded_length (length c.user_data) → fits room c ≡ true → ⊥
-fits_not room c lt h = omega (arith, lt, leb-true _ room h)
 
 padding_16 : (n : ℕ) → padding_of (16 + n) ≡ padding_of n
 padding_16 n = omega arith
@@ -160,25 +137,6 @@ pub sent_fits : (now room : ℕ) (t : Transmission) (c chunk : ChunkPayloadData)
 sent_fits now room t c chunk e is h =
     subst (λ (m : ChunkPayloadData). fits room m ≡ true) (as-noted t.flight.queue t.flight.next_tsn now c chunk e is) h
 
--- nothing is early where nothing is outstanding
-pub never_early : (now expired : ℕ) (trip sent : Option ℕ) → is_early 0 now expired trip sent ≡ false
-never_early now expired None sent = refl
-never_early now expired (Some trip) None = refl
-never_early now expired (Some trip) (Some sent) = refl
-
-far-not : (b x : Bool) (n : ℕ) → n ≡ 0 → (b && (nat_le (2 ^ 14) n && x)) ≡ false
-far-not false x n e = refl
-far-not true x n e = rw e refl
-
-no-ssns : (o : Option ChunkPayloadData) (f : Flight) → f.queue.inflight.chunks ≡ [] → refusal_of o f ≡ Some SsnsUsedUp → ⊥
-no-ssns None f e r = some-none SsnsUsedUp (sym r)
-no-ssns (Some c) f e r = by (may_send f) (is_too_far f c) (far-not _ _ (length f.queue.inflight.chunks) (ap length e)) r
-  where
-    by : (m b : Bool) → b ≡ false → (if not m then Some TsnsUsedUp else (if b then Some SsnsUsedUp else None)) ≡ Some SsnsUsedUp → ⊥
-    by true true k r = false≢true (sym k)
-    by true false k r = some-none SsnsUsedUp (sym r)
-    by false b k r = cc
-
 -- where it was found to fit
 pub fits_so : (n room : ℕ) (c : ChunkPayloadData) → n ≡ min (16 + padded_length (length c.user_data)) (2 ^ 64 - 1) → n ≤ room → room ≤ 65535 → fits room c ≡ true
 fits_so n room c is le most = le-leb _ room (omega (arith, is, le, most))
@@ -192,20 +150,6 @@ pub lent_fits : (now room : ℕ) (t u : Transmission) (tsn : ℕ) (peeked chunk 
 lent_fits now room t u tsn peeked chunk answer noted lent e fit =
     let told = told-once t.flight.next_tsn tsn (next_pending t.flight.queue.pending) answer in
     sent_fits now room t peeked chunk e (lent ∙ ap (λ n. find (has_tsn n) u.flight.queue.inflight.chunks) told.0 ∙ noted told.1) fit
-
--- numbers of messages are not used up where nothing is in flight
-pub ssns_left : (f : Flight) → f.queue.inflight.chunks ≡ [] → send_refusal f ≡ Some SsnsUsedUp → ⊥
-ssns_left f e r = no-ssns (next_pending f.queue.pending) f e r
-
-pub sends_then : (s : State) → sends s ≡ true → sends_data s ≡ true
-sends_then Closed h = absurd (false≢true h)
-sends_then CookieWait h = absurd (false≢true h)
-sends_then CookieEchoed h = refl
-sends_then Established h = refl
-sends_then ShutdownPending h = refl
-sends_then ShutdownSent h = absurd (false≢true h)
-sends_then ShutdownReceived h = refl
-sends_then ShutdownAckSent h = absurd (false≢true h)
 
 -- ## A packet gets no shorter
 
