@@ -1,9 +1,13 @@
 -- DATA that comes is taken, or refused still.
-use Rattle.std.proofs.Common.{◌≡◌, ℕ, true, List, Option, Some, Result, Ok, ap, inl, inr, refl, sym, subst, ◌∙◌}
-use Rattle.std.specs.Prelude.{◌⊎◌, IfOk}
+use Rattle.std.proofs.Common.{◌≡◌, ℕ, true, false, List, Option, Some, Result, Ok, ap, inl, inr, refl, sym, subst, ◌∙◌}
+use Rattle.std.proofs.lemmas.Bool.{false≢true}
+use Rattle.std.specs.Prelude.{◌⊎◌, Err, IfOk, OnOk}
 use Rattle.sctp_association.specs.Coming.{FollowsData, HasComeOrIsDropped, TakesDataAt}
 use Rattle.sctp_association.specs.Halves.{receiver_of}
 use Rattle.sctp_association.specs.declared.association.Association.{Association}
+use Rattle.sctp_association.specs.Steps.{is_accepted}
+use Rattle.sctp_association.specs.declared.association.Taken.{Taken}
+use Rattle.sctp_association.specs.declared.fault.Fault.{Fault}
 use Rattle.sctp_association.specs.declared.association.arrivals.Step.{Step}
 use Rattle.sctp_association.specs.declared.association.arrivals.Step.TheVariants.{Next, Stop, Cut, Refused}
 use Rattle.sctp_association.specs.declared.inbound.Followed.{Followed}
@@ -37,3 +41,15 @@ closed_came tsn s m r e h = ap (λ (q : Reception). has_come tsn (filter_of q)) 
 pub done_unless : (f : Followed) (X : Type 0) → (f ≡ Done) ⊎ (f ≡ Wanting) → (f ≡ Wanting → ⊥) → (f ≡ Done → X) → X
 done_unless f X (inl e) not done = done e
 done_unless f X (inr e) not done = absurd (not e)
+
+-- ## What is not read
+
+pub never_told : (r : Result Taken Fault) (t : Taken) → r ≡ Ok t → is_accepted t ≡ true → IfOk r (λ t. is_accepted t ≡ false) → ⊥
+never_told r t e is never = false≢true (sym (if_ok (λ t. is_accepted t ≡ false) r t e never) ∙ is)
+
+pub never_accepted : (r : Result Taken Fault) (X : Type 0) → IfOk r (λ t. is_accepted t ≡ false) → IfOk r (λ t. is_accepted t ≡ true → X)
+never_accepted (Ok t) X never = λ is. absurd (false≢true (sym never ∙ is))
+never_accepted (Err e) X never = tt
+
+pub on_ok : {T E X : Type 0} (r : Result T E) (x : T) → r ≡ Ok x → OnOk r X → X
+on_ok {T} {E} {X} r x e h = subst (λ s. OnOk s X) e h

@@ -3,7 +3,7 @@ use Rattle.std.proofs.Common.{◌≡◌, Bool, true, false, None, refl, ap, subs
 use Rattle.std.proofs.lemmas.Bool.{false≢true}
 use Rattle.std.proofs.lemmas.Option.{none-some}
 use Rattle.std.specs.Prelude.{nat_lt, if◌then◌else◌}
-use Rattle.sctp_association.specs.Beginnings.{KeepsPeer, KnowsNoMore, is_asking}
+use Rattle.sctp_association.specs.Beginnings.{KeepsPeer, KnowsNoMore, is_asking, is_standing}
 use Rattle.sctp_association.specs.Kept.{IsKept, IsUnmoved, OwesNoMore, ticket_due}
 use Rattle.sctp_association.specs.declared.association.Association.{Association}
 use Rattle.sctp_association.specs.declared.due.Due.{Due}
@@ -26,6 +26,7 @@ use Rattle.sctp_handshake.specs.declared.state.State.TheVariants.{ShutdownAckSen
 pub knows_same : (m n : Machine) → n ≡ m → KnowsNoMore m n
 knows_same m n e = record {
   asking = λ asks. subst (λ (k : Machine). is_asking k.state ≡ true) e asks;
+  standing = λ stands. subst (λ (k : Machine). is_standing k.state ≡ true) e stands;
   peer = λ o is. sym (ap (λ (k : Machine). k.peer) e) ∙ is;
   own = ap (λ (k : Machine). k.own) e;
   restarted = ap (λ (k : Machine). k.has_restarted) e;
@@ -34,37 +35,51 @@ knows_same m n e = record {
 pub knows_then : (m n k : Machine) → KnowsNoMore m n → KnowsNoMore n k → KnowsNoMore m k
 knows_then m n k f g = record {
   asking = λ e. f.asking (g.asking e);
+  standing = λ e. f.standing (g.standing e);
   peer = λ o e. f.peer o (g.peer o e);
   own = g.own ∙ f.own;
   restarted = g.restarted ∙ f.restarted;
 }
 
 knows-closed : (m : Machine) → KnowsNoMore m (closed m)
-knows-closed m = record { asking = λ e. absurd (false≢true e); peer = λ o e. absurd (none-some o e); own = refl; restarted = refl }
+knows-closed m = record {
+  asking = λ e. absurd (false≢true e);
+  standing = λ e. absurd (false≢true e);
+  peer = λ o e. absurd (none-some o e);
+  own = refl;
+  restarted = refl;
+}
 
-knows-into : (s : State) (m : Machine) → is_asking s ≡ false → KnowsNoMore m (into s m)
-knows-into s m is = record { asking = λ e. absurd (false≢true (sym is ∙ e)); peer = λ o e. e; own = refl; restarted = refl }
+-- where an association stands
+knows-into : (s : State) (m : Machine) → is_asking s ≡ false → is_standing m.state ≡ true → KnowsNoMore m (into s m)
+knows-into s m is stands = record {
+  asking = λ e. absurd (false≢true (sym is ∙ e));
+  standing = λ e. stands;
+  peer = λ o e. e;
+  own = refl;
+  restarted = refl;
+}
 
 -- ## Inputs
 
 arrived-knows : (s : State) (m : Machine) → KnowsNoMore m (packet_arrived_row s true m).machine
-arrived-knows ShutdownSent m = record { asking = λ e. e; peer = λ o e. e; own = refl; restarted = refl }
+arrived-knows ShutdownSent m = record { asking = λ e. e; standing = λ e. e; peer = λ o e. e; own = refl; restarted = refl }
 arrived-knows _ m = knows_same m m refl
 
 abort-knows : (s : State) (m : Machine) → KnowsNoMore m (abort_row s m).machine
 abort-knows Closed m = knows_same m m refl
 abort-knows _ m = knows-closed m
 
-shutdown-knows : (s : State) (m : Machine) → KnowsNoMore m (shutdown_row s m).machine
-shutdown-knows Established m = knows-into ShutdownReceived m refl
-shutdown-knows ShutdownPending m = knows-into ShutdownReceived m refl
-shutdown-knows ShutdownSent m = knows-into ShutdownAckSent m refl
-shutdown-knows _ m = knows_same m m refl
+shutdown-knows : (s : State) (m : Machine) → m.state ≡ s → KnowsNoMore m (shutdown_row s m).machine
+shutdown-knows Established m is = knows-into ShutdownReceived m refl (ap is_standing is)
+shutdown-knows ShutdownPending m is = knows-into ShutdownReceived m refl (ap is_standing is)
+shutdown-knows ShutdownSent m is = knows-into ShutdownAckSent m refl (ap is_standing is)
+shutdown-knows _ m is = knows_same m m refl
 
-asked-knows : (s : State) (m : Machine) → KnowsNoMore m (shutdown_asked_row s m).machine
-asked-knows CookieWait m = knows-closed m
-asked-knows Established m = knows-into ShutdownPending m refl
-asked-knows _ m = knows_same m m refl
+asked-knows : (s : State) (m : Machine) → m.state ≡ s → KnowsNoMore m (shutdown_asked_row s m).machine
+asked-knows CookieWait m is = knows-closed m
+asked-knows Established m is = knows-into ShutdownPending m refl (ap is_standing is)
+asked-knows _ m is = knows_same m m refl
 
 ack-knows : (s : State) (m : Machine) → KnowsNoMore m (shutdown_ack_row s m).machine
 ack-knows ShutdownSent m = knows-closed m
@@ -75,14 +90,20 @@ complete-knows : (s : State) (m : Machine) → KnowsNoMore m (shutdown_complete_
 complete-knows ShutdownAckSent m = knows-closed m
 complete-knows _ m = knows_same m m refl
 
-drained-knows : (s : State) (m : Machine) → KnowsNoMore m (drained_row s m).machine
-drained-knows ShutdownPending m = knows-into ShutdownSent m refl
-drained-knows ShutdownReceived m = knows-into ShutdownAckSent m refl
-drained-knows _ m = knows_same m m refl
+drained-knows : (s : State) (m : Machine) → m.state ≡ s → KnowsNoMore m (drained_row s m).machine
+drained-knows ShutdownPending m is = knows-into ShutdownSent m refl (ap is_standing is)
+drained-knows ShutdownReceived m is = knows-into ShutdownAckSent m refl (ap is_standing is)
+drained-knows _ m is = knows_same m m refl
 
 -- the handshake begins again in CookieEchoed, where this side asks, too
 retried-knows : (b : Bool) (m : Machine) → m.state ≡ CookieEchoed → KnowsNoMore m (if b then begun_again m else failed m).machine
-retried-knows true m is = record { asking = λ e. ap is_asking is; peer = λ o e. absurd (none-some o e); own = refl; restarted = refl }
+retried-knows true m is = record {
+  asking = λ e. ap is_asking is;
+  standing = λ e. absurd (false≢true e);
+  peer = λ o e. absurd (none-some o e);
+  own = refl;
+  restarted = refl;
+}
 retried-knows false m is = knows-closed m
 
 stale-knows : (s : State) (m : Machine) → m.state ≡ s → KnowsNoMore m (stale_cookie_row s m).machine
@@ -91,7 +112,7 @@ stale-knows _ m is = knows_same m m refl
 
 -- the timer of the state ran out
 again-knows : (b : Bool) (r : Reply) (m : Machine) → KnowsNoMore m (if b then sent_again r m else failed m).machine
-again-knows true r m = record { asking = λ e. e; peer = λ o e. e; own = refl; restarted = refl }
+again-knows true r m = record { asking = λ e. e; standing = λ e. e; peer = λ o e. e; own = refl; restarted = refl }
 again-knows false r m = knows-closed m
 
 timed-knows : (s : State) (m : Machine) → KnowsNoMore m (timed_out_row s m).machine
@@ -112,10 +133,10 @@ module _ (m n : Machine) (a : Answer) where
   knows_abort t = taken (on_abort m) (abort-knows m.state m) t
 
   pub knows_shutdown : Takes (on_shutdown m) n a → KnowsNoMore m n
-  knows_shutdown t = taken (on_shutdown m) (shutdown-knows m.state m) t
+  knows_shutdown t = taken (on_shutdown m) (shutdown-knows m.state m refl) t
 
   pub knows_asked : Takes (on_shutdown_asked m) n a → KnowsNoMore m n
-  knows_asked t = taken (on_shutdown_asked m) (asked-knows m.state m) t
+  knows_asked t = taken (on_shutdown_asked m) (asked-knows m.state m refl) t
 
   pub knows_shutdown_ack : Takes (on_shutdown_ack m) n a → KnowsNoMore m n
   knows_shutdown_ack t = taken (on_shutdown_ack m) (ack-knows m.state m) t
@@ -124,7 +145,7 @@ module _ (m n : Machine) (a : Answer) where
   knows_complete t = taken (on_shutdown_complete m) (complete-knows m.state m) t
 
   pub knows_drained : Takes (on_drained m) n a → KnowsNoMore m n
-  knows_drained t = taken (on_drained m) (drained-knows m.state m) t
+  knows_drained t = taken (on_drained m) (drained-knows m.state m refl) t
 
   pub knows_timed : Takes (on_timed_out m) n a → KnowsNoMore m n
   knows_timed t = taken (on_timed_out m) (timed-knows m.state m) t
@@ -200,4 +221,6 @@ unmoved_then a b c f g = record {
   key = g.key ∙ f.key;
   machine = g.machine ∙ f.machine;
   alone = g.alone ∙ f.alone;
+  events = g.events ∙ f.events;
+  over = g.over ∙ f.over;
 }

@@ -27,8 +27,12 @@ pub mod Offered
 pub mod Offers
 pub mod Carrying
 pub mod Coming
+pub mod Each
+pub mod Going
 pub mod Cut
 pub mod Named
+pub mod Fronts
+pub mod Noting
 pub mod Idle
 pub mod HostSteps
 pub mod Tsns
@@ -43,4 +47,6 @@ pub mod Links
 pub mod Setups
 pub mod SetupPairs
 pub mod PairOrder
+pub mod Telling
+pub mod Told
 pub mod Pairs

@@ -1,6 +1,6 @@
 -- Each chunk of a half that is put is what a call of it answered.
 use Rattle.std.proofs.Common.{◌≡◌, ◌≢◌, ℕ, List, [], ◌∷◌, Bool, true, false, Option, Some, None, refl, ap, sym, subst, ◌∙◌, arith}
-use Rattle.std.specs.Prelude.{Contains, IfSome, find, is_some}
+use Rattle.std.specs.Prelude.{Contains, IfSome, find, if◌then◌else◌, is_some}
 use Rattle.std.proofs.lemmas.Bool.{false≢true}
 use Rattle.std.specs.Option.{option_map}
 use Rattle.sctp_association.proofs.Putting.{adds_none, and_then, kept, puts_made, puts_none, puts_reported, there}
@@ -27,9 +27,9 @@ use Rattle.sctp_receiver.specs.Receiver.{Reception, sack_within, without_duplica
 use Rattle.sctp_sender.specs.Abandonment.{Name, can_skip_to, is_end, named_up_to}
 use Rattle.sctp_sender.specs.declared.sender.Dropped.{Dropped}
 use Rattle.sctp_sender.specs.Drops.{with_lifetimes}
-use Rattle.sctp_sender.specs.Flight.{can_resend}
+use Rattle.sctp_sender.specs.Flight.{Flight, can_resend}
 use Rattle.sctp_sender.specs.Numbers.{send_refusal}
-use Rattle.sctp_sender.specs.Resending.{count_again, next_within, resent_at, sent_again}
+use Rattle.sctp_sender.specs.Resending.{count_again, fits, if_it_fits, is_to_resend, next_within, resent_at, sent_again}
 use Rattle.sctp_sender.specs.Sender.{Transmission, after_send, with_flight}
 use Rattle.sctp_sender.specs.SenderRuns.{held_by_sender}
 use Rattle.sctp_serial.specs.DataChunks.{has_tsn}
@@ -69,6 +69,27 @@ pub none_again : (now room : ℕ) (t u : Transmission) (x : List ℕ) (a : Optio
 none_again now room t u x a none answer same =
     kept t u x x (same (none-of (λ c. sent_again (count_again c) now c) (next_within room t.flight) (sym none ∙ answer))) refl
 
+-- what is sent again is marked
+fitting : (room : ℕ) (c : ChunkPayloadData) (o : Option ChunkPayloadData) → if_it_fits room o ≡ Some c → o ≡ Some c
+fitting room c None e = absurd (cc)
+fitting room c (Some d) e = by (fits room d) e
+  where
+    by : (b : Bool) → (if b then Some d else None) ≡ Some c → Some d ≡ Some c
+    by true e = e
+    by false e = absurd (cc)
+
+found-holds : (p : ChunkPayloadData → Bool) (xs : List ChunkPayloadData) (c : ChunkPayloadData) → find p xs ≡ Some c → p c ≡ true
+found-holds p [] c e = absurd (cc)
+found-holds p (x ∷ xs) c e = by (p x) refl (found-holds p xs c) e
+  where
+    by : (b : Bool) → p x ≡ b → (find p xs ≡ Some c → p c ≡ true) → (if b then Some x else find p xs) ≡ Some c → p c ≡ true
+    by true is rest e = ap p (sym (of-some x c e)) ∙ is
+    by false is rest e = rest e
+
+meant : (room : ℕ) (f : Flight) (c : ChunkPayloadData) → next_within room f ≡ Some c → is_to_resend c ≡ true
+meant room f c e =
+    found-holds is_to_resend f.queue.inflight.chunks c (fitting room c (find is_to_resend f.queue.inflight.chunks) e)
+
 module _ (now room : ℕ) (chunk : ChunkPayloadData) (b : Bool) (t u : Transmission) (old new : List ℕ) where
   again_of : (o : Option ChunkPayloadData) → next_within room t.flight ≡ o → Some chunk ≡ option_map (λ c. sent_again (count_again c) now c) o
       → ((c : ChunkPayloadData) → next_within room t.flight ≡ Some c → u ≡ with_flight (resent_at c.tsn now c t.flight) t)
@@ -79,7 +100,7 @@ module _ (now room : ℕ) (chunk : ChunkPayloadData) (b : Bool) (t u : Transmiss
   again_of (Some c) is e exact marked added =
       let m = marked c is in
       let own : chunk ≡ sent_again (count_again c) now c = of-some chunk _ e in
-      puts_made (resends c.tsn now c) b (data_chunk (data_of chunk)) t u old new (refl, (exact c is, (tt, ((m.1, m.0), tt))))
+      puts_made (resends c.tsn now c) b (data_chunk (data_of chunk)) t u old new (meant room t.flight c is, (exact c is, (tt, ((m.1, m.0), tt))))
       (subst (λ (d : ChunkPayloadData). Contains (made.data_chunk (data_of d) ∷ []) (made.data_chunk (data_of chunk))) own
       (there (made.data_chunk (data_of chunk)))) tt added
 

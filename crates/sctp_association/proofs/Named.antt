@@ -74,7 +74,7 @@ skipped-numbers f r = by (is_stale f r) (after-numbers f r)
     by true e = refl
     by false e = incomplete-numbers f.new_cumulative_tsn (after_forward f r).streams ∙ e
 
-skipped-open : (n : ℕ) (f : ForwardTsn) (r : Reception) → is_open n (after_forward_tsn f r) ≡ is_open n r
+pub skipped-open : (n : ℕ) (f : ForwardTsn) (r : Reception) → is_open n (after_forward_tsn f r) ≡ is_open n r
 skipped-open n f r =
     by-numbers n (after_forward_tsn f r).streams ∙ ap (numbers-in n) (skipped-numbers f r) ∙ sym (by-numbers n r.streams)
 

@@ -60,7 +60,7 @@ short-run n (c ∷ cs) old new usual r all =
 -- ## Few streams are open
 
 -- no number twice, and each below this one
-abbrev AreFew : ℕ → List ℕ → Type 0
+abbrev pub AreFew : ℕ → List ℕ → Type 0
 AreFew n ns = (are_apart ns ≡ true) × AreBelow n ns
 
 abbrev Few : ℕ → Reception → Type 0
@@ -137,8 +137,10 @@ module _ (l : Limits) (n : ℕ) (r : Reception) (h : IsReached l n r) where
   pub duplicates-noted : length r.duplicates ≤ max_sack_entries
   duplicates-noted = subst (λ (r : Reception). length r.duplicates ≤ max_sack_entries) h.there (few-duplicates h.tsn h.max l h.calls h.stand h.usize h.run)
 
+  pub streams-few : AreFew n (numbers_of r.streams)
+  streams-few = subst (Few n) h.there (few-run n h.calls (at_start h.tsn h.max (Some l)) h.stand h.usual h.run (refl, tt))
+
   pub streams-open : length r.streams ≤ n
   streams-open =
-      let few = subst (Few n) h.there (few-run n h.calls (at_start h.tsn h.max (Some l)) h.stand h.usual h.run (refl, tt)) in
-      let less = no-more n (numbers_of r.streams) few.0 few.1 in
+      let less = no-more n (numbers_of r.streams) streams-few.0 streams-few.1 in
       omega (arith, less, length-map r.streams number)

@@ -46,7 +46,7 @@ pub rest_keeps : (a b : Association) (o : Outbound) (e : Events) → b ≡ recor
 rest_keeps a b o e is = subst (KeepsPeer a) (sym is) (record {
   config = refl;
   key = refl;
-  machine = record { asking = λ e. e; peer = λ o e. e; own = refl; restarted = refl };
+  machine = record { asking = λ e. e; standing = λ e. e; peer = λ o e. e; own = refl; restarted = refl };
   owes = λ t e. e;
 })
 
@@ -55,7 +55,7 @@ pub beside_keeps : (a b : Association) → IsSameBeside a b → KeepsPeer a b
 beside_keeps a b s = record {
   config = s.config;
   key = s.key;
-  machine = subst (λ m. KnowsNoMore a.machine m) (sym s.machine) (record { asking = λ e. e; peer = λ o e. e; own = refl; restarted = refl });
+  machine = subst (λ m. KnowsNoMore a.machine m) (sym s.machine) (record { asking = λ e. e; standing = λ e. e; peer = λ o e. e; own = refl; restarted = refl });
   owes = λ t e. subst (λ (d : Due). ticket_due d.alone ≡ Some t) s.due e;
 }
 

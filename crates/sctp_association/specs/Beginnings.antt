@@ -187,9 +187,10 @@ pub record ArrivesAsOffered (datagram : List ℕ) (old new : Association) : Type
 
 -- ## What stays
 
--- of a peer nothing new is known, and this side offers the same
+-- of a peer nothing new is known, and this side offers the same; no association stands that did not before
 pub record KnowsNoMore (old new : Machine) : Type 0 where
   pub asking : is_asking new.state ≡ true → is_asking old.state ≡ true
+  pub standing : is_standing new.state ≡ true → is_standing old.state ≡ true
   pub peer : (offer : Offer) → new.peer ≡ Some offer → old.peer ≡ Some offer
   pub own : new.own ≡ old.own
   pub restarted : new.has_restarted ≡ old.has_restarted

@@ -1,17 +1,28 @@
--- What becomes of DATA that comes (RFC 9260 6.2).
-use Rattle.std.specs.Prelude.{◌≡◌, ◌⊎◌, ⊤, ℕ, true, List, drop, Option, Some, None}
+-- What becomes of DATA that comes (RFC 9260 6.2), and of which packets something is taken.
+use Rattle.std.specs.Prelude.{◌≡◌, ◌⊎◌, ⊤, ℕ, ◌==◌, ◌&&◌, ◌||◌, if◌then◌else◌, Bool, true, false, List, [], ◌∷◌, drop, Option, Some, None, is_some}
+use Rattle.crc32c.specs.Castagnoli.{crc32c_of}
+use Rattle.sctp_association.specs.Arrivals.{Arrives, Halves}
+use Rattle.sctp_association.specs.declared.association.Reason.TheVariants.{Unexpected}
 use Rattle.sctp_association.specs.declared.association.Association.{Association}
 use Rattle.sctp_association.specs.declared.association.arrivals.Step.{Step}
 use Rattle.sctp_association.specs.declared.association.arrivals.Step.TheVariants.{Next, Stop, Cut, Refused}
-use Rattle.sctp_association.specs.Halves.{receiver_of}
+use Rattle.sctp_association.specs.declared.config.Config.{Config}
+use Rattle.sctp_association.specs.Halves.{halves_of, receiver_of}
 use Rattle.sctp_chunks.specs.Wire.{ReadsChunk, data_chunk}
 use Rattle.sctp_data.specs.declared.chunk.chunk_payload_data.ChunkPayloadData.{ChunkPayloadData}
 use Rattle.sctp_data.specs.PayloadData.{data_of}
+use Rattle.sctp_datagram.specs.declared.datagram.ChunkPlace.{ChunkPlace}
+use Rattle.sctp_datagram.specs.declared.datagram.ZeroChecksum.{ZeroChecksum}
+use Rattle.sctp_datagram.specs.declared.datagram.ZeroChecksum.TheVariants as zero
+use Rattle.sctp_datagram.specs.Fault.{IsAccepted}
+use Rattle.sctp_datagram.specs.Places.{TellsAll, place_at}
+use Rattle.sctp_handshake.specs.States.{takes_data, takes_sacks}
 use Rattle.sctp_receiver.specs.Advice.{advice_for}
 use Rattle.sctp_receiver.specs.declared.advice.Advice.TheVariants.{Drop}
 use Rattle.sctp_receiver.specs.declared.receiver.refusal.ReceiverRefusal.{ReceiverRefusal}
 use Rattle.sctp_receiver.specs.Receiver.{Reception, arrival_refusal, filter_of}
 use Rattle.sctp_receiver.specs.TsnFilter.{has_come}
+use Rattle.sctp_util.specs.Field.{u16_at, u32_at}
 
 -- the receiver refuses the chunk, and it is dropped: the peer sends it again
 pub record IsDropped (c : ChunkPayloadData) (r : Reception) : Type 0 where
@@ -25,10 +36,13 @@ HasComeOrIsDropped c None = ⊥
 HasComeOrIsDropped c (Some r) = (has_come c.tsn (filter_of r) ≡ true) ⊎ IsDropped c r
 
 -- so of the DATA chunk at a place of a datagram
-pub record TakesDataAt (at : ℕ) (datagram : List ℕ) (a : Association) : Type 0 where
+pub record HasTakenData (at : ℕ) (datagram : List ℕ) (r : Option Reception) : Type 0 where
   pub chunk : ChunkPayloadData
   pub reads : ReadsChunk (drop at datagram) (data_chunk (data_of chunk))
-  pub taken : HasComeOrIsDropped chunk (receiver_of a.inbound)
+  pub taken : HasComeOrIsDropped chunk r
+
+abbrev pub TakesDataAt : (at : ℕ) → List ℕ → Association → Type 0
+TakesDataAt at datagram a = HasTakenData at datagram (receiver_of a.inbound)
 
 -- so it is where the datagram goes on, and where it ends there the association is over
 abbrev pub FollowsData : (at : ℕ) → List ℕ → Step → Association → Type 0
@@ -40,3 +54,71 @@ FollowsData at datagram (Refused r) a = ⊤
 -- of a datagram that has only a DATA chunk
 abbrev pub TakesOnlyData : List ℕ → Association → Type 0
 TakesOnlyData datagram a = (a.is_over ≡ true) ⊎ TakesDataAt 12 datagram a
+
+-- ## Each DATA chunk of a datagram
+
+-- DATA of packets with this tag is taken: the association goes on, in a state that takes DATA (RFC 9260 6), with a receiver, and the tag is that of
+-- this side
+pub record TakesDataOf (tag : ℕ) (a : Association) : Type 0 where
+  pub going : a.is_over ≡ false
+  pub state : takes_data a.machine.state ≡ true
+  pub served : is_some a.inbound ≡ true
+  pub own : tag ≡ a.machine.own.tag
+
+-- behind a chunk of these types DATA is taken as before, unless the association is over: DATA, SACK and FORWARD-TSN
+abbrev pub goes_on : ℕ → Bool
+goes_on typ = (typ == 0) || ((typ == 3) || (typ == 192))
+
+-- At a moment while the datagram is taken the DATA chunk at a place has come, or the receiver refuses it, and it is dropped. Calls for chunks of the
+-- datagram lead there, and on.
+pub record IsTakenIn (at : ℕ) (datagram : List ℕ) (old new : Halves) : Type 0 where
+  pub moment : Halves
+  pub before : Arrives datagram old moment
+  pub taken : HasTakenData at datagram moment.receiver
+  pub after : Arrives datagram moment new
+
+-- so of each DATA chunk of these, up to the first chunk behind which the datagram does not go on
+abbrev pub TakesEach : List ChunkPlace → List ℕ → (old new : Halves) → Type 0
+TakesEach [] datagram old new = ⊤
+TakesEach (c ∷ cs) datagram old new =
+    (c.typ ≡ 0 → IsTakenIn c.at datagram old new)
+    × (goes_on c.typ ≡ true → TakesEach cs datagram old new)
+
+-- so it is, or the association is over
+abbrev pub TakesEachOf : List ChunkPlace → List ℕ → (old new : Association) → Type 0
+TakesEachOf chunks datagram old new =
+    (new.is_over ≡ true) ⊎ TakesEach chunks datagram (halves_of old) (halves_of new)
+
+-- A chunk that goes on is taken: then DATA is taken as before, and DATA that it is has come, or is dropped. It is passed over where it is not expected,
+-- which DATA never is.
+abbrev pub GoesOn : ChunkPlace → (tag : ℕ) → List ℕ → Step → Association → Type 0
+GoesOn c tag datagram Next a =
+    TakesDataOf tag a × (c.typ ≡ 0 → TakesDataAt c.at datagram a)
+GoesOn c tag datagram Stop a = a.is_over ≡ true
+GoesOn c tag datagram Cut a = ⊤
+GoesOn c tag datagram (Refused r) a = (r ≡ Unexpected) × (c.typ ≡ 0 → ⊥)
+
+-- ## Packets that are not dropped
+
+-- a chunk of this type is taken as the association stands: DATA and FORWARD-TSN in a state that takes DATA, where there is a receiver, and a SACK in one
+-- that takes SACKs (RFC 9260 6; RFC 3758 3.6)
+abbrev pub is_due : ℕ → Association → Bool
+is_due typ a =
+    if (typ == 0) || (typ == 192) then takes_data a.machine.state && is_some a.inbound
+    else (typ == 3) && takes_sacks a.machine.state
+
+-- whether a checksum of 0 is allowed
+abbrev pub zero_checksum_of : Config → ZeroChecksum
+zero_checksum_of c = if c.zero_checksum then zero.Allowed else zero.Refused
+
+-- a packet for the association, which goes on: it is valid, has its ports and its tag, and begins with a chunk that is taken
+pub record IsDue (datagram : List ℕ) (a : Association) : Type 0 where
+  pub going : a.is_over ≡ false
+  pub valid : IsAccepted (zero_checksum_of a.config) crc32c_of datagram
+  pub first : ChunkPlace
+  pub rest : List ChunkPlace
+  pub tells : TellsAll place_at datagram (first ∷ rest)
+  pub source : u16_at datagram 0 ≡ a.config.destination_port
+  pub destination : u16_at datagram 2 ≡ a.config.source_port
+  pub tag : u32_at datagram 4 ≡ a.machine.own.tag
+  pub taken : is_due first.typ a ≡ true

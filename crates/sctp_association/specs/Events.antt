@@ -1,9 +1,9 @@
 -- What an association tells its user, once.
-use Rattle.std.specs.Prelude.{◌≡◌, true, Some}
+use Rattle.std.specs.Prelude.{◌≡◌, ◌⊎◌, true, Option, Some}
 use Rattle.sctp_association.specs.declared.event.Event.{Event}
 use Rattle.sctp_association.specs.declared.event.Event.TheVariants as event
 use Rattle.sctp_association.specs.declared.event.Events.{Events}
-use Rattle.sctp_association.specs.StreamSet.{is_in}
+use Rattle.sctp_association.specs.StreamSet.{IsEmpty, is_in}
 
 -- the event waits
 abbrev pub Waits : Event → Events → Type 0
@@ -23,3 +23,20 @@ Waits (event.Closed x) e = e.closed ≡ Some x
 pub record IsTold (old new : Events) (v : Event) : Type 0 where
   pub waited : Waits v old
   pub told : Waits v new → ⊥
+
+-- each other event that waited waits still
+abbrev pub KeepsOthers : (old new : Events) → Option Event → Type 0
+KeepsOthers old new told = (v : Event) → Waits v old → (told ≡ Some v) ⊎ Waits v new
+
+-- none waits
+abbrev pub NoneWaits : Events → Type 0
+NoneWaits e = (v : Event) → Waits v e → ⊥
+
+-- none waits that is of a stream
+pub record NoneWaitsOfStream (e : Events) : Type 0 where
+  pub readable : IsEmpty e.readable
+  pub low : IsEmpty e.low
+  pub reset_by_us : IsEmpty e.reset_by_us
+  pub reset_refused : IsEmpty e.reset_refused
+  pub reset_by_peer : IsEmpty e.reset_by_peer
+  pub too_long : IsEmpty e.too_long

@@ -34,9 +34,11 @@ pub record IsKept (old new : Association) : Type 0 where
   pub machine : new.machine ≡ old.machine
   pub owes : OwesNoMore old new
 
--- and the same reply is due
+-- and the same reply is due. What waits to be told stays, and the association is over if it was
 pub record IsUnmoved (old new : Association) : Type 0 where
   pub config : new.config ≡ old.config
   pub key : new.key ≡ old.key
   pub machine : new.machine ≡ old.machine
   pub alone : new.due.alone ≡ old.due.alone
+  pub events : new.events ≡ old.events
+  pub over : new.is_over ≡ old.is_over

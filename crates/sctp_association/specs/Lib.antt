@@ -38,4 +38,6 @@ pub mod Steps
 pub mod Still
 pub mod StreamSet
 pub mod Tags
+pub mod Telling
+pub mod Told
 pub mod Waiting

@@ -5,6 +5,7 @@ use Rattle.sctp_delivery.specs.ReceiverCalls.{ReceiverCall, ReceiverMakes, forge
 use Rattle.sctp_delivery.specs.SenderCalls.{Made, SenderCall, SenderMakes, made_after}
 use Rattle.sctp_delivery.specs.SenderCalls.{expires, expires_late, expires_rexmit, expires_tail, forwards_within, resends, sends, starts}
 use Rattle.sctp_receiver.specs.Receiver.{Reception}
+use Rattle.sctp_sender.specs.Resending.{is_to_resend}
 use Rattle.sctp_sender.specs.Sender.{Transmission}
 
 -- a call leads from old to mid, and what it answers stands behind what later ones answer
@@ -25,10 +26,10 @@ Runs Makes answers (c ∷ cs) all old new =
 
 -- ## The sender
 
--- a call by which a sender sends or abandons: no other comes between
+-- a call by which a sender sends, sends a marked chunk again, or abandons: no other comes between
 abbrev pub is_sending : SenderCall → Bool
 is_sending (sends now) = true
-is_sending (resends tsn now c) = true
+is_sending (resends tsn now c) = is_to_resend c
 is_sending (forwards_within bytes f) = true
 is_sending (starts now) = true
 is_sending (expires now m) = true

@@ -1,5 +1,5 @@
 -- When something is to be done though nothing comes (RFC 9260 5.1, 6.3.2, 9.2; RFC 6525 5.1.1).
-use Rattle.std.specs.Prelude.{◌≡◌, ℕ, ◌==◌, ◌≤◌, ◌⊎◌, Bool, true, false, not, ◌&&◌, ◌||◌, if◌then◌else◌, [], Option, Some, None, is_some, is_none}
+use Rattle.std.specs.Prelude.{◌≡◌, ℕ, ◌-◌, ◌^◌, ◌==◌, ◌<◌, ◌≤◌, ◌⊎◌, max, Bool, true, false, not, ◌&&◌, ◌||◌, if◌then◌else◌, [], Option, Some, None, is_some, is_none}
 use Rattle.sctp_association.specs.declared.association.Association.{Association}
 use Rattle.sctp_association.specs.Sending.{is_none_of}
 use Rattle.sctp_handshake.specs.declared.state.State.{State}
@@ -7,7 +7,10 @@ use Rattle.sctp_handshake.specs.declared.state.State.TheVariants.{Closed, Cookie
 use Rattle.sctp_handshake.specs.declared.state.State.TheVariants.{ShutdownPending, ShutdownSent, ShutdownReceived, ShutdownAckSent}
 use Rattle.sctp_handshake.specs.States.{timer}
 use Rattle.sctp_outbound.specs.pending_queue.PendingQueue.{chunk_count}
+use Rattle.sctp_path.specs.declared.heartbeat.Heartbeat.{Heartbeat}
+use Rattle.sctp_path.specs.Heartbeats.{next_at}
 use Rattle.sctp_reset.specs.Own.{is_idle}
+use Rattle.sctp_reset.specs.Requests.{Request}
 
 -- a moment is answered, and none past that one, where that is one
 abbrev pub IsBy : Option ℕ → Option ℕ → Type 0
@@ -48,3 +51,35 @@ can_go a = is_none_of a.outbound.sender.flight.queue.inflight.chunks
 abbrev pub is_behind : Association → Bool
 is_behind a = if is_some (timer a.machine.state) then is_none a.control.at
     else not (is_closed a.machine.state) && can_go a
+
+-- ## What leaves once at a moment
+
+-- a time that passes the greatest moment does not come
+abbrev pub comes : ℕ → Option ℕ
+comes at = if at == 2 ^ 64 - 1 then None else Some at
+
+-- it does not come, or later than now
+abbrev pub IsLater : ℕ → Option ℕ → Type 0
+IsLater now None = Unit {0}
+IsLater now (Some at) = now < at
+
+-- an RTO of 0 counts as a nanosecond
+abbrev pub heartbeat_by : ℕ → Option Heartbeat → Option ℕ
+heartbeat_by rto None = None
+heartbeat_by rto (Some h) = comes (next_at (max rto 1) h)
+
+abbrev pub heartbeat_in : State → ℕ → Option Heartbeat → Option ℕ
+heartbeat_in Established rto h = heartbeat_by rto h
+heartbeat_in _ rto h = None
+
+-- when a HEARTBEAT is due (8.3)
+abbrev pub heartbeat_time : Association → Option ℕ
+heartbeat_time a = heartbeat_in a.machine.state a.outbound.rto.rto a.heartbeat
+
+abbrev pub request_by : Option Request → Option ℕ
+request_by None = None
+request_by (Some r) = comes r.at
+
+-- when the request to reset streams that is under way is due (RFC 6525 5.1.1)
+abbrev pub request_time : Association → Option ℕ
+request_time a = request_by a.requests.under_way

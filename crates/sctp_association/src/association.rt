@@ -3,6 +3,7 @@
 mod arrivals;
 mod calls;
 mod control;
+mod control_chunks;
 mod opening;
 mod packets;
 mod resets;
@@ -12,7 +13,7 @@ mod unknown;
 
 ghost use Rattle.std.specs.Prelude.{◌≡◌, IfSome, None, Some, ◌≢◌, ◌≤◌, ◌+◌, ◌*◌, option_map, true, false, IfErr, IfOk, IsOk, OnErr, OnOk};
 ghost use Rattle.std.proofs.Props.{props};
-ghost use Rattle.sctp_association.specs.Events.{IsTold};
+ghost use Rattle.sctp_association.specs.Events.{IsTold, KeepsOthers, NoneWaits};
 ghost use Rattle.sctp_association.specs.declared.fault.Fault.TheVariants.{BadConfig, WrongState};
 ghost use Rattle.sctp_association.specs.Reached.{limits_of, most_user_data};
 ghost use Rattle.sctp_association.specs.Waiting.{amount_on};
@@ -135,6 +136,7 @@ impl Association {
     ghost use Rattle.sctp_association.specs.Halves.{HalvesAlike, first_halves, halves_of};
     ghost use Rattle.sctp_association.specs.Held.{HoldsFewChunks, OfReceiver, OpensFewStreams, held_by};
     ghost use Rattle.sctp_association.specs.Reads.{AreReadOff, IsSameBeside, length_of, message_in};
+    ghost use Rattle.sctp_association.specs.Telling.{HasPlaces, Tells};
 
     /// No association yet: it waits for a peer's INIT, or for `connect`. Refuses with `BadConfig`. It takes no memory.
     pub fn new(alloc: Global, config: Config, secrets: Secrets) -> Result<Association, Fault>
@@ -179,6 +181,7 @@ impl Association {
     /// Asks the peer for an association (RFC 9260 5.1 A): an INIT is due. Both sides may (5.2.1). Refuses with `WrongState`, exactly where one
     /// is there, or was.
     pub fn connect(&mut self, now: u64) -> Result<(), Fault>
+        ensures tells { Tells self.old self.new }
         ensures accepted { IsOk result → IsUnbegun self.old }
         ensures unbegun { IsUnbegun self.old → IsOk result }
         ensures asked { OnOk result (HasAsked self.new) }
@@ -217,6 +220,13 @@ impl Association {
 
     /// The next event, if there is one: it waited, and is told once.
     pub fn poll(&mut self) -> Option<Event>
+        // Each stream that is open keeps its place among those with a message to read.
+        ensures places { HasPlaces self.old.inbound self.old.events
+            → HasPlaces self.new.inbound self.new.events }
+        // Each other event that waited waits still.
+        ensures others { KeepsOthers self.old.events self.new.events result }
+        // None waits where it answers None.
+        ensures all { result ≡ None → NoneWaits self.old.events }
         ensures told { IfSome result (IsTold self.old.events self.new.events) }
         ensures rest { self.new ≡ record self.old { events = self.new.events } }
         ensures none { result ≡ None → self.new ≡ self.old }
@@ -237,6 +247,7 @@ impl Association {
     /// The next message of a stream, if one is there: the first complete unordered one, else the ordered one that is due. It is taken out, and
     /// where that opens the window, a SACK is due. It is never refused.
     pub fn read(&mut self, stream: u16, now: u64) -> Result<Option<Chunks>, Fault>
+        ensures tells { Tells self.old self.new }
         ensures message { IfOk result (λ message. message
             ≡ option_map at_start (message_in stream self.old.inbound)) }
         ensures taken { AreReadOff now stream self.old.inbound self.new.inbound }
@@ -277,6 +288,7 @@ impl Association {
 
     /// Ends the association once all that was written is acknowledged (RFC 9260 9.2). Refuses with `WrongState`, where none stands.
     pub fn shutdown(&mut self, now: u64) -> Result<(), Fault>
+        ensures tells { Tells self.old self.new }
         ensures accepted { IsOk result → self.old.machine.state ≢ Closed }
         ensures refused { IfErr result (λ e. e ≡ WrongState) }
         ensures halves { HalvesAlike self.old self.new }
@@ -301,6 +313,7 @@ impl Association {
 
     /// Ends the association at once: an ABORT with the cause 12 is due (RFC 9260 9.1). Refuses with `WrongState`, where there is none.
     pub fn abort(&mut self) -> Result<(), Fault>
+        ensures tells { Tells self.old self.new }
         ensures accepted { IsOk result → self.old.is_over ≡ false }
         ensures refused { IfErr result (λ e. e ≡ WrongState) }
         ensures halves { HalvesAlike self.old self.new }

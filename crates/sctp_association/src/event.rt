@@ -1,7 +1,8 @@
 //! What an association tells its user.
 
-ghost use Rattle.std.specs.Prelude.{◌≡◌, IfSome, None, IfOk, OnErr, length, take};
-ghost use Rattle.sctp_association.specs.Events.{IsTold};
+ghost use Rattle.std.specs.Prelude.{◌≡◌, ◌<◌, ◌≤◌, IfSome, None, IfOk, OnErr, OnOk, false, length, take};
+ghost use Rattle.sctp_association.specs.Events.{IsTold, KeepsOthers, NoneWaits, NoneWaitsOfStream};
+ghost use Rattle.sctp_association.specs.Telling.{KeepsEvents, Stays};
 
 use crate::stream_set::StreamSet;
 use std::alloc::{AllocError, Global};
@@ -94,6 +95,8 @@ impl Events {
     /// Makes room for the events of a stream on which we write, and answers what room there was. Refuses only for memory, and nothing has
     /// changed then.
     pub(crate) fn reserve_outbound(&mut self, stream: u16) -> Result<Rooms, AllocError>
+        ensures kept { KeepsEvents self.old self.new }
+        ensures readable { self.new.readable ≡ self.old.readable }
         ensures undo { IfOk result (λ rooms. without rooms self.new ≡ self.old) }
         ensures err { OnErr result (self.new ≡ self.old) }
     {
@@ -113,6 +116,7 @@ impl Events {
 
     // The same, but after a refusal there may be more room than before.
     fn reserve_each(&mut self, stream: u16) -> Result<(), AllocError>
+        ensures kept { KeepsEvents self.old self.new }
         ensures rest { self.new ≡ record self.old {
           low = self.new.low;
           reset_by_us = self.new.reset_by_us;
@@ -139,7 +143,12 @@ impl Events {
     }
 
     /// Makes room for the events of a stream on which the peer writes.
-    pub(crate) fn reserve_inbound(&mut self, stream: u16) -> Result<(), AllocError> {
+    pub(crate) fn reserve_inbound(&mut self, stream: u16) -> Result<(), AllocError>
+        ensures kept { KeepsEvents self.old self.new }
+        ensures readable { Stays self.old.readable self.new.readable }
+        ensures room { length self.old.readable ≤ length self.new.readable }
+        ensures place { OnOk result (stream < length self.new.readable) }
+    {
         self.readable.reserve(stream)?;
         self.too_long.reserve(stream)?;
         self.reset_by_peer.reserve(stream)
@@ -147,6 +156,10 @@ impl Events {
 
     // Takes out an event of the whole association, if one waits, but the last one.
     fn pop_whole(&mut self) -> Option<Event>
+        ensures room { length self.new.readable ≡ length self.old.readable }
+        ensures others { KeepsOthers self.old self.new result }
+        ensures all { result ≡ None → (self.old.connected ≡ false)
+            × ((self.old.restarted ≡ false) × (self.old.peer_error ≡ None)) }
         ensures told { IfSome result (IsTold self.old self.new) }
         ensures none { result ≡ None → self.new ≡ self.old }
     {
@@ -167,6 +180,9 @@ impl Events {
 
     // Takes out an event of a stream, if one waits.
     fn pop_of_stream(&mut self) -> Option<Event>
+        ensures room { length self.new.readable ≡ length self.old.readable }
+        ensures others { KeepsOthers self.old self.new result }
+        ensures all { result ≡ None → NoneWaitsOfStream self.old }
         ensures told { IfSome result (IsTold self.old self.new) }
         ensures none { result ≡ None → self.new ≡ self.old }
     {
@@ -193,6 +209,10 @@ impl Events {
 
     // Takes out how the association ends, if that is to be told.
     fn pop_end(&mut self) -> Option<Event>
+        ensures room { length self.new.readable ≡ length self.old.readable }
+        ensures others { KeepsOthers self.old self.new result }
+        ensures all { result ≡ None
+            → (self.old.shutdown ≡ false) × (self.old.closed ≡ None) }
         ensures told { IfSome result (IsTold self.old self.new) }
         ensures none { result ≡ None → self.new ≡ self.old }
     {
@@ -207,6 +227,9 @@ impl Events {
 
     /// Takes the next event out: those of the whole association first, the end last.
     pub(crate) fn pop(&mut self) -> Option<Event>
+        ensures room { length self.new.readable ≡ length self.old.readable }
+        ensures others { KeepsOthers self.old self.new result }
+        ensures all { result ≡ None → NoneWaits self.old }
         ensures told { IfSome result (IsTold self.old self.new) }
         ensures none { result ≡ None → self.new ≡ self.old }
     {

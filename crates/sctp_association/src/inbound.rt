@@ -1,6 +1,6 @@
 //! What comes of the peer's messages, and when it is acknowledged (RFC 9260 6.2, 6.5; RFC 3758 3.6).
 
-ghost use Rattle.std.specs.Prelude.{◌≡◌, ◌==◌, ◌<◌, ◌≤◌, ℕ, Ok, IfOk, IsOk, OnErr, OnOk, Some, length, option_map, true, false};
+ghost use Rattle.std.specs.Prelude.{◌≡◌, ◌==◌, ◌<◌, ◌≤◌, ℕ, Ok, IfOk, IsOk, OnErr, OnOk, Some, length, option_map, is_some, true, false};
 ghost use Rattle.sctp_association.specs.Arrivals.{AsksFor, IsOpening, IsOpeningNamed, IsReset, Received};
 ghost use Rattle.sctp_association.specs.Filled.{IfNonePut};
 ghost use Rattle.sctp_association.specs.Packets.{PutsIn};
@@ -77,6 +77,8 @@ impl Inbound {
     ghost use Rattle.sctp_association.specs.Coming.{HasComeOrIsDropped};
     ghost use Rattle.sctp_association.specs.Reads.{IsReadOff};
     ghost use Rattle.sctp_association.specs.Served.{AreServed, IsServed, is_to_open};
+    ghost use Rattle.sctp_association.specs.Telling.{KeepsEvents, Stays, TellsIn};
+    ghost use Rattle.sctp_association.specs.declared.event.Events.{Events};
 
     /// Nothing came. It takes no memory.
     #[tactic(auto, using(crate::proofs::Reaching::begun))]
@@ -111,6 +113,7 @@ impl Inbound {
         now: u64,
     ) -> Result<Followed, Fault>
         requires short { length chunk.now.user_data ≤ most_user_data }
+        ensures tells { TellsIn (Some self.old) events.old (Some self.new) events.new }
         // Whatever it answers, the receiver is called for this chunk alone.
         ensures received { Received (AsksFor (data_chunk (data_of chunk.now)))
             self.old.receiver self.new.receiver }
@@ -144,6 +147,7 @@ impl Inbound {
         now: u64,
     ) -> Result<Followed, Fault>
         requires short { length chunk.now.user_data ≤ most_user_data }
+        ensures tells { TellsIn (Some self.old) events.old (Some self.new) events.new }
         ensures received { Received (AsksFor (data_chunk (data_of chunk.now)))
             self.old.receiver self.new.receiver }
         ensures limits { (self.new.receiver.limits ≡ self.old.receiver.limits)
@@ -163,6 +167,7 @@ impl Inbound {
         now: u64,
     ) -> Result<Followed, Fault>
         requires short { length chunk.now.user_data ≤ most_user_data }
+        ensures tells { TellsIn (Some self.old) events.old (Some self.new) events.new }
         ensures received { Received (AsksFor (data_chunk (data_of chunk.now)))
             self.old.receiver self.new.receiver }
         ensures limits { (self.new.receiver.limits ≡ self.old.receiver.limits)
@@ -228,6 +233,7 @@ impl Inbound {
     // Opens a stream, if it is one of those that were agreed, and not open, and the peer's messages on it were not too long.
     #[tactic(auto, using(crate::proofs::Reaching::opened))]
     fn open(&mut self, stream: u16, events: &mut Events) -> Result<(), Fault>
+        ensures tells { TellsIn (Some self.old) events.old (Some self.new) events.new }
         ensures received { Received (IsOpening stream) self.old.receiver self.new.receiver }
         ensures limits { (self.new.receiver.limits ≡ self.old.receiver.limits)
             × (self.new.streams ≡ self.old.streams) }
@@ -248,6 +254,7 @@ impl Inbound {
     #[tactic(auto, using(crate::proofs::Reaching::opened))]
     #[inline(never)]
     fn open_agreed(&mut self, stream: u16, events: &mut Events) -> Result<(), Fault>
+        ensures tells { TellsIn (Some self.old) events.old (Some self.new) events.new }
         ensures received { Received (IsOpening stream) self.old.receiver self.new.receiver }
         ensures limits { (self.new.receiver.limits ≡ self.old.receiver.limits)
             × (self.new.streams ≡ self.old.streams) }
@@ -277,6 +284,7 @@ impl Inbound {
         events: &mut Events,
         now: u64,
     ) -> Result<Followed, Fault>
+        ensures tells { TellsIn (Some self.old) events.old (Some self.new) events.new }
         ensures received { Received (AsksFor (data_chunk (data_of chunk.now)))
             self.old.receiver self.new.receiver }
         // Where a message is too long its stream opens no more, and that is told.
@@ -319,6 +327,7 @@ impl Inbound {
 
     // Opens the streams that a FORWARD-TSN names, where it is ahead: of their messages those may be the first that are skipped (RFC 3758 3.6).
     fn open_named(&mut self, skip: &ChunkForwardTsn, events: &mut Events) -> Result<(), Fault>
+        ensures tells { TellsIn (Some self.old) events.old (Some self.new) events.new }
         ensures received { Received (IsOpeningNamed (forward_tsn_of skip.now))
             self.old.receiver self.new.receiver }
         ensures limits { (self.new.receiver.limits ≡ self.old.receiver.limits)
@@ -346,6 +355,7 @@ impl Inbound {
         events: &mut Events,
         now: u64,
     ) -> Result<Followed, Fault>
+        ensures tells { TellsIn (Some self.old) events.old (Some self.new) events.new }
         // Whatever it answers, the receiver is called for this chunk alone.
         ensures received { Received (AsksFor (forward_tsn_chunk (forward_tsn_of skip.now)))
             self.old.receiver self.new.receiver }
@@ -373,17 +383,36 @@ impl Inbound {
     }
 
     // Notes each stream of which a message can be read: those behind what was skipped may be.
-    fn note_readable(&self, events: &mut Events) {
+    fn note_readable(&self, events: &mut Events)
+        ensures noted { (s : ℕ) → is_some (message_on s self.now.receiver) ≡ true
+            → s < length events.old.readable → is_in s events.new.readable ≡ true }
+        ensures kept { KeepsEvents events.old events.new }
+        ensures room { length events.new.readable ≡ length events.old.readable }
+        ensures readable { Stays events.old.readable events.new.readable }
+    {
         for stream in 0..self.streams {
-            if self.receiver.is_readable(stream) {
-                events.readable.insert(stream);
-            }
+            self.note_if_readable(stream, events);
+        }
+    }
+
+    // Notes a stream, if a message of it can be read.
+    fn note_if_readable(&self, stream: u16, events: &mut Events)
+        ensures noted { is_some (message_on stream self.now.receiver) ≡ true
+            → stream < length events.old.readable → is_in stream events.new.readable ≡ true }
+        ensures kept { KeepsEvents events.old events.new }
+        ensures rest { events.new ≡ record events.old { readable = events.new.readable } }
+        ensures room { length events.new.readable ≡ length events.old.readable }
+        ensures readable { Stays events.old.readable events.new.readable }
+    {
+        if self.receiver.is_readable(stream) {
+            events.readable.insert(stream);
         }
     }
 
     /// Reads the next message of a stream, if one is there: never refused. Where the window was used up, the peer is told that it is not.
     #[tactic(auto, using(crate::proofs::Reaching::was_read, crate::proofs::Unopened::nothing))]
     pub(crate) fn read(&mut self, stream: u16, now: u64) -> Result<Option<Chunks>, Fault>
+        ensures tells { (e : Events) → TellsIn (Some self.old) e (Some self.new) e }
         ensures limits { (self.new.receiver.limits ≡ self.old.receiver.limits)
             × (self.new.streams ≡ self.old.streams) }
         ensures message { IfOk result (λ message. message
@@ -413,6 +442,7 @@ impl Inbound {
         is_named: bool,
         events: &mut Events,
     ) -> Result<ReconfigResult, Fault>
+        ensures tells { TellsIn (Some self.old) events.old (Some self.new) events.new }
         ensures received { Received (IsReset stream last_tsn)
             self.old.receiver self.new.receiver }
         ensures limits { (self.new.receiver.limits ≡ self.old.receiver.limits)
@@ -443,6 +473,8 @@ impl Inbound {
         if is_told {
             events.reset_by_peer.insert(stream);
         }
+        // A message of the old use that waited for another one waits no more.
+        self.note_if_readable(stream, events);
         Ok(ReconfigResult::SuccessPerformed)
     }
 
@@ -454,6 +486,7 @@ impl Inbound {
         has_data: bool,
         now: u64,
     ) -> Result<(), Fault>
+        ensures streams { self.new.receiver.streams ≡ self.old.receiver.streams }
         ensures made { PutsIn self.old.receiver self.new.receiver packet.old.bytes
             packet.new.bytes }
         ensures grows { length packet.old.bytes ≤ length packet.new.bytes }

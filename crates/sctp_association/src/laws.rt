@@ -10,6 +10,7 @@ ghost use Rattle.sctp_association.specs.OneLife.{EachDatagramBrings, EachDeliver
 ghost use Rattle.sctp_association.specs.Sessions.{EachIsSent};
 ghost use Rattle.sctp_association.specs.Setups.{EachDatagramKeeps, EachQuietCallKeeps, EachSetUpDelivers, EachSetUpTurns, EachTwoAreSetUp, EachWrittenKeeps};
 ghost use Rattle.sctp_association.specs.Sized.{EachAskIsCut, EachChunkFits, EachDatagramIsCut, EachIsCutFirst, EachOtherIsCut, EachPollIsCut, EachSizeIsCut, EachTimeoutIsCut};
+ghost use Rattle.sctp_association.specs.Told.{EachLosesNone};
 
 /// Whatever a peer sends, and whatever calls an association had, what it holds of the peer's messages is within its `Config`. By 400 a
 /// chunk, the chunks count for no more than `window` and one chunk for each TSN within `reach`; with their bytes, for no more than
@@ -109,6 +110,12 @@ pub fn two_associations_begin_once()
     ensures handled { EachDatagramKeeps }
     ensures turned { EachSetUpTurns }
     ensures delivered { EachSetUpDelivers }
+{}
+
+/// No event is lost, along any calls that ensure `tells`, with `poll` between them. Each event that waited is given or waits. So it is where the
+/// association begins, begins anew or ends, and where a message can be read on a stream on which none could be read before.
+pub fn no_event_is_lost()
+    ensures { EachLosesNone }
 {}
 
 /// Each chunk fits a packet, from `new` on, whatever calls an association has and whatever datagrams come: no chunk that waits or is in flight

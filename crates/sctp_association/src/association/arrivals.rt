@@ -1,45 +1,46 @@
 //! What comes in a datagram (RFC 9260 5, 6, 8.5, 9).
 
-ghost use Rattle.std.specs.Prelude.{◌≡◌, ◌⊎◌, ◌<◌, ◌≤◌, [], ◌∷◌, None, Ok, IfOk, IfSome, OnErr, true, false, drop, length};
+ghost use Rattle.std.specs.Prelude.{◌≡◌, ◌⊎◌, ◌<◌, ◌≤◌, ℕ, List, [], ◌∷◌, None, Ok, IfOk, IfSome, OnErr, OnOk, true, false, drop, length};
 ghost use Rattle.std.specs.List.{AllByRecursion};
 ghost use Rattle.sctp_association.specs.Arrivals.{Arrives, CallsArrive};
-ghost use Rattle.sctp_association.specs.Beginnings.{ArrivesAsOffered, BeginsBy, BeginsByDatagram, BeginsByTicket, KeepsPeer};
+ghost use Rattle.sctp_association.specs.Beginnings.{ArrivesAsOffered, BeginsByDatagram, BeginsByTicket, KeepsPeer};
 ghost use Rattle.sctp_association.specs.Kept.{IsKept, OwesNoMore, ticket_in_kind};
-ghost use Rattle.sctp_association.specs.Coming.{FollowsData, TakesDataAt, TakesOnlyData};
+ghost use Rattle.sctp_association.specs.Coming.{FollowsData, GoesOn, IsDue, TakesDataAt, TakesDataOf, TakesEachOf, TakesOnlyData, goes_on, is_due};
 ghost use Rattle.sctp_association.specs.Cookies.{IsAlive, IsSealed, cookie_in};
 ghost use Rattle.sctp_association.specs.Halves.{HalvesAlike, halves_of};
 ghost use Rattle.sctp_association.specs.Reached.{most_user_data};
 ghost use Rattle.sctp_association.specs.Steps.{is_accepted, is_taken};
+ghost use Rattle.sctp_association.specs.Telling.{Tells, TellsEnd};
 ghost use Rattle.sctp_association.specs.Tags.{AdmitsFirst, BeginsByCookie, EndsWithFirst, FirstIs, FirstIsAlive, IsFor, first_type, is_admitted, is_all_or_nothing};
 ghost use Rattle.sctp_association.specs.declared.association.Reason.{Reason};
-ghost use Rattle.sctp_association.specs.declared.association.Reason.TheVariants.{Tag};
+ghost use Rattle.sctp_association.specs.declared.association.Reason.TheVariants.{Tag, Unexpected};
 ghost use Rattle.sctp_association.specs.declared.association.Taken.TheVariants.{Accepted, Dropped, Partly};
 ghost use Rattle.sctp_association.specs.declared.association.arrivals.Step.TheVariants as step;
 ghost use Rattle.sctp_association.specs.declared.inbound.Followed.TheVariants.{Done, Wanting};
-ghost use Rattle.sctp_chunks.specs.Wire.{ReadsChunk, data_chunk};
+ghost use Rattle.sctp_chunks.specs.Wire.{ReadsChunk, Wire, data_chunk};
 ghost use Rattle.sctp_data.specs.PayloadData.{data_of};
 ghost use Rattle.sctp_datagram.specs.Carried.{IsChunkOf};
 ghost use Rattle.sctp_datagram.specs.Places.{IsPlace, TellsAll, place_at};
 ghost use Rattle.sctp_datagram.specs.declared.datagram.ChunkPlace.{ChunkPlace};
 ghost use Rattle.sctp_handshake.specs.Answers.{silent};
 ghost use Rattle.sctp_handshake.specs.declared.state.State.TheVariants.{Closed};
+ghost use Rattle.sctp_util.specs.Field.{u32_at};
+ghost use Rattle.sctp_util.specs.declared.error.Error.TheVariants.{ErrOutOfMemory};
 
 use super::{Association, Reason, Taken};
 use crate::due::AloneKind;
-use crate::event::Ending;
 use crate::fault::Fault;
 use crate::inbound::Followed;
 use crate::once::Once;
 use crate::outbound::SackTaken;
 use bytes::Bytes;
+use sctp_chunks::ChunkForwardTsn;
 use sctp_chunks::chunk::Chunk;
-use sctp_chunks::{ChunkForwardTsn, ChunkHeartbeat, ChunkHeartbeatAck, ChunkShutdown};
 use sctp_data::chunk::chunk_payload_data::ChunkPayloadData;
 use sctp_datagram::in_place::{data_in, read_sack};
 use sctp_datagram::{ChunkPlace, Datagram, ZeroChecksum};
 use sctp_handshake::{Answer, State};
 use sctp_packets::Crc32c;
-use sctp_params::ParamKind;
 use sctp_receiver::advice::AbortCause;
 use sctp_util::error::Error;
 use sctp_util::field::read_u16;
@@ -83,6 +84,39 @@ fn read_data(datagram: &Bytes, chunk: ChunkPlace) -> Result<ChunkPayloadData, Fa
     }
 }
 
+// Refuses where memory was wanting.
+fn unless_memory(e: Error) -> Result<(), Fault>
+    ensures { OnOk result (e ≡ ErrOutOfMemory → ⊥) }
+{
+    match e {
+        Error::ErrOutOfMemory => Err(Fault::OutOfMemory),
+        _ => Ok(()),
+    }
+}
+
+// What becomes of a datagram that is not read. Refuses only for memory.
+fn dropped_by(e: Error) -> Result<Taken, Fault>
+    ensures read { OnOk result (e ≡ ErrOutOfMemory → ⊥) }
+    ensures never { IfOk result (λ t. is_accepted t ≡ false) }
+{
+    match e {
+        Error::ErrOutOfMemory => Err(Fault::OutOfMemory),
+        Error::ErrChecksumMismatch => Ok(Taken::Dropped(Reason::Checksum)),
+        _ => Ok(Taken::Dropped(Reason::NoPacket)),
+    }
+}
+
+// What becomes of a datagram at a chunk that is refused: one that is not expected is passed over.
+fn past(reason: Reason) -> Step
+    ensures unexpected { reason ≡ Unexpected → result ≡ step.Next }
+    ensures other { (reason ≡ Unexpected → ⊥) → result ≡ step.Refused reason }
+{
+    match reason {
+        Reason::Unexpected => Step::Next,
+        reason => Step::Refused(reason),
+    }
+}
+
 // The ABORT that what came asks for.
 #[inline(always)]
 fn ending_of(followed: Followed) -> Option<AloneKind>
@@ -102,6 +136,7 @@ impl Association {
     /// is wanting behind the first change, the datagram is taken in part (`Taken::Partly`). Of SACK, SHUTDOWN, RE-CONFIG and FORWARD-TSN the
     /// first one in the datagram counts, of COOKIE-ECHO one that stands first; others are passed over.
     pub fn handle_datagram(&mut self, datagram: &Bytes, now: u64) -> Result<Taken, Fault>
+        ensures tells { Tells self.old self.new }
         ensures dropped { (r : Reason) → result ≡ Ok (Dropped r) → self.new ≡ self.old }
         // Whatever it answers: the receiver and the sender are called for chunks that the datagram carries, and for nothing else.
         ensures came { Arrives datagram.now (halves_of self.old) (halves_of self.new) }
@@ -130,6 +165,12 @@ impl Association {
         // DATA that is accepted as the only chunk has come, or its receiver refuses it still; or the association is over.
         ensures takes { EndsWithFirst datagram.now → first_type datagram.now ≡ 0
             → result ≡ Ok Accepted → TakesOnlyData datagram.now self.new }
+        // What is for it is not dropped: a packet that begins with DATA, SACK or FORWARD-TSN, in a state that takes that (RFC 9260 6).
+        ensures due { IsDue datagram.now self.old → (r : Reason) → result ≡ Ok (Dropped r) → ⊥ }
+        // Each DATA chunk of it has come, or is refused and dropped, up to a chunk behind which the datagram may end; or the association is over.
+        ensures each { TakesDataOf (u32_at datagram.now 4) self.old → result ≡ Ok Accepted
+            → (chunks : List ChunkPlace) → TellsAll place_at datagram.now chunks
+            → TakesEachOf chunks datagram.now self.old self.new }
     {
         let zero = if self.config.zero_checksum {
             ZeroChecksum::Allowed
@@ -138,9 +179,7 @@ impl Association {
         };
         let chunks = match Datagram::open(self.alloc, datagram.as_slice(), &Crc32c, zero) {
             Ok(chunks) => chunks,
-            Err(Error::ErrOutOfMemory) => return Err(Fault::OutOfMemory),
-            Err(Error::ErrChecksumMismatch) => return Ok(Taken::Dropped(Reason::Checksum)),
-            Err(_) => return Ok(Taken::Dropped(Reason::NoPacket)),
+            Err(e) => return dropped_by(e),
         };
         let header = chunks.header();
         if header.source_port != self.config.destination_port
@@ -186,6 +225,7 @@ impl Association {
     fn take_chunks(&mut self, datagram: &Bytes, chunks: Datagram, now: u64) -> Result<Taken, Fault>
         requires whole { chunks.bytes ≡ datagram.now }
         requires all { TellsAll place_at datagram.now chunks.left }
+        ensures tells { Tells self.old self.new }
         ensures came { ArrivesAsOffered datagram.now self.old self.new }
         ensures dropped { (r : Reason) → result ≡ Ok (Dropped r) → self.new ≡ self.old }
         ensures accepted { IfOk result (λ t. is_accepted t ≡ true
@@ -207,6 +247,12 @@ impl Association {
         ensures takes { (first : ChunkPlace) → chunks.entry.left ≡ first ∷ [] → first.typ ≡ 0
             → result ≡ Ok Accepted → (self.new.is_over ≡ true)
             ⊎ TakesDataAt first.at datagram.now self.new }
+        ensures due { (first : ChunkPlace) → (rest : List ChunkPlace)
+            → chunks.entry.left ≡ first ∷ rest → is_due first.typ self.old ≡ true
+            → u32_at datagram.now 4 ≡ self.old.machine.own.tag
+            → (r : Reason) → result ≡ Ok (Dropped r) → ⊥ }
+        ensures each { TakesDataOf (u32_at datagram.now 4) self.old → result ≡ Ok Accepted
+            → TakesEachOf chunks.entry.left datagram.now self.old self.new }
     {
         let mut chunks = chunks;
         let tag = chunks.header().verification_tag;
@@ -233,8 +279,10 @@ impl Association {
 
     // The datagram has ended, or the rest of it counts as lost: what follows from the chunks that were taken.
     fn end_datagram(&mut self, now: u64)
+        ensures tells { TellsEnd self.old self.new }
         ensures halves { HalvesAlike self.old self.new }
         ensures peer { KeepsPeer self.old self.new }
+        ensures over { self.new.is_over ≡ self.old.is_over }
     {
         self.datagram_ended(now);
         self.settle(now);
@@ -242,8 +290,10 @@ impl Association {
 
     // The datagram has ended: what came in it may be acknowledged.
     fn datagram_ended(&mut self, now: u64)
+        ensures tells { TellsEnd self.old self.new }
         ensures halves { HalvesAlike self.old self.new }
         ensures kept { IsKept self.old self.new }
+        ensures over { self.new.is_over ≡ self.old.is_over }
     {
         if let Some(inbound) = &mut self.inbound {
             inbound.datagram_ended(now);
@@ -262,6 +312,7 @@ impl Association {
     ) -> Result<Step, Fault>
         requires place { IsPlace datagram.now chunk }
         requires own { IsChunkOf datagram.now chunk }
+        ensures tells { Tells self.old self.new }
         ensures came { ArrivesAsOffered datagram.now self.old self.new }
         ensures refused { (r : Reason) → result ≡ Ok (step.Refused r) → self.new ≡ self.old }
         ensures foreign { is_admitted chunk tag count self.old.machine ≡ false
@@ -283,6 +334,10 @@ impl Association {
             (halves_of self.old) (halves_of self.new) }
         ensures closed_else { self.old.machine.state ≡ Closed → (result ≡ Ok step.Next → ⊥)
             → self.new.machine ≡ self.old.machine }
+        ensures due { is_due chunk.typ self.old ≡ true → tag ≡ self.old.machine.own.tag
+            → (r : Reason) → result ≡ Ok (step.Refused r) → ⊥ }
+        ensures on { TakesDataOf tag self.old → goes_on chunk.typ ≡ true
+            → IfOk result (λ s. GoesOn chunk tag datagram.now s self.new) }
     {
         let is_alone = chunk.typ == 1 || chunk.typ == 10 || count < 2;
         if is_alone || self.machine.state() == State::Closed {
@@ -299,8 +354,11 @@ impl Association {
     fn take_others(&mut self, datagram: &Bytes, chunks: Datagram, first: u8, now: u64) -> bool
         requires whole { chunks.bytes ≡ datagram.now }
         requires own { AllByRecursion (IsChunkOf datagram.now) chunks.left }
+        ensures tells { Tells self.old self.new }
         ensures came { ArrivesAsOffered datagram.now self.old self.new }
         ensures none { chunks.entry.left ≡ [] → (result ≡ true) × (self.new ≡ self.old) }
+        ensures each { TakesDataOf (u32_at datagram.now 4) self.old → result ≡ true
+            → TakesEachOf chunks.entry.left datagram.now self.old self.new }
     {
         let mut chunks = chunks;
         let tag = chunks.header().verification_tag;
@@ -312,14 +370,38 @@ impl Association {
             if !once.counts(chunk.typ) {
                 continue;
             }
-            match self.take_chunk(datagram, chunk, tag, 2, now) {
-                // What is not expected is passed over, and not what stands behind it.
-                Ok(Step::Next) | Ok(Step::Refused(Reason::Unexpected)) => {}
-                Ok(Step::Stop) | Ok(Step::Refused(_)) => break,
+            match self.take_other(datagram, chunk, tag, now) {
+                Ok(Step::Next) => {}
+                Ok(Step::Stop) => break,
+                Ok(Step::Refused(_)) => break,
                 Ok(Step::Cut) | Err(_) => return false,
             }
         }
         true
+    }
+
+    // Takes a chunk behind the first one. One that is not expected is passed over, and not what stands behind it.
+    #[inline(always)]
+    fn take_other(
+        &mut self,
+        datagram: &Bytes,
+        chunk: ChunkPlace,
+        tag: u32,
+        now: u64,
+    ) -> Result<Step, Fault>
+        requires place { IsPlace datagram.now chunk }
+        requires own { IsChunkOf datagram.now chunk }
+        ensures tells { Tells self.old self.new }
+        ensures came { ArrivesAsOffered datagram.now self.old self.new }
+        ensures on { TakesDataOf tag self.old → goes_on chunk.typ ≡ true
+            → IfOk result (λ s. GoesOn chunk tag datagram.now s self.new) }
+        ensures never { TakesDataOf tag self.old → goes_on chunk.typ ≡ true
+            → (r : Reason) → result ≡ Ok (step.Refused r) → ⊥ }
+    {
+        match self.take_chunk(datagram, chunk, tag, 2, now)? {
+            Step::Refused(reason) => Ok(past(reason)),
+            taken => Ok(taken),
+        }
     }
 
     // Whether a chunk may stand in a packet with this tag, of so many chunks (RFC 9260 8.5, 8.5.1). The tag of a COOKIE-ECHO is looked at with
@@ -356,6 +438,7 @@ impl Association {
     ) -> Result<Step, Fault>
         requires place { IsPlace datagram.now chunk }
         requires own { IsChunkOf datagram.now chunk }
+        ensures tells { Tells self.old self.new }
         ensures came { ArrivesAsOffered datagram.now self.old self.new }
         ensures refused { (r : Reason) → result ≡ Ok (step.Refused r) → self.new ≡ self.old }
         ensures foreign { is_admitted chunk tag count self.old.machine ≡ false
@@ -377,6 +460,10 @@ impl Association {
             (halves_of self.old) (halves_of self.new) }
         ensures closed_else { self.old.machine.state ≡ Closed → (result ≡ Ok step.Next → ⊥)
             → self.new.machine ≡ self.old.machine }
+        ensures due { is_due chunk.typ self.old ≡ true → tag ≡ self.old.machine.own.tag
+            → (r : Reason) → result ≡ Ok (step.Refused r) → ⊥ }
+        ensures on { TakesDataOf tag self.old → goes_on chunk.typ ≡ true
+            → IfOk result (λ s. GoesOn chunk tag datagram.now s self.new) }
     {
         if !self.admits(chunk, tag, count) {
             return Ok(Step::Refused(Reason::Tag));
@@ -402,11 +489,16 @@ impl Association {
         requires place { IsPlace datagram.now chunk }
         requires typ { chunk.typ ≡ 0 }
         requires own { IsChunkOf datagram.now chunk }
+        ensures tells { TellsEnd self.old self.new }
         ensures came { CallsArrive datagram.now (halves_of self.old) (halves_of self.new) }
         ensures peer { KeepsPeer self.old self.new }
         ensures refused { (r : Reason) → result ≡ Ok (step.Refused r) → self.new ≡ self.old }
         ensures err { OnErr result (self.new ≡ self.old) }
         ensures takes { IfOk result (λ s. FollowsData chunk.at datagram.now s self.new) }
+        ensures due { is_due 0 self.old ≡ true → (r : Reason)
+            → result ≡ Ok (step.Refused r) → ⊥ }
+        ensures on { (tag : ℕ) → TakesDataOf tag self.old
+            → IfOk result (λ s. GoesOn chunk tag datagram.now s self.new) }
     {
         if !self.machine.state().takes_data() {
             return Ok(Step::Refused(Reason::Unexpected));
@@ -428,8 +520,10 @@ impl Association {
 
     // T2-shutdown begins again, where DATA is answered by a SHUTDOWN (RFC 9260 9.2).
     fn run_again(&mut self, answer: Answer, now: u64)
+        ensures tells { TellsEnd self.old self.new }
         ensures kept { IsKept self.old self.new }
         ensures halves { HalvesAlike self.old self.new }
+        ensures over { self.new.is_over ≡ self.old.is_over }
     {
         if answer.reply.is_some() {
             self.run_control(now);
@@ -440,11 +534,17 @@ impl Association {
     #[inline(never)]
     fn take_skip(&mut self, datagram: &Bytes, chunk: ChunkPlace, now: u64) -> Result<Step, Fault>
         requires place { IsPlace datagram.now chunk }
+        requires typ { chunk.typ ≡ 192 }
         requires own { IsChunkOf datagram.now chunk }
+        ensures tells { TellsEnd self.old self.new }
         ensures came { CallsArrive datagram.now (halves_of self.old) (halves_of self.new) }
         ensures peer { KeepsPeer self.old self.new }
         ensures refused { (r : Reason) → result ≡ Ok (step.Refused r) → self.new ≡ self.old }
         ensures err { OnErr result (self.new ≡ self.old) }
+        ensures due { is_due 192 self.old ≡ true → (r : Reason)
+            → result ≡ Ok (step.Refused r) → ⊥ }
+        ensures on { (tag : ℕ) → TakesDataOf tag self.old
+            → IfOk result (λ s. GoesOn chunk tag datagram.now s self.new) }
     {
         if !self.machine.state().takes_data() {
             return Ok(Step::Refused(Reason::Unexpected));
@@ -464,11 +564,14 @@ impl Association {
     // Ends the association, where what came asks for that.
     #[inline(always)]
     fn end_by(&mut self, followed: Followed) -> Step
+        ensures tells { TellsEnd self.old self.new }
         ensures never { (r : Reason) → result ≡ step.Refused r → ⊥ }
         ensures next { result ≡ step.Next → (followed ≡ Done) ⊎ (followed ≡ Wanting) }
         ensures over { result ≡ step.Stop → self.new.is_over ≡ true }
         ensures halves { HalvesAlike self.old self.new }
         ensures peer { KeepsPeer self.old self.new }
+        ensures on { result ≡ step.Next → self.new ≡ self.old }
+        ensures whole { result ≡ step.Cut → ⊥ }
     {
         let Some(kind) = ending_of(followed) else {
             return Step::Next;
@@ -479,20 +582,29 @@ impl Association {
 
     // Takes a SACK, where SACKs are taken in this state (RFC 9260 6).
     fn take_sack(&mut self, datagram: &Bytes, chunk: ChunkPlace, now: u64) -> Result<Step, Fault>
+        requires place { IsPlace datagram.now chunk }
+        requires typ { chunk.typ ≡ 3 }
         requires own { IsChunkOf datagram.now chunk }
+        ensures tells { TellsEnd self.old self.new }
         ensures came { CallsArrive datagram.now (halves_of self.old) (halves_of self.new) }
         ensures peer { KeepsPeer self.old self.new }
         ensures refused { (r : Reason) → result ≡ Ok (step.Refused r) → self.new ≡ self.old }
         ensures err { OnErr result (self.new ≡ self.old) }
         ensures whole { result ≡ Ok step.Cut → ⊥ }
+        ensures due { is_due 3 self.old ≡ true → (r : Reason)
+            → result ≡ Ok (step.Refused r) → ⊥ }
+        ensures on { (tag : ℕ) → TakesDataOf tag self.old
+            → IfOk result (λ s. GoesOn chunk tag datagram.now s self.new) }
     {
         if !self.machine.state().takes_sacks() {
             return Ok(Step::Refused(Reason::Unexpected));
         }
         let mut sack = match read_sack(self.alloc, bytes_of(datagram, chunk)) {
             Ok(sack) => sack,
-            Err(Error::ErrOutOfMemory) => return Err(Fault::OutOfMemory),
-            Err(_) => return Ok(Step::Refused(Reason::NoPacket)),
+            Err(e) => {
+                unless_memory(e)?;
+                return Ok(Step::Refused(Reason::NoPacket));
+            }
         };
         match self
             .outbound
@@ -507,10 +619,17 @@ impl Association {
     }
 
     // Reads a chunk of a kind; None where it is none.
-    fn read_chunk<C: Chunk>(&self, datagram: &Bytes, chunk: ChunkPlace) -> Result<Option<C>, Fault>
+    pub(super) fn read_chunk<C: Chunk>(
+        &self,
+        datagram: &Bytes,
+        chunk: ChunkPlace,
+    ) -> Result<Option<C>, Fault>
         requires place { IsPlace datagram.now chunk }
-        ensures { IfOk result (λ read. IfSome read
+        ensures found { IfOk result (λ read. IfSome read
             (λ c. ReadsChunk (drop chunk.at datagram.now) (C.wire c))) }
+        // A chunk of the kind is read.
+        ensures some { (w : Wire) → C.IsKind w → ReadsChunk (drop chunk.at datagram.now) w
+            → result ≡ Ok None → ⊥ }
     {
         let end = chunk.at.saturating_add(chunk.length);
         if end > datagram.len() || chunk.at > end {
@@ -519,204 +638,10 @@ impl Association {
         let raw = datagram.slice(chunk.at..end)?;
         match C::unmarshal(self.alloc, &raw) {
             Ok(read) => Ok(Some(read)),
-            Err(Error::ErrOutOfMemory) => Err(Fault::OutOfMemory),
-            Err(_) => Ok(None),
-        }
-    }
-
-    // Takes a chunk of a peer that is no user data.
-    #[inline(never)]
-    fn take_control(&mut self, datagram: &Bytes, chunk: ChunkPlace, now: u64) -> Result<Step, Fault>
-        requires place { IsPlace datagram.now chunk }
-        requires own { IsChunkOf datagram.now chunk }
-        ensures came { ArrivesAsOffered datagram.now self.old self.new }
-        ensures refused { (r : Reason) → result ≡ Ok (step.Refused r) → self.new ≡ self.old }
-        ensures err { OnErr result (self.new ≡ self.old) }
-        ensures whole { result ≡ Ok step.Cut → ⊥ }
-    {
-        match chunk.typ {
-            4 => self.take_heartbeat(datagram, chunk),
-            5 => self.take_heartbeat_ack(datagram, chunk, now),
-            6 => Ok(self.take_abort()),
-            7 => self.take_shutdown(datagram, chunk, now),
-            8 => {
-                let tag = self.peer_tag();
-                let before = self.machine.state();
-                let answer = self.machine.shutdown_ack();
-                Ok(self.take_answer(before, answer, tag, now))
-            }
-            9 => Ok(self.take_error(datagram, chunk, now)),
-            11 => Ok(self.take_cookie_ack(datagram, chunk, now)),
-            14 => {
-                let before = self.machine.state();
-                let answer = self.machine.shutdown_complete();
-                Ok(self.take_answer(before, answer, 0, now))
-            }
-            _ => self.note_unknown(datagram, chunk),
-        }
-    }
-
-    // The tag of the peer's packets' receiver; 0 where it is not known.
-    fn peer_tag(&self) -> u32 {
-        match self.machine.peer() {
-            Some(peer) => peer.tag,
-            None => 0,
-        }
-    }
-
-    // Follows what the machine answered a chunk; where that is nothing the chunk is not expected.
-    pub(super) fn take_answer(&mut self, before: State, answer: Answer, tag: u32, now: u64) -> Step
-        ensures refused { (r : Reason) → result ≡ step.Refused r
-            → (answer ≡ silent) × (self.new ≡ self.old) }
-        ensures kept { IsKept self.old self.new }
-        ensures begun { BeginsBy answer.told self.old.machine self.old.config
-            (halves_of self.old) (halves_of self.new) }
-        ensures whole { result ≡ step.Cut → ⊥ }
-    {
-        if answer.reply.is_none() && answer.told.is_none() {
-            return Step::Refused(Reason::Unexpected);
-        }
-        self.follow(before, answer, tag, now);
-        Step::Next
-    }
-
-    // An ABORT came (RFC 9260 9.1).
-    fn take_abort(&mut self) -> Step
-        ensures refused { (r : Reason) → result ≡ step.Refused r → self.new ≡ self.old }
-        ensures halves { HalvesAlike self.old self.new }
-        ensures peer { KeepsPeer self.old self.new }
-        ensures whole { result ≡ step.Cut → ⊥ }
-    {
-        let answer = self.machine.abort();
-        if answer.told.is_none() {
-            return Step::Refused(Reason::Unexpected);
-        }
-        self.end(Ending::AbortedByPeer);
-        Step::Stop
-    }
-
-    // A SHUTDOWN came (RFC 9260 9.2): it acknowledges as a SACK without blocks does.
-    fn take_shutdown(
-        &mut self,
-        datagram: &Bytes,
-        chunk: ChunkPlace,
-        now: u64,
-    ) -> Result<Step, Fault>
-        requires place { IsPlace datagram.now chunk }
-        requires own { IsChunkOf datagram.now chunk }
-        ensures came { CallsArrive datagram.now (halves_of self.old) (halves_of self.new) }
-        ensures peer { KeepsPeer self.old self.new }
-        ensures refused { (r : Reason) → result ≡ Ok (step.Refused r) → self.new ≡ self.old }
-        ensures err { OnErr result (self.new ≡ self.old) }
-        ensures whole { result ≡ Ok step.Cut → ⊥ }
-    {
-        let Some(shutdown) = self.read_chunk::<ChunkShutdown>(datagram, chunk)? else {
-            return Ok(Step::Refused(Reason::NoPacket));
-        };
-        let before = self.machine.state();
-        let mut machine = self.machine;
-        let answer = machine.shutdown();
-        // Once shutdown is received, the peer's further SHUTDOWNs say nothing but what came (RFC 9260 9.2).
-        let is_again = before == State::ShutdownReceived;
-        if answer.reply.is_none() && answer.told.is_none() && !is_again {
-            return Ok(Step::Refused(Reason::Unexpected));
-        }
-        let tsn = shutdown.cumulative_tsn_ack;
-        // One that acknowledges what was not sent acknowledges nothing: peers are known to write a TSN of their own there.
-        let _taken = self
-            .outbound
-            .take_shutdown(self.alloc, tsn, &mut self.events.low, now)?;
-        self.machine = machine;
-        self.follow(before, answer, 0, now);
-        Ok(Step::Next)
-    }
-
-    // A HEARTBEAT came: its information goes back (RFC 9260 8.3).
-    fn take_heartbeat(&mut self, datagram: &Bytes, chunk: ChunkPlace) -> Result<Step, Fault>
-        requires place { IsPlace datagram.now chunk }
-        ensures refused { (r : Reason) → result ≡ Ok (step.Refused r) → self.new ≡ self.old }
-        ensures halves { HalvesAlike self.old self.new }
-        ensures kept { IsKept self.old self.new }
-        ensures err { OnErr result (self.new ≡ self.old) }
-        ensures whole { result ≡ Ok step.Cut → ⊥ }
-    {
-        // Who asks answers from COOKIE-ECHOED on, who is asked once the association stands (RFC 9260 8.3).
-        if self.machine.peer().is_none() {
-            return Ok(Step::Refused(Reason::Unexpected));
-        }
-        let Some(heartbeat) = self.read_chunk::<ChunkHeartbeat>(datagram, chunk)? else {
-            return Ok(Step::Refused(Reason::NoPacket));
-        };
-        for param in heartbeat.params {
-            if let ParamKind::HeartbeatInfo(info) = param {
-                self.due.heartbeat = Some(info.heartbeat_information);
+            Err(e) => {
+                unless_memory(e)?;
+                Ok(None)
             }
         }
-        Ok(Step::Next)
-    }
-
-    // A HEARTBEAT ACK came: it tells a round trip, and that the peer is there (RFC 9260 8.3).
-    fn take_heartbeat_ack(
-        &mut self,
-        datagram: &Bytes,
-        chunk: ChunkPlace,
-        now: u64,
-    ) -> Result<Step, Fault>
-        requires place { IsPlace datagram.now chunk }
-        ensures refused { (r : Reason) → result ≡ Ok (step.Refused r) → self.new ≡ self.old }
-        ensures halves { HalvesAlike self.old self.new }
-        ensures kept { IsKept self.old self.new }
-        ensures err { OnErr result (self.new ≡ self.old) }
-        ensures whole { result ≡ Ok step.Cut → ⊥ }
-    {
-        let Some(ack) = self.read_chunk::<ChunkHeartbeatAck>(datagram, chunk)? else {
-            return Ok(Step::Refused(Reason::NoPacket));
-        };
-        if self.heartbeat.is_none() {
-            return Ok(Step::Refused(Reason::Unexpected));
-        }
-        for param in ack.params {
-            if let ParamKind::HeartbeatInfo(info) = param {
-                let Some(nonce) = info.heartbeat_information.first_chunk::<8>() else {
-                    continue;
-                };
-                self.heartbeat_answered(u64::from_be_bytes(*nonce), now);
-            }
-        }
-        Ok(Step::Next)
-    }
-
-    // The peer answers a HEARTBEAT: one that waits for this nonce tells a round trip.
-    fn heartbeat_answered(&mut self, nonce: u64, now: u64)
-        ensures halves { HalvesAlike self.old self.new }
-        ensures kept { IsKept self.old self.new }
-    {
-        let Some(heartbeat) = &mut self.heartbeat else {
-            return;
-        };
-        if let Some(trip) = heartbeat.answered(now, nonce) {
-            self.outbound.trip_measured(trip);
-        }
-    }
-
-    // An ERROR came: its first cause is told; a stale cookie begins the handshake again (RFC 9260 5.2.6, 3.3.10).
-    fn take_error(&mut self, datagram: &Bytes, chunk: ChunkPlace, now: u64) -> Step
-        ensures refused { (r : Reason) → result ≡ step.Refused r → self.new ≡ self.old }
-        ensures halves { HalvesAlike self.old self.new }
-        ensures peer { KeepsPeer self.old self.new }
-        ensures whole { result ≡ step.Cut → ⊥ }
-    {
-        let end = chunk.at.saturating_add(chunk.length);
-        if end > datagram.len() || chunk.at.saturating_add(8) > end {
-            return Step::Next;
-        }
-        let code = read_u16(&datagram[chunk.at..end], 4);
-        if code == 3 {
-            let before = self.machine.state();
-            let answer = self.machine.stale_cookie();
-            self.follow(before, answer, 0, now);
-        }
-        self.events.peer_error = Some(code);
-        Step::Next
     }
 }

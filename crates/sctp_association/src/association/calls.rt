@@ -6,6 +6,7 @@ ghost use Rattle.sctp_association.specs.Asked.{AsksOn};
 ghost use Rattle.sctp_association.specs.Beginnings.{IsKeptButMtu};
 ghost use Rattle.sctp_association.specs.Halves.{SetsFragmentSize};
 ghost use Rattle.sctp_association.specs.Sized.{HoldsNothing};
+ghost use Rattle.sctp_association.specs.Telling.{Tells};
 ghost use Rattle.sctp_association.specs.Waiting.{IsRefusal, opened};
 ghost use Rattle.sctp_delivery.specs.SenderCalls.{sets_low, sets_mode, writes};
 ghost use Rattle.sctp_sender.specs.Sender.{stream_of, with_mode_on, written_to};
@@ -50,6 +51,7 @@ impl Association {
         ppi: PayloadProtocolIdentifier,
         bytes: &Bytes,
     ) -> Result<(), Fault>
+        ensures tells { Tells self.old self.new }
         ensures ok { 0 < length bytes.now → OnOk result ((l : OutboundStream)
             → stream_of stream (opened stream self.old.outbound.sender) ≡ Some l
             → self.new.outbound ≡ record self.old.outbound {
@@ -99,6 +101,7 @@ impl Association {
         reliability: ReliabilityType,
         value: u32,
     ) -> Result<(), Fault>
+        ensures tells { Tells self.old self.new }
         ensures ok { OnOk result (self.new.outbound ≡ record self.old.outbound {
           sender = with_mode_on stream unordered reliability value
               (opened stream self.old.outbound.sender);
@@ -134,6 +137,7 @@ impl Association {
         stream: u16,
         threshold: usize,
     ) -> Result<(), Fault>
+        ensures tells { Tells self.old self.new }
         ensures ok { OnOk result (self.new.outbound ≡ record self.old.outbound {
           sender = with_low_on stream threshold (opened stream self.old.outbound.sender);
         }) }
@@ -163,6 +167,7 @@ impl Association {
     /// with `BadConfig` under 512 and over 65,535, and with `WrongState` where something waits or is in flight that was cut for more; nothing
     /// has changed then.
     pub fn set_mtu(&mut self, mtu: usize) -> Result<(), Fault>
+        ensures tells { Tells self.old self.new }
         ensures ok { OnOk result ((self.new.config.mtu ≡ mtu) × (self.new.draft.limit ≡ mtu)) }
         ensures halves { OnOk result (SetsFragmentSize mtu self.old self.new) }
         ensures lower { OnOk result (mtu < self.old.config.mtu

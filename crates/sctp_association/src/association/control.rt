@@ -5,6 +5,7 @@ ghost use Rattle.sctp_association.specs.Beginnings.{Begins, BeginsBy, KeepsPeer,
 ghost use Rattle.sctp_association.specs.Kept.{IsKept, OwesNoMore, ticket_due, ticket_in_kind};
 ghost use Rattle.sctp_association.specs.Failing.{IsGuarded};
 ghost use Rattle.sctp_association.specs.Halves.{HalvesAlike, halves_of};
+ghost use Rattle.sctp_association.specs.Telling.{PassesOn, TellsEnd};
 ghost use Rattle.sctp_handshake.specs.declared.answer.Reply.TheVariants.{Init};
 
 use super::{Association, outbound_config};
@@ -30,11 +31,13 @@ impl Association {
     /// What follows from an input to the machine, which was in the state `before`: its timer, a reply to `tag`, and what is told.
     #[inline(always)]
     pub(super) fn follow(&mut self, before: State, answer: Answer, tag: u32, now: u64)
+        ensures tells { PassesOn answer.told self.old self.new }
         ensures kept { IsKept self.old self.new }
         ensures quiet { answer.told ≡ None → HalvesAlike self.old self.new }
         ensures begun { BeginsBy answer.told self.old.machine self.old.config
             (halves_of self.old) (halves_of self.new) }
         ensures init { answer.reply ≡ Some Init → answer.told ≡ None → OwesInit self.new }
+        ensures over { answer.told ≡ None → self.new.is_over ≡ self.old.is_over }
     {
         let is_silent = answer.reply.is_none() && answer.told.is_none();
         if !is_silent || self.machine.state() != before {
@@ -45,11 +48,13 @@ impl Association {
     // The same, where something follows: seldom, and so apart.
     #[inline(never)]
     fn follow_answer(&mut self, before: State, answer: Answer, tag: u32, now: u64)
+        ensures tells { PassesOn answer.told self.old self.new }
         ensures kept { IsKept self.old self.new }
         ensures quiet { answer.told ≡ None → HalvesAlike self.old self.new }
         ensures begun { BeginsBy answer.told self.old.machine self.old.config
             (halves_of self.old) (halves_of self.new) }
         ensures init { answer.reply ≡ Some Init → answer.told ≡ None → OwesInit self.new }
+        ensures over { answer.told ≡ None → self.new.is_over ≡ self.old.is_over }
     {
         let state = self.machine.state();
         if state != before {
@@ -65,8 +70,10 @@ impl Association {
 
     /// The timer of the state runs from now on, if it has one.
     pub(super) fn run_control(&mut self, now: u64)
+        ensures tells { TellsEnd self.old self.new }
         ensures kept { IsKept self.old self.new }
         ensures halves { HalvesAlike self.old self.new }
+        ensures over { self.new.is_over ≡ self.old.is_over }
     {
         match self.machine.state().timer() {
             Some(_) => self.control.restart(now, self.outbound.rto.get()),
@@ -135,6 +142,7 @@ impl Association {
 
     // What the application is told.
     fn tell(&mut self, told: Told, now: u64)
+        ensures tells { PassesOn (Some told) self.old self.new }
         ensures kept { IsKept self.old self.new }
         ensures begun { BeginsBy (Some told) self.old.machine self.old.config
             (halves_of self.old) (halves_of self.new) }
@@ -161,6 +169,7 @@ impl Association {
 
     // The association stands, by what both sides offered.
     fn begin(&mut self, now: u64)
+        ensures tells { TellsEnd self.old self.new }
         ensures kept { IsKept self.old self.new }
         // Where there is no receiver, one begins, with the first TSN of the peer's offer.
         ensures begun { (halves_of self.old).receiver ≡ None
@@ -194,8 +203,10 @@ impl Association {
     /// Begins the shutdown that was asked for before the association stood, and goes on with one where nothing waits or is in flight (RFC
     /// 9260 9.2).
     pub(super) fn settle(&mut self, now: u64)
+        ensures tells { TellsEnd self.old self.new }
         ensures halves { HalvesAlike self.old self.new }
         ensures peer { KeepsPeer self.old self.new }
+        ensures over { self.new.is_over ≡ self.old.is_over }
     {
         if self.wants_shutdown && self.machine.state() == State::Established {
             self.wants_shutdown = false;
@@ -206,8 +217,10 @@ impl Association {
 
     // Tells the machine that nothing waits or is in flight, if that is so (RFC 9260 9.2).
     fn note_drained(&mut self, now: u64)
+        ensures tells { TellsEnd self.old self.new }
         ensures halves { HalvesAlike self.old self.new }
         ensures peer { KeepsPeer self.old self.new }
+        ensures over { self.new.is_over ≡ self.old.is_over }
     {
         if !self.outbound.is_drained() {
             return;
@@ -219,6 +232,7 @@ impl Association {
 
     /// The association ends with this ABORT.
     pub(super) fn end_with(&mut self, kind: AloneKind)
+        ensures tells { TellsEnd self.old self.new }
         ensures over { self.new.is_over ≡ true }
         ensures outbound { self.new.outbound ≡ self.old.outbound }
         ensures halves { HalvesAlike self.old self.new }

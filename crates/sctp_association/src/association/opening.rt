@@ -7,6 +7,7 @@ ghost use Rattle.sctp_association.specs.Cookies.{IsAlive, IsSealed, cookie_in};
 ghost use Rattle.sctp_association.specs.Halves.{HalvesAlike, halves_of};
 ghost use Rattle.sctp_association.specs.Reports.{EndsWithoutCookie};
 ghost use Rattle.sctp_association.specs.Steps.{is_taken};
+ghost use Rattle.sctp_association.specs.Telling.{Tells, TellsEnd};
 ghost use Rattle.sctp_association.specs.declared.association.Reason.{Reason};
 ghost use Rattle.sctp_association.specs.declared.association.arrivals.Step.TheVariants as step;
 ghost use Rattle.sctp_datagram.specs.Carried.{IsChunkOf};
@@ -85,6 +86,7 @@ impl Association {
     ) -> Result<Step, Fault>
         requires own { IsChunkOf datagram.now chunk }
         requires typ { chunk.typ ≡ 2 }
+        ensures tells { Tells self.old self.new }
         ensures refused { (r : Reason) → result ≡ Ok (step.Refused r) → self.new ≡ self.old }
         ensures err { OnErr result (self.new ≡ self.old) }
         ensures whole { result ≡ Ok step.Cut → ⊥ }
@@ -127,6 +129,7 @@ impl Association {
 
     // An INIT ACK has no State Cookie: what was begun ends by an ABORT with its tag (RFC 9260 5.1, 3.3.10.2).
     fn end_without_cookie(&mut self, value: &[u8]) -> Step
+        ensures tells { TellsEnd self.old self.new }
         ensures ends { result ≡ step.Stop → IfOk (init_in value.now)
             (λ said. EndsWithoutCookie said.offer.tag self.old self.new) }
         ensures begun { result ≡ step.Stop → self.old.machine.state ≡ CookieWait }
@@ -165,6 +168,7 @@ impl Association {
     ) -> Result<Step, Fault>
         requires own { IsChunkOf datagram.now chunk }
         requires typ { chunk.typ ≡ 10 }
+        ensures tells { Tells self.old self.new }
         ensures came { ArrivesAsOffered datagram.now self.old self.new }
         ensures refused { (r : Reason) → result ≡ Ok (step.Refused r) → self.new ≡ self.old }
         ensures err { OnErr result (self.new ≡ self.old) }
@@ -214,6 +218,7 @@ impl Association {
     pub(super) fn take_cookie_ack(&mut self, datagram: &Bytes, chunk: ChunkPlace, now: u64) -> Step
         requires own { IsChunkOf datagram.now chunk }
         requires typ { chunk.typ ≡ 11 }
+        ensures tells { Tells self.old self.new }
         ensures came { ArrivesAsOffered datagram.now self.old self.new }
         ensures refused { (r : Reason) → result ≡ step.Refused r → self.new ≡ self.old }
         ensures whole { result ≡ step.Cut → ⊥ }

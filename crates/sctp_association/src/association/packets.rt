@@ -1,6 +1,6 @@
 //! What goes into a datagram (RFC 9260 6.10, 8.5).
 
-ghost use Rattle.std.specs.Prelude.{◌≡◌, ◌≤◌, None, Ok, IfOk, OnOk, [], map, true, false, length};
+ghost use Rattle.std.specs.Prelude.{◌≡◌, ◌⊎◌, ◌≤◌, None, Ok, IfOk, OnOk, [], map, true, false, length};
 ghost use Rattle.sctp_association.specs.Beginnings.{KeepsPeer};
 ghost use Rattle.sctp_association.specs.Halves.{HalvesAlike, PutsOthers, is_sent, sides_of};
 ghost use Rattle.sctp_association.specs.Filled.{IfNonePut};
@@ -8,6 +8,8 @@ ghost use Rattle.sctp_association.specs.Idle.{HasNoSackDue, IsIdle, MaySend, Wai
 ghost use Rattle.sctp_association.specs.Kept.{IsUnmoved};
 ghost use Rattle.sctp_association.specs.Offering.{HasFirst, IsInitWith, IsReplyOf, OffersAsDue, PutsReply};
 ghost use Rattle.sctp_association.specs.Sending.{IsTimed};
+ghost use Rattle.sctp_association.specs.Still.{IsLater, heartbeat_time};
+ghost use Rattle.sctp_association.specs.Telling.{Tells};
 ghost use Rattle.sctp_association.specs.Packets.{IsNoInit, IsPacketOf, IsWritten, Puts, Transmits};
 ghost use Rattle.sctp_chunks.specs.Init.{init_of};
 ghost use Rattle.sctp_cookie.specs.Cookie.{sealed};
@@ -46,6 +48,7 @@ impl Association {
     /// Writes the next datagram that is due, of at most `Config::mtu` bytes, and answers whether there is one: `datagram` lends it. Call it
     /// until there is none. Refuses only for memory, where nothing else can be sent.
     pub fn poll_transmit(&mut self, now: u64) -> Result<bool, Fault>
+        ensures tells { Tells self.old self.new }
         ensures over { self.old.is_over ≡ true → self.old.due.alone ≡ None
             → (result ≡ Ok false) × (self.new ≡ self.old) }
         ensures made { Transmits (is_sent result) (sides_of self.old) (sides_of self.new) }
@@ -441,12 +444,14 @@ impl Association {
         Ok(())
     }
 
-    // Puts a HEARTBEAT with this time.
+    // Puts a HEARTBEAT with this time. The next one is later.
     #[tactic(auto, using(crate::proofs::Others::others_one, crate::proofs::Others::others_none, crate::proofs::Others::others_then))]
     #[inline(never)]
     fn put_heartbeat(&mut self, now: u64) -> Result<(), Fault>
         ensures others { PutsOthers self.old self.new }
         ensures acks { sack_delay self.new ≡ sack_delay self.old }
+        ensures once { OnOk result (self.new.draft ≡ self.old.draft
+            ⊎ IsLater now (heartbeat_time self.new)) }
     {
         let Some(heartbeat) = &mut self.heartbeat else {
             return Ok(());

@@ -1,11 +1,12 @@
 //! Streams that are reset (RFC 6525; RFC 8831 6.7).
 
-ghost use Rattle.std.specs.Prelude.{◌≡◌, true, false, Ok, Err, IfErr, IsOk, OnOk, OnErr, drop};
+ghost use Rattle.std.specs.Prelude.{◌≡◌, ◌⊎◌, true, false, Ok, Err, IfErr, IsOk, OnOk, OnErr, drop, is_some};
 ghost use Rattle.sctp_association.specs.Arrivals.{CallsArrive, HearsBy, Does, Follows, IsReset, IsResetAt, IsRestart, ParamAsks, ParamAsksIn, ReceivedIn};
 ghost use Rattle.sctp_association.specs.Kept.{IsKept};
 ghost use Rattle.sctp_association.specs.Calls.{is_resettable};
 ghost use Rattle.sctp_association.specs.Halves.{HalvesAlike, PutsOthers, halves_of, receiver_of};
 ghost use Rattle.sctp_association.specs.Idle.{sack_delay};
+ghost use Rattle.sctp_association.specs.Telling.{Tells, TellsEnd};
 ghost use Rattle.sctp_association.specs.declared.fault.Fault.TheVariants.{NoSuchStream, OutOfMemory};
 ghost use Rattle.sctp_association.specs.declared.association.Reason.{Reason};
 ghost use Rattle.sctp_association.specs.declared.association.arrivals.Step.TheVariants as step;
@@ -13,6 +14,7 @@ ghost use Rattle.sctp_datagram.specs.Carried.{IsChunkOf};
 ghost use Rattle.sctp_datagram.specs.Places.{IsPlace};
 ghost use Rattle.sctp_params.specs.Param.{outgoing_reset_request};
 ghost use Rattle.sctp_params.specs.ResetRequest.{reset_request_of};
+ghost use Rattle.sctp_association.specs.Still.{IsLater, request_time};
 ghost use Rattle.sctp_reset.specs.Own.{after_ask};
 
 use super::arrivals::Step;
@@ -63,6 +65,7 @@ impl Association {
     /// that is asked for already changes nothing. Refuses with `NoSuchStream`, where the peer takes no resets too, or for memory, and nothing
     /// has changed then.
     pub fn reset_stream(&mut self, stream: u16) -> Result<(), Fault>
+        ensures tells { Tells self.old self.new }
         ensures ok { OnOk result (self.new.requests ≡ after_ask stream self.old.requests) }
         ensures accepted { IsOk result → is_resettable stream self.old ≡ true }
         ensures named { is_resettable stream self.old ≡ false → result ≡ Err NoSuchStream }
@@ -118,7 +121,7 @@ impl Association {
         }
     }
 
-    // Puts a RE-CONFIG chunk with a response, a request, or both.
+    // Puts a RE-CONFIG chunk with a response, a request, or both. The request leaves again later.
     #[tactic(auto, using(crate::proofs::Others::others_one, crate::proofs::Others::others_none, crate::proofs::Others::others_then))]
     #[inline(never)]
     fn put_reconfig(
@@ -129,13 +132,16 @@ impl Association {
     )
         ensures others { PutsOthers self.old self.new }
         ensures acks { sack_delay self.new ≡ sack_delay self.old }
+        ensures once { is_some request ≡ true → self.new.draft ≡ self.old.draft
+            ⊎ IsLater now (request_time self.new) }
     {
         let is_asking = request.is_some();
         let Some(chunk) = reconfig(response, request) else {
             return;
         };
         if self.draft.put(&chunk) && is_asking {
-            self.requests.sent(now, self.outbound.rto.get());
+            // Later than now, so that it leaves once at a moment.
+            self.requests.sent(now, self.outbound.rto.get().max(1));
         }
     }
 
@@ -191,6 +197,10 @@ impl Association {
         let Some(request) = self.requests.due(now) else {
             return Ok(None);
         };
+        // A time that passes the greatest moment does not come.
+        if request.at == u64::MAX {
+            return Ok(None);
+        }
         let mut streams = Vec::with_capacity(self.alloc, request.streams.len())?;
         streams.extend_from_slice(&request.streams)?;
         let last_number = match &self.peer_requests {
@@ -217,6 +227,7 @@ impl Association {
         requires place { IsPlace datagram.now chunk }
         requires own { IsChunkOf datagram.now chunk }
         requires typ { chunk.typ ≡ 130 }
+        ensures tells { TellsEnd self.old self.new }
         ensures came { CallsArrive datagram.now (halves_of self.old) (halves_of self.new) }
         ensures kept { IsKept self.old self.new }
         ensures refused { (r : Reason) → result ≡ Ok (step.Refused r) → self.new ≡ self.old }
@@ -254,6 +265,7 @@ impl Association {
 
     // Takes a parameter.
     fn take_param(&mut self, raw: &Bytes, at: usize, typ: u16, now: u64) -> Result<(), Fault>
+        ensures tells { TellsEnd self.old self.new }
         ensures came { Follows (ParamAsksIn (drop at raw.now)) Does
             (halves_of self.old) (halves_of self.new) }
         ensures kept { IsKept self.old self.new }
@@ -278,6 +290,7 @@ impl Association {
 
     // Denies a request that is not performed here (RFC 6525 4.2, 4.3, 4.5, 4.6).
     fn deny(&mut self, raw: &Bytes, at: usize)
+        ensures tells { TellsEnd self.old self.new }
         ensures halves { HalvesAlike self.old self.new }
         ensures kept { IsKept self.old self.new }
     {
@@ -296,6 +309,7 @@ impl Association {
 
     // Takes a request of the peer (RFC 6525 5.2.2): one that comes again has the same answer as before.
     fn take_request(&mut self, request: &ParamOutgoingResetRequest) -> Result<(), Fault>
+        ensures tells { TellsEnd self.old self.new }
         ensures came { Follows (ParamAsks (outgoing_reset_request (reset_request_of request.now)))
             Does (halves_of self.old) (halves_of self.new) }
         ensures kept { IsKept self.old self.new }
@@ -317,6 +331,7 @@ impl Association {
 
     // Resets the streams that a request lists, or all where it lists none (RFC 6525 4.1).
     fn perform(&mut self, request: &ParamOutgoingResetRequest) -> Result<ReconfigResult, Fault>
+        ensures tells { TellsEnd self.old self.new }
         ensures came { Follows (ParamAsks (outgoing_reset_request (reset_request_of request.now)))
             Does (halves_of self.old) (halves_of self.new) }
         ensures kept { IsKept self.old self.new }
@@ -337,6 +352,7 @@ impl Association {
 
     // Resets all open streams.
     fn perform_all(&mut self, last_tsn: u32) -> Result<ReconfigResult, Fault>
+        ensures tells { TellsEnd self.old self.new }
         ensures outbound { self.new.outbound ≡ self.old.outbound }
         ensures received { ReceivedIn (IsResetAt last_tsn)
             (receiver_of self.old.inbound) (receiver_of self.new.inbound) }
@@ -361,6 +377,7 @@ impl Association {
         last_tsn: u32,
         is_named: bool,
     ) -> Result<ReconfigResult, Fault>
+        ensures tells { TellsEnd self.old self.new }
         ensures outbound { self.new.outbound ≡ self.old.outbound }
         ensures received { ReceivedIn (IsReset stream last_tsn)
             (receiver_of self.old.inbound) (receiver_of self.new.inbound) }
@@ -374,6 +391,7 @@ impl Association {
 
     // Takes the response to the request that is under way (RFC 6525 5.2.7): the streams begin at SSN 0 again.
     fn take_response(&mut self, response: &ParamReconfigResponse, now: u64) -> Result<(), Fault>
+        ensures tells { TellsEnd self.old self.new }
         ensures hearing { HearsBy IsRestart
             self.old.outbound.sender self.new.outbound.sender }
         ensures inbound { self.new.inbound ≡ self.old.inbound }

@@ -5,6 +5,7 @@ ghost use Rattle.sctp_association.specs.Beginnings.{KeepsPeer};
 ghost use Rattle.sctp_association.specs.Kept.{ticket_due};
 ghost use Rattle.sctp_association.specs.Halves.{MarksByT3};
 ghost use Rattle.sctp_association.specs.Sending.{IsTimed, t3_time};
+ghost use Rattle.sctp_association.specs.Telling.{Tells, TellsEnd};
 ghost use Rattle.sctp_handshake.specs.declared.ticket.Ticket.{Ticket};
 ghost use Rattle.sctp_path.specs.Timers.{is_due, is_passed, one_more};
 ghost use Rattle.sctp_reset.specs.Own.{time_of};
@@ -36,7 +37,7 @@ fn owe_again(due: &mut Due, reply: Option<Reply>)
 }
 
 impl Association {
-    ghost use Rattle.sctp_association.specs.Still.{IsBy, IsStill, is_behind};
+    ghost use Rattle.sctp_association.specs.Still.{IsBy, IsStill, heartbeat_time, is_behind};
     ghost use Rattle.sctp_association.specs.Failing.{IsCounted, IsGuarded, IsTimedOut};
 
     /// The earliest moment at which `handle_timeout` and `poll_transmit` have something to do, though nothing comes; 0 where they have it now.
@@ -81,20 +82,23 @@ impl Association {
         self.outbound.is_waiting() || has_request
     }
 
-    // When the next HEARTBEAT is due.
-    pub(super) fn next_heartbeat(&self) -> Option<u64> {
+    // When the next HEARTBEAT is due: later than the last one, so that one leaves at a moment.
+    pub(super) fn next_heartbeat(&self) -> Option<u64>
+        ensures { result ≡ heartbeat_time self.now }
+    {
         if self.machine.state() != State::Established {
             return None;
         }
-        match &self.heartbeat {
-            Some(heartbeat) => Some(heartbeat.at(self.outbound.rto.get())),
-            None => None,
-        }
+        let heartbeat = self.heartbeat.as_ref()?;
+        let at = heartbeat.at(self.outbound.rto.get().max(1));
+        // A time that passes the greatest moment does not come.
+        if at == u64::MAX { None } else { Some(at) }
     }
 
     /// Does what is due by now: timers that ran out, and what failed too often. Each expiry of T3-rtx is counted (RFC 9260 8.1), and each of T1-init,
     /// T1-cookie and T2-shutdown (4, 9.2): past its limit the association is over. Where T5-shutdown-guard expires an ABORT is due (9.2).
     pub fn handle_timeout(&mut self, now: u64)
+        ensures tells { Tells self.old self.new }
         ensures over { self.old.is_over ≡ true → self.new ≡ self.old }
         ensures t3 { self.old.is_over ≡ false → is_due now self.old.outbound.timer.at ≡ true
             → (self.new.is_over ≡ true) ⊎ IsCounted self.old.outbound.failures
@@ -132,6 +136,7 @@ impl Association {
 
     // T1-init, T1-cookie or T2-shutdown ran out (RFC 9260 5.1, 9.2). Where the state has a timer, it runs then.
     fn time_out_control(&mut self, now: u64)
+        ensures tells { TellsEnd self.old self.new }
         ensures control { is_due now self.old.control.at ≡ true
             → (self.new.is_over ≡ true) ⊎ IsTimedOut self.old.machine self.new.machine }
         ensures outbound { self.new.outbound
@@ -149,6 +154,7 @@ impl Association {
 
     // What waits for its answer is sent again, or the association is over.
     fn run_out(&mut self)
+        ensures tells { TellsEnd self.old self.new }
         ensures control { (self.new.is_over ≡ true)
             ⊎ IsTimedOut self.old.machine self.new.machine }
         ensures outbound { self.new.outbound
@@ -212,6 +218,7 @@ impl Association {
 
     // The peer answers nothing any more (RFC 9260 8.1).
     fn fail(&mut self)
+        ensures tells { TellsEnd self.old self.new }
         ensures over { self.new.is_over ≡ true }
         ensures outbound { self.new.outbound ≡ self.old.outbound }
         ensures inbound { self.new.inbound ≡ self.old.inbound }

@@ -4,6 +4,7 @@ ghost use Rattle.std.specs.Prelude.{◌≡◌, ◌⊎◌, ◌-◌, Ok, OnErr};
 ghost use Rattle.sctp_association.specs.Acks.{without_blocks};
 ghost use Rattle.sctp_association.specs.Arrivals.{AsksToHear, HearsBy, IsCount, without_gaps};
 ghost use Rattle.sctp_association.specs.Counts.{IsCountedAlike};
+ghost use Rattle.sctp_association.specs.Telling.{Stays};
 ghost use Rattle.sctp_association.specs.declared.outbound.acks.SackTaken.TheVariants.{Taken, Forged};
 ghost use Rattle.sctp_chunks.specs.Wire.{sack_chunk, shutdown_chunk};
 ghost use Rattle.sctp_data.specs.SelectiveAck.{sack_of};
@@ -55,7 +56,9 @@ fn sent_once(released: &[Released]) -> Option<u64> {
 }
 
 // Notes the streams whose buffered amount fell to the low threshold.
-fn note_low(low: &mut StreamSet, released: &[Released]) {
+fn note_low(low: &mut StreamSet, released: &[Released])
+    ensures { Stays low.old low.new }
+{
     for one in released {
         if one.is_low {
             low.insert(one.stream);
@@ -74,6 +77,7 @@ impl Outbound {
         low: &mut StreamSet,
         now: u64,
     ) -> Result<SackTaken, Fault>
+        ensures low { Stays low.old low.new }
         ensures hearing { HearsBy (AsksToHear (shutdown_chunk tsn))
             self.old.sender self.new.sender }
         ensures acked { result ≡ Ok Taken
@@ -113,6 +117,7 @@ impl Outbound {
         now: u64,
     ) -> Result<SackTaken, Fault>
         // Whatever it answers, the sender is called for this SACK alone.
+        ensures low { Stays low.old low.new }
         ensures hearing { HearsBy (AsksToHear (sack_chunk (sack_of sack.old)))
             self.old.sender self.new.sender }
         ensures counts { IsCountedAlike self.old self.new }

@@ -1,5 +1,9 @@
+use Rattle.sctp_association.proofs.Telling.{end_then}
 use Rattle.sctp_association.proofs.Known.{keeps_kept, keeps_then}
 use Rattle.sctp_association.proofs.association.Association.end_datagram.Goals as goal
 
 pub returns-clause-peer : goal.returns-clause-peer
 returns-clause-peer c = keeps_then _ _ _ (keeps_kept _ _ c.datagram_ended.ensures.kept) c.settle.ensures.peer
+
+pub returns-clause-tells : goal.returns-clause-tells
+returns-clause-tells c = end_then c.datagram_ended.ensures.tells c.settle.ensures.tells

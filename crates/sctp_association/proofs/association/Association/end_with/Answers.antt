@@ -1,3 +1,4 @@
+use Rattle.sctp_association.proofs.Telling.{end_same, end_then, streams_in, to_over}
 use Rattle.std.proofs.Common.{ap, ◌∙◌}
 use Rattle.sctp_association.proofs.Known.{keeps_as, knows_abort_of, owes_none}
 use Rattle.sctp_association.specs.declared.association.Association.{Association}
@@ -13,3 +14,9 @@ returns-clause-peer c none =
     (ap (λ (x : Association). x.config) ended ∙ ap (λ (x : Association). x.config) owed)
     (ap (λ (x : Association). x.key) ended ∙ ap (λ (x : Association). x.key) owed) (ap (λ (x : Association). x.machine) ended)
     (owes_none c.args.self.now c.end.new.self (ap (λ (x : Association). ticket_due x.due.alone) ended ∙ c.owe_end.ensures.owes none))
+
+pub returns-clause-tells : goal.returns-clause-tells
+returns-clause-tells c =
+    let owed = c.owe_end.ensures.rest in
+    let ended = c.end.ensures.rest in
+    end_then (end_same _ _ owed) (to_over _ _ _ _ _ _ _ (ap (λ (x : Association). streams_in x.inbound) ended) c.end.ensures.told c.end.ensures.over)

@@ -1,3 +1,4 @@
+use Rattle.sctp_association.proofs.Telling.{end_same, end_then, streams_in, to_over}
 use Rattle.std.proofs.Common.{ap, ◌∙◌}
 use Rattle.sctp_association.proofs.Known.{keeps_by, knows_abort, owes_none}
 use Rattle.sctp_association.specs.Kept.{ticket_due}
@@ -13,3 +14,8 @@ returns-clause-peer c =
     (ap (λ (x : Association). x.key) ended ∙ ap (λ (x : Association). x.key) owed)
     (ap (λ (x : Association). x.machine) ended ∙ ap (λ (x : Association). x.machine) owed)
     (owes_none c.args.self.now c.end.new.self (ap (λ (x : Association). ticket_due x.due.alone) ended ∙ ap (λ (d : Due). ticket_due d.alone) c.owe_farewell.ensures.due))
+
+pub returns-clause-tells : goal.returns-clause-tells
+returns-clause-tells c =
+    let owed = c.owe_farewell.ensures.rest in
+    end_then (end_same _ _ owed) (to_over _ _ _ _ _ _ _ (ap (λ (x : Association). streams_in x.inbound) c.end.ensures.rest) c.end.ensures.told c.end.ensures.over)

@@ -1,3 +1,4 @@
+use Rattle.sctp_association.proofs.Telling.{passes_none, to_same}
 use Rattle.std.proofs.Common.{refl, rules, ◌≡◌}
 use Rattle.std.specs.Prelude.{None}
 use Rattle.sctp_association.proofs.Begun.{begun_none}
@@ -10,3 +11,8 @@ pub returns-else-ne-clause-begun : goal.returns-else-ne-clause-begun
 returns-else-ne-clause-begun c =
     let none : c.args.answer.told ≡ None = search rules in
     begun_none _ _ _ _ _ none refl
+
+pub returns-else-ne-clause-tells : goal.returns-else-ne-clause-tells
+returns-else-ne-clause-tells c =
+    let none : c.args.answer.told ≡ None = search rules in
+    passes_none _ _ _ none to_same

@@ -1,3 +1,4 @@
+use Rattle.sctp_association.proofs.Telling.{end_then, to_same}
 use Rattle.std.proofs.Common.{ap, arith, get_or, length, refl, rules, subst, ◌<◌, ◌≡◌, []}
 use Rattle.std.proofs.lemmas.Bool.Decides.{nat_tests}
 use Rattle.std.proofs.lemmas.List.{nil_from_length}
@@ -17,7 +18,7 @@ returns-then-is_empty-clause-came c =
     (ap (λ o. o.sender) c.perform_all.ensures.outbound) _ _ none c.perform_all.ensures.received
 
 pub loop-stream-init : goal.loop-stream-init
-loop-stream-init c = record { came = follows_same _ _ _ _ refl; kept = record { config = refl; key = refl; machine = refl; owes = λ t e. e } }
+loop-stream-init c = record { came = follows_same _ _ _ _ refl; kept = record { config = refl; key = refl; machine = refl; owes = λ t e. e }; tells = to_same }
 
 pub loop-stream-preserved : goal.loop-stream-preserved
 loop-stream-preserved c =
@@ -31,6 +32,7 @@ loop-stream-preserved c =
           (one_reset (reset_request_of c.args.request.now) _ refl _ _
           (ap (λ o. o.sender) c.perform_one.ensures.outbound) _ _ _ named c.perform_one.ensures.received);
       kept = kept_then _ _ _ c.loop-stream.invariant.kept c.perform_one.ensures.kept;
+      tells = end_then c.loop-stream.invariant.tells c.perform_one.ensures.tells;
     }
 
 pub returns-in_err-wrong-clause-came : goal.returns-in_err-wrong-clause-came

@@ -1,3 +1,4 @@
+use Rattle.sctp_association.proofs.Telling.{to_in}
 use Rattle.std.proofs.Common.{refl}
 use Rattle.sctp_association.proofs.Arrived.{received_in, received_in_same}
 use Rattle.sctp_association.proofs.association.Association.perform_one.Goals as goal
@@ -7,3 +8,6 @@ returns-in-Some-clause-received c = received_in _ _ _ _ c.reset.new.self c.in-So
 
 pub returns-in-None-clause-received : goal.returns-in-None-clause-received
 returns-in-None-clause-received c = received_in_same _ _ _ refl
+
+pub returns-in-Some-clause-tells : goal.returns-in-Some-clause-tells
+returns-in-Some-clause-tells c = to_in _ _ _ _ _ _ c.in-Some.is c.reset.ensures.tells

@@ -1,3 +1,5 @@
+use Rattle.std.proofs.Common.{refl}
+use Rattle.sctp_association.proofs.Telling.{tells_kept, tells_peer, tells_same, tells_then, to_same, transmits_end, unmoved_end}
 use Rattle.std.proofs.lemmas.Option.{none-some}
 use Rattle.sctp_association.proofs.Known.{keeps_then, knows_same, unmoved_keeps}
 use Rattle.sctp_association.proofs.Offering.{offers_none, offers_reply}
@@ -66,3 +68,28 @@ returns-clause-peer c =
     let peer = c.settle.ensures.peer in
     keeps_then _ c.settle.new.self _ (record { config = peer.config; key = peer.key; machine = peer.machine; owes = peer.owes })
     (unmoved_keeps _ _ c.put_packet.ensures.kept)
+
+pub returns-in_err-put_alone-clause-tells : goal.returns-in_err-put_alone-clause-tells
+returns-in_err-put_alone-clause-tells c =
+    let put = c.put_alone.ensures in
+    tells_peer _ _ (unmoved_keeps _ _ put.kept) (unmoved_end _ _ put.halves put.kept)
+
+pub returns-in-Some-clause-tells : goal.returns-in-Some-clause-tells
+returns-in-Some-clause-tells c =
+    let put = c.put_alone.ensures in
+    tells_kept _ _ (knows_same _ _ put.kept.machine) (unmoved_end c.args.self.now c.put_alone.new.self put.halves put.kept)
+
+pub returns-then-self-clause-tells : goal.returns-then-self-clause-tells
+returns-then-self-clause-tells c = tells_same _ _ refl
+
+pub returns-in_err-abandon-clause-tells : goal.returns-in_err-abandon-clause-tells
+returns-in_err-abandon-clause-tells c = tells_kept _ _ (knows_same _ _ refl) to_same
+
+pub returns-in_default-peer-clause-tells : goal.returns-in_default-peer-clause-tells
+returns-in_default-peer-clause-tells c = tells_kept _ _ c.settle.ensures.peer.machine c.settle.ensures.tells
+
+pub returns-clause-tells : goal.returns-clause-tells
+returns-clause-tells c =
+    let put = c.put_packet.ensures in
+    tells_then _ c.settle.new.self _ (tells_kept _ _ c.settle.ensures.peer.machine c.settle.ensures.tells)
+    (tells_peer _ _ (unmoved_keeps _ _ put.kept) (transmits_end _ _ _ put.made put.kept))

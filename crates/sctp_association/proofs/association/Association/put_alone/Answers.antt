@@ -25,8 +25,10 @@ returns-clause-offers c =
 
 pub returns-in_err-put_reply-clause-kept : goal.returns-in_err-put_reply-clause-kept
 returns-in_err-put_reply-clause-kept c =
-    let kept = c.put_reply.ensures.reply.kept in record { config = kept.config; key = kept.key; machine = kept.machine; alone = kept.alone }
+    let kept = c.put_reply.ensures.reply.kept in
+    record { config = kept.config; key = kept.key; machine = kept.machine; alone = kept.alone; events = kept.events; over = kept.over }
 
 pub returns-clause-kept : goal.returns-clause-kept
 returns-clause-kept c =
-    let kept = c.put_reply.ensures.reply.kept in record { config = kept.config; key = kept.key; machine = kept.machine; alone = kept.alone }
+    let kept = c.put_reply.ensures.reply.kept in
+    record { config = kept.config; key = kept.key; machine = kept.machine; alone = kept.alone; events = kept.events; over = kept.over }

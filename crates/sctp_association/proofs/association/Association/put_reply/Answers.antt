@@ -9,7 +9,7 @@ returns-in-ShuttingDown c = record {
   reply = reply_others _ _ _ (
       others_after _ _ _ c.put_error-in-ShuttingDown.ensures.others (
       others_one c.put-in-ShuttingDown.result shutdown_ack_chunk _ _ c.put-in-ShuttingDown.ensures.added tt tt (record { sender = refl; receiver = refl })
-      (record { config = refl; key = refl; machine = refl; alone = refl })
+      (record { config = refl; key = refl; machine = refl; alone = refl; events = refl; over = refl })
       )
       );
 }

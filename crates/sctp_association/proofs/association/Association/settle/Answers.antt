@@ -1,3 +1,5 @@
+use Rattle.sctp_association.specs.Telling.{TellsEnd}
+use Rattle.sctp_association.proofs.Telling.{end_same, end_then}
 use Rattle.std.proofs.Common.{ap}
 use Rattle.sctp_association.proofs.Known.{keeps_by, keeps_kept, keeps_then, knows_asked, owes_same}
 use Rattle.sctp_association.specs.Beginnings.{KeepsPeer}
@@ -19,3 +21,11 @@ returns-clause-peer c =
       })
     ] in
     keeps_then _ _ _ first c.note_drained.ensures.peer
+
+pub returns-clause-tells : goal.returns-clause-tells
+returns-clause-tells c =
+    let first : TellsEnd c.args.self.now c.if-self.self = elim c.if-self.branch [
+      | then-self+then-eq w ↦ end_same _ _ w.self-is
+      | else-self w ↦ end_same _ _ w.self-is
+    ] in
+    end_then first c.note_drained.ensures.tells

@@ -1,3 +1,4 @@
+use Rattle.sctp_association.proofs.Telling.{streams_in, to_over}
 use Rattle.std.proofs.Common.{ap, refl}
 use Rattle.sctp_association.proofs.Known.{keeps_by, knows_abort, owes_same}
 use Rattle.sctp_association.specs.declared.association.Association.{Association}
@@ -11,3 +12,6 @@ returns-clause-peer c =
     let rest = c.end.ensures.rest in
     keeps_by _ _ _ (knows_abort _ _ _ c.abort-answer.ensures.takes) (ap (λ (x : Association). x.config) rest)
     (ap (λ (x : Association). x.key) rest) (ap (λ (x : Association). x.machine) rest) (owes_same c.args.self.now c.end.new.self (ap (λ (x : Association). x.due) rest))
+
+pub returns-clause-tells : goal.returns-clause-tells
+returns-clause-tells c = to_over _ _ _ _ _ _ _ (ap (λ (x : Association). streams_in x.inbound) c.end.ensures.rest) c.end.ensures.told c.end.ensures.over

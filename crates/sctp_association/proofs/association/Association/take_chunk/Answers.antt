@@ -1,3 +1,4 @@
+use Rattle.sctp_association.proofs.Telling.{tells_due, tells_peer, tells_same, tells_still}
 use Rattle.std.proofs.Common.{refl}
 use Rattle.sctp_association.proofs.Offered.{offered_calls, offered_due, offered_kept, offered_same}
 use Rattle.sctp_association.proofs.association.Association.take_chunk.Goals as goal
@@ -22,3 +23,24 @@ returns-in-130-clause-came c = offered_kept _ _ _ c.take_reconfig.ensures.came c
 
 pub returns-in-192-clause-came : goal.returns-in-192-clause-came
 returns-in-192-clause-came c = offered_calls _ _ _ c.take_skip.ensures.came c.take_skip.ensures.peer
+
+pub returns-then-not-admits-clause-tells : goal.returns-then-not-admits-clause-tells
+returns-then-not-admits-clause-tells c = tells_same _ _ refl
+
+pub returns-then-not-is_beginning-clause-tells : goal.returns-then-not-is_beginning-clause-tells
+returns-then-not-is_beginning-clause-tells c = tells_same _ _ refl
+
+pub returns-in-0-clause-tells : goal.returns-in-0-clause-tells
+returns-in-0-clause-tells c = tells_peer _ _ c.take_data.ensures.peer c.take_data.ensures.tells
+
+pub returns-in-1-clause-tells : goal.returns-in-1-clause-tells
+returns-in-1-clause-tells c = tells_due _ _ _ c.take_init.ensures.due
+
+pub returns-in-3-clause-tells : goal.returns-in-3-clause-tells
+returns-in-3-clause-tells c = tells_peer _ _ c.take_sack.ensures.peer c.take_sack.ensures.tells
+
+pub returns-in-130-clause-tells : goal.returns-in-130-clause-tells
+returns-in-130-clause-tells c = tells_still _ _ c.take_reconfig.ensures.kept c.take_reconfig.ensures.tells
+
+pub returns-in-192-clause-tells : goal.returns-in-192-clause-tells
+returns-in-192-clause-tells c = tells_peer _ _ c.take_skip.ensures.peer c.take_skip.ensures.tells

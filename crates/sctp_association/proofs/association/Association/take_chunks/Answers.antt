@@ -1,11 +1,12 @@
-use Rattle.std.proofs.Common.{Ok, ap, arith, inl, inr, length, refl, rules, subst, sym, ◌≡◌, ◌<◌, ◌∙◌}
+use Rattle.sctp_association.proofs.Telling.{tells_peer, tells_same, tells_then}
+use Rattle.std.proofs.Common.{Ok, ap, arith, inl, inr, length, refl, rules, subst, sym, ◌≡◌, ◌<◌, ◌∙◌, ◌∷◌, List}
 use Rattle.std.proofs.lemmas.Bool.{false≢true}
-use Rattle.sctp_association.proofs.Arrived.{arrives_of}
+use Rattle.sctp_association.proofs.Arrived.{arrives_of, alike_halves}
 use Rattle.sctp_association.proofs.Coming.{if_ok, takes_still}
 use Rattle.sctp_association.proofs.First.{one_first}
 use Rattle.sctp_association.proofs.Firsts.{by_datagram}
 use Rattle.sctp_association.proofs.Offered.{offered_alike, offered_same, offered_then}
-use Rattle.sctp_association.specs.Coming.{TakesDataAt}
+use Rattle.sctp_association.specs.Coming.{TakesDataAt, TakesDataOf, TakesEachOf, is_due}
 use Rattle.sctp_association.specs.Halves.{receiver_of}
 use Rattle.sctp_association.specs.Tags.{AdmitsFirst, is_all_or_nothing}
 use Rattle.sctp_association.specs.declared.association.Association.{Association}
@@ -13,6 +14,8 @@ use Rattle.sctp_association.specs.declared.association.arrivals.Step.TheVariants
 use Rattle.sctp_util.specs.Field.{u32_at}
 use Rattle.sctp_association.proofs.Carrying.{all_own, next_own}
 use Rattle.sctp_association.proofs.association.Association.take_chunks.Goals as goal
+use Rattle.sctp_association.proofs.Each.{each_ended, first_next, first_same, first_stop}
+use Rattle.std.specs.Prelude.{ℕ, true}
 use Rattle.sctp_datagram.specs.declared.datagram.ChunkPlace.{ChunkPlace}
 
 pub take_first-requires-clause-own : goal.take_first-requires-clause-own
@@ -119,4 +122,69 @@ returns-clause-takes c first are typ is =
     let came = if_ok _ _ _ next (c.take_first.ensures.takes alone (ap (λ (p : ChunkPlace). p.typ) same.0 ∙ typ)) in
     let idle = (c.take_others-is_whole.ensures.none same.1).1 in
     inr (subst (λ (p : ChunkPlace). TakesDataAt p.at c.args.datagram.now c.end_datagram-2.new.self) same.0
-    (takes_still _ _ _ _ (c.end_datagram-2.ensures.halves.receiver ∙ ap (λ (a : Association). receiver_of a.inbound) idle) came))
+    (takes_still _ _ c.take_first.new.self c.end_datagram-2.new.self (c.end_datagram-2.ensures.halves.receiver ∙ ap (λ (a : Association). receiver_of a.inbound) idle) came))
+
+-- ## What is due, and each DATA chunk
+
+pub returns-in-Refused-clause-due : goal.returns-in-Refused-clause-due
+returns-in-Refused-clause-due c first rest are due own r is =
+    let same = first_same _ _ _ _ (sym c.in-Some.ensures.place ∙ are) in
+    let refused : c.take_first.result ≡ Ok (step.Refused c.in-Refused.reason) = search rules in
+    let tag : c.header-tag.result.verification_tag ≡ c.args.self.now.machine.own.tag =
+    c.header-tag.ensures.verification_tag ∙ ap (λ l. u32_at l 4) c.requires.whole ∙ own in
+    c.take_first.ensures.due (subst (λ (p : ChunkPlace). is_due p.typ c.args.self.now ≡ true) (sym same) due) tag _ refused
+
+pub returns-in-Stop-clause-each : goal.returns-in-Stop-clause-each
+returns-in-Stop-clause-each c takes is =
+    let stop : c.take_first.result ≡ Ok step.Stop = search rules in
+    let tag : c.header-tag.result.verification_tag ≡ u32_at c.args.datagram.now 4 =
+    c.header-tag.ensures.verification_tag ∙ ap (λ l. u32_at l 4) c.requires.whole in
+    let of : TakesDataOf c.header-tag.result.verification_tag c.args.self.now = subst (λ (n : ℕ). TakesDataOf n c.args.self.now) (sym tag) takes in
+    subst (λ (l : List ChunkPlace). TakesEachOf l c.args.datagram.now c.args.self.now c.take_first.new.self) (sym c.in-Some.ensures.place)
+    (first_stop _ c.args.datagram.now c.in-Some.first c.next.new.self.left c.args.self.now c.take_first.new.self c.take_first.result
+    (c.take_first.ensures.on of) stop)
+
+pub returns-clause-each : goal.returns-clause-each
+returns-clause-each c takes is =
+    let ended = c.end_datagram-2.ensures in
+    let next : c.take_first.result ≡ Ok step.Next = search rules in
+    let tag : c.header-tag.result.verification_tag ≡ u32_at c.args.datagram.now 4 =
+    c.header-tag.ensures.verification_tag ∙ ap (λ l. u32_at l 4) c.requires.whole in
+    let of : TakesDataOf c.header-tag.result.verification_tag c.args.self.now = subst (λ (n : ℕ). TakesDataOf n c.args.self.now) (sym tag) takes in
+    let others = λ (t : TakesDataOf c.header-tag.result.verification_tag c.take_first.new.self).
+    c.take_others-is_whole.ensures.each (subst (λ (n : ℕ). TakesDataOf n c.take_first.new.self) tag t) c.if-not-is_whole.false in
+    subst (λ (l : List ChunkPlace). TakesEachOf l c.args.datagram.now c.args.self.now c.end_datagram-2.new.self) (sym c.in-Some.ensures.place) (
+    each_ended (c.in-Some.first ∷ c.next.new.self.left) c.args.datagram.now c.args.self.now c.take_others-is_whole.new.self c.end_datagram-2.new.self
+    ended.over (alike_halves c.take_others-is_whole.new.self c.end_datagram-2.new.self ended.halves) (
+    first_next _ c.args.datagram.now c.in-Some.first c.next.new.self.left c.args.self.now c.take_first.new.self c.take_first.result
+    (c.take_first.ensures.on of) next (arrives_of _ _ _ _ c.take_first.ensures.came.arrives) c.take_others-is_whole.new.self
+    (arrives_of _ _ _ _ c.take_others-is_whole.ensures.came.arrives) others
+    )
+    )
+
+pub returns-in_default-clause-tells : goal.returns-in_default-clause-tells
+returns-in_default-clause-tells c = tells_same _ _ refl
+
+pub returns-in_err-reason-clause-tells : goal.returns-in_err-reason-clause-tells
+returns-in_err-reason-clause-tells c = c.take_first.ensures.tells
+
+pub returns-in-Refused-clause-tells : goal.returns-in-Refused-clause-tells
+returns-in-Refused-clause-tells c = c.take_first.ensures.tells
+
+pub returns-in-Stop-clause-tells : goal.returns-in-Stop-clause-tells
+returns-in-Stop-clause-tells c = c.take_first.ensures.tells
+
+pub returns-in-Cut-clause-tells : goal.returns-in-Cut-clause-tells
+returns-in-Cut-clause-tells c =
+    let ended = c.end_datagram.ensures in
+    tells_then _ _ _ c.take_first.ensures.tells (tells_peer _ _ ended.peer ended.tells)
+
+pub returns-then-not-is_whole-clause-tells : goal.returns-then-not-is_whole-clause-tells
+returns-then-not-is_whole-clause-tells c =
+    let ended = c.end_datagram-2.ensures in
+    tells_then _ _ _ c.take_first.ensures.tells (tells_then _ _ _ c.take_others-is_whole.ensures.tells (tells_peer _ _ ended.peer ended.tells))
+
+pub returns-clause-tells : goal.returns-clause-tells
+returns-clause-tells c =
+    let ended = c.end_datagram-2.ensures in
+    tells_then _ _ _ c.take_first.ensures.tells (tells_then _ _ _ c.take_others-is_whole.ensures.tells (tells_peer _ _ ended.peer ended.tells))

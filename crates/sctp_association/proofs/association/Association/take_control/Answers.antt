@@ -1,3 +1,4 @@
+use Rattle.sctp_association.proofs.Telling.{tells_due, tells_peer, tells_still}
 use Rattle.sctp_association.proofs.Arrived.{came_alike, came_same}
 use Rattle.sctp_association.proofs.Begun.{quiet_complete, quiet_shutdown_ack}
 use Rattle.sctp_association.proofs.Known.{keeps_by, knows_complete, knows_shutdown_ack}
@@ -36,3 +37,31 @@ returns-in-14-clause-came c =
 
 pub returns-in_default-clause-came : goal.returns-in_default-clause-came
 returns-in_default-clause-came c = offered_less _ _ _ _ c.note_unknown.ensures.rest c.note_unknown.ensures.owes
+
+pub returns-in-4-clause-tells : goal.returns-in-4-clause-tells
+returns-in-4-clause-tells c = tells_still _ _ c.take_heartbeat.ensures.kept c.take_heartbeat.ensures.tells
+
+pub returns-in-5-clause-tells : goal.returns-in-5-clause-tells
+returns-in-5-clause-tells c = tells_still _ _ c.take_heartbeat_ack.ensures.kept c.take_heartbeat_ack.ensures.tells
+
+pub returns-in-6-clause-tells : goal.returns-in-6-clause-tells
+returns-in-6-clause-tells c = tells_peer _ _ c.take_abort.ensures.peer c.take_abort.ensures.tells
+
+pub returns-in-7-clause-tells : goal.returns-in-7-clause-tells
+returns-in-7-clause-tells c = tells_peer _ _ c.take_shutdown.ensures.peer c.take_shutdown.ensures.tells
+
+pub returns-in-8-clause-tells : goal.returns-in-8-clause-tells
+returns-in-8-clause-tells c =
+    let kept = c.take_answer.ensures.kept in
+    tells_peer _ _ (keeps_by _ _ _ (knows_shutdown_ack _ _ _ c.shutdown_ack-answer.ensures.takes) kept.config kept.key kept.machine kept.owes) c.take_answer.ensures.tells.end
+
+pub returns-in-9-clause-tells : goal.returns-in-9-clause-tells
+returns-in-9-clause-tells c = tells_peer _ _ c.take_error.ensures.peer c.take_error.ensures.tells
+
+pub returns-in-14-clause-tells : goal.returns-in-14-clause-tells
+returns-in-14-clause-tells c =
+    let kept = c.take_answer-in-14.ensures.kept in
+    tells_peer _ _ (keeps_by _ _ _ (knows_complete _ _ _ c.shutdown_complete-answer.ensures.takes) kept.config kept.key kept.machine kept.owes) c.take_answer-in-14.ensures.tells.end
+
+pub returns-in_default-clause-tells : goal.returns-in_default-clause-tells
+returns-in_default-clause-tells c = tells_due _ _ _ c.note_unknown.ensures.rest

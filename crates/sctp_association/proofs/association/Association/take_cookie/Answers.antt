@@ -1,3 +1,5 @@
+use Rattle.sctp_association.proofs.Known.{knows_same}
+use Rattle.sctp_association.proofs.Telling.{tells_cookie, tells_kept, tells_same, to_same}
 use Rattle.std.proofs.Common.{rules, ◌≡◌, ap, refl, sym, ◌∙◌}
 use Rattle.std.specs.Prelude.{Option, Some, false}
 use Rattle.sctp_association.proofs.Arrived.{came_same}
@@ -99,3 +101,32 @@ returns-in_default-reply-clause-first c closed next =
     let none = ap (λ (i : Option Inbound). receiver_of i) (c.may_begin.ensures (search rules) (ap is_standing closed)) in
     begins_by_ticket _ _ _ _ _ _ _ made _ c.args.self.now.machine c.cookie_echo-answer.new.self c.cookie_echo-answer.result closed
     c.cookie_echo-answer.ensures.takes fresh none c.follow.ensures.begun
+
+pub returns-then-chunk-raw-clause-tells : goal.returns-then-chunk-raw-clause-tells
+returns-then-chunk-raw-clause-tells c = tells_same _ _ refl
+
+pub returns-in_default-clause-tells : goal.returns-in_default-clause-tells
+returns-in_default-clause-tells c = tells_same _ _ refl
+
+pub returns-in_default-read-clause-tells : goal.returns-in_default-read-clause-tells
+returns-in_default-read-clause-tells c = tells_same _ _ refl
+
+pub returns-then-ticket-tag-clause-tells : goal.returns-then-ticket-tag-clause-tells
+returns-then-ticket-tag-clause-tells c = tells_same _ _ refl
+
+pub returns-then-not-may_begin-clause-tells : goal.returns-then-not-may_begin-clause-tells
+returns-then-not-may_begin-clause-tells c = tells_same _ _ refl
+
+pub returns-then-is_none-2-clause-tells : goal.returns-then-is_none-2-clause-tells
+returns-then-is_none-2-clause-tells c =
+    let same : c.cookie_echo-answer.new.self ≡ c.args.self.now.machine = search rules in
+    tells_kept _ _ (knows_same _ _ same) to_same
+
+pub returns-in-Some-StaleCookie-clause-tells : goal.returns-in-Some-StaleCookie-clause-tells
+returns-in-Some-StaleCookie-clause-tells c = tells_cookie _ _ _ _ c.follow.ensures.kept.machine c.follow.ensures.tells.end c.follow.ensures.tells.told _ _ c.cookie_echo-answer.ensures.takes
+
+pub returns-in_default-reply-clause-tells : goal.returns-in_default-reply-clause-tells
+returns-in_default-reply-clause-tells c = tells_cookie _ _ _ _ c.follow.ensures.kept.machine c.follow.ensures.tells.end c.follow.ensures.tells.told _ _ c.cookie_echo-answer.ensures.takes
+
+pub returns-in_default-reply-2-clause-tells : goal.returns-in_default-reply-2-clause-tells
+returns-in_default-reply-2-clause-tells c = tells_cookie _ _ _ _ c.follow.ensures.kept.machine c.follow.ensures.tells.end c.follow.ensures.tells.told _ _ c.cookie_echo-answer.ensures.takes

@@ -1,3 +1,4 @@
+use Rattle.sctp_association.proofs.Telling.{tells_cookie_ack, tells_same}
 use Rattle.std.proofs.Common.{rules, refl}
 use Rattle.sctp_association.proofs.Offered.{offered_same}
 use Rattle.sctp_association.proofs.Offers.{ack_offered}
@@ -11,3 +12,11 @@ returns-clause-came c =
     let kept = c.take_answer.ensures.kept in
     ack_offered _ _ c.requires.own _ _ _ _ c.requires.typ c.cookie_ack-answer.ensures.takes (c.may_begin.ensures (search rules))
     c.take_answer.ensures.begun (record { config = kept.config; key = kept.key; machine = kept.machine; owes = kept.owes })
+
+pub returns-then-not-may_begin-clause-tells : goal.returns-then-not-may_begin-clause-tells
+returns-then-not-may_begin-clause-tells c = tells_same _ _ refl
+
+pub returns-clause-tells : goal.returns-clause-tells
+returns-clause-tells c =
+    let told = c.take_answer.ensures.tells in
+    tells_cookie_ack _ _ _ _ c.take_answer.ensures.kept.machine told.end told.told c.cookie_ack-answer.ensures.takes

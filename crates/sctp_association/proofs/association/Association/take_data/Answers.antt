@@ -1,12 +1,15 @@
+use Rattle.sctp_association.proofs.Telling.{end_then, to_in}
 use Rattle.std.proofs.Common.{Ok, Some, ap, refl, subst, sym, ◌∙◌}
 use Rattle.sctp_association.proofs.Arrived.{came_alike, came_same, came_then, receiver_came}
 use Rattle.sctp_association.proofs.Coming.{done_unless, follows_data}
 use Rattle.sctp_association.specs.Arrivals.{Halves}
-use Rattle.sctp_association.specs.Coming.{HasComeOrIsDropped}
+use Rattle.sctp_association.specs.Coming.{HasComeOrIsDropped, TakesDataOf}
 use Rattle.sctp_association.proofs.Begun.{quiet_arrived}
 use Rattle.sctp_association.proofs.First.{on_err}
 use Rattle.sctp_association.proofs.Kept.{same_inbound, same_machine}
 use Rattle.sctp_association.proofs.Known.{keeps_by, keeps_then, knows_arrived}
+use Rattle.sctp_association.proofs.Going.{arrived_state, arrived_told, goes_by_data, served_alike, takes_on}
+use Rattle.sctp_handshake.specs.declared.machine.Machine.{Machine}
 use Rattle.sctp_association.proofs.association.Association.take_data.Goals as goal
 
 pub returns-then-not-takes_data-clause-came : goal.returns-then-not-takes_data-clause-came
@@ -65,3 +68,30 @@ returns-clause-takes c =
       taken = subst (HasComeOrIsDropped chunk) (sym still) (
           done_unless _ _ (c.end_by.ensures.next next) c.in_default-followed.not-Wanting (λ e. c.take_data.ensures.takes (c.in_ok-followed.was ∙ ap Ok e)));
     }) c.end_by.ensures.over
+
+pub returns-in_err-followed-clause-tells : goal.returns-in_err-followed-clause-tells
+returns-in_err-followed-clause-tells c = to_in _ _ _ _ _ _ c.in-Some.is c.take_data.ensures.tells
+
+pub returns-in-Wanting-clause-tells : goal.returns-in-Wanting-clause-tells
+returns-in-Wanting-clause-tells c = to_in _ _ _ _ _ _ c.in-Some.is c.take_data.ensures.tells
+
+pub returns-clause-tells : goal.returns-clause-tells
+returns-clause-tells c =
+    end_then (to_in _ _ _ _ _ _ c.in-Some.is c.take_data.ensures.tells)
+    (end_then c.run_again.ensures.tells (end_then c.follow.ensures.tells.end c.end_by.ensures.tells))
+
+-- ## DATA is taken as before
+
+pub returns-clause-on : goal.returns-clause-on
+returns-clause-on c tag takes =
+    let old = c.args.self.now in
+    let quiet = arrived_told old.machine _ _ c.packet_arrived-answer.ensures in
+    let kept = c.follow.ensures.kept.machine ∙ c.run_again.ensures.kept.machine in
+    let there : TakesDataOf tag c.follow.new.self =
+    takes_on tag old c.follow.new.self takes (c.follow.ensures.over quiet ∙ c.run_again.ensures.over)
+    (ap (λ (m : Machine). m.state) kept ∙ arrived_state old.machine _ _ c.packet_arrived-answer.ensures)
+    (ap (λ (m : Machine). m.own) kept ∙ (knows_arrived old.machine _ _ c.packet_arrived-answer.ensures).own)
+    (served_alike (Some c.take_data.new.self) c.follow.new.self.inbound ((c.follow.ensures.quiet quiet).receiver ∙ c.run_again.ensures.halves.receiver) refl) in
+    goes_by_data c.args.chunk tag c.args.datagram.now c.end_by.result c.end_by.new.self c.end_by.ensures.never (returns-clause-takes c) (
+    λ next. subst (TakesDataOf tag) (sym (c.end_by.ensures.on next)) there
+    )

@@ -1,3 +1,5 @@
+use Rattle.sctp_association.specs.Telling.{TellsEnd}
+use Rattle.sctp_association.proofs.Telling.{end_same, end_then, to_error}
 use Rattle.std.proofs.Common.{ap, ◌∙◌}
 use Rattle.sctp_association.proofs.Known.{keeps_by, keeps_kept, knows_stale, owes_same}
 use Rattle.sctp_association.specs.Beginnings.{KeepsPeer}
@@ -21,3 +23,11 @@ returns-clause-peer c =
       })
     ] in
     record { config = first.config; key = first.key; machine = first.machine; owes = first.owes }
+
+pub returns-clause-tells : goal.returns-clause-tells
+returns-clause-tells c =
+    let first : TellsEnd c.args.self.now c.if-code-eq3.self = elim c.if-code-eq3.branch [
+      | then-code-eq3 w ↦ end_then w.follow.ensures.tells.end (end_same _ _ w.self-is)
+      | else-code-eq3 w ↦ end_same _ _ w.self-is
+    ] in
+    end_then first (to_error _ _ _ _)

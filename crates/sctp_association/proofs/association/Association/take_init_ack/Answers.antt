@@ -1,3 +1,5 @@
+use Rattle.sctp_association.proofs.Known.{knows_same}
+use Rattle.sctp_association.proofs.Telling.{end_same, end_then, tells_init_ack, tells_kept, to_same}
 use Rattle.std.proofs.Common.{ap, refl, rules, subst, ◌≡◌, ◌∙◌}
 use Rattle.sctp_association.proofs.Arrived.{came_same}
 use Rattle.sctp_association.proofs.Kept.{same_machine}
@@ -39,3 +41,15 @@ returns-clause-came c =
       machine = kept.machine ∙ ap (λ (x : Association). x.machine) rest;
       owes = λ t e. c.note_params.ensures.owes t (kept.owes t e);
     })
+
+pub returns-then-is_none-2-clause-tells : goal.returns-then-is_none-2-clause-tells
+returns-then-is_none-2-clause-tells c =
+    let same : c.init_ack-answer.new.self ≡ c.args.self.now.machine = search rules in
+    tells_kept _ _ (knows_same _ _ same) to_same
+
+pub returns-clause-tells : goal.returns-clause-tells
+returns-clause-tells c =
+    let rest = c.note_params.ensures.rest in
+    let told = c.follow.ensures.tells in
+    tells_init_ack _ _ _ _ (c.follow.ensures.kept.machine ∙ ap (λ (x : Association). x.machine) rest) (end_then (end_same _ _ rest) told.end) told.told _
+    c.init_ack-answer.ensures.takes

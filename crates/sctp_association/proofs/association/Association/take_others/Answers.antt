@@ -1,16 +1,36 @@
-use Rattle.std.proofs.Common.{ap, arith, length, refl, ◌∙◌}
+use Rattle.std.proofs.Common.{Ok, ap, arith, inr, length, refl, rules, sym, ◌∙◌}
+use Rattle.std.proofs.lemmas.Bool.{false≢true}
+use Rattle.sctp_association.proofs.Each.{data_counts, none_left, one_less, owed_at, owed_first, owed_next, owed_none, owed_passed, owed_refused, owed_stop, tagged}
+use Rattle.sctp_association.proofs.Arrived.{arrives_of}
+use Rattle.sctp_association.specs.Halves.{halves_of}
+use Rattle.sctp_util.specs.Field.{u32_at}
 use Rattle.sctp_association.proofs.Offered.{offered_same, offered_then}
+use Rattle.sctp_association.proofs.Telling.{tells_same, tells_then}
 use Rattle.sctp_association.proofs.Carrying.{next_own}
 use Rattle.sctp_association.proofs.association.Association.take_others.Goals as goal
 
 pub loop-init : goal.loop-init
-loop-init c = record { bytes = refl; own = c.requires.own; came = offered_same _ _ _ refl; idle = λ e. refl }
+loop-init c = record {
+  bytes = refl;
+  own = c.requires.own;
+  came = offered_same _ _ _ refl;
+  tells = tells_same _ _ refl;
+  each = owed_first _ _ _ _;
+  count = omega arith;
+  idle = λ e. refl;
+}
 
 pub loop-preserved-then-not-counts : goal.loop-preserved-then-not-counts
 loop-preserved-then-not-counts c = record {
   bytes = c.next.ensures.bytes ∙ c.loop.invariant.bytes;
   own = (next_own _ _ _ _ c.in-Some.ensures.place c.loop.invariant.own).1;
   came = c.loop.invariant.came;
+  tells = c.loop.invariant.tells;
+  each = λ takes. owed_passed c.header-tag.result.verification_tag c.args.datagram.now c.in-Some.chunk c.next.new.self.left c.loop.self c.loop.self
+      c.args.chunks.left (halves_of c.args.self.now) (data_counts c.in-Some.chunk c.loop.once (sym c.if-not-counts.ensures.value)) refl (
+      owed_at _ _ _ _ _ _ _ c.in-Some.ensures.place (c.loop.invariant.each takes)
+      );
+  count = one_less _ _ _ _ _ c.in-Some.ensures.place c.loop.invariant.count;
   idle = λ e. absurd (omega (arith, c.left-end.ensures, ap length e, c.loop-test.true));
 }
 
@@ -18,39 +38,70 @@ pub loop-preserved : goal.loop-preserved
 loop-preserved c = record {
   bytes = c.next.ensures.bytes ∙ c.loop.invariant.bytes;
   own = (next_own _ _ _ _ c.in-Some.ensures.place c.loop.invariant.own).1;
-  came = offered_then _ _ _ c.loop.invariant.came _ c.take_chunk.ensures.came;
+  came = offered_then _ _ _ c.loop.invariant.came _ c.take_other.ensures.came;
+  tells = tells_then _ _ _ c.loop.invariant.tells c.take_other.ensures.tells;
+  each = λ takes. owed_next c.header-tag.result.verification_tag c.args.datagram.now c.in-Some.chunk c.next.new.self.left c.loop.self c.take_other.new.self
+      c.args.chunks.left (halves_of c.args.self.now) c.take_other.result (arrives_of _ _ _ _ c.take_other.ensures.came.arrives) c.take_other.ensures.on
+      (search rules) (owed_at _ _ _ _ _ _ _ c.in-Some.ensures.place (c.loop.invariant.each takes));
+  count = one_less _ _ _ _ _ c.in-Some.ensures.place c.loop.invariant.count;
   idle = λ e. absurd (omega (arith, c.left-end.ensures, ap length e, c.loop-test.true));
 }
 
-pub take_chunk-requires-clause-own : goal.take_chunk-requires-clause-own
-take_chunk-requires-clause-own c = (next_own _ _ _ _ c.in-Some.ensures.place c.loop.invariant.own).0
+pub take_other-requires-clause-own : goal.take_other-requires-clause-own
+take_other-requires-clause-own c = (next_own _ _ _ _ c.in-Some.ensures.place c.loop.invariant.own).0
 
 pub returns-in-Ok-Cut : goal.returns-in-Ok-Cut
 returns-in-Ok-Cut c = record {
+  each = λ takes is. absurd (false≢true is);
   none = λ e. absurd (omega (arith, c.left-end.ensures, ap length e, c.loop-test.true));
-  came = offered_then _ _ _ c.loop.invariant.came _ c.take_chunk.ensures.came;
+  came = offered_then _ _ _ c.loop.invariant.came _ c.take_other.ensures.came;
+  tells = tells_then _ _ _ c.loop.invariant.tells c.take_other.ensures.tells;
 }
 
 pub returns-in-Ok-Cut-2 : goal.returns-in-Ok-Cut-2
 returns-in-Ok-Cut-2 c = record {
+  each = λ takes is. absurd (false≢true is);
   none = λ e. absurd (omega (arith, c.left-end.ensures, ap length e, c.loop-test.true));
-  came = offered_then _ _ _ c.loop.invariant.came _ c.take_chunk.ensures.came;
+  came = offered_then _ _ _ c.loop.invariant.came _ c.take_other.ensures.came;
+  tells = tells_then _ _ _ c.loop.invariant.tells c.take_other.ensures.tells;
 }
 
 pub returns-after-loop : goal.returns-after-loop
-returns-after-loop c = record { came = c.loop.invariant.came; none = λ e. (refl, c.loop.invariant.idle e) }
+returns-after-loop c = record {
+  each = λ takes is. inr (owed_none c.header-tag.result.verification_tag c.args.datagram.now c.loop.chunks.left c.args.chunks.left c.loop.self
+      (halves_of c.args.self.now) (none_left _ _ _ _ c.loop.invariant.count c.left-end.ensures c.loop-test.false)
+      (c.loop.invariant.each (tagged _ _ _ (c.header-tag.ensures.verification_tag ∙ ap (λ l. u32_at l 4) c.requires.whole) takes)));
+  came = c.loop.invariant.came;
+  tells = c.loop.invariant.tells;
+  none = λ e. (refl, c.loop.invariant.idle e);
+}
 
 pub returns-in_default : goal.returns-in_default
-returns-in_default c = record { came = c.loop.invariant.came; none = λ e. (refl, c.loop.invariant.idle e) }
+returns-in_default c = record {
+  each = λ takes is. inr (owed_none c.header-tag.result.verification_tag c.args.datagram.now c.loop.chunks.left c.args.chunks.left c.loop.self
+      (halves_of c.args.self.now) (search rules)
+      (c.loop.invariant.each (tagged _ _ _ (c.header-tag.ensures.verification_tag ∙ ap (λ l. u32_at l 4) c.requires.whole) takes)));
+  came = c.loop.invariant.came;
+  tells = c.loop.invariant.tells;
+  none = λ e. (refl, c.loop.invariant.idle e);
+}
 
 pub returns-in-Ok-Stop : goal.returns-in-Ok-Stop
 returns-in-Ok-Stop c = record {
-  came = offered_then _ _ _ c.loop.invariant.came _ c.take_chunk.ensures.came;
+  each = λ takes is. owed_stop c.header-tag.result.verification_tag c.args.datagram.now c.in-Some.chunk c.next.new.self.left c.loop.self c.take_other.new.self
+      c.args.chunks.left (halves_of c.args.self.now) c.take_other.result (arrives_of _ _ _ _ c.take_other.ensures.came.arrives) c.take_other.ensures.on
+      (search rules) (owed_at _ _ _ _ _ _ _ c.in-Some.ensures.place (c.loop.invariant.each (tagged _ _ _ (c.header-tag.ensures.verification_tag ∙ ap (λ l. u32_at l 4) c.requires.whole) takes)));
+  came = offered_then _ _ _ c.loop.invariant.came _ c.take_other.ensures.came;
+  tells = tells_then _ _ _ c.loop.invariant.tells c.take_other.ensures.tells;
   none = λ e. absurd (omega (arith, c.left-end.ensures, ap length e, c.loop-test.true));
 }
 
-pub returns-in-Ok-Stop-2 : goal.returns-in-Ok-Stop-2
-returns-in-Ok-Stop-2 c = record {
-  came = offered_then _ _ _ c.loop.invariant.came _ c.take_chunk.ensures.came;
+pub returns-in-Ok-Refused : goal.returns-in-Ok-Refused
+returns-in-Ok-Refused c = record {
+  each = λ takes is. inr (owed_refused c.header-tag.result.verification_tag c.args.datagram.now c.in-Some.chunk c.next.new.self.left c.loop.self c.take_other.new.self
+      c.args.chunks.left (halves_of c.args.self.now) c.take_other.result (arrives_of _ _ _ _ c.take_other.ensures.came.arrives) c.take_other.ensures.on
+      (λ t going. c.take_other.ensures.never t going c.in-Ok-Refused.field-0-0 (c.in-Ok-Refused.is ∙ ap Ok c.in-Ok-Refused.field-0-is)) (owed_at _ _ _ _ _ _ _ c.in-Some.ensures.place (c.loop.invariant.each (tagged _ _ _ (c.header-tag.ensures.verification_tag ∙ ap (λ l. u32_at l 4) c.requires.whole) takes))));
+  came = offered_then _ _ _ c.loop.invariant.came _ c.take_other.ensures.came;
+  tells = tells_then _ _ _ c.loop.invariant.tells c.take_other.ensures.tells;
   none = λ e. absurd (omega (arith, c.left-end.ensures, ap length e, c.loop-test.true));
 }

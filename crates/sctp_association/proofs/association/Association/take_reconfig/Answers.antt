@@ -1,3 +1,4 @@
+use Rattle.sctp_association.proofs.Telling.{end_then, to_same}
 use Rattle.std.proofs.Common.{arith, refl}
 use Rattle.sctp_association.proofs.Arrived.{came_same, came_then, param_came}
 use Rattle.sctp_association.proofs.Cut.{cut_whole}
@@ -11,7 +12,7 @@ pub returns-then-end-len-clause-came : goal.returns-then-end-len-clause-came
 returns-then-end-len-clause-came c = came_same _ _ _ refl
 
 pub loop-init : goal.loop-init
-loop-init c = record { came = came_same _ _ _ refl; kept = record { config = refl; key = refl; machine = refl; owes = λ t e. e } }
+loop-init c = record { came = came_same _ _ _ refl; kept = record { config = refl; key = refl; machine = refl; owes = λ t e. e }; tells = to_same }
 
 pub returns-in_err-raw-clause-came : goal.returns-in_err-raw-clause-came
 returns-in_err-raw-clause-came c = came_same _ _ _ refl
@@ -31,4 +32,8 @@ loop-preserved c =
     record {
       came = came_then _ _ _ _ c.loop.invariant.came (param_came _ _ c.requires.own c.requires.typ _ _ cut _ _ c.take_param.ensures.came);
       kept = kept_then _ _ _ c.loop.invariant.kept c.take_param.ensures.kept;
+      tells = end_then c.loop.invariant.tells c.take_param.ensures.tells;
     }
+
+pub returns-in_default-take_param-clause-tells : goal.returns-in_default-take_param-clause-tells
+returns-in_default-take_param-clause-tells c = end_then c.loop.invariant.tells c.take_param.ensures.tells

@@ -1,10 +1,11 @@
+use Rattle.sctp_association.proofs.Telling.{end_then, stays_insert, to_by_us, to_same}
 use Rattle.std.proofs.Common.{refl}
 use Rattle.sctp_association.proofs.Arriving.{acknowledged_restart_by, acknowledged_same, acknowledged_then}
 use Rattle.sctp_association.proofs.Known.{kept_by}
 use Rattle.sctp_association.proofs.association.Association.take_response.Goals as goal
 
 pub loop-stream-init : goal.loop-stream-init
-loop-stream-init c = (acknowledged_same _ _ _ refl, refl, record { config = refl; key = refl; machine = refl; owes = λ t e. e })
+loop-stream-init c = (acknowledged_same _ _ _ refl, refl, record { config = refl; key = refl; machine = refl; owes = λ t e. e }, to_same)
 
 pub loop-stream-preserved : goal.loop-stream-preserved
 loop-stream-preserved c = (
@@ -12,6 +13,7 @@ loop-stream-preserved c = (
       (acknowledged_restart_by _ _ _ c.reset.result c.reset.ensures.ok c.reset.ensures.accepted c.reset.ensures.err),
   c.loop-stream.invariant.1,
   kept_by c.loop-stream.invariant.2 refl refl refl (λ t e. e),
+  end_then c.loop-stream.invariant.3 (to_by_us _ _ _ _ (stays_insert _ _ _ c.insert.ensures.value c.insert.ensures.full)),
 )
 
 pub returns-in-Err : goal.returns-in-Err
@@ -25,6 +27,7 @@ returns-in-Err c = record {
     machine = c.loop-stream.invariant.2.machine;
     owes = c.loop-stream.invariant.2.owes;
   };
+  tells = c.loop-stream.invariant.3;
 }
 
 pub returns-after-loop-stream-clause-hearing : goal.returns-after-loop-stream-clause-hearing

@@ -1,22 +1,31 @@
-use Rattle.std.proofs.Common.{refl, rules}
+use Rattle.sctp_association.proofs.Telling.{end_then, to_low, to_same}
+use Rattle.std.proofs.Common.{refl}
 use Rattle.sctp_association.proofs.Arrived.{came_alike, came_same, came_then, sack_came}
-use Rattle.sctp_association.proofs.Known.{keeps_kept}
+use Rattle.sctp_association.proofs.Going.{sack_read}
 use Rattle.sctp_association.proofs.association.Association.take_sack.Goals as goal
 
 pub returns-then-not-takes_sacks-clause-came : goal.returns-then-not-takes_sacks-clause-came
 returns-then-not-takes_sacks-clause-came c = came_same _ _ _ refl
 
-pub returns-in-Err-ErrOutOfMemory-clause-came : goal.returns-in-Err-ErrOutOfMemory-clause-came
-returns-in-Err-ErrOutOfMemory-clause-came c = came_same _ _ _ refl
+pub returns-in-Err-clause-came : goal.returns-in-Err-clause-came
+returns-in-Err-clause-came c = came_same _ _ _ refl
 
-pub returns-in-Err : goal.returns-in-Err
-returns-in-Err c = record {
-  came = came_same _ _ _ refl;
-  peer = keeps_kept _ _ (record { config = refl; key = refl; machine = refl; owes = λ t e. e });
-  refused = search rules;
-  err = search rules;
-  whole = search rules;
-}
+pub returns-in-Err-clause-due : goal.returns-in-Err-clause-due
+returns-in-Err-clause-due c due r e =
+    sack_read _ _ c.requires.place c.requires.typ _ c.bytes_of.ensures _ c.in_ok-unless_memory-in-Err.ensures c.in-Err.ensures.fault
+
+pub returns-in-Err-clause-on : goal.returns-in-Err-clause-on
+returns-in-Err-clause-on c tag takes = absurd (
+    sack_read _ _ c.requires.place c.requires.typ _ c.bytes_of.ensures _ c.in_ok-unless_memory-in-Err.ensures c.in-Err.ensures.fault)
+
+pub returns-in_err-unless_memory-in-Err-clause-came : goal.returns-in_err-unless_memory-in-Err-clause-came
+returns-in_err-unless_memory-in-Err-clause-came c = came_same _ _ _ refl
+
+pub returns-in-Err-clause-tells : goal.returns-in-Err-clause-tells
+returns-in-Err-clause-tells c = to_same
+
+pub returns-in_err-unless_memory-in-Err-clause-tells : goal.returns-in_err-unless_memory-in-Err-clause-tells
+returns-in_err-unless_memory-in-Err-clause-tells c = to_same
 
 pub returns-in_err-take_sack-clause-came : goal.returns-in_err-take_sack-clause-came
 returns-in_err-take_sack-clause-came c =
@@ -34,3 +43,12 @@ returns-clause-came c =
 pub returns-clause-peer : goal.returns-clause-peer
 returns-clause-peer c =
     let peer = c.end_with.ensures.peer refl in record { config = peer.config; key = peer.key; machine = peer.machine; owes = peer.owes }
+
+pub returns-in_err-take_sack-clause-tells : goal.returns-in_err-take_sack-clause-tells
+returns-in_err-take_sack-clause-tells c = to_low _ _ _ _ c.take_sack.ensures.low
+
+pub returns-in-Taken-clause-tells : goal.returns-in-Taken-clause-tells
+returns-in-Taken-clause-tells c = to_low _ _ _ _ c.take_sack.ensures.low
+
+pub returns-clause-tells : goal.returns-clause-tells
+returns-clause-tells c = end_then (to_low _ _ _ _ c.take_sack.ensures.low) c.end_with.ensures.tells

@@ -1,3 +1,4 @@
+use Rattle.sctp_association.proofs.Telling.{end_then, to_low}
 use Rattle.std.proofs.Common.{drop, refl, rules}
 use Rattle.sctp_chunks.specs.Wire.{ReadsChunk, shutdown_chunk}
 use Rattle.sctp_association.proofs.Arrived.{came_same, came_then, sender_came}
@@ -29,3 +30,9 @@ pub returns-clause-peer : goal.returns-clause-peer
 returns-clause-peer c =
     let on = c.follow.ensures.kept in
     keeps_by _ _ _ (knows_shutdown _ _ _ c.shutdown-answer.ensures.takes) on.config on.key on.machine on.owes
+
+pub returns-clause-tells : goal.returns-clause-tells
+returns-clause-tells c = end_then (to_low _ _ _ _ c.take_shutdown.ensures.low) c.follow.ensures.tells.end
+
+pub returns-in_err-_taken-clause-tells : goal.returns-in_err-_taken-clause-tells
+returns-in_err-_taken-clause-tells c = to_low _ _ _ _ c.take_shutdown.ensures.low

@@ -1,4 +1,7 @@
-use Rattle.std.proofs.Common.{drop, refl, rules}
+use Rattle.sctp_association.proofs.Telling.{end_then, to_in}
+use Rattle.std.proofs.Common.{drop, refl, rules, Ok, ap, subst, sym}
+use Rattle.sctp_association.proofs.Going.{forward_read, goes_by}
+use Rattle.sctp_association.specs.Coming.{TakesDataOf}
 use Rattle.sctp_association.proofs.Arrived.{came_alike, came_same, came_then, receiver_came}
 use Rattle.sctp_chunks.specs.Wire.{ReadsChunk, forward_tsn_chunk}
 use Rattle.sctp_data.specs.ForwardTsn.{forward_tsn_of}
@@ -30,3 +33,27 @@ returns-clause-came c =
 pub returns-clause-peer : goal.returns-clause-peer
 returns-clause-peer c =
     let peer = c.end_by.ensures.peer in record { config = peer.config; key = peer.key; machine = peer.machine; owes = peer.owes }
+
+pub returns-in_default-take_skip-clause-tells : goal.returns-in_default-take_skip-clause-tells
+returns-in_default-take_skip-clause-tells c = to_in _ _ _ _ _ _ c.in-Some-inbound.is c.take_skip.ensures.tells
+
+pub returns-clause-tells : goal.returns-clause-tells
+returns-clause-tells c = end_then (to_in _ _ _ _ _ _ c.in-Some-inbound.is c.take_skip.ensures.tells) c.end_by.ensures.tells
+
+-- ## It is read, and DATA is taken as before
+
+pub returns-in_default-clause-due : goal.returns-in_default-clause-due
+returns-in_default-clause-due c due r e =
+    let read = forward_read _ _ c.requires.place c.requires.typ in
+    c.in_ok-skip.ensures.some read.0 read.1.0 read.1.1 (ap Ok c.in_default.is)
+
+pub returns-in_default-clause-on : goal.returns-in_default-clause-on
+returns-in_default-clause-on c tag takes =
+    let read = forward_read _ _ c.requires.place c.requires.typ in
+    absurd (c.in_ok-skip.ensures.some read.0 read.1.0 read.1.1 (ap Ok c.in_default.is))
+
+pub returns-clause-on : goal.returns-clause-on
+returns-clause-on c tag takes =
+    goes_by c.args.chunk 191 tag c.args.datagram.now c.end_by.result c.end_by.new.self c.requires.typ (λ r e. absurd (c.end_by.ensures.never r e))
+    c.end_by.ensures.over (λ next.
+    subst (TakesDataOf tag) (sym (c.end_by.ensures.on next)) (record { going = takes.going; state = takes.state; served = refl; own = takes.own }))

@@ -1,3 +1,7 @@
+use Rattle.std.specs.Prelude.{is_some}
+use Rattle.sctp_association.specs.declared.event.Events.{Events}
+use Rattle.sctp_association.specs.declared.association.Association.{Association}
+use Rattle.sctp_association.proofs.Telling.{end_then, passes_as, streams_in, to_connected, to_none, to_over, to_restarted, to_shutdown}
 use Rattle.std.proofs.Common.{None, ap, refl, rules, ◌≡◌}
 use Rattle.sctp_association.proofs.Begun.{begun_by}
 use Rattle.sctp_association.specs.Arrivals.{halves, new_sender}
@@ -37,3 +41,36 @@ pub returns-in-Failed-clause-begun : goal.returns-in-Failed-clause-begun
 returns-in-Failed-clause-begun c =
     let is : c.args.told ≡ told.Failed = search rules in
     begun_by _ _ _ _ _ _ is (ap halves_of c.end-in-Failed.ensures.rest)
+
+pub returns-in-Connected-clause-tells : goal.returns-in-Connected-clause-tells
+returns-in-Connected-clause-tells c =
+    let is : c.args.told ≡ told.Connected = search rules in
+    passes_as _ _ _ _ is (record { end = end_then c.begin.ensures.tells (to_connected _ _ _); told = refl })
+
+pub returns-in-Restarted-clause-tells : goal.returns-in-Restarted-clause-tells
+returns-in-Restarted-clause-tells c =
+    let is : c.args.told ≡ told.Restarted = search rules in
+    passes_as _ _ _ _ is (record { end = end_then (to_none _ _ _) (end_then c.begin-in-Restarted.ensures.tells (to_restarted _ _ _)); told = refl })
+
+pub returns-in-ShutdownBegun-clause-tells : goal.returns-in-ShutdownBegun-clause-tells
+returns-in-ShutdownBegun-clause-tells c =
+    let is : c.args.told ≡ told.ShutdownBegun = search rules in
+    passes_as _ _ _ _ is (record { end = to_shutdown _ _ _; told = refl })
+
+pub returns-in-Closed-clause-tells : goal.returns-in-Closed-clause-tells
+returns-in-Closed-clause-tells c =
+    let is : c.args.told ≡ told.Closed = search rules in
+    let rest = c.end.ensures.rest in
+    passes_as _ _ _ _ is (record {
+      end = to_over _ _ _ _ _ _ _ (ap (λ (x : Association). streams_in x.inbound) rest) c.end.ensures.told c.end.ensures.over;
+      told = ap (λ (e : Events). is_some e.closed) c.end.ensures.told;
+    })
+
+pub returns-in-Failed-clause-tells : goal.returns-in-Failed-clause-tells
+returns-in-Failed-clause-tells c =
+    let is : c.args.told ≡ told.Failed = search rules in
+    let rest = c.end-in-Failed.ensures.rest in
+    passes_as _ _ _ _ is (record {
+      end = to_over _ _ _ _ _ _ _ (ap (λ (x : Association). streams_in x.inbound) rest) c.end-in-Failed.ensures.told c.end-in-Failed.ensures.over;
+      told = ap (λ (e : Events). is_some e.closed) c.end-in-Failed.ensures.told;
+    })

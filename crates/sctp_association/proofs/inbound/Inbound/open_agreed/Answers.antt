@@ -1,6 +1,8 @@
-use Rattle.std.proofs.Common.{refl}
+use Rattle.sctp_association.proofs.Noting.{same_streams, tells_in, tells_no_more, tells_opened, tells_same}
+use Rattle.std.proofs.Common.{ap, refl}
 use Rattle.sctp_association.proofs.Arriving.{received_opened, received_same}
 use Rattle.sctp_association.proofs.inbound.Inbound.open_agreed.Goals as goal
+use Rattle.sctp_receiver.specs.Receiver.{Reception}
 use Rattle.sctp_association.proofs.Named.{open_now, open_still}
 
 pub returns-then-stream-self-clause-received : goal.returns-then-stream-self-clause-received
@@ -23,3 +25,26 @@ returns-clause-served c = λ ok few shut. open_now _ _ _ c.in_ok-open.ensures.ok
 
 pub returns-clause-still : goal.returns-clause-still
 returns-clause-still c = open_still _ _ _ c.in_ok-open.ensures.ok
+
+pub returns-then-stream-self-clause-tells : goal.returns-then-stream-self-clause-tells
+returns-then-stream-self-clause-tells c = tells_same _ _
+
+pub returns-in_err-reserve_inbound-clause-tells : goal.returns-in_err-reserve_inbound-clause-tells
+returns-in_err-reserve_inbound-clause-tells c =
+    let e = c.in_err-reserve_inbound.ensures in
+    tells_in _ _ _ _ (tells_no_more _ _ _ _ e.kept e.room e.readable (same_streams _ _ refl))
+
+pub returns-in_err-reserve-clause-tells : goal.returns-in_err-reserve-clause-tells
+returns-in_err-reserve-clause-tells c =
+    let e = c.in_ok-reserve_inbound.ensures in
+    tells_in _ _ _ _ (tells_no_more _ _ _ _ e.kept e.room e.readable (same_streams _ _ refl))
+
+pub returns-in_err-open-clause-tells : goal.returns-in_err-open-clause-tells
+returns-in_err-open-clause-tells c =
+    let e = c.in_ok-reserve_inbound.ensures in
+    tells_in _ _ _ _ (tells_no_more _ _ _ _ e.kept e.room e.readable (same_streams _ _ (ap (λ (r : Reception). r.streams) c.in_err-open.ensures.err)))
+
+pub returns-clause-tells : goal.returns-clause-tells
+returns-clause-tells c =
+    let e = c.in_ok-reserve_inbound.ensures in
+    tells_in _ _ _ _ (tells_opened _ _ _ _ _ e.kept e.room e.readable e.place c.in_ok-open.ensures.ok)

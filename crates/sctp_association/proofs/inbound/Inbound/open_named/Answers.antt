@@ -1,3 +1,4 @@
+use Rattle.sctp_association.proofs.Noting.{tells_after, tells_same}
 use Rattle.std.proofs.Common.{◌<◌, ◌≤◌, length, refl, rules, subst, take, ◌∙◌}
 use Rattle.std.proofs.lemmas.List.{take_all}
 use Rattle.std.proofs.lemmas.List.Elements.{All-more, All-nil, All-weaker}
@@ -12,7 +13,7 @@ pub returns-then-not-sna32lt-clause-received : goal.returns-then-not-sna32lt-cla
 returns-then-not-sna32lt-clause-received c = received_same _ _ _ refl
 
 pub loop-named-init : goal.loop-named-init
-loop-named-init c = record { received = received_same _ _ _ refl; limits = refl; streams = refl; place = refl; served = All-nil _ }
+loop-named-init c = record { tells = tells_same _ _; received = received_same _ _ _ refl; limits = refl; streams = refl; place = refl; served = All-nil _ }
 
 pub returns-in_err-open-clause-received : goal.returns-in_err-open-clause-received
 returns-in_err-open-clause-received c =
@@ -41,6 +42,7 @@ loop-named-preserved c =
     let i = c.loop-named.invariant in
     let e = c.in_ok-open.ensures in
     record {
+      tells = tells_after _ _ _ _ _ _ i.tells e.tells;
       received = received_then _ _ _ _ i.received (named_opened f _ (named_at f xs at _ c.deref-named-items.ensures.value lt) _ _ e.received);
       limits = e.limits.0 ∙ i.limits;
       streams = e.limits.1 ∙ i.streams;
@@ -67,3 +69,9 @@ returns-clause-served c =
     let past : length xs ≤ at = search rules in
     λ ok ahead. subst (All (λ n. IsServed n.identifier c.loop-named.self)) (take_all at xs past ∙ c.deref-named-items.ensures.value)
     c.loop-named.invariant.served
+
+pub returns-in_err-open-clause-tells : goal.returns-in_err-open-clause-tells
+returns-in_err-open-clause-tells c = tells_after _ _ _ _ _ _ c.loop-named.invariant.tells c.in_err-open.ensures.tells
+
+pub returns-clause-tells : goal.returns-clause-tells
+returns-clause-tells c = c.loop-named.invariant.tells

@@ -1,5 +1,6 @@
 use Rattle.std.proofs.Common.{◌≡◌, take}
-use Rattle.std.specs.Prelude.{All}
+use Rattle.std.specs.Prelude.{All, Some}
+use Rattle.sctp_association.specs.Telling.{TellsIn}
 use Rattle.sctp_association.specs.Arrivals.{IsOpeningNamed, Received}
 use Rattle.sctp_association.specs.Served.{IsServed}
 use Rattle.sctp_data.specs.ForwardTsn.{forward_tsn_of}
@@ -8,6 +9,7 @@ use Rattle.sctp_association.proofs.inbound.Inbound.open_named.Given as goal
 -- the streams before this one are served
 abbrev pub invariant-loop-named : goal.invariant-loop-named
 invariant-loop-named l = record {
+  tells : TellsIn (Some l.initial.self) l.initial.events (Some l.self) l.events;
   received : Received (IsOpeningNamed (forward_tsn_of l.skip)) l.initial.self.receiver l.self.receiver;
   limits : l.self.receiver.limits ≡ l.initial.self.receiver.limits;
   streams : l.self.streams ≡ l.initial.self.streams;

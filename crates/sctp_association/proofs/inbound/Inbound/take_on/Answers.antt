@@ -1,4 +1,11 @@
-use Rattle.std.proofs.Common.{ap, inl, refl, rules, ◌<◌, ◌^◌, ◌∙◌}
+use Rattle.sctp_association.proofs.Noting.{all_kept, inbound_kept, put_there, stays_put, tells_data, tells_in}
+use Rattle.sctp_association.specs.declared.event.Events.{Events}
+use Rattle.sctp_receiver.specs.Receiver.{message_on}
+use Rattle.std.specs.Prelude.{is_some}
+use Rattle.std.proofs.lemmas.Bool.{false≢true}
+use Rattle.sctp_association.proofs.inbound.Inbound.take_on.Goals.{else-complete-via-then-complete+then-not-contains+else-is_readable}
+use Rattle.sctp_association.proofs.inbound.Inbound.take_on.Goals.{else-complete-via-then-complete+else-not-contains, else-complete-via-else-complete}
+use Rattle.std.proofs.Common.{ap, inl, refl, rules, sym, ◌<◌, ◌^◌, ◌∙◌}
 use Rattle.sctp_association.proofs.Arriving.{received_data, received_same, received_then}
 use Rattle.sctp_association.proofs.inbound.Inbound.take_on.Goals as goal
 use Rattle.std.specs.Prelude.{IsOk}
@@ -58,3 +65,26 @@ pub returns-in_default-clause-takes : goal.returns-in_default-clause-takes
 returns-in_default-clause-takes c is =
     let why = ap (arrival_refusal c.args.chunk.now) c.in-Err.ensures.err ∙ refused_for _ _ c.in_default.not-OutOfMemory c.in-Err.ensures.refused in
     c.follow.ensures.takes why is
+
+pub returns-then-is_readable-clause-tells : goal.returns-then-is_readable-clause-tells
+returns-then-is_readable-clause-tells c =
+    let s = c.args.chunk.now.stream_identifier in
+    let e : Events = c.args.events.now in
+    let put = c.insert.ensures in
+    tells_in _ _ _ _ (tells_data c.args.chunk.now _ _ _ e _ _ c.data.ensures (ap (λ (i : Inbound). i.receiver) c.note_data.ensures)
+    (inbound_kept e c.insert.new.self e.too_long e.reset_by_peer (λ n h. h) (λ n h. h)) put.room
+    (stays_put s e.readable c.insert.new.self put.value put.full)
+    (λ is m lt. put_there s e.readable c.insert.new.self put.value lt))
+
+pub returns-else-complete-clause-tells : goal.returns-else-complete-clause-tells
+returns-else-complete-clause-tells c =
+    let s = c.args.chunk.now.stream_identifier in
+    let e : Events = c.args.events.now in
+    let same = ap (λ (i : Inbound). i.receiver) c.note_data.ensures in
+    tells_in _ _ _ _ (tells_data c.args.chunk.now _ _ _ e e _ c.data.ensures same (all_kept e) refl (λ n h. h) (λ is m lt.
+    elim c.else-complete.branch [
+      | else-complete-via-then-complete+then-not-contains+else-is_readable w ↦
+          absurd (false≢true (w.if-is_readable.ensures ∙ ap (λ r. is_some (message_on s r)) same ∙ m))
+      | else-complete-via-then-complete+else-not-contains w ↦ sym w.if-not-contains.ensures
+      | else-complete-via-else-complete w ↦ cc (is, c.in-Ok-New.is, c.in-Ok-New.field-0-is, w.if-complete.false)
+    ]))

@@ -1,3 +1,4 @@
+use Rattle.sctp_association.proofs.Noting.{all_kept, tells_after, tells_in, tells_skip}
 use Rattle.std.proofs.Common.{refl, rules, ◌<◌, ◌^◌}
 use Rattle.sctp_association.proofs.Arriving.{received_skip, received_then}
 use Rattle.sctp_association.proofs.inbound.Inbound.take_skip.Goals as goal
@@ -22,6 +23,8 @@ pub returns-in-Abort : goal.returns-in-Abort
 returns-in-Abort c =
     let fits : c.args.skip.now.new_cumulative_tsn < 2 ^ 32 = search rules in
     record {
+      tells = tells_after _ _ _ _ _ _ c.in_ok-open_named.ensures.tells (tells_in _ _ _ _
+          (tells_skip _ _ _ _ _ _ _ c.forward_tsn.ensures refl (all_kept _) refl (λ n h. h) (λ is s m lt. cc (is, c.in-Err.is))));
       received = received_then _ _ _ _ (named_asked _ _ _ c.in_ok-open_named.ensures.received) (received_skip _ _ _ _ fits c.forward_tsn.ensures);
       named = λ ahead. skipped_served _ c.open_named.new.self _ _ _ _ c.forward_tsn.ensures refl refl (c.in_ok-open_named.ensures.served refl ahead);
       limits = search rules;
@@ -45,3 +48,20 @@ returns-clause-named c = λ ahead.
       | in-Ok-Stale w ↦ rw w.self-is (skipped_served _ c.open_named.new.self _ _ _ _ c.forward_tsn.ensures refl refl served)
       | in-Err+in_default w ↦ rw w.self-is (skipped_served _ c.open_named.new.self _ _ _ _ c.forward_tsn.ensures refl refl served)
     ]
+
+pub returns-in-Err-OutOfMemory-clause-tells : goal.returns-in-Err-OutOfMemory-clause-tells
+returns-in-Err-OutOfMemory-clause-tells c =
+    tells_after _ _ _ _ _ _ c.in_ok-open_named.ensures.tells (tells_in _ _ _ _
+    (tells_skip _ _ _ _ _ _ _ c.forward_tsn.ensures refl (all_kept _) refl (λ n h. h) (λ is s m lt. cc (is, c.in-Err-OutOfMemory.is))))
+
+pub returns-clause-tells : goal.returns-clause-tells
+returns-clause-tells c =
+    tells_after _ _ _ _ _ _ c.in_ok-open_named.ensures.tells (tells_in _ _ _ _ (elim c.match-forward_tsn.branch [
+      | in-Ok-Skipped w ↦
+          let n = w.note_readable.ensures in
+          rw (w.self-is, w.events-is) (tells_skip _ _ _ _ _ _ _ c.forward_tsn.ensures refl n.kept n.room n.readable (λ is. n.noted))
+      | in-Ok-Stale w ↦ rw (w.self-is, w.events-is)
+          (tells_skip _ _ _ _ _ _ _ c.forward_tsn.ensures refl (all_kept _) refl (λ n h. h) (λ is s m lt. cc (is, w.in-Ok-Stale.is)))
+      | in-Err+in_default w ↦ rw (w.self-is, w.events-is)
+          (tells_skip _ _ _ _ _ _ _ c.forward_tsn.ensures refl (all_kept _) refl (λ n h. h) (λ is s m lt. cc (is, w.in-Err.is)))
+    ]))

@@ -10,6 +10,7 @@ returns-in-Err-OutOfMemory-clause-hearing c = acknowledged_sack _ _ c.pass_over_
 
 pub returns-in-Err : goal.returns-in-Err
 returns-in-Err c = record {
+  low = λ s w. w;
   hearing = acknowledged_sack _ _ c.pass_over_blocks.ensures _ _ _ c.acked.ensures;
   counts = search rules;
   forged = search rules;

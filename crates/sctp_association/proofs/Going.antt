@@ -1,0 +1,211 @@
+-- Chunks that are read whole, and states in which they are taken.
+use Rattle.std.proofs.Common.{◌≡◌, ◌⊎◌, ℕ, ◌≤◌, ◌+◌, Bool, true, false, List, length, drop, Option, Some, None, refl, ap, sym, subst, ◌∙◌, inl, inr, arith}
+use Rattle.std.proofs.lemmas.Bool.{and_from, and_parts, cases_Bool, eqb-true, false≢true, or_cases}
+use Rattle.std.specs.Prelude.{◌*◌, ◌==◌, ◌||◌, is_some, suc}
+use Rattle.crc32c.specs.Castagnoli.{crc32c_of}
+use Rattle.sctp_association.proofs.Each.{going_types}
+use Rattle.sctp_association.specs.Coming.{FollowsData, GoesOn, TakesDataOf, goes_on, is_due, zero_checksum_of}
+use Rattle.sctp_association.specs.Halves.{receiver_of}
+use Rattle.sctp_association.specs.declared.association.Association.{Association}
+use Rattle.sctp_association.specs.declared.association.Reason.{Reason}
+use Rattle.sctp_association.specs.declared.association.Reason.TheVariants.{Unexpected}
+use Rattle.sctp_association.specs.declared.association.arrivals.Step.{Step}
+use Rattle.sctp_association.specs.declared.association.arrivals.Step.TheVariants.{Next, Stop, Cut, Refused}
+use Rattle.sctp_association.specs.declared.inbound.Inbound.{Inbound}
+use Rattle.sctp_chunks.specs.Fault.{SackFault}
+use Rattle.sctp_chunks.specs.Framing.{type_at, value_at}
+use Rattle.sctp_chunks.specs.Init.{ack_type}
+use Rattle.sctp_chunks.specs.Wire.{IsForwardTsn, ReadsChunk, Wire, abort_chunk, cookie_ack_chunk, cookie_echo_chunk, data_chunk, error_chunk}
+use Rattle.sctp_chunks.specs.Wire.{forward_tsn_chunk, heartbeat_ack_chunk, heartbeat_chunk, i_forward_tsn_chunk, init_chunk, reconfig_chunk, sack_chunk}
+use Rattle.sctp_chunks.specs.Wire.{shutdown_ack_chunk, shutdown_chunk, shutdown_complete_chunk, type_of}
+use Rattle.sctp_data.specs.SelectiveAck.{blocks_in, duplicates_in}
+use Rattle.sctp_datagram.proofs.Alone.{no-header-fault}
+use Rattle.sctp_association.specs.declared.config.Config.{Config}
+use Rattle.sctp_datagram.specs.Fault.{IsAccepted}
+use Rattle.sctp_datagram.specs.Places.{IsPlace}
+use Rattle.sctp_datagram.specs.declared.datagram.ZeroChecksum.{ZeroChecksum}
+use Rattle.sctp_datagram.specs.Types.{is_whole_type}
+use Rattle.sctp_datagram.specs.declared.datagram.ChunkPlace.{ChunkPlace}
+use Rattle.sctp_handshake.specs.Endings.{drained_row, on_drained}
+use Rattle.sctp_handshake.specs.Machines.{Takes}
+use Rattle.sctp_handshake.specs.States.{takes_data, takes_sacks}
+use Rattle.sctp_handshake.specs.Timeouts.{on_packet_arrived, packet_arrived_row}
+use Rattle.sctp_handshake.specs.declared.answer.Answer.{Answer}
+use Rattle.sctp_handshake.specs.declared.machine.Machine.{Machine}
+use Rattle.sctp_handshake.specs.declared.state.State.{State}
+use Rattle.sctp_handshake.specs.declared.state.State.TheVariants.{Closed, ShutdownPending, ShutdownReceived, ShutdownSent}
+use Rattle.sctp_util.specs.Outcome.{OrMemory}
+use Rattle.sctp_util.specs.declared.error.Error.{Error}
+use Rattle.sctp_util.specs.declared.error.Error.TheVariants.{ErrOutOfMemory}
+
+-- ## What is read
+
+not-ack : (b : Bool) (n : ℕ) → 3 ≤ n → n ≡ ack_type b → ⊥
+not-ack true n most e = omega (arith, most, e)
+not-ack false n most e = omega (arith, most, e)
+
+abbrev HasSack : List ℕ → Type 0
+HasSack value = (12 ≤ length value) × (12 + 4 * blocks_in value + 4 * duplicates_in value ≤ length value)
+
+sack-long : (bytes : List ℕ) (w : Wire) → ReadsChunk bytes w → type_of w ≡ 3 → HasSack (value_at bytes)
+sack-long bytes (data_chunk d) reads typ = absurd (omega (arith, typ))
+sack-long bytes (init_chunk i) reads typ = absurd (not-ack i.is_ack 3 (omega arith) (sym typ))
+sack-long bytes (sack_chunk s) reads typ = (reads.value.headed, reads.value.long)
+sack-long bytes (heartbeat_chunk ps) reads typ = absurd (omega (arith, typ))
+sack-long bytes (heartbeat_ack_chunk ps) reads typ = absurd (omega (arith, typ))
+sack-long bytes (abort_chunk cs) reads typ = absurd (omega (arith, typ))
+sack-long bytes (shutdown_chunk n) reads typ = absurd (omega (arith, typ))
+sack-long bytes shutdown_ack_chunk reads typ = absurd (omega (arith, typ))
+sack-long bytes (error_chunk cs) reads typ = absurd (omega (arith, typ))
+sack-long bytes (cookie_echo_chunk b) reads typ = absurd (omega (arith, typ))
+sack-long bytes cookie_ack_chunk reads typ = absurd (omega (arith, typ))
+sack-long bytes shutdown_complete_chunk reads typ = absurd (omega (arith, typ))
+sack-long bytes (reconfig_chunk r) reads typ = absurd (omega (arith, typ))
+sack-long bytes (forward_tsn_chunk f) reads typ = absurd (omega (arith, typ))
+sack-long bytes (i_forward_tsn_chunk f) reads typ = absurd (omega (arith, typ))
+
+sack-valid : (e : Error) (bytes : List ℕ) (w : Wire) → ReadsChunk bytes w → type_at bytes ≡ 3 → SackFault e bytes → ⊥
+sack-valid e bytes w reads typ (inl (inl h)) = no-header-fault e bytes reads.is_framed h
+sack-valid e bytes w reads typ (inl (inr other)) = other.2 typ
+sack-valid e bytes w reads typ (inr (short, chunk, inl few)) =
+    let has = sack-long bytes w reads (sym reads.typ ∙ typ) in
+    omega (arith, has.0, few)
+sack-valid e bytes w reads typ (inr (short, chunk, inr few)) =
+    let has = sack-long bytes w reads (sym reads.typ ∙ typ) in
+    omega (arith, has.1, few)
+
+forward-kind : (w : Wire) → type_of w ≡ 192 → IsForwardTsn w
+forward-kind (data_chunk d) typ = absurd (omega (arith, typ))
+forward-kind (init_chunk i) typ = absurd (not-ack i.is_ack 192 (omega arith) (sym typ))
+forward-kind (sack_chunk s) typ = absurd (omega (arith, typ))
+forward-kind (heartbeat_chunk ps) typ = absurd (omega (arith, typ))
+forward-kind (heartbeat_ack_chunk ps) typ = absurd (omega (arith, typ))
+forward-kind (abort_chunk cs) typ = absurd (omega (arith, typ))
+forward-kind (shutdown_chunk n) typ = absurd (omega (arith, typ))
+forward-kind shutdown_ack_chunk typ = absurd (omega (arith, typ))
+forward-kind (error_chunk cs) typ = absurd (omega (arith, typ))
+forward-kind (cookie_echo_chunk b) typ = absurd (omega (arith, typ))
+forward-kind cookie_ack_chunk typ = absurd (omega (arith, typ))
+forward-kind shutdown_complete_chunk typ = absurd (omega (arith, typ))
+forward-kind (reconfig_chunk r) typ = absurd (omega (arith, typ))
+forward-kind (forward_tsn_chunk f) typ = tt
+forward-kind (i_forward_tsn_chunk f) typ = absurd (omega (arith, typ))
+
+module _ (d : List ℕ) (p : ChunkPlace) (place : IsPlace d p) where
+  type-there : (n : ℕ) → p.typ ≡ n → type_at (drop p.at d) ≡ n
+  type-there n is = sym (ap (λ (k : ChunkPlace). k.typ) place.told) ∙ is
+
+  reads-there : (n : ℕ) → p.typ ≡ n → is_whole_type n ≡ true → (w : Wire) × ReadsChunk (drop p.at d) w
+  reads-there n is whole = place.there.reads (ap is_whole_type (type-there n is) ∙ whole)
+
+  -- a SACK of a datagram is read, unless memory is wanting
+  pub sack_read : p.typ ≡ 3 → (bytes : List ℕ) → bytes ≡ drop p.at d → (e : Error) → (e ≡ ErrOutOfMemory → ⊥) → OrMemory e (SackFault e bytes) → ⊥
+  sack_read is bytes cut e not (inl memory) = not memory
+  sack_read is bytes cut e not (inr fault) =
+      let reads = reads-there 3 is refl in
+      sack-valid e (drop p.at d) reads.0 reads.1 (type-there 3 is) (subst (SackFault e) cut fault)
+
+  -- so is a FORWARD-TSN
+  pub forward_read : p.typ ≡ 192 → (w : Wire) × (IsForwardTsn w × ReadsChunk (drop p.at d) w)
+  forward_read is =
+      let reads = reads-there 192 is refl in
+      (reads.0, (forward-kind reads.0 (sym reads.1.typ ∙ type-there 192 is), reads.1))
+
+-- ## In which states
+
+-- a chunk that is taken goes on
+pub due_going : (typ : ℕ) (a : Association) → is_due typ a ≡ true → goes_on typ ≡ true
+due_going typ a due = elim (cases_Bool ((typ == 0) || (typ == 192))) [
+  | inl first ↦ elim (or_cases (typ == 0) (typ == 192) first) [
+    | inl is ↦ ap goes_on (eqb-true typ 0 is)
+    | inr is ↦ ap goes_on (eqb-true typ 192 is)
+  ]
+  | inr other ↦ ap goes_on (eqb-true typ 3 (and_parts (typ == 3) (takes_sacks a.machine.state) (rw other at due)).0)
+]
+
+closed-due : (typ : ℕ) (a : Association) → a.machine.state ≡ Closed → (typ ≡ 0) ⊎ ((typ ≡ 3) ⊎ (typ ≡ 192)) → is_due typ a ≡ true → ⊥
+closed-due typ a closed (inl is) due =
+    false≢true (sym (ap takes_data closed) ∙ (and_parts (takes_data a.machine.state) (is_some a.inbound) (sym (ap (λ n. is_due n a) is) ∙ due)).0)
+closed-due typ a closed (inr (inl is)) due = false≢true (sym (ap takes_sacks closed) ∙ sym (ap (λ n. is_due n a) is) ∙ due)
+closed-due typ a closed (inr (inr is)) due =
+    false≢true (sym (ap takes_data closed) ∙ (and_parts (takes_data a.machine.state) (is_some a.inbound) (sym (ap (λ n. is_due n a) is) ∙ due)).0)
+
+-- none is in Closed
+pub due_begun : (typ : ℕ) (a : Association) → is_due typ a ≡ true → a.machine.state ≡ Closed → ⊥
+due_begun typ a due closed = closed-due typ a closed (going_types typ (due_going typ a due)) due
+
+pub data_due : (tag : ℕ) (a : Association) → TakesDataOf tag a → is_due 0 a ≡ true
+data_due tag a takes = and_from (takes_data a.machine.state) (is_some a.inbound) takes.state takes.served
+
+pub data_begun : (tag : ℕ) (a : Association) → TakesDataOf tag a → a.machine.state ≡ Closed → ⊥
+data_begun tag a takes closed = false≢true (sym (ap takes_data closed) ∙ takes.state)
+
+-- ## DATA is taken as before
+
+some-of : (o : Option Inbound) → is_some (receiver_of o) ≡ is_some o
+some-of None = refl
+some-of (Some i) = refl
+
+-- where the machine is in the same state, with the same own tag, and there is a receiver as before
+pub takes_on : (tag : ℕ) (a b : Association) → TakesDataOf tag a → b.is_over ≡ a.is_over → b.machine.state ≡ a.machine.state
+    → b.machine.own ≡ a.machine.own → is_some b.inbound ≡ true → TakesDataOf tag b
+takes_on tag a b t over state own served = record {
+  going = over ∙ t.going;
+  state = ap takes_data state ∙ t.state;
+  served = served;
+  own = t.own ∙ ap (λ o. o.tag) (sym own);
+}
+
+-- where there is a receiver, one is behind what leaves it alike
+pub served_alike : (o p : Option Inbound) → receiver_of p ≡ receiver_of o → is_some o ≡ true → is_some p ≡ true
+served_alike o p same is = sym (some-of p) ∙ ap is_some same ∙ some-of o ∙ is
+
+arrived-state : (s : State) (m : Machine) → m.state ≡ s → (packet_arrived_row s true m).machine.state ≡ m.state
+arrived-state ShutdownSent m is = refl
+arrived-state _ m is = refl
+
+-- DATA leaves the state
+pub arrived_state : (m n : Machine) (a : Answer) → Takes (on_packet_arrived true m) n a → n.state ≡ m.state
+arrived_state m n a t = ap (λ (k : Machine). k.state) t.machine ∙ arrived-state m.state m refl
+
+-- nor is anything told
+arrived-told : (s : State) (m : Machine) → (packet_arrived_row s true m).answer.told ≡ None
+arrived-told ShutdownSent m = refl
+arrived-told _ m = refl
+
+pub arrived_told : (m n : Machine) (a : Answer) → Takes (on_packet_arrived true m) n a → a.told ≡ None
+arrived_told m n a t = ap (λ (k : Answer). k.told) t.answer ∙ arrived-told m.state m
+
+drained-told : (s : State) (m : Machine) → (drained_row s m).answer.told ≡ None
+drained-told ShutdownPending m = refl
+drained-told ShutdownReceived m = refl
+drained-told _ m = refl
+
+pub drained_told : (m : Machine) (a : Answer) → a ≡ (on_drained m).answer → a.told ≡ None
+drained_told m a e = ap (λ (k : Answer). k.told) e ∙ drained-told m.state m
+
+-- ## What a chunk came to
+
+-- of DATA
+pub goes_by_data : (c : ChunkPlace) (tag : ℕ) (d : List ℕ) (s : Step) (a : Association) → ((r : Reason) → s ≡ Refused r → ⊥)
+    → FollowsData c.at d s a → (s ≡ Next → TakesDataOf tag a) → GoesOn c tag d s a
+goes_by_data c tag d Next a never follows takes = (takes refl, λ is. follows)
+goes_by_data c tag d Stop a never follows takes = follows
+goes_by_data c tag d Cut a never follows takes = tt
+goes_by_data c tag d (Refused r) a never follows takes = absurd (never r refl)
+
+-- of another one
+pub goes_by : (c : ChunkPlace) (n tag : ℕ) (d : List ℕ) (s : Step) (a : Association) → c.typ ≡ suc n → ((r : Reason) → s ≡ Refused r → r ≡ Unexpected)
+    → (s ≡ Stop → a.is_over ≡ true) → (s ≡ Next → TakesDataOf tag a) → GoesOn c tag d s a
+goes_by c n tag d Next a typ unexpected over takes = (takes refl, λ is. absurd (omega (arith, typ, is)))
+goes_by c n tag d Stop a typ unexpected over takes = over refl
+goes_by c n tag d Cut a typ unexpected over takes = tt
+goes_by c n tag d (Refused r) a typ unexpected over takes = (unexpected r refl, λ is. absurd (omega (arith, typ, is)))
+
+-- ## A valid datagram
+
+pub accepted_as : (c : Config) (z : ZeroChecksum) (d bytes : List ℕ) → zero_checksum_of c ≡ z → bytes ≡ d → IsAccepted (zero_checksum_of c) crc32c_of d
+    → IsAccepted z crc32c_of bytes
+accepted_as c z d bytes e same valid =
+    let P : ZeroChecksum → Type 0 = λ k. IsAccepted k crc32c_of bytes in
+    subst P e (subst (λ (l : List ℕ). IsAccepted (zero_checksum_of c) crc32c_of l) (sym same) valid)

@@ -1,0 +1,237 @@
+//! Control chunks that come: HEARTBEAT, ABORT, SHUTDOWN, ERROR and the like (RFC 9260 3.3.5 to 3.3.13, 8.3, 9).
+
+ghost use Rattle.std.specs.Prelude.{◌≡◌, None, Ok, OnErr};
+ghost use Rattle.sctp_association.specs.Arrivals.{CallsArrive};
+ghost use Rattle.sctp_association.specs.Beginnings.{ArrivesAsOffered, BeginsBy, KeepsPeer};
+ghost use Rattle.sctp_association.specs.Kept.{IsKept};
+ghost use Rattle.sctp_association.specs.Halves.{HalvesAlike, halves_of};
+ghost use Rattle.sctp_association.specs.Telling.{PassesOn, Tells, TellsEnd};
+ghost use Rattle.sctp_association.specs.declared.association.Reason.{Reason};
+ghost use Rattle.sctp_association.specs.declared.association.Reason.TheVariants.{Unexpected};
+ghost use Rattle.sctp_association.specs.declared.association.arrivals.Step.TheVariants as step;
+ghost use Rattle.sctp_datagram.specs.Carried.{IsChunkOf};
+ghost use Rattle.sctp_datagram.specs.Places.{IsPlace};
+ghost use Rattle.sctp_datagram.specs.declared.datagram.ChunkPlace.{ChunkPlace};
+ghost use Rattle.sctp_handshake.specs.Answers.{silent};
+
+use super::arrivals::Step;
+use super::{Association, Reason};
+use crate::event::Ending;
+use crate::fault::Fault;
+use bytes::Bytes;
+use sctp_chunks::{ChunkHeartbeat, ChunkHeartbeatAck, ChunkShutdown};
+use sctp_datagram::ChunkPlace;
+use sctp_handshake::{Answer, State};
+use sctp_params::ParamKind;
+use sctp_util::field::read_u16;
+
+impl Association {
+    // Takes a chunk of a peer that is no user data.
+    #[inline(never)]
+    pub(super) fn take_control(
+        &mut self,
+        datagram: &Bytes,
+        chunk: ChunkPlace,
+        now: u64,
+    ) -> Result<Step, Fault>
+        requires place { IsPlace datagram.now chunk }
+        requires own { IsChunkOf datagram.now chunk }
+        ensures tells { Tells self.old self.new }
+        ensures came { ArrivesAsOffered datagram.now self.old self.new }
+        ensures refused { (r : Reason) → result ≡ Ok (step.Refused r) → self.new ≡ self.old }
+        ensures err { OnErr result (self.new ≡ self.old) }
+        ensures whole { result ≡ Ok step.Cut → ⊥ }
+    {
+        match chunk.typ {
+            4 => self.take_heartbeat(datagram, chunk),
+            5 => self.take_heartbeat_ack(datagram, chunk, now),
+            6 => Ok(self.take_abort()),
+            7 => self.take_shutdown(datagram, chunk, now),
+            8 => {
+                let tag = self.peer_tag();
+                let before = self.machine.state();
+                let answer = self.machine.shutdown_ack();
+                Ok(self.take_answer(before, answer, tag, now))
+            }
+            9 => Ok(self.take_error(datagram, chunk, now)),
+            11 => Ok(self.take_cookie_ack(datagram, chunk, now)),
+            14 => {
+                let before = self.machine.state();
+                let answer = self.machine.shutdown_complete();
+                Ok(self.take_answer(before, answer, 0, now))
+            }
+            _ => self.note_unknown(datagram, chunk),
+        }
+    }
+
+    // The tag of the peer's packets' receiver; 0 where it is not known.
+    fn peer_tag(&self) -> u32 {
+        match self.machine.peer() {
+            Some(peer) => peer.tag,
+            None => 0,
+        }
+    }
+
+    // Follows what the machine answered a chunk; where that is nothing the chunk is not expected.
+    pub(super) fn take_answer(&mut self, before: State, answer: Answer, tag: u32, now: u64) -> Step
+        ensures tells { PassesOn answer.told self.old self.new }
+        ensures refused { (r : Reason) → result ≡ step.Refused r
+            → (answer ≡ silent) × (self.new ≡ self.old) }
+        ensures kept { IsKept self.old self.new }
+        ensures begun { BeginsBy answer.told self.old.machine self.old.config
+            (halves_of self.old) (halves_of self.new) }
+        ensures whole { result ≡ step.Cut → ⊥ }
+    {
+        if answer.reply.is_none() && answer.told.is_none() {
+            return Step::Refused(Reason::Unexpected);
+        }
+        self.follow(before, answer, tag, now);
+        Step::Next
+    }
+
+    // An ABORT came (RFC 9260 9.1).
+    fn take_abort(&mut self) -> Step
+        ensures tells { TellsEnd self.old self.new }
+        ensures refused { (r : Reason) → result ≡ step.Refused r → self.new ≡ self.old }
+        ensures halves { HalvesAlike self.old self.new }
+        ensures peer { KeepsPeer self.old self.new }
+        ensures whole { result ≡ step.Cut → ⊥ }
+    {
+        let answer = self.machine.abort();
+        if answer.told.is_none() {
+            return Step::Refused(Reason::Unexpected);
+        }
+        self.end(Ending::AbortedByPeer);
+        Step::Stop
+    }
+
+    // A SHUTDOWN came (RFC 9260 9.2): it acknowledges as a SACK without blocks does.
+    fn take_shutdown(
+        &mut self,
+        datagram: &Bytes,
+        chunk: ChunkPlace,
+        now: u64,
+    ) -> Result<Step, Fault>
+        requires place { IsPlace datagram.now chunk }
+        requires own { IsChunkOf datagram.now chunk }
+        ensures tells { TellsEnd self.old self.new }
+        ensures came { CallsArrive datagram.now (halves_of self.old) (halves_of self.new) }
+        ensures peer { KeepsPeer self.old self.new }
+        ensures refused { (r : Reason) → result ≡ Ok (step.Refused r) → self.new ≡ self.old }
+        ensures err { OnErr result (self.new ≡ self.old) }
+        ensures whole { result ≡ Ok step.Cut → ⊥ }
+    {
+        let Some(shutdown) = self.read_chunk::<ChunkShutdown>(datagram, chunk)? else {
+            return Ok(Step::Refused(Reason::NoPacket));
+        };
+        let before = self.machine.state();
+        let mut machine = self.machine;
+        let answer = machine.shutdown();
+        // Once shutdown is received, the peer's further SHUTDOWNs say nothing but what came (RFC 9260 9.2).
+        let is_again = before == State::ShutdownReceived;
+        if answer.reply.is_none() && answer.told.is_none() && !is_again {
+            return Ok(Step::Refused(Reason::Unexpected));
+        }
+        let tsn = shutdown.cumulative_tsn_ack;
+        // One that acknowledges what was not sent acknowledges nothing: peers are known to write a TSN of their own there.
+        let _taken = self
+            .outbound
+            .take_shutdown(self.alloc, tsn, &mut self.events.low, now)?;
+        self.machine = machine;
+        self.follow(before, answer, 0, now);
+        Ok(Step::Next)
+    }
+
+    // A HEARTBEAT came: its information goes back (RFC 9260 8.3).
+    fn take_heartbeat(&mut self, datagram: &Bytes, chunk: ChunkPlace) -> Result<Step, Fault>
+        requires place { IsPlace datagram.now chunk }
+        ensures tells { TellsEnd self.old self.new }
+        ensures refused { (r : Reason) → result ≡ Ok (step.Refused r) → self.new ≡ self.old }
+        ensures halves { HalvesAlike self.old self.new }
+        ensures kept { IsKept self.old self.new }
+        ensures err { OnErr result (self.new ≡ self.old) }
+        ensures whole { result ≡ Ok step.Cut → ⊥ }
+    {
+        // Who asks answers from COOKIE-ECHOED on, who is asked once the association stands (RFC 9260 8.3).
+        if self.machine.peer().is_none() {
+            return Ok(Step::Refused(Reason::Unexpected));
+        }
+        let Some(heartbeat) = self.read_chunk::<ChunkHeartbeat>(datagram, chunk)? else {
+            return Ok(Step::Refused(Reason::NoPacket));
+        };
+        for param in heartbeat.params {
+            if let ParamKind::HeartbeatInfo(info) = param {
+                self.due.heartbeat = Some(info.heartbeat_information);
+            }
+        }
+        Ok(Step::Next)
+    }
+
+    // A HEARTBEAT ACK came: it tells a round trip, and that the peer is there (RFC 9260 8.3).
+    fn take_heartbeat_ack(
+        &mut self,
+        datagram: &Bytes,
+        chunk: ChunkPlace,
+        now: u64,
+    ) -> Result<Step, Fault>
+        requires place { IsPlace datagram.now chunk }
+        ensures tells { TellsEnd self.old self.new }
+        ensures refused { (r : Reason) → result ≡ Ok (step.Refused r) → self.new ≡ self.old }
+        ensures halves { HalvesAlike self.old self.new }
+        ensures kept { IsKept self.old self.new }
+        ensures err { OnErr result (self.new ≡ self.old) }
+        ensures whole { result ≡ Ok step.Cut → ⊥ }
+    {
+        let Some(ack) = self.read_chunk::<ChunkHeartbeatAck>(datagram, chunk)? else {
+            return Ok(Step::Refused(Reason::NoPacket));
+        };
+        if self.heartbeat.is_none() {
+            return Ok(Step::Refused(Reason::Unexpected));
+        }
+        for param in ack.params {
+            if let ParamKind::HeartbeatInfo(info) = param {
+                let Some(nonce) = info.heartbeat_information.first_chunk::<8>() else {
+                    continue;
+                };
+                self.heartbeat_answered(u64::from_be_bytes(*nonce), now);
+            }
+        }
+        Ok(Step::Next)
+    }
+
+    // The peer answers a HEARTBEAT: one that waits for this nonce tells a round trip.
+    fn heartbeat_answered(&mut self, nonce: u64, now: u64)
+        ensures tells { TellsEnd self.old self.new }
+        ensures halves { HalvesAlike self.old self.new }
+        ensures kept { IsKept self.old self.new }
+    {
+        let Some(heartbeat) = &mut self.heartbeat else {
+            return;
+        };
+        if let Some(trip) = heartbeat.answered(now, nonce) {
+            self.outbound.trip_measured(trip);
+        }
+    }
+
+    // An ERROR came: its first cause is told; a stale cookie begins the handshake again (RFC 9260 5.2.6, 3.3.10).
+    fn take_error(&mut self, datagram: &Bytes, chunk: ChunkPlace, now: u64) -> Step
+        ensures tells { TellsEnd self.old self.new }
+        ensures refused { (r : Reason) → result ≡ step.Refused r → self.new ≡ self.old }
+        ensures halves { HalvesAlike self.old self.new }
+        ensures peer { KeepsPeer self.old self.new }
+        ensures whole { result ≡ step.Cut → ⊥ }
+    {
+        let end = chunk.at.saturating_add(chunk.length);
+        if end > datagram.len() || chunk.at.saturating_add(8) > end {
+            return Step::Next;
+        }
+        let code = read_u16(&datagram[chunk.at..end], 4);
+        if code == 3 {
+            let before = self.machine.state();
+            let answer = self.machine.stale_cookie();
+            self.follow(before, answer, 0, now);
+        }
+        self.events.peer_error = Some(code);
+        Step::Next
+    }
+}
