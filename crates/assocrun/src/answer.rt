@@ -24,6 +24,8 @@ pub(crate) enum Answer {
         bytes: u64,
     },
     State(State),
+    /// Whether the peer has begun again.
+    Restarted(bool),
     Look {
         rtt: Option<u64>,
         cwnd: usize,
@@ -133,6 +135,8 @@ pub(crate) fn print_answer<W: Write>(answer: &Answer, output: &mut W) -> io::Res
         Answer::Nothing => write!(output, "none\n"),
         Answer::Took { messages, bytes } => write!(output, "took {messages} {bytes}\n"),
         Answer::State(state) => write!(output, "state {}\n", word_of_state(*state)),
+        Answer::Restarted(true) => write!(output, "restarted yes\n"),
+        Answer::Restarted(false) => write!(output, "restarted no\n"),
         Answer::Look {
             rtt,
             cwnd,
@@ -204,21 +208,14 @@ pub(crate) fn print_event<W: Write>(event: Event, output: &mut W) -> io::Result<
     match event {
         Event::Connected => write!(output, "event connected\n"),
         Event::Restarted => write!(output, "event restarted\n"),
-        Event::Shutdown => write!(output, "event shutdown\n"),
-        Event::PeerError(cause) => write!(output, "event peererror {cause}\n"),
-        Event::Closed(ending) => write!(output, "event closed {}\n", word_of_ending(ending)),
-        event => print_of_stream(event, output),
-    }
-}
-
-// Prints an event of a stream.
-fn print_of_stream<W: Write>(event: Event, output: &mut W) -> io::Result<()> {
-    match event {
         Event::Readable(stream) => write!(output, "event readable {stream}\n"),
         Event::BufferedAmountLow(stream) => write!(output, "event bufferedamountlow {stream}\n"),
         Event::ResetByUs(stream) => write!(output, "event resetbyus {stream}\n"),
         Event::ResetRefused(stream) => write!(output, "event resetrefused {stream}\n"),
         Event::ResetByPeer(stream) => write!(output, "event resetbypeer {stream}\n"),
-        _ => write!(output, "event other\n"),
+        Event::TooLong(stream) => write!(output, "event toolong {stream}\n"),
+        Event::PeerError(cause) => write!(output, "event peererror {cause}\n"),
+        Event::Shutdown => write!(output, "event shutdown\n"),
+        Event::Closed(ending) => write!(output, "event closed {}\n", word_of_ending(ending)),
     }
 }

@@ -104,6 +104,7 @@ fn answer(association: &mut Association, command: &Command) -> Result<Answer, Re
             });
         }
         Command::State => return Ok(Answer::State(association.state())),
+        Command::Restarted => return Ok(Answer::Restarted(association.has_restarted())),
         Command::New(_) => {}
     }
     Ok(Answer::Done)
