@@ -451,10 +451,10 @@ tells_skip t r p q e f (Err x) h same kept room stays noted =
 
 -- ## A stream is reset
 
--- where a message of it can be read then, that waits to be told
+-- where a message of it can be read then, and none could before, that waits to be told
 pub tells_reset : (s tsn : ℕ) (r q : Reception) (e f : Events) → q ≡ reset_stream s tsn r → KeepsEvents e f
     → length f.readable ≡ length e.readable → Stays e.readable f.readable
-    → (is_some (message_on s q) ≡ true → s < length e.readable → is_in s f.readable ≡ true) → TellsBy r e q f
+    → (is_some (message_on s r) ≡ false → is_some (message_on s q) ≡ true → s < length e.readable → is_in s f.readable ≡ true) → TellsBy r e q f
 tells_reset s tsn r q e f made kept room stays told = tells_by r q e f kept (omega (arith, room)) (λ n o. inl (was n o)) message
   where
     found : (n : ℕ) → stream_of n q ≡ option_map (λ l. if has_number s l then stream_reset tsn l else l) (stream_of n r)
@@ -476,11 +476,17 @@ tells_reset s tsn r q e f made kept room stays told = tells_by r q e f kept (ome
             let is : number l ≡ n = found-number n r.streams l g in
             ap (λ b. Some (if b then stream_reset tsn l else l)) (ap (λ k. k == s) is ∙ apart)
 
+    -- one that could be read before is told, or waits to be
+    at-s : ((k : ℕ) → is_open k r ≡ true → k < length e.readable) → (n : ℕ) → n ≡ s → is_some (message_on n q) ≡ true
+        → (b : Bool) → is_some (message_on s r) ≡ b → ReadOrTold r e f n
+    at-s h n is m true could = inl (ap (λ k. is_some (message_on k r)) is ∙ could, stays n)
+    at-s h n is m false could = inr (subst (λ k. is_in k f.readable ≡ true) (sym is) (told could (subst (λ k. is_some (message_on k q) ≡ true) is m)
+        (h s (was s (subst (λ k. is_open k q ≡ true) is (message_open n q m))))))
+
     message : ((k : ℕ) → is_open k r ≡ true → k < length e.readable) → (n : ℕ) → is_some (message_on n q) ≡ true
         → ReadOrTold r e f n
     message h n m = by_same n s
-        (λ is. inr (subst (λ k. is_in k f.readable ≡ true) (sym is) (told (subst (λ k. is_some (message_on k q) ≡ true) is m)
-        (h s (was s (subst (λ k. is_open k q ≡ true) is (message_open n q m)))))))
+        (λ is. at-s h n is m (is_some (message_on s r)) refl)
         (λ apart is. inl (sym (ap (λ o. is_some (message_of o)) (other n is)) ∙ m, stays n))
 
 -- an event of the stream may wait besides
@@ -499,7 +505,8 @@ later_after e f g x y =
 
 -- so it is whatever the receiver answers
 pub tells_reset_by : {X : Type 0} (s tsn : ℕ) (r q : Reception) (e f : Events) (a : Result X ReceiverRefusal) → OnOk a (q ≡ reset_stream s tsn r)
-    → OnErr a (q ≡ r) → IsLater e f → (is_some (message_on s q) ≡ true → s < length e.readable → is_in s f.readable ≡ true) → TellsBy r e q f
+    → OnErr a (q ≡ r) → IsLater e f
+    → (is_some (message_on s r) ≡ false → is_some (message_on s q) ≡ true → s < length e.readable → is_in s f.readable ≡ true) → TellsBy r e q f
 tells_reset_by s tsn r q e f (Ok x) ok err later told = tells_reset s tsn r q e f ok later.kept later.room later.stays told
 tells_reset_by s tsn r q e f (Err x) ok err later told =
     tells_no_more r q e f later.kept (let room = later.room in omega (arith, room)) later.stays

@@ -409,6 +409,19 @@ impl Inbound {
         }
     }
 
+    // The same, unless a message of it could be read before: that was told, or waits to be.
+    fn note_unless(&self, could_read: bool, stream: u16, events: &mut Events)
+        ensures noted { could_read ≡ false → is_some (message_on stream self.now.receiver) ≡ true
+            → stream < length events.old.readable → is_in stream events.new.readable ≡ true }
+        ensures kept { KeepsEvents events.old events.new }
+        ensures room { length events.new.readable ≡ length events.old.readable }
+        ensures readable { Stays events.old.readable events.new.readable }
+    {
+        if !could_read {
+            self.note_if_readable(stream, events);
+        }
+    }
+
     /// Reads the next message of a stream, if one is there: never refused. Where the window was used up, the peer is told that it is not.
     #[tactic(auto, using(crate::proofs::Reaching::was_read, crate::proofs::Unopened::nothing))]
     pub(crate) fn read(&mut self, stream: u16, now: u64) -> Result<Option<Chunks>, Fault>
@@ -463,6 +476,7 @@ impl Inbound {
         if is_named {
             events.reset_by_peer.reserve(stream)?;
         }
+        let could_read = self.receiver.is_readable(stream);
         let is_told = match self.receiver.reset(stream, last_tsn) {
             Ok(()) => true,
             Err(ReceiverRefusal::StreamUnknown) => is_named || self.discarded.contains(stream),
@@ -474,7 +488,7 @@ impl Inbound {
             events.reset_by_peer.insert(stream);
         }
         // A message of the old use that waited for another one waits no more.
-        self.note_if_readable(stream, events);
+        self.note_unless(could_read, stream, events);
         Ok(ReconfigResult::SuccessPerformed)
     }
 

@@ -1,4 +1,4 @@
-use Rattle.std.proofs.Common.{arith}
+use Rattle.std.proofs.Common.{arith, ◌∙◌}
 use Rattle.sctp_association.proofs.Arriving.{received_reset_by}
 use Rattle.sctp_association.proofs.Noting.{IsLater, later_after, later_peer, stays_put, stays_same, tells_in, tells_reset_by}
 use Rattle.sctp_association.proofs.inbound.Inbound.reset.Goals as goal
@@ -20,8 +20,8 @@ returns-clause-tells c =
       | then-is_told w ↦ rw w.events-is (later_peer c.if-is_named.events _ (stays_put _ _ _ w.insert.ensures.value w.insert.ensures.full))
       | else-is_told w ↦ rw w.events-is (later_peer c.if-is_named.events _ (λ n h. h))
     ] in
-    let n = c.note_if_readable.ensures in
+    let n = c.note_unless.ensures in
     let before = later_after e c.if-is_named.events c.if-is_told.events named told in
     tells_in _ _ _ _ (tells_reset_by _ _ _ _ _ _ c.reset.result c.reset.ensures.ok c.reset.ensures.err
     (later_after _ _ _ before (record { kept = n.kept; room = n.room; stays = n.readable }))
-    (λ m lt. n.noted m (omega (arith, before.room, lt))))
+    (λ could m lt. n.noted (c.is_readable-could_read.ensures ∙ could) m (omega (arith, before.room, lt))))
