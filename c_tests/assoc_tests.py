@@ -9,8 +9,8 @@ PROGRAM is crates/assocrun/out/assocrun unless told otherwise: `rt ci` leaves it
 are named are compared. `$name` is what stood there first, `A..B` a number between, `!=N` another one, `~` the same bytes in any order, and a last `*`
 anything. `next` is compared where it is named. Each datagram that is sent is decoded by wire.py, with --tshark by tshark too.
 N datagrams of any bytes, and of chunks with random fields, are given to an association (50,000 unless told otherwise). Each 7th
-allocation of an exchange, or each Nth, is refused. N sessions of two hosts over a bad network follow (40), half as many with a restart, and half as many
-with usrsctp, where Debian's package libusrsctp-dev is there.
+allocation of an exchange, or each Nth, is refused. The RTO of ten associations is compared with a model. N sessions of two hosts over a bad network
+follow (40), half as many with a restart, and half as many with usrsctp, where Debian's package libusrsctp-dev is there.
 The last line is 'N passed, M failed'; the status is 0 where nothing failed.
 """
 import argparse
@@ -22,10 +22,13 @@ import tempfile
 
 ROOT = os.path.dirname(os.path.dirname(os.path.abspath(__file__)))
 FOLDER = os.path.join(ROOT, "c_tests", "assoc")
+# How many associations have their RTO compared with a model.
+ROUND_TRIPS = 10
 sys.path.insert(0, FOLDER)
 import hostile  # noqa: E402
 import recorded  # noqa: E402
 import refused  # noqa: E402
+import round_trips  # noqa: E402
 import sessions  # noqa: E402
 import wire  # noqa: E402
 
@@ -257,7 +260,8 @@ def run_all(args, program, usrsctp):
         try:
             sent.extend(call() or [])
             passed += 1
-        except (Wrong, wire.Malformed, recorded.Wrong, hostile.Wrong, refused.Wrong, sessions.Wrong) as fault:
+        except (Wrong, wire.Malformed, recorded.Wrong, hostile.Wrong, refused.Wrong, round_trips.Wrong,
+                sessions.Wrong) as fault:
             failed += 1
             print(f"{name}: {fault}", flush=True)
 
@@ -265,7 +269,7 @@ def run_all(args, program, usrsctp):
         if name.endswith(".script"):
             try_it(name, lambda: play(program, os.path.join(FOLDER, name)))
     for name, call in [*recorded.cases(program, ROOT), *hostile.cases(program, args.datagrams), *refused.cases(program, args.every),
-                       *sessions.cases(program, usrsctp, args.sessions)]:
+                       *round_trips.cases(program, ROUND_TRIPS), *sessions.cases(program, usrsctp, args.sessions)]:
         try_it(name, call)
     if args.tshark:
         try_it("tshark", lambda: check_by_tshark(sent))
