@@ -10,7 +10,8 @@ are named are compared. `$name` is what stood there first, `A..B` a number betwe
 anything. `next` is compared where it is named. Each datagram that is sent is decoded by wire.py, with --tshark by tshark too.
 N datagrams of any bytes, and of chunks with random fields, are given to an association (50,000 unless told otherwise). Each 7th
 allocation of an exchange, or each Nth, is refused. The RTO of ten associations is compared with a model. N sessions of two hosts over a bad network
-follow (40), half as many with a restart, and half as many with usrsctp, where Debian's package libusrsctp-dev is there.
+follow (40), half as many with a restart, half as many with each datagram watched, and half as many with usrsctp, where Debian's package
+libusrsctp-dev is there.
 The last line is 'N passed, M failed'; the status is 0 where nothing failed.
 """
 import argparse
@@ -30,6 +31,7 @@ import recorded  # noqa: E402
 import refused  # noqa: E402
 import round_trips  # noqa: E402
 import sessions  # noqa: E402
+import watched  # noqa: E402
 import wire  # noqa: E402
 
 
@@ -269,7 +271,8 @@ def run_all(args, program, usrsctp):
         if name.endswith(".script"):
             try_it(name, lambda: play(program, os.path.join(FOLDER, name)))
     for name, call in [*recorded.cases(program, ROOT), *hostile.cases(program, args.datagrams), *refused.cases(program, args.every),
-                       *round_trips.cases(program, ROUND_TRIPS), *sessions.cases(program, usrsctp, args.sessions)]:
+                       *round_trips.cases(program, ROUND_TRIPS), *sessions.cases(program, usrsctp, args.sessions),
+                       *watched.cases(program, args.sessions // 2)]:
         try_it(name, call)
     if args.tshark:
         try_it("tshark", lambda: check_by_tshark(sent))

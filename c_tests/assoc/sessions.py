@@ -56,7 +56,7 @@ class Host:
 class Session:
     """Two hosts, the network between them, and what is still to happen."""
 
-    def __init__(self, commands, seed, restarts):
+    def __init__(self, commands, seed, restarts, watch=None):
         self.random = draw = random.Random(f"{len(commands[0])} {len(commands[1])} {seed} {restarts}")
         self.is_alike = commands[0] == commands[1]
         self.now, self.queue, self.count, self.is_ending, self.stale = 0, [], 0, False, [set(), set()]
@@ -67,6 +67,8 @@ class Session:
         self.keys = {"mtu": self.mtu, "window": window, "max": most, "streams": streams, "rto_min": 200_000, "rto_initial": SECOND, "port": 5000,
                      "rto_max": draw.choice([2, 60]) * SECOND if self.is_alike else 60 * SECOND, "retrans": 30, "init_retrans": 30}
         self.hosts = [Host(command, streams) for command in commands]
+        for i, host in enumerate(self.hosts if watch else ()):
+            watch(host, f"host {i}")
         self.is_slow, messages = draw.random() < 0.4, draw.choice([5, 40, 150])
         # busy, or longer between two messages than an RTO
         self.pauses = draw.choice([[1000, 20_000, 100_000]] * 2 + [[2 * SECOND]])
