@@ -1,5 +1,6 @@
 //! How far the numbers of ordered messages in flight go, and a sender of several streams.
 
+use crate::ended::{gives_some, is_taken};
 use crate::hosts::buffered;
 use bytes::Bytes;
 use sctp_chunks::chunk::chunk_payload_data::{PayloadProtocolIdentifier, ReliabilityType};
@@ -26,7 +27,7 @@ fn is_bounded(sender: &mut Sender, byte: &Bytes) -> bool {
     well && !is_sent(sender, 1, byte)
         && !is_sent(sender, 2, byte)
         && matches!(send_next_tsn(sender, 0), Err(SenderRefusal::SsnsUsedUp))
-        && matches!(sender.send_next(0), Err(SenderRefusal::SsnsUsedUp))
+        && sender.send_next(0).err() == Some(SenderRefusal::SsnsUsedUp)
         && sender.outbound().inflight_len() == 1 << 14
 }
 
@@ -38,8 +39,10 @@ fn goes_on(alloc: Global, sender: &mut Sender) -> bool {
         gap_ack_blocks: Vec::new(alloc),
         duplicate_tsn: Vec::new(alloc),
     };
-    sender.acked(&sack).is_ok()
-        && matches!(sender.send_next(0), Ok(Some(_)))
+    let answer = sender.acked(&sack);
+    drop(sack);
+    is_taken(answer)
+        && gives_some(sender.send_next(0))
         && matches!(send_next_tsn(sender, 0), Ok(Some(_)))
         && matches!(send_next_tsn(sender, 0), Ok(None))
 }
@@ -47,7 +50,9 @@ fn goes_on(alloc: Global, sender: &mut Sender) -> bool {
 /// 2^14 ordered messages of a stream are in flight at most; the next one waits until the first is acknowledged.
 pub(crate) fn bounded(alloc: Global) -> bool {
     let mut sender = Sender::new(alloc, 1, 3, 100, Reported::Drop);
-    is_bounded(&mut sender, &Bytes::from_static(b"a")) && goes_on(alloc, &mut sender)
+    let well = is_bounded(&mut sender, &Bytes::from_static(b"a")) && goes_on(alloc, &mut sender);
+    drop(sender);
+    well
 }
 
 // Whether a sender answers this to a write.
@@ -58,7 +63,11 @@ fn answers(
     due: Result<(Option<u64>, usize), SenderRefusal>,
 ) -> bool {
     match Bytes::copy_from_slice(alloc, b"abcd") {
-        Ok(bytes) => sender.write(stream, PayloadProtocolIdentifier::Binary, &bytes) == due,
+        Ok(bytes) => {
+            let answer = sender.write(stream, PayloadProtocolIdentifier::Binary, &bytes);
+            drop(bytes);
+            answer == due
+        }
         Err(_) => false,
     }
 }
@@ -94,5 +103,7 @@ fn the_others_write(alloc: Global, sender: &mut Sender) -> bool {
 /// The one in the middle of three streams is closed, and one that is not open: the others keep what they have.
 pub(crate) fn sender_closes_the_middle(alloc: Global) -> bool {
     let mut sender = Sender::new(alloc, 1, 3, 4, Reported::Drop);
-    three_are_written(alloc, &mut sender) && the_others_write(alloc, &mut sender)
+    let well = three_are_written(alloc, &mut sender) && the_others_write(alloc, &mut sender);
+    drop(sender);
+    well
 }

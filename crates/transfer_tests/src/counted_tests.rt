@@ -40,7 +40,11 @@ fn two_fragments(alloc: Global) -> Result<Vec<ChunkPayloadData>, Error> {
 // Whether chunks are taken together with these answers.
 fn are_taken(receiver: &mut Receiver, chunks: &[ChunkPayloadData], due: &[Arrival]) -> bool {
     match take_each(receiver, chunks, &mut Turns::new()) {
-        Ok(arrivals) => arrivals.as_slice() == due,
+        Ok(arrivals) => {
+            let well = arrivals.as_slice() == due;
+            drop(arrivals);
+            well
+        }
         Err(_) => false,
     }
 }
@@ -54,11 +58,21 @@ fn two_come_twice(receiver: &mut Receiver, chunks: &[ChunkPayloadData]) -> bool 
         && reads(receiver, b"ab")
 }
 
+fn both_come(alloc: Global, receiver: &mut Receiver) -> bool {
+    match two_fragments(alloc) {
+        Ok(chunks) => {
+            let well = two_come_twice(receiver, &chunks);
+            drop(chunks);
+            well
+        }
+        Err(_) => false,
+    }
+}
+
 /// DATA chunks are taken together as `data_each` takes them.
 pub(crate) fn taken_together(alloc: Global) -> bool {
     let mut receiver = Receiver::new(alloc, 1, 100, None);
-    match two_fragments(alloc) {
-        Ok(chunks) => receiver.open(1).is_ok() && two_come_twice(&mut receiver, &chunks),
-        Err(_) => false,
-    }
+    let well = receiver.open(1).is_ok() && both_come(alloc, &mut receiver);
+    drop(receiver);
+    well
 }

@@ -1,5 +1,6 @@
 //! SACKs whose blocks report some of what is in flight, to a sender that keeps what was reported (RFC 4960 6.2.1 D iv).
 
+use crate::ended::gives_some;
 use crate::log::check;
 use bytes::Bytes;
 use sctp_chunks::chunk::chunk_payload_data::PayloadProtocolIdentifier;
@@ -49,16 +50,19 @@ fn sack(alloc: Global, tsn: u32, blocks: &[(u16, u16)]) -> Option<ChunkSelective
         gap_ack_blocks: Vec::new(alloc),
         duplicate_tsn: Vec::new(alloc),
     };
+    let mut is_made = true;
     for (start, end) in blocks {
         let block = GapAckBlock {
             start: *start,
             end: *end,
         };
-        if sack.gap_ack_blocks.push(block).is_err() {
-            return None;
-        }
+        is_made = is_made && sack.gap_ack_blocks.push(block).is_ok();
     }
-    Some(sack)
+    if is_made {
+        return Some(sack);
+    }
+    drop(sack);
+    None
 }
 
 fn tells_of(answered: &[TakenBack], tsn: u32) -> bool {
@@ -84,8 +88,14 @@ fn goes(alloc: Global, sender: &mut Sender, tsn: u32, blocks: &[(u16, u16)], due
     let Some(sack) = sack(alloc, tsn, blocks) else {
         return false;
     };
-    match sender.acked(&sack) {
-        Ok(acked) => are_taken_back(&acked.taken_back, due),
+    let answer = sender.acked(&sack);
+    drop(sack);
+    match answer {
+        Ok(acked) => {
+            let well = are_taken_back(&acked.taken_back, due);
+            drop(acked);
+            well
+        }
         Err(_) => false,
     }
 }
@@ -97,7 +107,7 @@ fn ten_are_sent(sender: &mut Sender, byte: &Bytes) -> bool {
             && sender
                 .write(1, PayloadProtocolIdentifier::Binary, byte)
                 .is_ok()
-            && matches!(sender.send_next(0), Ok(Some(_)));
+            && gives_some(sender.send_next(0));
     }
     well
 }
@@ -105,12 +115,17 @@ fn ten_are_sent(sender: &mut Sender, byte: &Bytes) -> bool {
 fn all_go(alloc: Global, sacks: &[Sack]) -> bool {
     let mut sender = Sender::new(alloc, 1, 3, 100, Reported::Keep);
     let mut well = match Bytes::copy_from_slice(alloc, b"a") {
-        Ok(byte) => ten_are_sent(&mut sender, &byte),
+        Ok(byte) => {
+            let sent = ten_are_sent(&mut sender, &byte);
+            drop(byte);
+            sent
+        }
         Err(_) => false,
     };
     for (tsn, blocks, due) in sacks {
         well = well && goes(alloc, &mut sender, *tsn, blocks, due);
     }
+    drop(sender);
     well
 }
 

@@ -1,5 +1,6 @@
 //! Two hosts, each with a sender and a receiver, which hand one another packets.
 
+use crate::ended::is_taken;
 use bytes::Bytes;
 use sctp_chunks::chunk::chunk_kind::ChunkKind;
 use sctp_chunks::chunk::chunk_payload_data::PayloadProtocolIdentifier;
@@ -46,10 +47,13 @@ impl Host {
     /// Whether a write to stream 1 is taken.
     pub fn writes(&mut self, alloc: Global, text: &[u8]) -> bool {
         match Bytes::copy_from_slice(alloc, text) {
-            Ok(bytes) => self
-                .sender
-                .write(1, PayloadProtocolIdentifier::Binary, &bytes)
-                .is_ok(),
+            Ok(bytes) => {
+                let written = self
+                    .sender
+                    .write(1, PayloadProtocolIdentifier::Binary, &bytes);
+                drop(bytes);
+                written.is_ok()
+            }
             Err(_) => false,
         }
     }
@@ -58,7 +62,7 @@ impl Host {
     fn takes(&mut self, chunk: &ChunkKind) -> bool {
         match chunk {
             ChunkKind::PayloadData(chunk) => self.receiver.data(chunk).is_ok(),
-            ChunkKind::SelectiveAck(chunk) => self.sender.acked(chunk).is_ok(),
+            ChunkKind::SelectiveAck(chunk) => is_taken(self.sender.acked(chunk)),
             ChunkKind::ForwardTsn(chunk) => self
                 .receiver
                 .forward_tsn(chunk, Closed::Refuse)
@@ -79,7 +83,11 @@ fn takes_last(to: &mut Host, packet: &Packet) -> bool {
 // Whether a packet's bytes are read, and its last chunk is taken.
 fn is_read(alloc: Global, to: &mut Host, raw: &Bytes) -> bool {
     match Packet::unmarshal(alloc, raw, &Zero) {
-        Ok(packet) => takes_last(to, &packet),
+        Ok(packet) => {
+            let taken = takes_last(to, &packet);
+            drop(packet);
+            taken
+        }
         Err(_) => false,
     }
 }
@@ -87,7 +95,11 @@ fn is_read(alloc: Global, to: &mut Host, raw: &Bytes) -> bool {
 // Whether a packet comes to a host as its bytes.
 fn comes(alloc: Global, to: &mut Host, packet: &Packet) -> bool {
     match packet.marshal(alloc, &Zero) {
-        Ok(raw) => is_read(alloc, to, &raw),
+        Ok(raw) => {
+            let taken = is_read(alloc, to, &raw);
+            drop(raw);
+            taken
+        }
         Err(_) => false,
     }
 }
@@ -102,13 +114,21 @@ fn arrives(alloc: Global, to: &mut Host, chunk: ChunkKind) -> bool {
         },
         chunks: Vec::new(alloc),
     };
-    packet.chunks.push(chunk).is_ok() && comes(alloc, to, &packet)
+    let taken = packet.chunks.push(chunk).is_ok() && comes(alloc, to, &packet);
+    drop(packet);
+    taken
 }
 
 /// Sends the next fragment; whether it came, unless it is lost.
 pub(crate) fn sends(alloc: Global, from: &mut Host, to: &mut Host, is_lost: bool) -> bool {
     match from.sender.send_next(0) {
-        Ok(Some(chunk)) => is_lost || arrives(alloc, to, ChunkKind::PayloadData(chunk)),
+        Ok(Some(chunk)) => {
+            if is_lost {
+                drop(chunk);
+                return true;
+            }
+            arrives(alloc, to, ChunkKind::PayloadData(chunk))
+        }
         _ => false,
     }
 }

@@ -6,6 +6,7 @@ ghost use Rattle.sctp_data.specs.SelectiveAck.{sack_of};
 ghost use Rattle.sctp_sender.specs.Costs.{is_left_out, to_sort};
 ghost use Rattle.sctp_sender.specs.Sender.{taken_back_by};
 
+use crate::ended::gives_none;
 use crate::host::{Host, acknowledges, sends, sends_again, skips};
 use crate::part::reads;
 use crate::sending::highest_acked;
@@ -19,6 +20,7 @@ use sctp_sender::sender::{Dropped, ExpiredMessage, ExpiredMessages, Reported, Se
 use sctp_sender::{costs, replay};
 use sctp_serial::turns::Turns;
 use std::alloc::Global;
+use std::mem::replace;
 
 /// A call on the sender of a host, and what it answers.
 pub(crate) enum Step {
@@ -120,15 +122,12 @@ fn sack(alloc: Global, tsn: u32, block: (u16, u16)) -> Option<ChunkSelectiveAck>
         duplicate_tsn: Vec::new(alloc),
     };
     let (start, end) = block;
-    if block != (0, 0)
-        && sack
-            .gap_ack_blocks
-            .push(GapAckBlock { start, end })
-            .is_err()
-    {
-        return None;
+    let is_made = block == (0, 0) || sack.gap_ack_blocks.push(GapAckBlock { start, end }).is_ok();
+    if is_made {
+        return Some(sack);
     }
-    Some(sack)
+    drop(sack);
+    None
 }
 
 // Whether the SACK acknowledges these chunks anew, or is refused so.
@@ -143,10 +142,13 @@ fn acknowledges_anew(
     } else {
         sender.acked(sack)
     };
-    match (answer, due) {
-        (Ok(acked), Ok(due)) => acked.released.as_slice() == *due,
-        (Err(e), Err(due)) => e == *due,
-        _ => false,
+    match answer {
+        Ok(acked) => {
+            let well = *due == Ok(acked.released.as_slice());
+            drop(acked);
+            well
+        }
+        Err(e) => *due == Err(e),
     }
 }
 
@@ -170,7 +172,11 @@ fn take_back(
 // Whether the SACK takes back these chunks.
 fn takes_back(sender: &mut Sender, sack: &ChunkSelectiveAck, due: &[TakenBack]) -> bool {
     match take_back(sender, sack, &mut Turns::new()) {
-        Ok(back) => back.as_slice() == due,
+        Ok(back) => {
+            let well = back.as_slice() == due;
+            drop(back);
+            well
+        }
         Err(_) => false,
     }
 }
@@ -178,7 +184,11 @@ fn takes_back(sender: &mut Sender, sack: &ChunkSelectiveAck, due: &[TakenBack]) 
 // Whether the SACK is taken, and takes back these chunks.
 fn is_taken(sender: &mut Sender, sack: &ChunkSelectiveAck, due: &[TakenBack]) -> bool {
     match sender.acked(sack) {
-        Ok(acked) => acked.taken_back.as_slice() == due,
+        Ok(acked) => {
+            let well = acked.taken_back.as_slice() == due;
+            drop(acked);
+            well
+        }
         Err(_) => false,
     }
 }
@@ -226,10 +236,12 @@ fn is_at(sender: &Sender, place: usize, due: &Option<(u32, u32, Option<u64>, boo
 fn sends_marked(sender: &mut Sender, now: u64, due: Option<u32>) -> bool {
     match sender.resend_next(now, usize::MAX) {
         Ok(Some(chunk)) => {
-            due == Some(chunk.tsn)
+            let well = due == Some(chunk.tsn)
                 && chunk.nsent == 2
                 && chunk.since == Some(now)
-                && !chunk.retransmit
+                && !chunk.retransmit;
+            drop(chunk);
+            well
         }
         Ok(None) => due.is_none(),
         Err(_) => false,
@@ -239,7 +251,11 @@ fn sends_marked(sender: &mut Sender, now: u64, due: Option<u32>) -> bool {
 // Whether the first chunk that is marked is sent again within so many bytes, and has this TSN.
 fn sends_within(sender: &mut Sender, room: usize, due: Option<u32>) -> bool {
     match sender.resend_next(1, room) {
-        Ok(Some(chunk)) => due == Some(chunk.tsn),
+        Ok(Some(chunk)) => {
+            let well = due == Some(chunk.tsn);
+            drop(chunk);
+            well
+        }
         Ok(None) => due.is_none(),
         Err(_) => false,
     }
@@ -247,16 +263,23 @@ fn sends_within(sender: &mut Sender, room: usize, due: Option<u32>) -> bool {
 
 // Whether the chunk with a TSN is sent again with these bytes, or is not.
 fn resends(sender: &mut Sender, tsn: u32, now: u64, due: &Result<&[u8], SenderRefusal>) -> bool {
-    match (sender.resend(tsn, now), due) {
-        (Ok(chunk), Ok(due)) => chunk.tsn == tsn && chunk.user_data.as_slice() == *due,
-        (Err(e), Err(due)) => e == *due,
-        _ => false,
+    match sender.resend(tsn, now) {
+        Ok(chunk) => {
+            let well = chunk.tsn == tsn && *due == Ok(chunk.user_data.as_slice());
+            drop(chunk);
+            well
+        }
+        Err(e) => *due == Err(e),
     }
 }
 
 fn sends_numbered(sender: &mut Sender, ssn: u16) -> bool {
     match sender.send_next(0) {
-        Ok(Some(chunk)) => chunk.stream_sequence_number == ssn,
+        Ok(Some(chunk)) => {
+            let well = chunk.stream_sequence_number == ssn;
+            drop(chunk);
+            well
+        }
         _ => false,
     }
 }
@@ -268,7 +291,11 @@ fn abandons(sender: &mut Sender, now: Option<u64>, due: &[AbandonedMessage]) -> 
         None => replay::expire_rexmit(sender),
     };
     match answer {
-        Ok(abandoned) => abandoned.as_slice() == due,
+        Ok(abandoned) => {
+            let well = abandoned.as_slice() == due;
+            drop(abandoned);
+            well
+        }
         Err(_) => false,
     }
 }
@@ -282,7 +309,11 @@ fn drops(
 ) -> bool {
     match sender.drop_expired(now) {
         Ok(Some(Dropped::Expired(gone))) => *run == Some(gone),
-        Ok(Some(Dropped::Abandoned(gone))) => run.is_none() && gone.as_slice() == due,
+        Ok(Some(Dropped::Abandoned(gone))) => {
+            let well = run.is_none() && gone.as_slice() == due;
+            drop(gone);
+            well
+        }
         Ok(None) => run.is_none() && due.is_empty(),
         Err(_) => false,
     }
@@ -290,17 +321,25 @@ fn drops(
 
 // Whether the FORWARD-TSN of at most so many bytes goes to a TSN and names so many streams.
 fn skips_within(sender: &Sender, bytes: usize, due: &Option<(u32, usize)>) -> bool {
-    match (sender.forward_tsn(bytes), due) {
-        (Ok(Some(skip)), Some(due)) => (skip.new_cumulative_tsn, skip.streams.len()) == *due,
-        (Ok(None), None) => true,
-        _ => false,
+    match sender.forward_tsn(bytes) {
+        Ok(Some(skip)) => {
+            let well = *due == Some((skip.new_cumulative_tsn, skip.streams.len()));
+            drop(skip);
+            well
+        }
+        Ok(None) => due.is_none(),
+        Err(_) => false,
     }
 }
 
 // Whether the FORWARD-TSN up to a TSN goes to this one, if anywhere.
 fn skips_to(sender: &Sender, tsn: u32, due: &Option<u32>) -> bool {
     match replay::forward_tsn_to(sender, tsn) {
-        Ok(Some(skip)) => *due == Some(skip.new_cumulative_tsn),
+        Ok(Some(skip)) => {
+            let well = *due == Some(skip.new_cumulative_tsn);
+            drop(skip);
+            well
+        }
         Ok(None) => due.is_none(),
         Err(_) => false,
     }
@@ -396,7 +435,7 @@ fn is_made(sender: &mut Sender, step: &Step) -> bool {
 // Whether a step on the sender goes so.
 fn is_done(sender: &mut Sender, step: &Step) -> bool {
     match step {
-        Idle => matches!(sender.send_next(0), Ok(None)),
+        Idle => gives_none(sender.send_next(0)),
         SendNumbered(ssn) => sends_numbered(sender, *ssn),
         SendMarked(now, due) => sends_marked(sender, *now, *due),
         SendWithin(room, due) => sends_within(sender, *room, *due),
@@ -418,7 +457,8 @@ fn is_done(sender: &mut Sender, step: &Step) -> bool {
 fn goes_between(alloc: Global, a: &mut Host, b: &mut Host, step: &Step) -> bool {
     match step {
         Keep(first_tsn) => {
-            a.sender = Sender::new(alloc, *first_tsn, 3, 100, Reported::Keep);
+            let kept = Sender::new(alloc, *first_tsn, 3, 100, Reported::Keep);
+            drop(replace(&mut a.sender, kept));
             true
         }
         Open => a.opens() && b.opens(),
@@ -447,7 +487,11 @@ fn goes(alloc: Global, a: &mut Host, b: &mut Host, step: &Step, counted: bool) -
         _ => return goes_between(alloc, a, b, step),
     };
     match sack(alloc, tsn, block) {
-        Some(sack) => sack_goes(&mut a.sender, &sack, step, counted),
+        Some(sack) => {
+            let well = sack_goes(&mut a.sender, &sack, step, counted);
+            drop(sack);
+            well
+        }
         None => false,
     }
 }

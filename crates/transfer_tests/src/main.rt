@@ -6,6 +6,7 @@
 mod bound_tests;
 mod counted_tests;
 mod cut_sack_tests;
+mod ended;
 mod host;
 mod hosts;
 mod log;

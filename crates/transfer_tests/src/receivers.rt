@@ -4,6 +4,7 @@ ghost use Rattle.std.specs.Prelude.{◌≡◌, ◌+◌, ◌*◌, ◌≤◌, leng
 ghost use Rattle.sctp_receiver.specs.SkipCosts.{held_fragments, held_messages};
 ghost use Rattle.sctp_receiver.specs.Visited.{to_visit};
 
+use crate::ended::{gives_some, is_taken};
 use crate::part::{chunk, reads};
 use crate::receiving::{acknowledge, take_chunk, take_or_discard, take_or_follow};
 use sctp_chunks::chunk::chunk_forward_tsn::{ChunkForwardTsn, ChunkForwardTsnStream};
@@ -135,8 +136,15 @@ fn take(
     counted: bool,
 ) -> Result<Arrival, ReceiverRefusal> {
     match made {
-        Ok(chunk) if counted => costs::data(receiver, &chunk, &mut Turns::new()),
-        Ok(chunk) => receiver.data(&chunk),
+        Ok(chunk) => {
+            let answer = if counted {
+                costs::data(receiver, &chunk, &mut Turns::new())
+            } else {
+                receiver.data(&chunk)
+            };
+            drop(chunk);
+            answer
+        }
         Err(_) => Err(ReceiverRefusal::OutOfMemory),
     }
 }
@@ -148,7 +156,11 @@ fn is_advised(
     want: Option<AbortCause>,
 ) -> bool {
     match made {
-        Ok(chunk) => take_or_follow(receiver, &chunk) == Ok(want),
+        Ok(chunk) => {
+            let well = take_or_follow(receiver, &chunk) == Ok(want);
+            drop(chunk);
+            well
+        }
         Err(_) => false,
     }
 }
@@ -171,8 +183,15 @@ fn part(
 // Whether one of the two callers answers so to a message of stream 1.
 fn is_called(alloc: Global, receiver: &mut Receiver, tsn: u32, drops: bool, want: bool) -> bool {
     match chunk(alloc, tsn, true, true, b"a") {
-        Ok(chunk) if drops => take_or_discard(receiver, &chunk) == Ok(want),
-        Ok(chunk) => take_chunk(receiver, &chunk) == Ok(want),
+        Ok(chunk) => {
+            let answer = if drops {
+                take_or_discard(receiver, &chunk)
+            } else {
+                take_chunk(receiver, &chunk)
+            };
+            drop(chunk);
+            answer == Ok(want)
+        }
         Err(_) => false,
     }
 }
@@ -215,7 +234,23 @@ fn reports(
     };
     match sack {
         Ok(sack) => {
-            sack.advertised_receiver_window_credit == window && says(&sack, tsn, blocks, duplicates)
+            let well = sack.advertised_receiver_window_credit == window
+                && says(&sack, tsn, blocks, duplicates);
+            drop(sack);
+            well
+        }
+        Err(_) => false,
+    }
+}
+
+// Whether a SACK was made, and has so many blocks and duplicates.
+fn has(made: Result<ChunkSelectiveAck, ReceiverRefusal>, blocks: usize, duplicates: usize) -> bool {
+    match made {
+        Ok(sack) => {
+            let well = sack.gap_ack_blocks.len() == blocks
+                && sack.duplicate_tsn.len() == duplicates;
+            drop(sack);
+            well
         }
         Err(_) => false,
     }
@@ -223,26 +258,16 @@ fn reports(
 
 // Whether the SACK for a packet of so many bytes has so many blocks and duplicates.
 fn fits(receiver: &mut Receiver, packet: usize, blocks: usize, duplicates: usize) -> bool {
-    if packet < 28 {
-        return false;
-    }
-    match acknowledge(receiver, packet) {
-        Ok(sack) => sack.gap_ack_blocks.len() == blocks && sack.duplicate_tsn.len() == duplicates,
-        Err(_) => false,
-    }
-}
-
-// Whether the SACK of at most so many bytes that is made has so many blocks and duplicates.
-fn makes(receiver: &Receiver, room: usize, blocks: usize, duplicates: usize) -> bool {
-    match receiver.make_sack(room) {
-        Ok(sack) => sack.gap_ack_blocks.len() == blocks && sack.duplicate_tsn.len() == duplicates,
-        Err(_) => false,
-    }
+    packet >= 28 && has(acknowledge(receiver, packet), blocks, duplicates)
 }
 
 fn are_readable(receiver: &Receiver, due: &[u16]) -> bool {
     match receiver.readable_streams() {
-        Ok(streams) => streams.as_slice() == due,
+        Ok(streams) => {
+            let well = streams.as_slice() == due;
+            drop(streams);
+            well
+        }
         Err(_) => false,
     }
 }
@@ -265,7 +290,9 @@ fn is_seen(receiver: &Receiver, step: &Step) -> bool {
         Streams(due) => streams_are(receiver, due),
         HasStats(stream, want) => receiver.stats(*stream).is_some() == *want,
         NothingBeyond => !receiver.has_gaps(),
-        MakeSack(room, blocks, duplicates) => makes(receiver, *room, *blocks, *duplicates),
+        MakeSack(room, blocks, duplicates) => {
+            has(receiver.make_sack(*room), *blocks, *duplicates)
+        }
         _ => false,
     }
 }
@@ -285,8 +312,8 @@ fn is_done(receiver: &mut Receiver, step: &Step) -> bool {
             true
         }
         Read(bytes) => reads(receiver, bytes),
-        ReadOf(stream, true) => matches!(receiver.read(*stream), Ok(Some(_))),
-        ReadOf(stream, false) => receiver.read(*stream).is_err(),
+        ReadOf(stream, true) => gives_some(receiver.read(*stream)),
+        ReadOf(stream, false) => !is_taken(receiver.read(*stream)),
         _ => is_seen(receiver, step),
     }
 }
@@ -306,7 +333,11 @@ fn goes(alloc: Global, receiver: &mut Receiver, step: &Step, counted: bool) -> b
         Take(tsn, want) => is_called(alloc, receiver, *tsn, false, *want),
         TakeOrDiscard(tsn, want) => is_called(alloc, receiver, *tsn, true, *want),
         Forward(way, tsn, names, want) => match named(alloc, *tsn, names) {
-            Ok(skip) => forward(receiver, &skip, *way, counted) == *want,
+            Ok(skip) => {
+                let answer = forward(receiver, &skip, *way, counted);
+                drop(skip);
+                answer == *want
+            }
             Err(_) => false,
         },
         Sack(tsn, blocks, duplicates) => reports(receiver, *tsn, blocks, duplicates, counted),

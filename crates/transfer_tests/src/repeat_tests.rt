@@ -25,7 +25,11 @@ fn comes(receiver: &mut Receiver, chunk: &ChunkPayloadData, times: u32) -> bool 
 // Whether so many duplicates are noted, of which one SACK reports 16,379 at most.
 fn notes(receiver: &Receiver, count: usize) -> bool {
     match make_sack(receiver, 0) {
-        Ok(sack) => sack.duplicate_tsn.len() == count,
+        Ok(sack) => {
+            let well = sack.duplicate_tsn.len() == count;
+            drop(sack);
+            well
+        }
         Err(_) => false,
     }
 }
@@ -36,7 +40,7 @@ fn is_bounded(receiver: &mut Receiver, chunk: &ChunkPayloadData) -> bool {
         && notes(receiver, 16_379)
         && receiver.discard(1) == Ok(Arrival::Repeat)
         && notes(receiver, 16_379)
-        && reports(receiver, 1, &[], 16_379)
+        && reports(receiver, 1, 16_379)
         && comes(receiver, chunk, 1)
         && receiver.discard(1) == Ok(Arrival::Repeat)
         && notes(receiver, 2)
@@ -50,11 +54,13 @@ fn both(alloc: Global, bounded: &mut Receiver, unbounded: &mut Receiver) -> bool
         && is_new(alloc, unbounded, 1, (true, true), b"a");
     match chunk(alloc, 1, true, true, b"a") {
         Ok(chunk) => {
-            ready
+            let well = ready
                 && is_bounded(bounded, &chunk)
                 && comes(unbounded, &chunk, 16_380)
-                && reports(unbounded, 1, &[], 16_379)
-                && reports(unbounded, 1, &[], 1)
+                && reports(unbounded, 1, 16_379)
+                && reports(unbounded, 1, 1);
+            drop(chunk);
+            well
         }
         Err(_) => false,
     }
@@ -64,5 +70,8 @@ fn both(alloc: Global, bounded: &mut Receiver, unbounded: &mut Receiver) -> bool
 pub(crate) fn repeats(alloc: Global) -> bool {
     let mut bounded = Receiver::new(alloc, 1, 100, Some(LIMITS));
     let mut unbounded = Receiver::new(alloc, 1, 100, None);
-    both(alloc, &mut bounded, &mut unbounded)
+    let well = both(alloc, &mut bounded, &mut unbounded);
+    drop(bounded);
+    drop(unbounded);
+    well
 }

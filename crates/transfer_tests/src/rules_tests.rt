@@ -18,15 +18,21 @@ fn empty(alloc: Global) -> Result<ChunkPayloadData, Error> {
 
 fn empty_comes(alloc: Global, receiver: &mut Receiver) -> bool {
     let complete = match empty(alloc) {
-        Ok(chunk) => receiver.data(&chunk) == Ok(Arrival::New { complete: true }),
+        Ok(chunk) => {
+            let answer = receiver.data(&chunk);
+            drop(chunk);
+            answer == Ok(Arrival::New { complete: true })
+        }
         Err(_) => false,
     };
-    complete && reports(receiver, 1, &[], 0) && reads(receiver, b"") && !receiver.is_readable(1)
+    complete && reports(receiver, 1, 0) && reads(receiver, b"") && !receiver.is_readable(1)
 }
 
 /// A DATA chunk without user data is read from its bytes and taken as a message of no bytes: it is acknowledged and read
 /// (RFC 4960 6.2).
 pub(crate) fn no_user_data(alloc: Global) -> bool {
     let mut receiver = Receiver::new(alloc, 1, 100, None);
-    receiver.open(1).is_ok() && empty_comes(alloc, &mut receiver)
+    let well = receiver.open(1).is_ok() && empty_comes(alloc, &mut receiver);
+    drop(receiver);
+    well
 }

@@ -781,6 +781,8 @@ fn goes_well(alloc: Global, tsns: (u32, u32), parts: [&[Step]; 2], counted: bool
     for steps in parts {
         well = well && all_go(alloc, &mut a, &mut b, steps, counted);
     }
+    drop(a);
+    drop(b);
     well
 }
 

@@ -48,7 +48,11 @@ fn is_whole(message: &Chunks) -> bool {
 // Whether the next piece of so many bytes has these bytes, or there is none.
 fn piece_is(alloc: Global, message: &mut Chunks, len: usize, bytes: Option<&[u8]>) -> bool {
     match message.next(alloc, len) {
-        Ok(Some(piece)) => bytes == Some(piece.bytes.as_slice()),
+        Ok(Some(piece)) => {
+            let well = bytes == Some(piece.bytes.as_slice());
+            drop(piece);
+            well
+        }
         Ok(None) => bytes.is_none(),
         Err(_) => false,
     }
@@ -57,7 +61,10 @@ fn piece_is(alloc: Global, message: &mut Chunks, len: usize, bytes: Option<&[u8]
 fn copy_gives_the_rest(alloc: Global, message: &Chunks) -> bool {
     match message.try_clone(alloc) {
         Ok(mut rest) => {
-            piece_is(alloc, &mut rest, 0, Some(b"")) && piece_is(alloc, &mut rest, 9, Some(b"d"))
+            let well = piece_is(alloc, &mut rest, 0, Some(b""))
+                && piece_is(alloc, &mut rest, 9, Some(b"d"));
+            drop(rest);
+            well
         }
         Err(_) => false,
     }
@@ -80,12 +87,16 @@ fn empty_is_a_piece(alloc: Global, message: &mut Chunks) -> bool {
 
 pub(crate) fn messages(alloc: Global) -> bool {
     let mut message = Chunks::new(0, PayloadProtocolIdentifier::String, Vec::new(alloc));
-    letters(alloc, &mut message) && is_whole(&message) && is_taken(alloc, &mut message)
+    let well = letters(alloc, &mut message) && is_whole(&message) && is_taken(alloc, &mut message);
+    drop(message);
+    well
 }
 
 pub(crate) fn empty_message(alloc: Global) -> bool {
     let mut message = Chunks::new(0, PayloadProtocolIdentifier::String, Vec::new(alloc));
-    empty_is_a_piece(alloc, &mut message)
+    let well = empty_is_a_piece(alloc, &mut message);
+    drop(message);
+    well
 }
 
 // Fragments of these TSNs.
@@ -125,7 +136,11 @@ fn tsns_are(set: &Fragments, want: &[u32]) -> bool {
 
 fn copy_stands_so(alloc: Global, set: &Fragments, want: &[u32]) -> bool {
     match set.try_clone(alloc) {
-        Ok(copy) => tsns_are(&copy, want),
+        Ok(copy) => {
+            let well = tsns_are(&copy, want);
+            drop(copy);
+            well
+        }
         Err(_) => false,
     }
 }
@@ -137,7 +152,11 @@ fn stand(alloc: Global, first: &[u32], tsns: &[u32], want: &[u32]) -> bool {
         return false;
     };
     let mut set = Fragments::new(0, PayloadProtocolIdentifier::Binary, chunks);
-    puts_all(alloc, &mut set, tsns) && tsns_are(&set, want) && copy_stands_so(alloc, &set, want)
+    let well = puts_all(alloc, &mut set, tsns)
+        && tsns_are(&set, want)
+        && copy_stands_so(alloc, &set, want);
+    drop(set);
+    well
 }
 
 // Each case: fragments that are given at once, those that are put in one after another, and the order in which they stand.
@@ -202,10 +221,16 @@ fn is_put(alloc: Global, set: &mut Fragments, want: Option<bool>) -> bool {
 
 pub(crate) fn a_run_is_found_round_its_place(alloc: Global) -> bool {
     let mut unassembled = Loose::new(alloc);
-    is_not_begun(alloc, &mut unassembled)
+    let well = is_not_begun(alloc, &mut unassembled);
+    drop(unassembled);
+    well
 }
 
 pub(crate) fn a_message_is_put_once(alloc: Global) -> bool {
     let mut set = Fragments::new(3, PayloadProtocolIdentifier::Binary, Vec::new(alloc));
-    is_put(alloc, &mut set, Some(true)) && is_put(alloc, &mut set, None) && set.ssn() == 3
+    let well = is_put(alloc, &mut set, Some(true))
+        && is_put(alloc, &mut set, None)
+        && set.ssn() == 3;
+    drop(set);
+    well
 }

@@ -1,5 +1,6 @@
 //! Worked examples of an outbound queue. Moments are nanoseconds; the lifetimes here are one millisecond.
 
+use crate::ended::is_there;
 use crate::log::check;
 use crate::queues::chunk::chunk;
 use bytes::Bytes;
@@ -308,6 +309,7 @@ fn push(queue: &mut OutboundQueue, chunks: Vec<ChunkPayloadData>) -> Result<(), 
     if queue.can_push(&chunks) {
         return queue.push(chunks);
     }
+    drop(chunks);
     Ok(())
 }
 
@@ -360,7 +362,11 @@ fn is_terminal_chunk(chunk: Option<&ChunkPayloadData>) -> bool {
 // Whether so many TSNs are late at this moment, each of them 10.
 fn are_late(alloc: Global, queue: &OutboundQueue, now: u64, want: usize) -> bool {
     match queue.expired_inflight(alloc, now) {
-        Ok(late) => late.len() == want && late.iter().all(|tsn| *tsn == 10),
+        Ok(late) => {
+            let well = late.len() == want && late.iter().all(|tsn| *tsn == 10);
+            drop(late);
+            well
+        }
         Err(_) => false,
     }
 }
@@ -446,7 +452,7 @@ fn is_seen(alloc: Global, queue: &OutboundQueue, step: &Step) -> bool {
 fn is_taken(queue: &mut OutboundQueue, step: &Step) -> bool {
     match step {
         Acked(tsn) => queue.mark_as_acked(*tsn) > 0,
-        Pop(tsn, want) => queue.pop(*tsn).is_some() == *want,
+        Pop(tsn, want) => is_there(queue.pop(*tsn)) == *want,
         Expire(now, want) => queue.expire_pending(*now) == *want,
         ExpireRun(now, want) => expires_together(queue, *now, want),
         Reserve => queue.reserve(1, 1).is_ok() && queue.reserve_inflight(3).is_ok(),
@@ -483,19 +489,21 @@ fn goes(alloc: Global, queue: &mut OutboundQueue, next_tsn: &mut u32, step: &Ste
     }
 }
 
-fn all_go(alloc: Global, queue: &mut OutboundQueue, first_tsn: u32, steps: &[Step]) -> bool {
+// Whether all steps go so with a new queue.
+fn goes_well(alloc: Global, first_tsn: u32, steps: &[Step]) -> bool {
+    let mut queue = OutboundQueue::new(alloc);
     let mut next_tsn = first_tsn;
     let mut well = true;
     for step in steps {
-        well = well && goes(alloc, queue, &mut next_tsn, step);
+        well = well && goes(alloc, &mut queue, &mut next_tsn, step);
     }
+    drop(queue);
     well
 }
 
 pub(crate) fn outbound_cases(alloc: Global, log: &mut Vec<u8>) {
     for (name, first_tsn, steps) in CASES {
-        let mut queue = OutboundQueue::new(alloc);
-        check(log, all_go(alloc, &mut queue, first_tsn, steps), name);
+        check(log, goes_well(alloc, first_tsn, steps), name);
     }
 }
 
@@ -535,7 +543,11 @@ fn answers(
     want: bool,
 ) -> bool {
     match two(alloc, begin, end, mixed) {
-        Ok(chunks) => queue.can_push(&chunks) == want,
+        Ok(chunks) => {
+            let well = queue.can_push(&chunks) == want;
+            drop(chunks);
+            well
+        }
         Err(_) => false,
     }
 }
@@ -557,5 +569,7 @@ fn takes_one_message(alloc: Global, queue: &OutboundQueue) -> bool {
 
 pub(crate) fn takes_one_message_of_one_kind_or_nothing(alloc: Global) -> bool {
     let mut queue = OutboundQueue::new(alloc);
-    takes_one_message(alloc, &queue) && nothing_is_pushed(&mut queue, Vec::new(alloc))
+    let well = takes_one_message(alloc, &queue) && nothing_is_pushed(&mut queue, Vec::new(alloc));
+    drop(queue);
+    well
 }

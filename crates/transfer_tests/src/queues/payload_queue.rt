@@ -1,5 +1,6 @@
 //! Worked examples of a payload queue.
 
+use crate::ended::is_there;
 use crate::log::check;
 use crate::queues::chunk::chunk;
 use sctp_data::chunk::chunk_selective_ack::GapAckBlock;
@@ -246,10 +247,14 @@ fn fills(queue: &mut PayloadQueue, after: u32, tsns: &[u32], counted: bool) -> b
 }
 
 fn can_push(queue: &PayloadQueue, tsn: u32, counted: bool) -> bool {
-    if counted {
-        return queue.can_push_counted(&chunk(tsn), 10, &mut Turns::new());
-    }
-    queue.can_push(&chunk(tsn), 10)
+    let one = chunk(tsn);
+    let well = if counted {
+        queue.can_push_counted(&one, 10, &mut Turns::new())
+    } else {
+        queue.can_push(&one, 10)
+    };
+    drop(one);
+    well
 }
 
 fn push_no_check(queue: &mut PayloadQueue, tsn: u32) -> bool {
@@ -261,7 +266,11 @@ fn push_no_check(queue: &mut PayloadQueue, tsn: u32) -> bool {
 
 fn prints(alloc: Global, queue: &PayloadQueue, after: u32, want: &str) -> bool {
     match queue.get_gap_ack_blocks_string(alloc, after) {
-        Ok(text) => text.as_str() == want,
+        Ok(text) => {
+            let well = text.as_str() == want;
+            drop(text);
+            well
+        }
         Err(_) => false,
     }
 }
@@ -287,7 +296,11 @@ fn has_blocks(
         queue.get_gap_ack_blocks(alloc, after)
     };
     match blocks {
-        Ok(blocks) => are_blocks(&blocks, want),
+        Ok(blocks) => {
+            let well = are_blocks(&blocks, want);
+            drop(blocks);
+            well
+        }
         Err(_) => false,
     }
 }
@@ -357,13 +370,18 @@ fn goes(alloc: Global, queue: &mut PayloadQueue, step: &Step, counted: bool) -> 
         }
         PushNoCheck(tsn) => push_no_check(queue, *tsn),
         Reserve(chunks) => queue.reserve(*chunks).is_ok(),
-        PopDuplicates(tsns) => queue.pop_duplicates(alloc).as_slice() == *tsns,
+        PopDuplicates(tsns) => {
+            let popped = queue.pop_duplicates(alloc);
+            let well = popped.as_slice() == *tsns;
+            drop(popped);
+            well
+        }
         PopUpTo(tsn) => {
             pop_up_to(queue, *tsn, counted);
             true
         }
-        Pop(tsn, want) => queue.pop(*tsn).is_some() == *want,
-        Take(tsn, want) => queue.take(*tsn).is_some() == *want,
+        Pop(tsn, want) => is_there(queue.pop(*tsn)) == *want,
+        Take(tsn, want) => is_there(queue.take(*tsn)) == *want,
         Acked(tsn, bytes) => queue.mark_as_acked(*tsn) == *bytes,
         MarkAll => {
             queue.mark_all_to_retransmit();
@@ -383,13 +401,19 @@ fn all_go(alloc: Global, queue: &mut PayloadQueue, steps: &[Step], counted: bool
     well
 }
 
+// Whether all steps go so with a new queue.
+fn goes_well(alloc: Global, steps: &[Step], counted: bool) -> bool {
+    let mut queue = PayloadQueue::new(alloc);
+    let well = all_go(alloc, &mut queue, steps, counted);
+    drop(queue);
+    well
+}
+
 /// Each case goes by the calls that count their turns as by those that do not.
 pub(crate) fn payload_cases(alloc: Global, log: &mut Vec<u8>) {
     for (name, steps) in CASES {
-        let mut queue = PayloadQueue::new(alloc);
-        check(log, all_go(alloc, &mut queue, steps, false), name);
-        queue = PayloadQueue::new(alloc);
-        check(log, all_go(alloc, &mut queue, steps, true), name);
+        check(log, goes_well(alloc, steps, false), name);
+        check(log, goes_well(alloc, steps, true), name);
     }
 }
 
@@ -406,7 +430,11 @@ const TAKEN: &[Step] = &[
 fn copy_stays(alloc: Global, queue: &mut PayloadQueue) -> bool {
     match queue.try_clone(alloc) {
         Ok(copy) => {
-            all_go(alloc, queue, TAKEN, false) && copy.len() == 3 && copy.get_num_bytes() == 3
+            let well = all_go(alloc, queue, TAKEN, false)
+                && copy.len() == 3
+                && copy.get_num_bytes() == 3;
+            drop(copy);
+            well
         }
         Err(_) => false,
     }
@@ -414,5 +442,7 @@ fn copy_stays(alloc: Global, queue: &mut PayloadQueue) -> bool {
 
 pub(crate) fn chunks_are_taken_out_and_a_copy_stays(alloc: Global) -> bool {
     let mut queue = PayloadQueue::new(alloc);
-    fills(&mut queue, 10, &[13, 11, 12], false) && copy_stays(alloc, &mut queue)
+    let well = fills(&mut queue, 10, &[13, 11, 12], false) && copy_stays(alloc, &mut queue);
+    drop(queue);
+    well
 }

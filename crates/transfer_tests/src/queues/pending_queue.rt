@@ -25,6 +25,7 @@ fn push(queue: &mut PendingQueue, chunk: ChunkPayloadData) -> Result<(), Error>
     if queue.get_num_bytes() < 1000 {
         return queue.push(chunk);
     }
+    drop(chunk);
     Ok(())
 }
 
@@ -39,7 +40,11 @@ fn is_of(chunk: Option<&ChunkPayloadData>, want: u64) -> bool {
 // Whether the chunk that is popped is of this message, or there is none.
 fn pops(queue: &mut PendingQueue, begins: bool, unordered: bool, want: Option<u64>) -> bool {
     match queue.pop(begins, unordered) {
-        Some(chunk) => want == Some(chunk.message_id),
+        Some(chunk) => {
+            let well = want == Some(chunk.message_id);
+            drop(chunk);
+            well
+        }
         None => want.is_none(),
     }
 }
@@ -64,14 +69,20 @@ fn ordered_is_popped(queue: &mut PendingQueue) -> bool {
 
 pub(crate) fn unordered_goes_first(alloc: Global) -> bool {
     let mut queue = PendingQueue::new(alloc);
-    unordered_is_first(&mut queue) && ordered_is_popped(&mut queue)
+    let well = unordered_is_first(&mut queue) && ordered_is_popped(&mut queue);
+    drop(queue);
+    well
 }
 
 // Whether so many bytes of this message are removed, and the last chunk of them is of this one.
 fn removes(queue: &mut PendingQueue, message: u64, bytes: usize, last: Option<u64>) -> bool {
     let (removed, chunk) = queue.remove_message(message);
     match chunk {
-        Some(chunk) => removed == bytes && last == Some(chunk.message_id),
+        Some(chunk) => {
+            let well = removed == bytes && last == Some(chunk.message_id);
+            drop(chunk);
+            well
+        }
         None => removed == bytes && last.is_none(),
     }
 }
@@ -100,5 +111,7 @@ pub(crate) fn a_message_with_no_end_stays_partially_sent(alloc: Global) -> bool 
     let well = half_is_sent(&mut queue);
     queue.start_timed_messages(0, 5);
     queue.compact_ordered_ssns(1);
-    well && next_is_unchanged(&queue)
+    let well = well && next_is_unchanged(&queue);
+    drop(queue);
+    well
 }

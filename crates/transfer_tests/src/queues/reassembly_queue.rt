@@ -1,5 +1,6 @@
 //! Worked examples of a reassembly queue. Where sets stand is worked out from the order of serial numbers by hand.
 
+use crate::ended::{gives_none, is_there};
 use crate::log::check;
 use crate::queues::part::{FIRST, LAST, MIDDLE, WHOLE, ordered, unordered};
 use sctp_data::chunk::chunk_payload_data::ChunkPayloadData;
@@ -390,7 +391,18 @@ fn judged(answer: Result<bool, Error>, want: Option<bool>) -> bool {
     }
 }
 
-// Whether a fragment is taken so. The call that counts its turns is asked first whether the message is too long.
+// Whether a fragment is taken so by the call that counts its turns, once it is asked whether the message is too long.
+fn comes_counted(
+    queue: &mut ReassemblyQueue,
+    fragment: ChunkPayloadData,
+    want: Option<bool>,
+) -> bool {
+    let mut turns = Turns::new();
+    let is_foreseen = queue.is_too_large_counted(&fragment, &mut turns) == want.is_none();
+    judged(queue.push_counted(fragment, &mut turns), want) && is_foreseen
+}
+
+// Whether a fragment is taken so.
 fn comes(
     queue: &mut ReassemblyQueue,
     fragment: Result<ChunkPayloadData, Error>,
@@ -400,12 +412,10 @@ fn comes(
     let Ok(fragment) = fragment else {
         return false;
     };
-    let mut turns = Turns::new();
-    if !counted {
-        return judged(queue.push(fragment), want);
+    if counted {
+        return comes_counted(queue, fragment, want);
     }
-    queue.is_too_large_counted(&fragment, &mut turns) == want.is_none()
-        && judged(queue.push_counted(fragment, &mut turns), want)
+    judged(queue.push(fragment), want)
 }
 
 // Whether the message has these bytes, at most eight.
@@ -417,7 +427,11 @@ fn has_bytes(message: &Chunks, bytes: &[u8]) -> bool {
 // Whether the next piece of at most three bytes is this one, or none is left for none.
 fn piece_is(alloc: Global, message: &mut Chunks, bytes: &[u8]) -> bool {
     match message.next_counted(alloc, 3, &mut Turns::new()) {
-        Ok(Some(piece)) => piece.bytes.as_slice() == bytes,
+        Ok(Some(piece)) => {
+            let well = piece.bytes.as_slice() == bytes;
+            drop(piece);
+            well
+        }
         Ok(None) => bytes.is_empty(),
         Err(_) => false,
     }
@@ -433,9 +447,11 @@ fn reads(alloc: Global, queue: &mut ReassemblyQueue, bytes: &[u8], counted: bool
     let (first, rest) = bytes.split_at(bytes.len().min(3));
     match message {
         Some(mut message) => {
-            has_bytes(&message, bytes)
+            let well = has_bytes(&message, bytes)
                 && piece_is(alloc, &mut message, first)
-                && piece_is(alloc, &mut message, rest)
+                && piece_is(alloc, &mut message, rest);
+            drop(message);
+            well
         }
         None => false,
     }
@@ -510,9 +526,9 @@ fn goes(alloc: Global, queue: &mut ReassemblyQueue, step: &Step, counted: bool) 
             comes(queue, unordered(alloc, *tsn, *flags, bytes), *want, counted)
         }
         Read(bytes) => reads(alloc, queue, bytes, counted),
-        Unreadable => !queue.is_readable() && queue.read().is_none(),
+        Unreadable => !queue.is_readable() && !is_there(queue.read()),
         Reset(tsn) => queue.reset(*tsn).is_ok(),
-        NoneFound => matches!(queue.find_complete_unordered_chunk_set(alloc), Ok(None)),
+        NoneFound => gives_none(queue.find_complete_unordered_chunk_set(alloc)),
         SkipOrdered(_) | SkipUnordered(_) | SkipIncomplete(_) | SkipBounded(_) | Subtract(_) => {
             skip(queue, step, counted);
             true
@@ -529,13 +545,19 @@ fn all_go(alloc: Global, queue: &mut ReassemblyQueue, steps: &[Step], counted: b
     well
 }
 
+// Whether all steps go so with a new queue.
+fn goes_well(alloc: Global, most: u32, steps: &[Step], counted: bool) -> bool {
+    let mut queue = ReassemblyQueue::new(alloc, 1, most);
+    let well = all_go(alloc, &mut queue, steps, counted);
+    drop(queue);
+    well
+}
+
 /// Each case goes by the calls that count their turns as by those that do not.
 pub(crate) fn reassembly_cases(alloc: Global, log: &mut Vec<u8>) {
     for (name, most, steps) in CASES {
-        let mut queue = ReassemblyQueue::new(alloc, 1, most);
-        check(log, all_go(alloc, &mut queue, steps, false), name);
-        queue = ReassemblyQueue::new(alloc, 1, most);
-        check(log, all_go(alloc, &mut queue, steps, true), name);
+        check(log, goes_well(alloc, most, steps, false), name);
+        check(log, goes_well(alloc, most, steps, true), name);
     }
 }
 
@@ -543,8 +565,10 @@ pub(crate) fn reassembly_cases(alloc: Global, log: &mut Vec<u8>) {
 fn copy_stays(alloc: Global, queue: &mut ReassemblyQueue) -> bool {
     match queue.try_clone(alloc) {
         Ok(copy) => {
-            all_go(alloc, queue, SKIPPED_HALF, false)
-                && unassembled_are(&copy, &[2147483654, 4, 5, 6, 2147483653])
+            let well = all_go(alloc, queue, SKIPPED_HALF, false)
+                && unassembled_are(&copy, &[2147483654, 4, 5, 6, 2147483653]);
+            drop(copy);
+            well
         }
         Err(_) => false,
     }
@@ -567,7 +591,9 @@ fn leaves_nothing(alloc: Global, queue: &mut ReassemblyQueue) -> bool {
 
 pub(crate) fn a_push_is_undone_and_a_copy_stays(alloc: Global) -> bool {
     let mut queue = ReassemblyQueue::new(alloc, 1, 100);
-    leaves_nothing(alloc, &mut queue)
+    let well = leaves_nothing(alloc, &mut queue)
         && all_go(alloc, &mut queue, HALF_CIRCLE, false)
-        && copy_stays(alloc, &mut queue)
+        && copy_stays(alloc, &mut queue);
+    drop(queue);
+    well
 }
