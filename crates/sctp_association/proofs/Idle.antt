@@ -1,5 +1,6 @@
 -- When nothing was put into a packet, and why.
-use Rattle.std.proofs.Common.{◌≡◌, ◌≢◌, ◌⊎◌, inl, inr, ℕ, ◌+◌, ◌*◌, ◌-◌, ◌<◌, ◌≤◌, Bool, true, false, List, [], ◌∷◌, ◌++◌, length, Option, Some, None, Result, Ok, Err, refl, ap, sym, subst}
+use Rattle.std.proofs.Common.{◌≡◌, ◌≢◌, ◌⊎◌, inl, inr, ℕ, ◌+◌, ◌*◌, ◌-◌, ◌<◌, ◌≤◌, Bool, true, false, List, [], ◌∷◌, ◌++◌, length, Option, Some, None, Result}
+use Rattle.std.proofs.Common.{Ok, Err, refl, ap, sym, subst}
 use Rattle.std.proofs.Common.{◌∙◌, arith, length-append}
 use Rattle.std.specs.Prelude.{◌^◌, IfOk, IfSome, OnOk, find, if◌then◌else◌, max, min, slice_get}
 use Rattle.std.specs.List.{count_by}
@@ -11,7 +12,7 @@ use Rattle.sctp_association.proofs.Making.{of-some, some-none, told-once}
 use Rattle.sctp_association.specs.Idle.{IsMarkedBehind, WaitsBehind, in_flight}
 use Rattle.sctp_association.specs.Packets.{Adds, with_chunks}
 use Rattle.sctp_chunks.proofs.Lengths.{length_data_value, length_sack_value}
-use Rattle.sctp_chunks.specs.Wire.{HasEncoding, Wire, data_chunk, sack_chunk, value_of}
+use Rattle.sctp_chunks.specs.Wire.{HasEncoding, HasForm, Wire, cookie_ack_chunk, data_chunk, sack_chunk, shutdown_ack_chunk, shutdown_chunk, value_of}
 use Rattle.sctp_data.specs.declared.chunk.chunk_payload_data.ChunkPayloadData.{ChunkPayloadData}
 use Rattle.sctp_data.specs.PayloadData.{data_of}
 use Rattle.sctp_data.specs.SelectiveAck.{Sack}
@@ -23,11 +24,13 @@ use Rattle.sctp_packets.proofs.Written.{length_padded_encoding}
 use Rattle.sctp_packets.specs.Draft.{IsDraft}
 use Rattle.sctp_packets.specs.Packet.{Parts, body_of, head_of, padded_encoding}
 use Rattle.sctp_delivery.specs.SenderCalls.{next_chunk}
+use Rattle.sctp_path.specs.Timers.{Delay}
 use Rattle.sctp_sender.proofs.Sent.{as-noted}
 use Rattle.sctp_sender.specs.Flight.{Flight}
 use Rattle.sctp_sender.specs.Resending.{count_again, fits, if_it_fits, is_to_resend, next_within, sent_again}
 use Rattle.sctp_sender.specs.Sender.{Transmission}
 use Rattle.sctp_serial.specs.DataChunks.{has_tsn}
+use Rattle.sctp_util.proofs.Fields.{length_be32}
 use Rattle.sctp_util.specs.Padding.{four_zeroes, padded_length, padding_of}
 
 -- ## What is found
@@ -114,6 +117,38 @@ sack_fits s old limit fit few head least =
     let zeros : padding_of (4 + length (value_of w)) ≡ 0 = ap padding_of four ∙ omega arith in
     ((tt, omega (arith, few, value)), omega (arith, fit, head, least, four, zeros, length_padded_encoding w))
 
+-- so can a chunk of so few bytes, without padding
+small-fits : (k : ℕ) (w : Wire) (old limit : ℕ) → HasForm w → 4 + length (value_of w) ≡ k → padding_of k ≡ 0 → k ≤ 8 → old ≤ 12 → 28 ≤ limit
+    → HasEncoding w × (old + length (padded_encoding w) ≤ limit)
+small-fits k w old limit form size none few head least =
+    let zeros : padding_of (4 + length (value_of w)) ≡ 0 = ap padding_of size ∙ none in
+    ((form, omega (arith, size, few)), omega (arith, size, few, head, least, zeros, length_padded_encoding w))
+
+-- COOKIE-ACK, SHUTDOWN-ACK and SHUTDOWN are put where there is no other chunk
+module _ (old new : List ℕ) (limit : ℕ) (put : Bool) (grown : length old ≤ length new) (head : 12 ≤ length old) (short : length new ≤ 12)
+    (least : 28 ≤ limit) (not : put ≡ false) where
+  small-put : (k : ℕ) (w : Wire) → HasForm w → 4 + length (value_of w) ≡ k → padding_of k ≡ 0 → k ≤ 8
+      → (HasEncoding w → 12 ≤ length old → length old + length (padded_encoding w) ≤ limit → put ≡ true) → ⊥
+  small-put k w form size none few fits =
+      let h = small-fits k w (length old) limit form size none few (omega (arith, grown, short)) least in
+      false≢true (sym not ∙ fits h.0 head h.1)
+
+  pub cookie_ack_put : (HasEncoding cookie_ack_chunk → 12 ≤ length old → length old + length (padded_encoding cookie_ack_chunk) ≤ limit → put ≡ true) → ⊥
+  cookie_ack_put fits = small-put 4 cookie_ack_chunk tt refl refl (omega arith) fits
+
+  pub shutdown_ack_put : (HasEncoding shutdown_ack_chunk → 12 ≤ length old → length old + length (padded_encoding shutdown_ack_chunk) ≤ limit → put ≡ true)
+      → ⊥
+  shutdown_ack_put fits = small-put 4 shutdown_ack_chunk tt refl refl (omega arith) fits
+
+  pub shutdown_put : (n : ℕ)
+      → (HasEncoding (shutdown_chunk n) → 12 ≤ length old → length old + length (padded_encoding (shutdown_chunk n)) ≤ limit → put ≡ true) → ⊥
+  shutdown_put n fits = small-put 8 (shutdown_chunk n) tt (omega (arith, length_be32 n)) refl (omega arith) fits
+
+-- what was not due is not where it stays so
+pub no_shutdown : (x y : Bool) (d e : Option Delay) → (x ≡ false → y ≡ false) → e ≡ d → (x ≡ false) ⊎ (d ≡ None) → (y ≡ false) ⊎ (e ≡ None)
+no_shutdown x y d e stays same (inl none) = inl (stays none)
+no_shutdown x y d e stays same (inr none) = inr (same ∙ none)
+
 -- ## What is sent
 
 resent-if : (now room : ℕ) (chunk c : ChunkPayloadData) (b : Bool) → fits room c ≡ b
@@ -138,7 +173,8 @@ sent_fits now room t c chunk e is h =
     subst (λ (m : ChunkPayloadData). fits room m ≡ true) (as-noted t.flight.queue t.flight.next_tsn now c chunk e is) h
 
 -- where it was found to fit
-pub fits_so : (n room : ℕ) (c : ChunkPayloadData) → n ≡ min (16 + padded_length (length c.user_data)) (2 ^ 64 - 1) → n ≤ room → room ≤ 65535 → fits room c ≡ true
+pub fits_so : (n room : ℕ) (c : ChunkPayloadData) → n ≡ min (16 + padded_length (length c.user_data)) (2 ^ 64 - 1) → n ≤ room → room ≤ 65535
+    → fits room c ≡ true
 fits_so n room c is le most = le-leb _ room (omega (arith, is, le, most))
 
 -- what is sent fits, where it is lent by its TSN
@@ -192,6 +228,10 @@ both_so A B C (Err e) f a b = tt
 
 pub ok_is : {X E : Type 0} (P : X → Type 0) (r : Result X E) (x : X) → r ≡ Ok x → IfOk r P → P x
 ok_is P r x e h = subst (λ r. IfOk r P) e h
+
+pub on_ok : {X E P : Type 0} (r : Result X E) → P → OnOk r P
+on_ok (Ok x) h = h
+on_ok (Err e) h = tt
 
 pub on_ok_so : {X E P Q : Type 0} (r : Result X E) → (Q → P) → OnOk r Q → OnOk r P
 on_ok_so (Ok x) f h = f h

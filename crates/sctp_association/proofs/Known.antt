@@ -4,7 +4,7 @@ use Rattle.std.proofs.lemmas.Bool.{false≢true}
 use Rattle.std.proofs.lemmas.Option.{none-some}
 use Rattle.std.specs.Prelude.{nat_lt, if◌then◌else◌}
 use Rattle.sctp_association.specs.Beginnings.{KeepsPeer, KnowsNoMore, is_asking, is_standing}
-use Rattle.sctp_association.specs.Kept.{IsKept, IsUnmoved, OwesNoMore, ticket_due}
+use Rattle.sctp_association.specs.Kept.{IsKept, IsUnmoved, OwesLess, OwesNoMore, ticket_due}
 use Rattle.sctp_association.specs.declared.association.Association.{Association}
 use Rattle.sctp_association.specs.declared.due.Due.{Due}
 use Rattle.sctp_handshake.specs.Answers.{silent}
@@ -215,6 +215,29 @@ unmoved_keeps a b u = record {
   owes = λ t e. sym (ap ticket_due u.alone) ∙ e;
 }
 
+pub owes_alike : (d : Due) → OwesLess d d
+owes_alike d = record { cookie_ack = λ e. e; shutdown = λ e. e; shutdown_ack = λ e. e; heartbeat = λ e. e }
+
+pub unmoved_same : (a : Association) → IsUnmoved a a
+unmoved_same a = record {
+  config = refl;
+  key = refl;
+  machine = refl;
+  alone = refl;
+  events = refl;
+  over = refl;
+  failures = refl;
+  due = owes_alike a.due;
+}
+
+less_then : {d e f : Due} → OwesLess d e → OwesLess e f → OwesLess d f
+less_then h k = record {
+  cookie_ack = λ e. k.cookie_ack (h.cookie_ack e);
+  shutdown = λ e. k.shutdown (h.shutdown e);
+  shutdown_ack = λ e. k.shutdown_ack (h.shutdown_ack e);
+  heartbeat = λ e. k.heartbeat (h.heartbeat e);
+}
+
 pub unmoved_then : (a b c : Association) → IsUnmoved a b → IsUnmoved b c → IsUnmoved a c
 unmoved_then a b c f g = record {
   config = g.config ∙ f.config;
@@ -223,4 +246,6 @@ unmoved_then a b c f g = record {
   alone = g.alone ∙ f.alone;
   events = g.events ∙ f.events;
   over = g.over ∙ f.over;
+  failures = g.failures ∙ f.failures;
+  due = less_then f.due g.due;
 }

@@ -33,6 +33,7 @@ pub mod Cut
 pub mod Named
 pub mod Fronts
 pub mod Noting
+pub mod Counted
 pub mod Idle
 pub mod HostSteps
 pub mod Tsns
@@ -49,4 +50,5 @@ pub mod SetupPairs
 pub mod PairOrder
 pub mod Telling
 pub mod Told
+pub mod Lasting
 pub mod Pairs

@@ -4,7 +4,7 @@ use Rattle.std.proofs.lemmas.Bool.{false≢true}
 use Rattle.std.proofs.lemmas.List.Elements.{Contains-append_left}
 use Rattle.std.specs.List.{AllByRecursion}
 use Rattle.std.specs.Result.{IsErr}
-use Rattle.sctp_association.proofs.Known.{unmoved_then}
+use Rattle.sctp_association.proofs.Known.{unmoved_same, unmoved_then}
 use Rattle.sctp_association.proofs.Putting.{shutdown_put, adds_none, adds_then, all_append, all_of_more, all_put, nothing}
 use Rattle.sctp_association.proofs.Running.{none_in, none_sent, reported_in, sent_then}
 use Rattle.sctp_association.specs.declared.association.Association.{Association}
@@ -36,6 +36,10 @@ others_none a b h u e = record {
   plain = tt;
   kept = u;
 }
+
+-- nothing is put, and nothing changes
+pub others_same : (a b : Association) → b ≡ a → PutsOthers a b
+others_same a b is = subst (PutsOthers a) (sym is) (others_none a a (record { sender = refl; receiver = refl }) (unmoved_same a) refl)
 
 pub others_then : (a b c : Association) → PutsOthers a b → PutsOthers b c → PutsOthers a c
 others_then a b c p q = record {

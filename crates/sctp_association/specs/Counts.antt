@@ -1,5 +1,5 @@
 -- What an association and its streams count.
-use Rattle.std.specs.Prelude.{◌≡◌, ◌≤◌, ℕ, Option, Some, None}
+use Rattle.std.specs.Prelude.{◌≡◌, ◌⊎◌, ◌≤◌, ℕ, Option, Some, None}
 use Rattle.std.specs.Option.{option_map}
 use Rattle.sctp_association.specs.declared.association.Association.{Association}
 use Rattle.sctp_association.specs.declared.association.stats.Stats.{Stats}
@@ -26,10 +26,25 @@ pub record IsCountedAlike (old new : Outbound) : Type 0 where
   pub resent : new.resent ≡ old.resent
   pub timeouts : new.timeouts ≡ old.timeouts
 
+-- so of what is sent new: no failure is counted or forgotten either, and T3-rtx and the RTO stay
+pub record CountsNone (old new : Outbound) : Type 0 where
+  pub resent : new.resent ≡ old.resent
+  pub timeouts : new.timeouts ≡ old.timeouts
+  pub failures : new.failures ≡ old.failures
+  pub rto : new.rto ≡ old.rto
+  pub timer : new.timer ≡ old.timer
+
 -- chunks may be sent again, and nothing else is counted
-pub record IsCountedOn (old new : Outbound) : Type 0 where
+pub record IsCountedAlong (old new : Outbound) : Type 0 where
   pub resent : old.resent ≤ new.resent
   pub timeouts : new.timeouts ≡ old.timeouts
+  pub failures : new.failures ≡ old.failures
+  pub rto : new.rto ≡ old.rto
+
+-- so it is, and T3-rtx may be stopped
+pub record IsCountedOn (old new : Outbound) : Type 0 where
+  pub along : IsCountedAlong old new
+  pub timer : (new.timer.at ≡ old.timer.at) ⊎ (new.timer.at ≡ None)
 
 -- ## A stream
 

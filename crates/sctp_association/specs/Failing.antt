@@ -1,11 +1,19 @@
 -- What is counted until an association is over (RFC 9260 4, 8.1, 9.2).
-use Rattle.std.specs.Prelude.{◌≡◌, ◌≤◌, false, true, is_some}
+use Rattle.std.specs.Prelude.{◌≡◌, ◌≤◌, false, true, Option, Some, None, is_some}
 use Rattle.sctp_association.specs.declared.association.Association.{Association}
+use Rattle.sctp_association.specs.declared.due.Alone.{Alone}
+use Rattle.sctp_association.specs.declared.due.AloneKind.{AloneKind}
 use Rattle.sctp_handshake.specs.declared.machine.Machine.{Machine}
+use Rattle.sctp_handshake.specs.declared.offer.Offer.{Offer}
 use Rattle.sctp_handshake.specs.declared.state.State.TheVariants.{ShutdownSent}
 use Rattle.sctp_handshake.specs.Timeouts.{on_timed_out}
 use Rattle.sctp_path.specs.declared.failures.Failures.{Failures}
 use Rattle.sctp_path.specs.Timers.{is_passed, one_more}
+
+-- the packet by which an association ends, to the peer, where one is known (RFC 9260 9.1)
+abbrev pub farewell_to : AloneKind → Option Offer → Option Alone
+farewell_to kind None = None
+farewell_to kind (Some peer) = Some (record { tag = peer.tag; kind = kind })
 
 -- one failure more at least is counted, and the limit is not passed
 pub record IsCounted (old new : Failures) : Type 0 where

@@ -1,5 +1,5 @@
 -- What waits for a SACK or a timer, where nothing more leaves (RFC 9260 6.1, 6.2, 6.3).
-use Rattle.std.specs.Prelude.{◌≡◌, ◌≢◌, ℕ, ◌-◌, ◌<◌, Bool, true, false, List, [], Option, IfSome, find, is_some}
+use Rattle.std.specs.Prelude.{◌≡◌, ◌≢◌, ◌⊎◌, ℕ, ◌-◌, ◌<◌, Bool, true, false, List, [], Option, None, IfSome, find, is_some}
 use Rattle.std.specs.Option.{option_map}
 use Rattle.sctp_association.specs.declared.association.Association.{Association}
 use Rattle.sctp_association.specs.declared.outbound.Outbound.{Outbound}
@@ -72,6 +72,27 @@ sack_delay a = option_map (λ i. i.delay) a.inbound
 
 abbrev pub HasNoSackDue : ℕ → Association → Type 0
 HasNoSackDue now a = IfSome (sack_delay a) (λ d. is_due now d.due ≡ false)
+
+-- ## Replies
+
+-- it goes on with a peer that is known, and is not in the state in which a COOKIE-ECHO goes alone (5.1 C)
+pub record MayReply (a : Association) : Type 0 where
+  pub going : a.is_over ≡ false
+  pub known : is_some a.machine.peer ≡ true
+  pub state : a.machine.state ≢ CookieEchoed
+
+-- no SHUTDOWN is due, where there is a receiver whose TSN it acknowledges, no SHUTDOWN-ACK, and no answer to a HEARTBEAT (8.3, 9.2)
+pub record OwesNoControl (a : Association) : Type 0 where
+  pub shutdown : (a.due.shutdown ≡ false) ⊎ (sack_delay a ≡ None)
+  pub shutdown_ack : a.due.shutdown_ack ≡ false
+  pub heartbeat : a.due.heartbeat ≡ None
+
+-- and no COOKIE-ACK (5.1 D)
+pub record OwesNone (a : Association) : Type 0 where
+  pub cookie_ack : a.due.cookie_ack ≡ false
+  pub control : OwesNoControl a
+
+-- ## Where nothing leaves
 
 -- no SACK is due. What waits, or is to be sent again, waits for a SACK, and T3-rtx runs where something is in flight
 pub record IsIdle (now : ℕ) (a : Association) : Type 0 where

@@ -1,9 +1,10 @@
 -- What of an association stays: what it begins by, and the INIT ACK that is due (RFC 9260 5.1).
-use Rattle.std.specs.Prelude.{◌≡◌, Option, Some, None}
+use Rattle.std.specs.Prelude.{◌≡◌, false, Option, Some, None}
 use Rattle.sctp_association.specs.declared.association.Association.{Association}
 use Rattle.sctp_association.specs.declared.due.Alone.{Alone}
 use Rattle.sctp_association.specs.declared.due.AloneKind.{AloneKind}
 use Rattle.sctp_association.specs.declared.due.AloneKind.TheVariants.{InitAck}
+use Rattle.sctp_association.specs.declared.due.Due.{Due}
 use Rattle.sctp_handshake.specs.declared.ticket.Ticket.{Ticket}
 
 -- ## The INIT ACK that is due
@@ -34,7 +35,14 @@ pub record IsKept (old new : Association) : Type 0 where
   pub machine : new.machine ≡ old.machine
   pub owes : OwesNoMore old new
 
--- and the same reply is due. What waits to be told stays, and the association is over if it was
+-- of these replies none is due that was not
+pub record OwesLess (old new : Due) : Type 0 where
+  pub cookie_ack : old.cookie_ack ≡ false → new.cookie_ack ≡ false
+  pub shutdown : old.shutdown ≡ false → new.shutdown ≡ false
+  pub shutdown_ack : old.shutdown_ack ≡ false → new.shutdown_ack ≡ false
+  pub heartbeat : old.heartbeat ≡ None → new.heartbeat ≡ None
+
+-- and the same reply is due. What waits to be told stays, the association is over if it was, and no failure is counted or forgotten
 pub record IsUnmoved (old new : Association) : Type 0 where
   pub config : new.config ≡ old.config
   pub key : new.key ≡ old.key
@@ -42,3 +50,5 @@ pub record IsUnmoved (old new : Association) : Type 0 where
   pub alone : new.due.alone ≡ old.due.alone
   pub events : new.events ≡ old.events
   pub over : new.is_over ≡ old.is_over
+  pub failures : new.outbound.failures ≡ old.outbound.failures
+  pub due : OwesLess old.due new.due

@@ -17,6 +17,7 @@ pub mod HostCalls
 pub mod Hosts
 pub mod Idle
 pub mod Kept
+pub mod Lasting
 pub mod Links
 pub mod Lives
 pub mod Once

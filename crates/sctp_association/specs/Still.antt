@@ -1,5 +1,6 @@
 -- When something is to be done though nothing comes (RFC 9260 5.1, 6.3.2, 9.2; RFC 6525 5.1.1).
-use Rattle.std.specs.Prelude.{◌≡◌, ℕ, ◌-◌, ◌^◌, ◌==◌, ◌<◌, ◌≤◌, ◌⊎◌, max, Bool, true, false, not, ◌&&◌, ◌||◌, if◌then◌else◌, [], Option, Some, None, is_some, is_none}
+use Rattle.std.specs.Prelude.{◌≡◌, ℕ, ◌-◌, ◌^◌, ◌==◌, ◌<◌, ◌≤◌, ◌⊎◌, max, Bool, true, false, not, ◌&&◌, ◌||◌, if◌then◌else◌, [], Option, Some, None, is_some}
+use Rattle.std.specs.Prelude.{is_none}
 use Rattle.sctp_association.specs.declared.association.Association.{Association}
 use Rattle.sctp_association.specs.Sending.{is_none_of}
 use Rattle.sctp_handshake.specs.declared.state.State.{State}

@@ -11,13 +11,14 @@ mod stats;
 mod timeouts;
 mod unknown;
 
-ghost use Rattle.std.specs.Prelude.{◌≡◌, IfSome, None, Some, ◌≢◌, ◌≤◌, ◌+◌, ◌*◌, option_map, true, false, IfErr, IfOk, IsOk, OnErr, OnOk};
+ghost use Rattle.std.specs.Prelude.{◌≡◌, ◌⊎◌, IfSome, None, Some, ◌≢◌, ◌≤◌, ◌+◌, ◌*◌, option_map, true, false, IfErr, IfOk, IsOk, OnErr, OnOk};
 ghost use Rattle.std.proofs.Props.{props};
 ghost use Rattle.sctp_association.specs.Events.{IsTold, KeepsOthers, NoneWaits};
 ghost use Rattle.sctp_association.specs.declared.fault.Fault.TheVariants.{BadConfig, WrongState};
 ghost use Rattle.sctp_association.specs.Reached.{limits_of, most_user_data};
 ghost use Rattle.sctp_association.specs.Waiting.{amount_on};
 ghost use Rattle.sctp_handshake.specs.declared.state.State.TheVariants.{Closed};
+ghost use Rattle.sctp_handshake.specs.States.{accepts_writes};
 ghost use Rattle.sctp_path.specs.Rto.{smoothed_of};
 ghost use Rattle.sctp_reassembly.specs.reassembly_queue.ReassemblyQueue.{at_start};
 ghost use Rattle.sctp_receiver.specs.Limits.{chunk_cost};
@@ -134,9 +135,12 @@ fn outbound_config(config: &Config, first_tsn: u32) -> OutboundConfig
 impl Association {
     ghost use Rattle.sctp_association.specs.Beginnings.{BeginsToAsk, HasAsked, IsMadeOf, IsUnbegun, KeepsPeer};
     ghost use Rattle.sctp_association.specs.Halves.{HalvesAlike, first_halves, halves_of};
+    ghost use Rattle.sctp_association.specs.Failing.{farewell_to};
     ghost use Rattle.sctp_association.specs.Held.{HoldsFewChunks, OfReceiver, OpensFewStreams, held_by};
     ghost use Rattle.sctp_association.specs.Reads.{AreReadOff, IsSameBeside, length_of, message_in};
+    ghost use Rattle.sctp_association.specs.Lasting.{LastsNoLonger};
     ghost use Rattle.sctp_association.specs.Telling.{HasPlaces, Tells};
+    ghost use Rattle.sctp_association.specs.declared.due.AloneKind.TheVariants.{Abort};
 
     /// No association yet: it waits for a peer's INIT, or for `connect`. Refuses with `BadConfig`. It takes no memory.
     pub fn new(alloc: Global, config: Config, secrets: Secrets) -> Result<Association, Fault>
@@ -186,6 +190,7 @@ impl Association {
         ensures unbegun { IsUnbegun self.old → IsOk result }
         ensures asked { OnOk result (HasAsked self.new) }
         ensures begins { OnOk result (BeginsToAsk self.old self.new) }
+        ensures left { LastsNoLonger self.old self.new }
         ensures refused { IfErr result (λ e. e ≡ WrongState) }
         ensures halves { HalvesAlike self.old self.new }
         ensures err { OnErr result (self.new ≡ self.old) }
@@ -290,6 +295,11 @@ impl Association {
     pub fn shutdown(&mut self, now: u64) -> Result<(), Fault>
         ensures tells { Tells self.old self.new }
         ensures accepted { IsOk result → self.old.machine.state ≢ Closed }
+        ensures stands { self.old.machine.state ≢ Closed → IsOk result }
+        // No message is taken any more; or that begins once the association stands.
+        ensures asked { OnOk result ((self.new.wants_shutdown ≡ true)
+            ⊎ (accepts_writes self.new.machine.state ≡ false)) }
+        ensures left { LastsNoLonger self.old self.new }
         ensures refused { IfErr result (λ e. e ≡ WrongState) }
         ensures halves { HalvesAlike self.old self.new }
         ensures peer { KeepsPeer self.old self.new }
@@ -315,6 +325,12 @@ impl Association {
     pub fn abort(&mut self) -> Result<(), Fault>
         ensures tells { Tells self.old self.new }
         ensures accepted { IsOk result → self.old.is_over ≡ false }
+        ensures going { self.old.is_over ≡ false → IsOk result }
+        ensures over { OnOk result (self.new.is_over ≡ true) }
+        // Where the peer is known the ABORT is due.
+        ensures owed { OnOk result (self.new.due.alone
+            ≡ farewell_to (Abort 12) self.old.machine.peer) }
+        ensures left { LastsNoLonger self.old self.new }
         ensures refused { IfErr result (λ e. e ≡ WrongState) }
         ensures halves { HalvesAlike self.old self.new }
         ensures peer { KeepsPeer self.old self.new }

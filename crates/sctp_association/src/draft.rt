@@ -101,6 +101,7 @@ impl Draft {
         ensures added { Adds (put_where result (K.wire chunk.now)) self.old.bytes self.new.bytes }
         ensures limit { self.new.limit ≡ self.old.limit }
         ensures full { result ≡ false → self.new ≡ self.old }
+        ensures least { 28 ≤ self.old.limit }
         ensures grows { length self.old.bytes ≤ length self.new.bytes }
         ensures put { result ≡ true
             → self.new.bytes ≡ self.old.bytes ++ padded_encoding (K.wire chunk.now) }

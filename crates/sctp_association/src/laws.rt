@@ -4,6 +4,7 @@ ghost use Rattle.sctp_association.specs.Delivered.{EachBringsOnly, EachCarriesOn
 ghost use Rattle.sctp_association.specs.Held.{CostsLittle, HoldsFewChunks, KeepsFewTsns, NotesFewDuplicates, OfEach, OpensFewStreams};
 ghost use Rattle.sctp_association.specs.HostCalls.{EachAskActs, EachBegins, EachDatagramActs, EachOtherIsQuiet, EachPollActs, EachReadActs, EachSizeActs, EachTimeoutActs};
 ghost use Rattle.sctp_association.specs.Hosts.{EachDelivers, EachIsCut};
+ghost use Rattle.sctp_association.specs.Lasting.{EachEnds, EachExpiryCounts, EachQuietCallLasts, FewAreLeft};
 ghost use Rattle.sctp_association.specs.Links.{EachLinkDelivers, EachLinkGoesOn, EachLinkIsCut, EachLinkTurns, EachTwoBegin};
 ghost use Rattle.sctp_association.specs.Lives.{EachBeginningCame, EachDeedIsKnown, EachLifeBegins, EachOfferIsRead, EachUnforgedCame};
 ghost use Rattle.sctp_association.specs.OneLife.{EachDatagramBrings, EachDeliversAny, EachLinkDeliversAny, EachOneLifeBegins, EachOneLifeGoesOn, EachOneLifeTurns, EachOfferedIsBrought, EachPlainIsOneLife};
@@ -129,4 +130,14 @@ pub fn each_chunk_fits_a_packet()
     ensures handled { EachDatagramIsCut }
     ensures quiet { EachOtherIsCut }
     ensures fits { EachChunkFits }
+{}
+
+/// An association that hears nothing of its peer ends. Along any calls that bring nothing of it (`left`), each expiry of T3-rtx, T1-init, T1-cookie or
+/// T2-shutdown leaves fewer expiries (`expiries_left`), and with as many as were left the association is over. At most one is left, and
+/// Association.Max.Retrans, and once more that or Max.Init.Retransmits.
+pub fn an_unanswered_association_ends()
+    ensures quiet { EachQuietCallLasts }
+    ensures counted { EachExpiryCounts }
+    ensures ends { EachEnds }
+    ensures few { FewAreLeft }
 {}

@@ -4,17 +4,17 @@ ghost use Rattle.std.specs.Prelude.{◌≡◌, ◌⊎◌, ◌-◌, ◌<◌, ◌�
 ghost use Rattle.sctp_association.specs.declared.fault.Fault.TheVariants.{OutOfMemory};
 ghost use Rattle.sctp_association.specs.Arrivals.{new_sender};
 ghost use Rattle.sctp_association.specs.Asked.{AsksOn};
-ghost use Rattle.sctp_association.specs.Counts.{IsCountedAlike};
+ghost use Rattle.sctp_association.specs.Counts.{CountsNone};
 ghost use Rattle.sctp_association.specs.Halves.{fragment_size};
 ghost use Rattle.sctp_association.specs.Runs.{Sends};
 ghost use Rattle.sctp_association.specs.Waiting.{IsRefusal, closed_where, fault_of, opened, waiting_fault};
 ghost use Rattle.sctp_sender.specs.Settings.{IsKeptWithin, with_fragment_size, with_low_on};
 ghost use Rattle.sctp_stream.specs.Stats.{count_up};
 ghost use Rattle.sctp_stream.specs.declared.outbound_stream.OutboundStream.{OutboundStream};
-ghost use Rattle.sctp_association.specs.Sending.{EndsWithin, IsTimed, holds_nothing, is_none_of, may_drop, t3_after, t3_time};
+ghost use Rattle.sctp_association.specs.Sending.{EndsWithin, IsTimed, holds_nothing, is_front_late, is_none_of, may_drop, t3_after, t3_time};
 ghost use Rattle.sctp_delivery.specs.SenderCalls.{sets_low, sets_mode, writes};
 ghost use Rattle.sctp_outbound.specs.Outstanding.{outstanding_of};
-ghost use Rattle.sctp_outbound.specs.pending_queue.PendingQueue.{chunk_count};
+ghost use Rattle.sctp_outbound.specs.pending_queue.PendingQueue.{chunk_count, next_pending};
 ghost use Rattle.sctp_path.specs.Congestion.{after_timeout};
 ghost use Rattle.sctp_path.specs.Rto.{after_back_off};
 ghost use Rattle.sctp_path.specs.Timers.{is_due, is_passed, one_more};
@@ -181,6 +181,7 @@ impl Outbound {
             ≡ record self.old { sender = opened stream self.old.sender }) }
         ensures asks { OnOk result
             (AsksOn stream (writes stream ppi bytes.now) self.old.sender self.new.sender) }
+        ensures sender { self.new ≡ record self.old { sender = self.new.sender } }
         ensures accepted { IsOk result → waiting_fault stream (length bytes.now)
             self.old.most_waiting self.old.sender ≡ None }
         ensures refused { IfErr result (λ e. IsRefusal e (waiting_fault stream (length bytes.now)
@@ -280,7 +281,7 @@ impl Outbound {
         ensures sender { self.new.sender
             ≡ with_fragment_size (fragment_size mtu) self.old.sender }
         ensures kept { IsKeptWithin self.old.sender }
-        ensures counts { IsCountedAlike self.old self.new }
+        ensures counts { CountsNone self.old self.new }
     {
         self.mtu = mtu;
         self.congestion.set_mtu(mtu);
@@ -343,6 +344,7 @@ impl Outbound {
     /// A HEARTBEAT was not answered. Answers whether it was so once too often (RFC 9260 8.1).
     pub(crate) fn count_failure(&mut self) -> bool
         ensures counted { self.new.failures ≡ one_more self.old.failures }
+        ensures more { self.old.failures.count ≤ self.new.failures.count }
         ensures passed { result ≡ is_passed self.new.failures }
         ensures rest { self.new ≡ record self.old {
           rto = self.new.rto;
@@ -367,6 +369,7 @@ impl Outbound {
         ensures counted { is_due now self.old.timer.at ≡ true
             → (self.new.failures ≡ one_more self.old.failures)
             × (result ≡ is_passed self.new.failures) }
+        ensures more { self.old.failures.count ≤ self.new.failures.count }
         ensures backed_off { is_due now self.old.timer.at ≡ true
             → (self.new.rto ≡ after_back_off self.old.rto)
             × (self.new.congestion ≡ after_timeout self.old.congestion) }
@@ -444,9 +447,14 @@ impl Outbound {
     fn may_drop(&self, now: u64) -> bool
         ensures { result ≡ may_drop now self.now.sender }
     {
-        if self.sender.outstanding().marked > 0 {
-            return true;
-        }
+        self.sender.outstanding().marked > 0 || self.is_front_late(now)
+    }
+
+    // Whether the message in front is past its lifetime, and more of it waits than its last chunk.
+    fn is_front_late(&self, now: u64) -> bool
+        ensures { result ≡ is_front_late now
+            (next_pending self.now.sender.flight.queue.pending) }
+    {
         let Some(chunk) = self.sender.outbound().peek_pending() else {
             return false;
         };

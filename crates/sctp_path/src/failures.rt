@@ -1,6 +1,6 @@
 //! When the peer counts as unreachable (RFC 9260 8.1).
 
-ghost use Rattle.std.specs.Prelude.{◌≡◌};
+ghost use Rattle.std.specs.Prelude.{◌≡◌, ◌≤◌};
 ghost use Rattle.sctp_path.specs.Timers.{one_more, is_passed};
 
 /// How often in a row T3-rtx expired or a HEARTBEAT was not answered.
@@ -21,6 +21,7 @@ impl Failures {
     /// Counts one more, and answers whether the limit is passed, so that the association fails.
     pub fn count(&mut self) -> bool
         ensures counted { self.new ≡ one_more self.old }
+        ensures more { self.old.count ≤ self.new.count }
         ensures passed { result ≡ is_passed self.new }
     {
         self.count = self.count.saturating_add(1);

@@ -1,5 +1,5 @@
 -- The requests of this side to reset its outgoing streams (RFC 6525 4.1, 5.1, 5.2.7).
-use Rattle.std.specs.Prelude.{◌≡◌, ℕ, zero, suc, ◌+◌, ◌%◌, ◌^◌, ◌<◌, ◌==◌, nat_le, ◌-◌, min, Bool, true, false, ◌&&◌, ◌||◌, not, if◌then◌else◌, List, [], ◌∷◌}
+use Rattle.std.specs.Prelude.{◌≡◌, ℕ, zero, suc, ◌+◌, ◌%◌, ◌^◌, ◌<◌, ◌==◌, nat_le, nat_lt, ◌-◌, min, Bool, true, false, ◌&&◌, ◌||◌, not, if◌then◌else◌, List, [], ◌∷◌}
 use Rattle.std.specs.Prelude.{◌++◌, take, Option, Some, None}
 use Rattle.std.specs.List.{filter, list_any}
 use Rattle.std.specs.Option.{is_some, option_map}
@@ -95,6 +95,21 @@ sent_at now rto r =
 
 abbrev pub after_sent : ℕ → ℕ → Requests → Requests
 after_sent now rto o = record o { under_way = option_map (sent_at now rto) o.under_way }
+
+-- ## Nothing answers (RFC 6525 5.1.1)
+
+-- it is to be sent again, since nothing answered its sendings
+abbrev pub has_failed : ℕ → Option Request → Bool
+has_failed now None = false
+has_failed now (Some r) = nat_le r.at now && nat_lt 0 r.unanswered
+
+-- that is counted: it is told once for each sending
+abbrev pub counted : Request → Request
+counted r = record r { unanswered = 0 }
+
+abbrev pub after_failed : ℕ → Requests → Requests
+after_failed now o =
+    if has_failed now o.under_way then record o { under_way = option_map counted o.under_way } else o
 
 -- ## A response comes (RFC 6525 4.4, 5.2.7)
 

@@ -22,7 +22,7 @@ pub struct ResetRequest {
     pub streams: Vec<u16>,
     /// When it is to be sent, for the first time or again.
     pub at: u64,
-    /// How many sendings had no response, since the last one. Where it is due, each of them failed (RFC 9260 8.1).
+    /// How many sendings had no response, since the last one, or since `failed` counted them (RFC 9260 8.1).
     pub unanswered: u32,
 }
 
@@ -76,7 +76,7 @@ impl Model for OwnRequests {
 }
 
 impl OwnRequests {
-    ghost use Rattle.sctp_reset.specs.Own.{start, is_asked, is_none_of, is_idle, after_ask, Tells, after_begin, due_at, time_of, after_sent, answer_to, after_response};
+    ghost use Rattle.sctp_reset.specs.Own.{start, is_asked, is_none_of, is_idle, after_ask, Tells, after_begin, due_at, time_of, after_failed, after_sent, answer_to, after_response, has_failed};
 
     /// Nothing is asked for. The first request has the number of the own first TSN (RFC 6525 4.1). It takes no memory.
     pub fn new(alloc: Global, first_tsn: u32) -> Self
@@ -186,6 +186,21 @@ impl OwnRequests {
         if let Some(request) = &mut self.under_way {
             request.at = now.saturating_add(rto);
             request.unanswered = request.unanswered.saturating_add(1);
+        }
+    }
+
+    /// Whether the request under way is to be sent again, since nothing answered its sendings: that is one failure (RFC 6525 5.1.1, RFC 9260
+    /// 8.1). It is told once for each sending.
+    pub fn failed(&mut self, now: u64) -> bool
+        ensures failed { result ≡ has_failed now self.old.under_way }
+        ensures after { self.new ≡ after_failed now self.old }
+    {
+        match &mut self.under_way {
+            Some(request) if request.at <= now && request.unanswered > 0 => {
+                request.unanswered = 0;
+                true
+            }
+            _ => false,
         }
     }
 

@@ -5,6 +5,7 @@ ghost use Rattle.sctp_association.specs.declared.fault.Fault.{Fault};
 ghost use Rattle.sctp_association.specs.Asked.{AsksOn};
 ghost use Rattle.sctp_association.specs.Beginnings.{IsKeptButMtu};
 ghost use Rattle.sctp_association.specs.Halves.{SetsFragmentSize};
+ghost use Rattle.sctp_association.specs.Lasting.{LastsNoLonger};
 ghost use Rattle.sctp_association.specs.Sized.{HoldsNothing};
 ghost use Rattle.sctp_association.specs.Telling.{Tells};
 ghost use Rattle.sctp_association.specs.Waiting.{IsRefusal, opened};
@@ -66,6 +67,9 @@ impl Association {
         // It is so many calls of the sender, of a session too (`sctp_delivery`).
         ensures asks { OnOk result (AsksOn stream (writes stream ppi bytes.now)
             self.old.outbound.sender self.new.outbound.sender) }
+        // Of the sending half the sender alone changes.
+        ensures sender { self.new.outbound
+            ≡ record self.old.outbound { sender = self.new.outbound.sender } }
         ensures accepted { IsOk result → write_fault stream (length bytes.now) self.old ≡ None }
         ensures named { (e : Fault) → or_else (use_fault stream self.old)
             (reset_fault stream self.old) ≡ Some e → result ≡ Err e }
@@ -173,6 +177,7 @@ impl Association {
         ensures lower { OnOk result (mtu < self.old.config.mtu
             → HoldsNothing self.old.outbound.sender) }
         ensures kept { IsKeptButMtu self.old self.new }
+        ensures left { LastsNoLonger self.old self.new }
         ensures err { OnErr result (self.new ≡ self.old) }
     {
         if mtu < 512 || mtu > 65_535 {

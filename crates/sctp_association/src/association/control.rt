@@ -1,12 +1,16 @@
 //! What the state machine is answered and tells.
 
-ghost use Rattle.std.specs.Prelude.{◌≡◌, ◌+◌, ◌≤◌, true, None, Some};
+ghost use Rattle.std.specs.Prelude.{◌≡◌, ◌+◌, ◌≤◌, true, false, None, Some};
 ghost use Rattle.sctp_association.specs.Beginnings.{Begins, BeginsBy, KeepsPeer, OwesInit};
 ghost use Rattle.sctp_association.specs.Kept.{IsKept, OwesNoMore, ticket_due, ticket_in_kind};
-ghost use Rattle.sctp_association.specs.Failing.{IsGuarded};
+ghost use Rattle.sctp_association.specs.Failing.{IsGuarded, farewell_to};
 ghost use Rattle.sctp_association.specs.Halves.{HalvesAlike, halves_of};
+ghost use Rattle.sctp_association.specs.Lasting.{LastsNoLonger};
+ghost use Rattle.sctp_association.specs.Sending.{holds_nothing};
 ghost use Rattle.sctp_association.specs.Telling.{PassesOn, TellsEnd};
 ghost use Rattle.sctp_handshake.specs.declared.answer.Reply.TheVariants.{Init};
+ghost use Rattle.sctp_handshake.specs.Endings.{on_drained};
+ghost use Rattle.sctp_handshake.specs.States.{accepts_writes};
 
 use super::{Association, outbound_config};
 use crate::due::{Alone, AloneKind};
@@ -34,6 +38,7 @@ impl Association {
         ensures tells { PassesOn answer.told self.old self.new }
         ensures kept { IsKept self.old self.new }
         ensures quiet { answer.told ≡ None → HalvesAlike self.old self.new }
+        ensures sending { answer.told ≡ None → self.new.outbound ≡ self.old.outbound }
         ensures begun { BeginsBy answer.told self.old.machine self.old.config
             (halves_of self.old) (halves_of self.new) }
         ensures init { answer.reply ≡ Some Init → answer.told ≡ None → OwesInit self.new }
@@ -51,6 +56,7 @@ impl Association {
         ensures tells { PassesOn answer.told self.old self.new }
         ensures kept { IsKept self.old self.new }
         ensures quiet { answer.told ≡ None → HalvesAlike self.old self.new }
+        ensures sending { answer.told ≡ None → self.new.outbound ≡ self.old.outbound }
         ensures begun { BeginsBy answer.told self.old.machine self.old.config
             (halves_of self.old) (halves_of self.new) }
         ensures init { answer.reply ≡ Some Init → answer.told ≡ None → OwesInit self.new }
@@ -73,6 +79,7 @@ impl Association {
         ensures tells { TellsEnd self.old self.new }
         ensures kept { IsKept self.old self.new }
         ensures halves { HalvesAlike self.old self.new }
+        ensures sending { self.new.outbound ≡ self.old.outbound }
         ensures over { self.new.is_over ≡ self.old.is_over }
     {
         match self.machine.state().timer() {
@@ -207,6 +214,9 @@ impl Association {
         ensures halves { HalvesAlike self.old self.new }
         ensures peer { KeepsPeer self.old self.new }
         ensures over { self.new.is_over ≡ self.old.is_over }
+        ensures left { LastsNoLonger self.old self.new }
+        ensures writes { accepts_writes self.old.machine.state ≡ false
+            → accepts_writes self.new.machine.state ≡ false }
     {
         if self.wants_shutdown && self.machine.state() == State::Established {
             self.wants_shutdown = false;
@@ -218,9 +228,15 @@ impl Association {
     // Tells the machine that nothing waits or is in flight, if that is so (RFC 9260 9.2).
     fn note_drained(&mut self, now: u64)
         ensures tells { TellsEnd self.old self.new }
+        ensures waits { holds_nothing self.old.outbound.sender ≡ false → self.new ≡ self.old }
+        ensures drained { holds_nothing self.old.outbound.sender ≡ true
+            → self.new.machine ≡ (on_drained self.old.machine).machine }
         ensures halves { HalvesAlike self.old self.new }
         ensures peer { KeepsPeer self.old self.new }
         ensures over { self.new.is_over ≡ self.old.is_over }
+        ensures left { LastsNoLonger self.old self.new }
+        ensures writes { accepts_writes self.old.machine.state ≡ false
+            → accepts_writes self.new.machine.state ≡ false }
     {
         if !self.outbound.is_drained() {
             return;
@@ -234,6 +250,7 @@ impl Association {
     pub(super) fn end_with(&mut self, kind: AloneKind)
         ensures tells { TellsEnd self.old self.new }
         ensures over { self.new.is_over ≡ true }
+        ensures owed { self.new.due.alone ≡ farewell_to kind self.old.machine.peer }
         ensures outbound { self.new.outbound ≡ self.old.outbound }
         ensures halves { HalvesAlike self.old self.new }
         ensures peer { ticket_in_kind kind ≡ None → KeepsPeer self.old self.new }
@@ -245,6 +262,7 @@ impl Association {
 
     // The packet is due by which the association ends, where the peer is known; else none is.
     fn owe_end(&mut self, kind: AloneKind)
+        ensures owed { self.new.due.alone ≡ farewell_to kind self.old.machine.peer }
         ensures owes { ticket_in_kind kind ≡ None → ticket_due self.new.due.alone ≡ None }
         ensures rest { self.new ≡ record self.old { due = self.new.due } }
     {

@@ -1,12 +1,13 @@
 //! What goes into a datagram (RFC 9260 6.10, 8.5).
 
-ghost use Rattle.std.specs.Prelude.{◌≡◌, ◌⊎◌, ◌≤◌, None, Ok, IfOk, OnOk, [], map, true, false, length};
+ghost use Rattle.std.specs.Prelude.{◌≡◌, ◌≢◌, ◌⊎◌, ◌≤◌, None, Ok, IfOk, IfSome, OnOk, [], map, true, false, length};
 ghost use Rattle.sctp_association.specs.Beginnings.{KeepsPeer};
 ghost use Rattle.sctp_association.specs.Halves.{HalvesAlike, PutsOthers, is_sent, sides_of};
-ghost use Rattle.sctp_association.specs.Filled.{IfNonePut};
-ghost use Rattle.sctp_association.specs.Idle.{HasNoSackDue, IsIdle, MaySend, WaitsForSacks, in_flight, sack_delay, sends};
+ghost use Rattle.sctp_association.specs.Filled.{IfNoneAdded, IfNonePut};
+ghost use Rattle.sctp_association.specs.Idle.{HasNoSackDue, IsIdle, MayReply, MaySend, OwesNoControl, OwesNone, WaitsForSacks, in_flight, sack_delay, sends};
 ghost use Rattle.sctp_association.specs.Kept.{IsUnmoved};
-ghost use Rattle.sctp_association.specs.Offering.{HasFirst, IsInitWith, IsReplyOf, OffersAsDue, PutsReply};
+ghost use Rattle.sctp_association.specs.Lasting.{LastsNoLonger};
+ghost use Rattle.sctp_association.specs.Offering.{HasFirst, IsInitWith, IsReplyOf, LeavesAlone, OffersAsDue, PutsReply};
 ghost use Rattle.sctp_association.specs.Sending.{IsTimed};
 ghost use Rattle.sctp_association.specs.Still.{IsLater, heartbeat_time};
 ghost use Rattle.sctp_association.specs.Telling.{Tells};
@@ -15,6 +16,7 @@ ghost use Rattle.sctp_chunks.specs.Init.{init_of};
 ghost use Rattle.sctp_cookie.specs.Cookie.{sealed};
 ghost use Rattle.sctp_cookie.specs.Hmac.{hmac_sha256};
 ghost use Rattle.sctp_handshake.specs.Tickets.{ticket_bytes};
+ghost use Rattle.sctp_handshake.specs.declared.state.State.TheVariants.{CookieEchoed};
 ghost use Rattle.sctp_packets.specs.Draft.{IsDraft};
 ghost use Rattle.sctp_packets.specs.Packet.{Parts};
 ghost use Rattle.sctp_params.specs.ParamKind.{parameter_of};
@@ -55,6 +57,12 @@ impl Association {
         // An INIT has the first TSN of this side; an INIT ACK has a cookie over the ticket that was due.
         ensures offers { is_sent result ≡ true → OffersAsDue self.old self.new.draft.bytes }
         ensures peer { KeepsPeer self.old self.new }
+        ensures left { LastsNoLonger self.old self.new }
+        // The one reply that is due leaves first, in a packet of its own.
+        ensures reply { IfSome self.old.due.alone (λ alone. IfOk result
+            (λ sent. (sent ≡ true) × LeavesAlone alone.kind self.old self.new)) }
+        // Where there is no datagram no other reply is due either. In CookieEchoed a COOKIE-ECHO goes alone (RFC 9260 5.1 C).
+        ensures owes { result ≡ Ok false → MayReply self.new → OwesNone self.new }
         // Where there is no datagram though DATA may leave: what waits or is to be sent again waits for a SACK, or for T3-rtx.
         ensures idle { result ≡ Ok false → MaySend self.new → IsIdle now self.new }
     {
@@ -81,6 +89,8 @@ impl Association {
         ensures made { Transmits (is_sent result) (sides_of self.old) (sides_of self.new) }
         ensures plain { is_sent result ≡ true → IsPacketOf IsNoInit self.new.draft.bytes }
         ensures kept { IsUnmoved self.old self.new }
+        ensures owes { result ≡ Ok false → self.new.machine.state ≢ CookieEchoed
+            → OwesNone self.new }
         ensures idle { result ≡ Ok false → sends self.new.machine.state ≡ true
             → IsIdle now self.new }
     {
@@ -258,6 +268,8 @@ impl Association {
     fn fill(&mut self, now: u64) -> Result<(), Fault>
         ensures made { Puts (sides_of self.old) (sides_of self.new) }
         ensures kept { IsUnmoved self.old self.new }
+        ensures owes { OnOk result (self.new.machine.state ≢ CookieEchoed
+            → IfNoneAdded self.old.draft.bytes self.new.draft.bytes (OwesNone self.new)) }
         ensures idle { OnOk result (sends self.new.machine.state ≡ true → (p : Parts)
             → IsDraft p self.old.draft.bytes → length self.new.draft.bytes ≤ 12
             → IsIdle now self.new) }
@@ -280,6 +292,8 @@ impl Association {
     fn put_control(&mut self, now: u64) -> Result<(), Fault>
         ensures made { Puts (sides_of self.old) (sides_of self.new) }
         ensures kept { IsUnmoved self.old self.new }
+        ensures owes { OnOk result (IfNoneAdded self.old.draft.bytes self.new.draft.bytes
+            (OwesNoControl self.new)) }
         ensures acks { sack_delay self.new ≡ sack_delay self.old }
     {
         self.put_shutdown();
@@ -321,6 +335,8 @@ impl Association {
     // Puts COOKIE-ECHO or COOKIE-ACK.
     fn put_cookies(&mut self)
         ensures others { PutsOthers self.old self.new }
+        ensures owes { IfNoneAdded self.old.draft.bytes self.new.draft.bytes
+            (self.new.due.cookie_ack ≡ false) }
     {
         self.put_cookie_echo();
         self.put_cookie_ack();
@@ -348,6 +364,8 @@ impl Association {
     #[tactic(auto, using(crate::proofs::Others::others_one, crate::proofs::Others::others_none, crate::proofs::Others::others_then))]
     fn put_cookie_ack(&mut self)
         ensures others { PutsOthers self.old self.new }
+        ensures owes { IfNonePut self.old.draft.bytes self.new.draft.bytes
+            (self.new.due.cookie_ack ≡ false) }
     {
         if self.due.cookie_ack && self.draft.put(&ChunkCookieAck) {
             self.due.cookie_ack = false;
@@ -373,6 +391,9 @@ impl Association {
     fn put_shutdown(&mut self)
         ensures made { Puts (sides_of self.old) (sides_of self.new) }
         ensures kept { IsUnmoved self.old self.new }
+        ensures owes { IfNoneAdded self.old.draft.bytes self.new.draft.bytes
+            (((self.new.due.shutdown ≡ false) ⊎ (sack_delay self.new ≡ None))
+            × (self.new.due.shutdown_ack ≡ false)) }
         ensures acks { sack_delay self.new ≡ sack_delay self.old }
     {
         self.put_shutdown_asked();
@@ -384,6 +405,8 @@ impl Association {
     fn put_shutdown_asked(&mut self)
         ensures made { Puts (sides_of self.old) (sides_of self.new) }
         ensures kept { IsUnmoved self.old self.new }
+        ensures owes { IfNonePut self.old.draft.bytes self.new.draft.bytes
+            ((self.new.due.shutdown ≡ false) ⊎ (sack_delay self.new ≡ None)) }
         ensures acks { sack_delay self.new ≡ sack_delay self.old }
     {
         if !self.due.shutdown {
@@ -404,6 +427,9 @@ impl Association {
     #[tactic(auto, using(crate::proofs::Others::others_one, crate::proofs::Others::others_none, crate::proofs::Others::others_then))]
     fn put_shutdown_ack(&mut self)
         ensures others { PutsOthers self.old self.new }
+        ensures owes { IfNonePut self.old.draft.bytes self.new.draft.bytes
+            (self.new.due.shutdown_ack ≡ false) }
+        ensures asked { self.new.due.shutdown ≡ self.old.due.shutdown }
         ensures acks { sack_delay self.new ≡ sack_delay self.old }
     {
         if self.due.shutdown_ack && self.draft.put(&ChunkShutdownAck) {
@@ -415,6 +441,7 @@ impl Association {
     #[tactic(auto, using(crate::proofs::Others::others_one, crate::proofs::Others::others_none, crate::proofs::Others::others_then))]
     fn put_heartbeats(&mut self, now: u64) -> Result<(), Fault>
         ensures others { PutsOthers self.old self.new }
+        ensures owes { OnOk result (self.new.due.heartbeat ≡ None) }
         ensures acks { sack_delay self.new ≡ sack_delay self.old }
     {
         if self.due.heartbeat.is_some() {
@@ -431,6 +458,7 @@ impl Association {
     #[inline(never)]
     fn put_heartbeat_ack(&mut self) -> Result<(), Fault>
         ensures others { PutsOthers self.old self.new }
+        ensures owes { self.new.due.heartbeat ≡ None }
         ensures acks { sack_delay self.new ≡ sack_delay self.old }
     {
         let Some(info) = self.due.heartbeat.take() else {

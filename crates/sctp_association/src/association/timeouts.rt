@@ -1,14 +1,16 @@
 //! When something is to be done though nothing came (RFC 9260 6.3.3, 8.1, 8.3, 9.2).
 
-ghost use Rattle.std.specs.Prelude.{◌≡◌, ◌⊎◌, None, Some, true, false, option_map};
+ghost use Rattle.std.specs.Prelude.{◌≡◌, ◌⊎◌, ◌≤◌, None, Some, true, false, is_some, option_map};
 ghost use Rattle.sctp_association.specs.Beginnings.{KeepsPeer};
 ghost use Rattle.sctp_association.specs.Kept.{ticket_due};
 ghost use Rattle.sctp_association.specs.Halves.{MarksByT3};
+ghost use Rattle.sctp_association.specs.Lasting.{Expires, expires, expires_control};
 ghost use Rattle.sctp_association.specs.Sending.{IsTimed, t3_time};
 ghost use Rattle.sctp_association.specs.Telling.{Tells, TellsEnd};
 ghost use Rattle.sctp_handshake.specs.declared.ticket.Ticket.{Ticket};
+ghost use Rattle.sctp_handshake.specs.States.{timer};
 ghost use Rattle.sctp_path.specs.Timers.{is_due, is_passed, one_more};
-ghost use Rattle.sctp_reset.specs.Own.{time_of};
+ghost use Rattle.sctp_reset.specs.Own.{after_failed, has_failed, time_of};
 ghost use Rattle.sctp_stream.specs.Stats.{count_up};
 
 use super::Association;
@@ -118,6 +120,8 @@ impl Association {
         // A shutdown ends: it lasts until T5-shutdown-guard expires at most.
         ensures guard { is_due now self.old.guard.at ≡ true → self.new.is_over ≡ true }
         ensures guarded { (self.new.is_over ≡ true) ⊎ IsGuarded self.new }
+        // With each expiry fewer are left until it is over, while nothing of the peer comes.
+        ensures left { Expires (expires now self.old) self.old self.new }
         ensures halves { MarksByT3 now self.old self.new }
         ensures peer { KeepsPeer self.old self.new }
     {
@@ -143,6 +147,8 @@ impl Association {
             ≡ record self.old.outbound { rto = self.new.outbound.rto } }
         ensures inbound { self.new.inbound ≡ self.old.inbound }
         ensures guarded { (self.new.is_over ≡ true) ⊎ IsGuarded self.new }
+        ensures left { self.old.is_over ≡ false
+            → Expires (expires_control now self.old) self.old self.new }
         ensures peer { KeepsPeer self.old self.new }
     {
         if self.control.is_due(now) {
@@ -160,6 +166,8 @@ impl Association {
         ensures outbound { self.new.outbound
             ≡ record self.old.outbound { rto = self.new.outbound.rto } }
         ensures inbound { self.new.inbound ≡ self.old.inbound }
+        ensures left { self.old.is_over ≡ false
+            → Expires (is_some (timer self.old.machine.state)) self.old self.new }
         ensures peer { KeepsPeer self.old self.new }
     {
         self.outbound.rto.backed_off();
@@ -181,27 +189,37 @@ impl Association {
         }
     }
 
-    // Whether a HEARTBEAT or a request to reset was not answered once too often (RFC 9260 8.1, 8.3; RFC 6525 5.1.1).
+    // Whether the peer failed to answer once too often: a HEARTBEAT, or a request to reset. The RTO doubles (RFC 9260 8.1, 8.3; RFC 6525 5.1.1).
     fn has_failed(&mut self, now: u64) -> bool
         ensures rest { self.new ≡ record self.old {
           outbound = record self.old.outbound {
             rto = self.new.outbound.rto;
             failures = self.new.outbound.failures;
           };
+          requests = self.new.requests;
           heartbeat = self.new.heartbeat;
         } }
+        ensures requests { self.new.requests ≡ after_failed now self.old.requests }
+        ensures asked { has_failed now self.old.requests.under_way ≡ true
+            → self.new.outbound.failures ≡ one_more self.old.outbound.failures }
         ensures counted { self.new.outbound.failures ≡ self.old.outbound.failures
             ⊎ self.new.outbound.failures ≡ one_more self.old.outbound.failures }
+        ensures more { self.old.outbound.failures.count ≤ self.new.outbound.failures.count }
         ensures passed { result ≡ false → is_passed self.old.outbound.failures ≡ false
             → is_passed self.new.outbound.failures ≡ false }
     {
-        let is_asked = match self.requests.due(now) {
-            Some(request) => request.unanswered > self.config.max_retrans,
-            None => false,
-        };
-        if is_asked {
-            return true;
+        let is_asked = self.requests.failed(now);
+        let is_missed = self.has_missed(now);
+        if !is_asked && !is_missed {
+            return false;
         }
+        self.outbound.count_failure()
+    }
+
+    // Whether the next HEARTBEAT is due, and the last one was not answered: that is noted once (RFC 9260 8.3).
+    fn has_missed(&mut self, now: u64) -> bool
+        ensures { self.new ≡ record self.old { heartbeat = self.new.heartbeat } }
+    {
         let is_late = match self.next_heartbeat() {
             Some(at) => at <= now,
             None => false,
@@ -213,7 +231,7 @@ impl Association {
             return false;
         }
         heartbeat.failed();
-        self.outbound.count_failure()
+        true
     }
 
     // The peer answers nothing any more (RFC 9260 8.1).

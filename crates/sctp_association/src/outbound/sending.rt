@@ -1,11 +1,11 @@
 //! What goes into a packet (RFC 9260 6.1, 6.10).
 
 ghost use Rattle.std.specs.Prelude.{◌≡◌, ◌⊎◌, ◌+◌, ◌-◌, ◌^◌, ◌<◌, ◌≤◌, [], min, true, false, None, Some, IfOk, IfSome, OnErr, OnOk, find, length};
-ghost use Rattle.sctp_association.specs.Counts.{IsCountedAlike, IsCountedOn};
+ghost use Rattle.sctp_association.specs.Counts.{CountsNone, IsCountedAlong, IsCountedOn};
 ghost use Rattle.sctp_association.specs.Filled.{IfNonePut};
 ghost use Rattle.sctp_association.specs.Idle.{IsMarkedBehind, SendsNoneAgain, SendsNoneNew, WaitsBehind, WaitsForSacks, in_flight};
 ghost use Rattle.sctp_association.specs.Packets.{PutsOut};
-ghost use Rattle.sctp_association.specs.Sending.{IsTimed, idle_times, is_early, is_later, lowered_times, lowered, may_send_again, may_send_next, sent_at};
+ghost use Rattle.sctp_association.specs.Sending.{EndsWithin, IsTimed, idle_times, is_early, is_front_late, is_later, lowered_times, lowered, may_send_again, may_send_next, sent_at};
 ghost use Rattle.sctp_outbound.specs.Outstanding.{outstanding_of};
 ghost use Rattle.sctp_outbound.specs.pending_queue.PendingQueue.{chunk_count, next_pending};
 ghost use Rattle.sctp_path.specs.Rto.{smoothed_of};
@@ -39,7 +39,10 @@ impl Outbound {
     pub(crate) fn put(&mut self, packet: &mut Draft, now: u64) -> Result<(), Fault>
         ensures made { PutsOut self.old.sender self.new.sender packet.old.bytes packet.new.bytes }
         ensures timed { IsTimed self.new.sender.flight.queue.inflight.chunks self.new.timer.at }
-        ensures counts { IsCountedOn self.old self.new }
+        ensures counted { IsCountedAlong self.old self.new }
+        // T3-rtx runs out as it did, or after the RTO at the latest.
+        ensures soon { EndsWithin now self.old.rto.limits.most self.old.timer.at
+            self.new.timer.at }
         ensures limit { packet.new.limit ≡ packet.old.limit }
         ensures grows { length packet.old.bytes ≤ length packet.new.bytes }
         // Where nothing was put: what waits, or is to be sent again, waits for a SACK.
@@ -52,6 +55,7 @@ impl Outbound {
     }
 
     // The same, but the timer stays as it is.
+    #[tactic(auto, using(crate::proofs::Counted::on_then, crate::proofs::Counted::on_none, crate::proofs::Counted::on_same))]
     fn put_all(&mut self, packet: &mut Draft, now: u64) -> Result<(), Fault>
         ensures made { PutsOut self.old.sender self.new.sender packet.old.bytes packet.new.bytes }
         ensures counts { IsCountedOn self.old self.new }
@@ -98,6 +102,7 @@ impl Outbound {
     }
 
     // The same; `is_fast` and `flight` are as they were when the packet began.
+    #[tactic(auto, using(crate::proofs::Counted::on_then))]
     fn put_marked(
         &mut self,
         packet: &mut Draft,
@@ -235,7 +240,8 @@ impl Outbound {
 
     // T3-rtx ends where the first chunk in flight is sent again (RFC 9260 7.2.4).
     fn stop_where_first(&mut self, tsn: u32)
-        ensures { self.new ≡ record self.old { timer = self.new.timer } }
+        ensures rest { self.new ≡ record self.old { timer = self.new.timer } }
+        ensures at { (self.new.timer.at ≡ self.old.timer.at) ⊎ (self.new.timer.at ≡ None) }
     {
         if tsn == self.sender.acked_tsn().wrapping_add(1) {
             self.timer.stop();
@@ -266,7 +272,7 @@ impl Outbound {
     // Whether something waits, and nothing is left to be sent again (RFC 9260 6.1 C). While nothing is in flight the congestion window falls.
     fn begin_new(&mut self, now: u64) -> bool
         ensures sender { self.new.sender ≡ self.old.sender }
-        ensures counts { IsCountedAlike self.old self.new }
+        ensures counts { CountsNone self.old self.new }
         ensures lost { self.new.has_lost ≡ self.old.has_lost }
         ensures none { result ≡ false → (self.old.has_lost ≡ true)
             ⊎ (chunk_count self.old.sender.flight.queue.pending ≡ 0) }
@@ -282,9 +288,10 @@ impl Outbound {
     }
 
     // Puts what waits, where nothing is left to be sent again.
+    #[tactic(auto, using(crate::proofs::Counted::none_then))]
     fn put_new(&mut self, packet: &mut Draft, now: u64) -> Result<(), Fault>
         ensures made { PutsOut self.old.sender self.new.sender packet.old.bytes packet.new.bytes }
-        ensures counts { IsCountedAlike self.old self.new }
+        ensures counts { CountsNone self.old self.new }
         ensures limit { packet.new.limit ≡ packet.old.limit }
         ensures grows { length packet.old.bytes ≤ length packet.new.bytes }
         ensures idle { OnOk result (IfNonePut packet.old.bytes packet.new.bytes
@@ -297,7 +304,7 @@ impl Outbound {
             return Ok(());
         }
         for _ in 1..MOST_CHUNKS {
-            if !self.put_next(packet, now)? {
+            if !self.put_timely(packet, now)? {
                 break;
             }
         }
@@ -358,6 +365,21 @@ impl Outbound {
         flight < self.congestion.burst_limit(base)
     }
 
+    // The same of a chunk behind others, unless its message is past its lifetime: that is abandoned before the next packet (RFC 9260 11.1.5).
+    fn put_timely(&mut self, packet: &mut Draft, now: u64) -> Result<bool, Fault>
+        ensures made { PutsOut self.old.sender self.new.sender packet.old.bytes packet.new.bytes }
+        ensures late { IfOk result (λ sent. sent ≡ true → (self.old.is_partial ≡ false)
+            ⊎ (is_front_late now (next_pending self.old.sender.flight.queue.pending) ≡ false)) }
+        ensures counts { CountsNone self.old self.new }
+        ensures limit { packet.new.limit ≡ packet.old.limit }
+        ensures grows { length packet.old.bytes ≤ length packet.new.bytes }
+    {
+        if self.is_partial && self.is_front_late(now) {
+            return Ok(false);
+        }
+        self.put_next(packet, now)
+    }
+
     // Sends the first chunk that waits, where it may go and fits, and answers whether it did (RFC 9260 6.1).
     fn put_next(&mut self, packet: &mut Draft, now: u64) -> Result<bool, Fault>
         ensures made { PutsOut self.old.sender self.new.sender packet.old.bytes packet.new.bytes }
@@ -365,7 +387,7 @@ impl Outbound {
             → IfSome (next_pending self.old.sender.flight.queue.pending) (λ c. may_send_next
             (length c.user_data) self.old.most_in_flight self.old.peer_window self.old.burst
             self.old.congestion self.old.sender.flight.queue.inflight.chunks ≡ true)) }
-        ensures counts { IsCountedAlike self.old self.new }
+        ensures counts { CountsNone self.old self.new }
         ensures held { IfOk result (λ sent. sent ≡ false
             → (self.new ≡ self.old) × (packet.new ≡ packet.old)) }
         ensures err { OnErr result ((self.new ≡ self.old) × (packet.new ≡ packet.old)) }

@@ -1,6 +1,6 @@
 use Rattle.std.proofs.Common.{◌≡◌, arith, false, subst, sym, ◌∙◌}
 use Rattle.std.specs.Prelude.{IfSome}
-use Rattle.sctp_association.proofs.Idle.{added_longer, on_ok_so}
+use Rattle.sctp_association.proofs.Idle.{added_longer, no_shutdown, on_ok, on_ok_so}
 use Rattle.sctp_association.proofs.Putting.{and_then}
 use Rattle.sctp_path.specs.Timers.{is_due}
 use Rattle.sctp_association.proofs.Others.{others_puts, others_then}
@@ -10,7 +10,8 @@ pub returns-in_err-put_sack-clause-made : goal.returns-in_err-put_sack-clause-ma
 returns-in_err-put_sack-clause-made c = and_then _ _ _ (others_puts _ _ c.put_cookies.ensures.others) c.put_sack.ensures.made
 
 pub returns-in_err-put_control-clause-made : goal.returns-in_err-put_control-clause-made
-returns-in_err-put_control-clause-made c = and_then _ _ _ (and_then _ _ _ (others_puts _ _ c.put_cookies.ensures.others) c.put_sack.ensures.made) c.put_control.ensures.made
+returns-in_err-put_control-clause-made c =
+    and_then _ _ _ (and_then _ _ _ (others_puts _ _ c.put_cookies.ensures.others) c.put_sack.ensures.made) c.put_control.ensures.made
 
 pub returns-clause-made : goal.returns-clause-made
 returns-clause-made c = and_then _ _ _ (
@@ -41,3 +42,25 @@ returns-clause-idle c = on_ok_so c.put_data.result (λ then_sent state p draft s
       sent = sent.0;
       timed = sent.1;
     }) c.put_data.ensures.idle
+
+pub returns-clause-owes : goal.returns-clause-owes
+returns-clause-owes c = on_ok c.put_data.result (λ state p draft short.
+    let cookies = c.put_cookies.ensures.others.added in
+    let sack = c.put_sack.ensures.made.added in
+    let control = c.put_control.ensures.made.added in
+    let one = cookies.draft p draft in
+    let two = sack.draft _ one in
+    let more = added_longer _ _ _ _ sack one in
+    let further = added_longer _ _ _ _ control two in
+    let last = added_longer _ _ _ _ c.put_data.ensures.made.added (control.draft _ two) in
+    let owed = c.in_ok-put_control.ensures.owes _ two (omega (arith, short, last.1)) in
+    let after = c.put_data.ensures.kept.due in
+    record {
+      cookie_ack = after.cookie_ack (c.put_control.ensures.kept.due.cookie_ack (c.put_sack.ensures.kept.due.cookie_ack
+          (c.put_cookies.ensures.owes p draft (omega (arith, short, more.1, further.1, last.1)))));
+      control = record {
+        shutdown = no_shutdown _ _ _ _ after.shutdown c.put_data.ensures.acks owed.shutdown;
+        shutdown_ack = after.shutdown_ack owed.shutdown_ack;
+        heartbeat = after.heartbeat owed.heartbeat;
+      };
+    })

@@ -1,8 +1,12 @@
-use Rattle.sctp_association.proofs.association.Association.handle_timeout.Goals.{then-time_out-via-then-time_out, then-time_out-via-else-time_out+then-has_failed}
+use Rattle.sctp_association.proofs.association.Association.handle_timeout.Goals.{then-time_out-via-then-time_out}
+use Rattle.sctp_association.proofs.association.Association.handle_timeout.Goals.{then-time_out-via-else-time_out+then-has_failed}
 use Rattle.sctp_association.specs.Telling.{TellsEnd}
-use Rattle.std.proofs.Common.{ap, ◌≡◌, ◌∙◌}
+use Rattle.std.proofs.Common.{ap, arith, sym, ◌≡◌, ◌∙◌}
 use Rattle.sctp_association.specs.declared.association.Association.{Association}
 use Rattle.sctp_association.proofs.Known.{knows_same}
+use Rattle.sctp_association.proofs.Lasting.{counted_most, expires_over, t3_most, timed_lasts}
+use Rattle.sctp_association.specs.declared.outbound.Outbound.{Outbound}
+use Rattle.sctp_path.specs.Timers.{is_due}
 use Rattle.sctp_association.proofs.Telling.{end_same, tells_kept, tells_peer, tells_then}
 use Rattle.sctp_association.proofs.association.Association.handle_timeout.Goals as goal
 
@@ -20,3 +24,27 @@ returns-then-time_out-clause-tells c =
     ] in
     tells_then _ _ _ (tells_peer _ _ ran.peer ran.tells)
     (tells_then _ c.then-time_out.self _ (tells_kept _ _ (knows_same _ _ same) end) (tells_peer _ _ failed.peer failed.tells))
+
+pub returns-then-time_out-clause-left : goal.returns-then-time_out-clause-left
+returns-then-time_out-clause-left c =
+    let out = c.time_out_control.ensures.outbound in
+    let t3 : c.time_out.new.self.failures.most ≡ c.time_out_control.new.self.outbound.failures.most =
+    t3_most (is_due c.args.now c.time_out_control.new.self.outbound.timer.at) _ _
+    (λ is. ap (λ (o : Outbound). o.failures) (c.time_out.ensures.waits is).1) (λ is. (c.time_out.ensures.counted is).0) in
+    let behind : c.then-time_out.self.outbound.failures.most ≡ c.time_out.new.self.failures.most = elim c.then-time_out.branch [
+      | then-time_out-via-then-time_out w ↦ ap (λ (x : Association). x.outbound.failures.most) w.self-is
+      | then-time_out-via-else-time_out+then-has_failed w ↦ ap (λ (x : Association). x.outbound.failures.most) w.self-is
+          ∙ counted_most _ _ w.has_failed.ensures.counted
+    ] in
+    expires_over _ c.args.self.now c.fail.new.self c.if-self.false c.fail.ensures.over
+    (ap (λ (o : Outbound). o.failures.most) c.fail.ensures.outbound ∙ behind ∙ t3 ∙ ap (λ (o : Outbound). o.failures.most) out)
+
+pub returns-else-has_failed-clause-left : goal.returns-else-has_failed-clause-left
+returns-else-has_failed-clause-left c =
+    let out = c.time_out_control.ensures.outbound in
+    let rest = c.has_failed.ensures.rest in
+    timed_lasts c.args.now c.args.self.now c.time_out_control.new.self c.has_failed.new.self c.time_out.new.self.failures c.if-self.false
+    (c.time_out_control.ensures.left c.if-self.false) (ap (λ (o : Outbound). o.failures) out) (ap (λ (o : Outbound). o.timer) out)
+    (ap (λ (x : Association). x.is_over) rest) (ap (λ (x : Association). x.machine) rest) c.time_out.ensures.more c.has_failed.ensures.more
+    (λ is. ap (λ (o : Outbound). o.failures) (c.time_out.ensures.waits is).1)
+    (λ is. let counted = c.time_out.ensures.counted is in (counted.0, sym counted.1 ∙ c.if-time_out.false)) c.has_failed.ensures.counted

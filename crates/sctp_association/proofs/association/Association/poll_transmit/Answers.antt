@@ -1,12 +1,14 @@
-use Rattle.std.proofs.Common.{refl}
+use Rattle.std.proofs.Common.{ap, refl}
 use Rattle.sctp_association.proofs.Telling.{tells_kept, tells_peer, tells_same, tells_then, to_same, transmits_end, unmoved_end}
 use Rattle.std.proofs.lemmas.Option.{none-some}
 use Rattle.sctp_association.proofs.Known.{keeps_then, knows_same, unmoved_keeps}
+use Rattle.sctp_association.proofs.Lasting.{lasts_same, lasts_then, lasts_unmoved}
 use Rattle.sctp_association.proofs.Offering.{offers_none, offers_reply}
 use Rattle.sctp_association.proofs.Others.{alike_puts, before_then, none_sent_so, sends_puts, sent_alone, unsent, unsent_err}
 use Rattle.sctp_association.proofs.Putting.{and_then, nothing}
 use Rattle.sctp_association.proofs.association.Association.poll_transmit.Goals as goal
 use Rattle.sctp_association.specs.Halves.{receiver_of, sides_of}
+use Rattle.sctp_association.specs.declared.outbound.Outbound.{Outbound}
 
 pub returns-in_err-put_alone-clause-made : goal.returns-in_err-put_alone-clause-made
 returns-in_err-put_alone-clause-made c =
@@ -93,3 +95,27 @@ returns-clause-tells c =
     let put = c.put_packet.ensures in
     tells_then _ c.settle.new.self _ (tells_kept _ _ c.settle.ensures.peer.machine c.settle.ensures.tells)
     (tells_peer _ _ (unmoved_keeps _ _ put.kept) (transmits_end _ _ _ put.made put.kept))
+
+-- ## What is left
+
+pub returns-in_err-put_alone-clause-left : goal.returns-in_err-put_alone-clause-left
+returns-in_err-put_alone-clause-left c = lasts_unmoved _ _ c.put_alone.ensures.kept
+
+pub returns-in-Some-clause-left : goal.returns-in-Some-clause-left
+returns-in-Some-clause-left c =
+    let kept = c.put_alone.ensures.kept in lasts_same c.args.self.now _ kept.over kept.machine kept.failures
+
+pub returns-then-self-clause-left : goal.returns-then-self-clause-left
+returns-then-self-clause-left c = lasts_same c.args.self.now _ refl refl refl
+
+pub returns-in_err-abandon-clause-left : goal.returns-in_err-abandon-clause-left
+returns-in_err-abandon-clause-left c = lasts_same c.args.self.now _ refl refl (ap (λ (o : Outbound). o.failures) c.abandon.ensures.rest)
+
+pub returns-in_default-peer-clause-left : goal.returns-in_default-peer-clause-left
+returns-in_default-peer-clause-left c = lasts_then c.args.self.now _ _
+    (lasts_same c.args.self.now _ refl refl (ap (λ (o : Outbound). o.failures) c.abandon.ensures.rest)) c.settle.ensures.left
+
+pub returns-clause-left : goal.returns-clause-left
+returns-clause-left c = lasts_then c.args.self.now c.settle.new.self _ (
+    lasts_then c.args.self.now _ _ (lasts_same c.args.self.now _ refl refl (ap (λ (o : Outbound). o.failures) c.abandon.ensures.rest)) c.settle.ensures.left
+    ) (lasts_unmoved _ _ c.put_packet.ensures.kept)

@@ -26,9 +26,27 @@ returns-clause-offers c =
 pub returns-in_err-put_reply-clause-kept : goal.returns-in_err-put_reply-clause-kept
 returns-in_err-put_reply-clause-kept c =
     let kept = c.put_reply.ensures.reply.kept in
-    record { config = kept.config; key = kept.key; machine = kept.machine; alone = kept.alone; events = kept.events; over = kept.over }
+    record {
+      config = kept.config;
+      key = kept.key;
+      machine = kept.machine;
+      alone = kept.alone;
+      events = kept.events;
+      over = kept.over;
+      failures = kept.failures;
+      due = kept.due;
+    }
 
 pub returns-clause-kept : goal.returns-clause-kept
 returns-clause-kept c =
     let kept = c.put_reply.ensures.reply.kept in
-    record { config = kept.config; key = kept.key; machine = kept.machine; alone = kept.alone; events = kept.events; over = kept.over }
+    record {
+      config = kept.config;
+      key = kept.key;
+      machine = kept.machine;
+      alone = kept.alone;
+      events = kept.events;
+      over = kept.over;
+      failures = kept.failures;
+      due = kept.due;
+    }

@@ -1,6 +1,9 @@
+use Rattle.std.proofs.Common.{ap, arith, ◌∙◌}
+use Rattle.sctp_association.proofs.Idle.{added_longer, no_shutdown, on_ok}
 use Rattle.sctp_association.proofs.Putting.{and_then}
 use Rattle.sctp_association.proofs.Others.{others_puts, others_then}
 use Rattle.sctp_association.proofs.association.Association.put_control.Goals as goal
+use Rattle.sctp_association.specs.Idle.{sack_delay}
 
 pub returns-in_err-put_heartbeats-clause-made : goal.returns-in_err-put_heartbeats-clause-made
 returns-in_err-put_heartbeats-clause-made c = and_then _ _ _ c.put_shutdown.ensures.made (others_puts _ _ c.put_heartbeats.ensures.others)
@@ -25,3 +28,21 @@ returns-clause-made c = and_then _ _ _ c.put_shutdown.ensures.made (
     ) c.put_resets.ensures.others
     )
     )
+
+-- ## Where nothing was put
+
+pub returns-clause-owes : goal.returns-clause-owes
+returns-clause-owes c = on_ok c.put_resets.result (λ p draft short.
+    let beaten = c.put_heartbeats.ensures in
+    let unknown = c.put_unknown_stream.ensures in
+    let told = c.put_report.ensures in
+    let reset = c.put_resets.ensures in
+    let behind = others_then _ _ _ (others_then _ _ _ unknown.others told.others) reset.others in
+    let all = others_then _ _ _ beaten.others behind in
+    let longer = added_longer _ _ _ _ all.added (c.put_shutdown.ensures.made.added.draft p draft) in
+    let shut = c.put_shutdown.ensures.owes p draft (omega (arith, short, longer.1)) in
+    record {
+      shutdown = no_shutdown _ _ _ _ all.kept.due.shutdown (reset.acks ∙ ap sack_delay told.rest ∙ unknown.acks ∙ beaten.acks) shut.0;
+      shutdown_ack = all.kept.due.shutdown_ack shut.1;
+      heartbeat = behind.kept.due.heartbeat c.in_ok-put_heartbeats.ensures.owes;
+    })

@@ -1,5 +1,12 @@
+use Rattle.sctp_association.proofs.Idle.{added_longer}
 use Rattle.sctp_association.proofs.Others.{others_then}
 use Rattle.sctp_association.proofs.association.Association.put_cookies.Goals as goal
 
 pub returns : goal.returns
-returns c = record { others = others_then _ _ _ c.put_cookie_echo.ensures.others c.put_cookie_ack.ensures.others }
+returns c = record {
+  others = others_then _ _ _ c.put_cookie_echo.ensures.others c.put_cookie_ack.ensures.others;
+  owes = λ p draft short.
+      let echoed = c.put_cookie_echo.ensures.others.added.draft p draft in
+      let longer = added_longer _ _ _ _ c.put_cookie_ack.ensures.others.added echoed in
+      c.put_cookie_ack.ensures.owes longer.0 short;
+}

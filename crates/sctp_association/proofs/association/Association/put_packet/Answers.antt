@@ -43,3 +43,13 @@ returns-then-is_empty-clause-idle c _ state =
       sent = subst (λ (o : Outbound). WaitsForSacks limit o.sender) (sym c.pause.ensures) idle.sent;
       timed = subst (λ (o : Outbound). IsTimed (in_flight o.sender) o.timer.at) (sym c.pause.ensures) idle.timed;
     }
+
+pub returns-then-is_empty-clause-owes : goal.returns-then-is_empty-clause-owes
+returns-then-is_empty-clause-owes c _ state =
+    let short = leb-true _ 12 (sym c.is_empty.ensures ∙ c.if-is_empty.true) in
+    let owed = c.in_ok-filled.ensures.owes state (headed c.args.header) c.in_ok-begin.ensures.begun short in
+    let control = owed.control in
+    record {
+      cookie_ack = owed.cookie_ack;
+      control = record { shutdown = control.shutdown; shutdown_ack = control.shutdown_ack; heartbeat = control.heartbeat };
+    }

@@ -1,6 +1,16 @@
 use Rattle.sctp_association.proofs.Putting.{and_then}
+use Rattle.std.proofs.Common.{arith, ◌∙◌}
+use Rattle.sctp_association.proofs.Idle.{added_longer, no_shutdown}
 use Rattle.sctp_association.proofs.Others.{others_puts}
 use Rattle.sctp_association.proofs.association.Association.put_shutdown.Goals as goal
 
 pub returns-clause-made : goal.returns-clause-made
 returns-clause-made c = and_then _ _ _ c.put_shutdown_asked.ensures.made (others_puts _ _ c.put_shutdown_ack.ensures.others)
+
+pub returns-clause-owes : goal.returns-clause-owes
+returns-clause-owes c p draft short =
+    let asked = c.put_shutdown_asked.ensures in
+    let acked = c.put_shutdown_ack.ensures in
+    let first = added_longer _ _ _ _ asked.made.added draft in
+    let then = added_longer _ _ _ _ acked.others.added (asked.made.added.draft p draft) in
+    (no_shutdown _ _ _ _ (λ e. acked.asked ∙ e) acked.acks (asked.owes first.0 (omega (arith, short, then.1))), acked.owes then.0 short)

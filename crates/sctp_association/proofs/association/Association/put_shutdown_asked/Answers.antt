@@ -1,6 +1,12 @@
 use Rattle.std.proofs.Common.{true}
+use Rattle.sctp_association.proofs.Idle.{shutdown_put}
 use Rattle.sctp_association.proofs.Others.{shutdown_side}
 use Rattle.sctp_association.proofs.association.Association.put_shutdown_asked.Goals as goal
 
 pub returns-then-put-clause-made : goal.returns-then-put-clause-made
-returns-then-put-clause-made c = shutdown_side c.cumulative_tsn.result true _ _ c.in-Some.inbound _ _ c.in-Some.is c.cumulative_tsn.ensures c.if-put.ensures.added
+returns-then-put-clause-made c =
+    shutdown_side c.cumulative_tsn.result true _ _ c.in-Some.inbound _ _ c.in-Some.is c.cumulative_tsn.ensures c.if-put.ensures.added
+
+pub returns-else-put-clause-owes : goal.returns-else-put-clause-owes
+returns-else-put-clause-owes c head short = absurd
+    (shutdown_put _ _ _ c.put.result c.put.ensures.grows head short c.put.ensures.least c.if-put.false c.cumulative_tsn.result c.put.ensures.fits)

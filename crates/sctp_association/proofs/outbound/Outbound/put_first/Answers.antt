@@ -12,7 +12,7 @@ returns-in_default-clause-made c =
     none_again c.args.now c.room.result _ _ _ _ c.in_default.is c.in_ok-chunk.ensures.answer c.in_ok-chunk.ensures.none
 
 pub returns-clause-made : goal.returns-clause-made
-returns-clause-made c = to_same _ _ _ _ _ (ap (λ o. o.sender) c.stop_where_first.ensures) (
+returns-clause-made c = to_same _ _ _ _ _ (ap (λ o. o.sender) c.stop_where_first.ensures.rest) (
     again_put c.args.now c.room.result c.in-Some.chunk _ c.args.self.now.sender c.resend_next.new.self _ _ (sym c.in-Some.is ∙ c.in_ok-chunk.ensures.answer)
     c.in_ok-chunk.ensures.ok c.in_ok-chunk.ensures.marked c.put.ensures.added
     )

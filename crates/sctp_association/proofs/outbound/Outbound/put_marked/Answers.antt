@@ -1,14 +1,15 @@
 use Rattle.std.proofs.Common.{arith, refl, ◌∙◌}
+use Rattle.sctp_association.proofs.Counted.{on_same, on_then}
 use Rattle.sctp_association.proofs.Putting.{nothing, out_then}
 use Rattle.sctp_association.proofs.outbound.Outbound.put_marked.Goals as goal
 
 pub loop-init : goal.loop-init
-loop-init c = (refl, record { resent = omega arith; timeouts = refl }, λ r. nothing _, omega arith)
+loop-init c = (refl, on_same _, λ r. nothing _, omega arith)
 
 pub loop-preserved : goal.loop-preserved
 loop-preserved c = (
   c.put_again-in-loop.ensures.limit ∙ c.loop.invariant.0,
-  record { resent = omega arith; timeouts = c.put_again-in-loop.ensures.counts.timeouts ∙ c.loop.invariant.1.timeouts },
+  on_then _ _ _ c.loop.invariant.1 c.put_again-in-loop.ensures.counts,
   out_then _ _ _ _ _ _ c.loop.invariant.2 c.put_again-in-loop.ensures.made,
   omega (arith, c.loop.invariant.3, c.put_again-in-loop.ensures.grows),
 )

@@ -1,4 +1,5 @@
 use Rattle.std.proofs.Common.{◌-◌, ap, arith, length, refl, subst, ◌∙◌}
+use Rattle.sctp_association.proofs.Counted.{none_same, none_then}
 use Rattle.sctp_association.proofs.Idle.{waits_not}
 use Rattle.sctp_association.proofs.Putting.{from_same, kept, nothing, out_then}
 use Rattle.sctp_association.proofs.outbound.Outbound.put_new.Goals as goal
@@ -31,26 +32,23 @@ returns-then-not-branch-clause-idle c head short =
     }
 
 pub loop-init : goal.loop-init
-loop-init c = (refl, record { resent = refl; timeouts = refl }, λ r. nothing _, omega arith)
+loop-init c = (refl, none_same _, λ r. nothing _, omega arith)
 
 pub loop-preserved : goal.loop-preserved
 loop-preserved c = (
-  c.put_next-in-loop.ensures.limit ∙ c.loop.invariant.0,
-  record {
-    resent = c.put_next-in-loop.ensures.counts.resent ∙ c.loop.invariant.1.resent;
-    timeouts = c.put_next-in-loop.ensures.counts.timeouts ∙ c.loop.invariant.1.timeouts;
-  },
-  out_then _ _ _ _ _ _ c.loop.invariant.2 c.put_next-in-loop.ensures.made,
-  omega (arith, c.loop.invariant.3, c.put_next-in-loop.ensures.grows),
+  c.put_timely.ensures.limit ∙ c.loop.invariant.0,
+  none_then _ _ _ c.loop.invariant.1 c.put_timely.ensures.counts,
+  out_then _ _ _ _ _ _ c.loop.invariant.2 c.put_timely.ensures.made,
+  omega (arith, c.loop.invariant.3, c.put_timely.ensures.grows),
 )
 
-pub returns-in_err-put_next-2-clause-made : goal.returns-in_err-put_next-2-clause-made
-returns-in_err-put_next-2-clause-made c = from_same _ _ _ _ _ c.begin_new.ensures.sender (
-    out_then _ _ _ _ _ _ c.put_next.ensures.made (out_then _ _ _ _ _ _ c.loop.invariant.2 c.put_next-in-loop.ensures.made)
+pub returns-in_err-put_timely-clause-made : goal.returns-in_err-put_timely-clause-made
+returns-in_err-put_timely-clause-made c = from_same _ _ _ _ _ c.begin_new.ensures.sender (
+    out_then _ _ _ _ _ _ c.put_next.ensures.made (out_then _ _ _ _ _ _ c.loop.invariant.2 c.put_timely.ensures.made)
     )
 
-pub returns-in_err-put_next-2-clause-grows : goal.returns-in_err-put_next-2-clause-grows
-returns-in_err-put_next-2-clause-grows c = omega (arith, c.put_next.ensures.grows, c.loop.invariant.3, c.put_next-in-loop.ensures.grows)
+pub returns-in_err-put_timely-clause-grows : goal.returns-in_err-put_timely-clause-grows
+returns-in_err-put_timely-clause-grows c = omega (arith, c.put_next.ensures.grows, c.loop.invariant.3, c.put_timely.ensures.grows)
 
 pub returns-after-loop-clause-made : goal.returns-after-loop-clause-made
 returns-after-loop-clause-made c =
@@ -65,11 +63,11 @@ returns-after-loop-clause-idle c head short =
 
 pub returns-then-not-branch-2-clause-made : goal.returns-then-not-branch-2-clause-made
 returns-then-not-branch-2-clause-made c = from_same _ _ _ _ _ c.begin_new.ensures.sender (
-    out_then _ _ _ _ _ _ c.put_next.ensures.made (out_then _ _ _ _ _ _ c.loop.invariant.2 c.put_next-in-loop.ensures.made)
+    out_then _ _ _ _ _ _ c.put_next.ensures.made (out_then _ _ _ _ _ _ c.loop.invariant.2 c.put_timely.ensures.made)
     )
 
 pub returns-then-not-branch-2-clause-grows : goal.returns-then-not-branch-2-clause-grows
-returns-then-not-branch-2-clause-grows c = omega (arith, c.put_next.ensures.grows, c.loop.invariant.3, c.put_next-in-loop.ensures.grows)
+returns-then-not-branch-2-clause-grows c = omega (arith, c.put_next.ensures.grows, c.loop.invariant.3, c.put_timely.ensures.grows)
 
 pub returns-then-not-branch-2-clause-idle : goal.returns-then-not-branch-2-clause-idle
 returns-then-not-branch-2-clause-idle c head short = absurd (omega (
@@ -77,5 +75,5 @@ returns-then-not-branch-2-clause-idle c head short = absurd (omega (
   short,
   c.in_ok-put_next.ensures.put head c.if-not-branch.false,
   c.loop.invariant.3,
-  c.put_next-in-loop.ensures.grows,
+  c.put_timely.ensures.grows,
 ))

@@ -1,10 +1,10 @@
 use Rattle.std.proofs.Common.{◌≡◌, ◌≤◌, length}
-use Rattle.sctp_association.specs.Counts.{IsCountedAlike}
+use Rattle.sctp_association.specs.Counts.{CountsNone}
 use Rattle.sctp_association.specs.Packets.{PutsOut}
 use Rattle.sctp_association.proofs.outbound.Outbound.put_new.Given as goal
 
 -- a packet keeps its limit and gets no shorter, and what goes for the first time is not counted
 abbrev pub invariant-loop : goal.invariant-loop
-invariant-loop l = (l.packet.limit ≡ l.initial.packet.limit) × IsCountedAlike l.initial.self l.self
+invariant-loop l = (l.packet.limit ≡ l.initial.packet.limit) × CountsNone l.initial.self l.self
     × PutsOut l.initial.self.sender l.self.sender l.initial.packet.bytes l.packet.bytes
     × (length l.initial.packet.bytes ≤ length l.packet.bytes)

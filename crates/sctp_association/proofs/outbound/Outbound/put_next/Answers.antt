@@ -24,7 +24,7 @@ pub returns-in-Err : goal.returns-in-Err
 returns-in-Err c = record {
   made = kept _ _ _ _ c.in-Err.ensures.err refl;
   sent = tt;
-  counts = record { resent = refl; timeouts = refl };
+  counts = record { resent = refl; timeouts = refl; failures = refl; rto = refl; timer = refl };
   held = tt;
   err = (ap (λ (s : Transmission). let y : Outbound = record c.args.self.now { sender = s } in y) c.in-Err.ensures.err, refl);
   limit = refl;

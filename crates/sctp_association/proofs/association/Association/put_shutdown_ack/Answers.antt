@@ -1,0 +1,12 @@
+use Rattle.std.proofs.Common.{◌≤◌, ap, length, subst, ◌∙◌}
+use Rattle.sctp_association.proofs.Idle.{shutdown_ack_put}
+use Rattle.sctp_association.proofs.association.Association.put_shutdown_ack.Goals as goal
+use Rattle.sctp_association.proofs.association.Association.put_shutdown_ack.Goals.{else-self-via-else-self, else-self-via-then-self+else-put}
+use Rattle.sctp_association.specs.declared.association.Association.{Association}
+
+pub returns-else-self-clause-owes : goal.returns-else-self-clause-owes
+returns-else-self-clause-owes c head short = elim c.else-self.branch [
+  | else-self-via-then-self+else-put w ↦ absurd (shutdown_ack_put _ _ _ w.put.result w.put.ensures.grows head
+      (subst (λ (a : Association). length a.draft.bytes ≤ 12) w.self-is short) w.put.ensures.least w.if-put.false w.put.ensures.fits)
+  | else-self-via-else-self w ↦ ap (λ (a : Association). a.due.shutdown_ack) w.self-is ∙ w.if-self.false
+]

@@ -1,0 +1,12 @@
+use Rattle.std.proofs.Common.{refl, sym, ◌∙◌}
+use Rattle.sctp_association.proofs.Known.{keeps_by, knows_timed}
+use Rattle.sctp_association.proofs.Lasting.{expires_run_out, timed_left}
+use Rattle.sctp_association.proofs.association.Association.run_out.Goals as goal
+
+pub returns-else-is_some-clause-left : goal.returns-else-is_some-clause-left
+returns-else-is_some-clause-left c going =
+    expires_run_out c.args.self.now _ going refl refl
+    (timed_left c.args.self.now.machine _ _ c.timed_out-answer.ensures (sym c.is_some.ensures ∙ c.if-is_some.false))
+
+pub returns-else-is_some-clause-peer : goal.returns-else-is_some-clause-peer
+returns-else-is_some-clause-peer c = keeps_by _ _ _ (knows_timed _ _ _ c.timed_out-answer.ensures) refl refl refl c.owe_again.ensures
