@@ -29,6 +29,7 @@ pub mod Carrying
 pub mod Coming
 pub mod Each
 pub mod Going
+pub mod Sacks
 pub mod Cut
 pub mod Named
 pub mod Fronts

@@ -30,6 +30,7 @@ pub mod Reads
 pub mod Reports
 pub mod Rooms
 pub mod Runs
+pub mod Sacks
 pub mod Sending
 pub mod Served
 pub mod Sessions

@@ -8,6 +8,7 @@ ghost use Rattle.sctp_association.specs.Kept.{IsKept, OwesNoMore, ticket_in_kind
 ghost use Rattle.sctp_association.specs.Coming.{FollowsData, GoesOn, IsDue, TakesDataAt, TakesDataOf, TakesEachOf, TakesOnlyData, goes_on, is_due};
 ghost use Rattle.sctp_association.specs.Cookies.{IsAlive, IsSealed, cookie_in};
 ghost use Rattle.sctp_association.specs.Halves.{HalvesAlike, halves_of};
+ghost use Rattle.sctp_association.specs.Sacks.{HearsFirstOf, HearsOn, TakesSacksOf};
 ghost use Rattle.sctp_association.specs.Reached.{most_user_data};
 ghost use Rattle.sctp_association.specs.Steps.{is_accepted, is_taken};
 ghost use Rattle.sctp_association.specs.Telling.{Tells, TellsEnd};
@@ -171,6 +172,10 @@ impl Association {
         ensures each { TakesDataOf (u32_at datagram.now 4) self.old → result ≡ Ok Accepted
             → (chunks : List ChunkPlace) → TellsAll place_at datagram.now chunks
             → TakesEachOf chunks datagram.now self.old self.new }
+        // The sender takes the first SACK among those chunks, or it is outdated; or the association is over (RFC 9260 6.2.1).
+        ensures sacks { TakesSacksOf (u32_at datagram.now 4) self.old → result ≡ Ok Accepted
+            → (chunks : List ChunkPlace) → TellsAll place_at datagram.now chunks
+            → HearsFirstOf chunks datagram.now self.old self.new }
     {
         let zero = if self.config.zero_checksum {
             ZeroChecksum::Allowed
@@ -253,6 +258,8 @@ impl Association {
             → (r : Reason) → result ≡ Ok (Dropped r) → ⊥ }
         ensures each { TakesDataOf (u32_at datagram.now 4) self.old → result ≡ Ok Accepted
             → TakesEachOf chunks.entry.left datagram.now self.old self.new }
+        ensures sacks { TakesSacksOf (u32_at datagram.now 4) self.old → result ≡ Ok Accepted
+            → HearsFirstOf chunks.entry.left datagram.now self.old self.new }
     {
         let mut chunks = chunks;
         let tag = chunks.header().verification_tag;
@@ -338,6 +345,8 @@ impl Association {
             → (r : Reason) → result ≡ Ok (step.Refused r) → ⊥ }
         ensures on { TakesDataOf tag self.old → goes_on chunk.typ ≡ true
             → IfOk result (λ s. GoesOn chunk tag datagram.now s self.new) }
+        ensures sacks { TakesSacksOf tag self.old → goes_on chunk.typ ≡ true
+            → IfOk result (λ s. HearsOn chunk tag datagram.now s self.old self.new) }
     {
         let is_alone = chunk.typ == 1 || chunk.typ == 10 || count < 2;
         if is_alone || self.machine.state() == State::Closed {
@@ -359,6 +368,8 @@ impl Association {
         ensures none { chunks.entry.left ≡ [] → (result ≡ true) × (self.new ≡ self.old) }
         ensures each { TakesDataOf (u32_at datagram.now 4) self.old → result ≡ true
             → TakesEachOf chunks.entry.left datagram.now self.old self.new }
+        ensures sacks { (first ≡ 3 → ⊥) → TakesSacksOf (u32_at datagram.now 4) self.old
+            → result ≡ true → HearsFirstOf chunks.entry.left datagram.now self.old self.new }
     {
         let mut chunks = chunks;
         let tag = chunks.header().verification_tag;
@@ -395,7 +406,11 @@ impl Association {
         ensures came { ArrivesAsOffered datagram.now self.old self.new }
         ensures on { TakesDataOf tag self.old → goes_on chunk.typ ≡ true
             → IfOk result (λ s. GoesOn chunk tag datagram.now s self.new) }
+        ensures sacks { TakesSacksOf tag self.old → goes_on chunk.typ ≡ true
+            → IfOk result (λ s. HearsOn chunk tag datagram.now s self.old self.new) }
         ensures never { TakesDataOf tag self.old → goes_on chunk.typ ≡ true
+            → (r : Reason) → result ≡ Ok (step.Refused r) → ⊥ }
+        ensures never_sacks { TakesSacksOf tag self.old → goes_on chunk.typ ≡ true
             → (r : Reason) → result ≡ Ok (step.Refused r) → ⊥ }
     {
         match self.take_chunk(datagram, chunk, tag, 2, now)? {
@@ -464,6 +479,8 @@ impl Association {
             → (r : Reason) → result ≡ Ok (step.Refused r) → ⊥ }
         ensures on { TakesDataOf tag self.old → goes_on chunk.typ ≡ true
             → IfOk result (λ s. GoesOn chunk tag datagram.now s self.new) }
+        ensures sacks { TakesSacksOf tag self.old → goes_on chunk.typ ≡ true
+            → IfOk result (λ s. HearsOn chunk tag datagram.now s self.old self.new) }
     {
         if !self.admits(chunk, tag, count) {
             return Ok(Step::Refused(Reason::Tag));
@@ -499,6 +516,8 @@ impl Association {
             → result ≡ Ok (step.Refused r) → ⊥ }
         ensures on { (tag : ℕ) → TakesDataOf tag self.old
             → IfOk result (λ s. GoesOn chunk tag datagram.now s self.new) }
+        ensures sacks { (tag : ℕ) → TakesSacksOf tag self.old
+            → IfOk result (λ s. HearsOn chunk tag datagram.now s self.old self.new) }
     {
         if !self.machine.state().takes_data() {
             return Ok(Step::Refused(Reason::Unexpected));
@@ -545,6 +564,8 @@ impl Association {
             → result ≡ Ok (step.Refused r) → ⊥ }
         ensures on { (tag : ℕ) → TakesDataOf tag self.old
             → IfOk result (λ s. GoesOn chunk tag datagram.now s self.new) }
+        ensures sacks { (tag : ℕ) → TakesSacksOf tag self.old
+            → IfOk result (λ s. HearsOn chunk tag datagram.now s self.old self.new) }
     {
         if !self.machine.state().takes_data() {
             return Ok(Step::Refused(Reason::Unexpected));
@@ -595,6 +616,8 @@ impl Association {
             → result ≡ Ok (step.Refused r) → ⊥ }
         ensures on { (tag : ℕ) → TakesDataOf tag self.old
             → IfOk result (λ s. GoesOn chunk tag datagram.now s self.new) }
+        ensures sacks { (tag : ℕ) → TakesSacksOf tag self.old
+            → IfOk result (λ s. HearsOn chunk tag datagram.now s self.old self.new) }
     {
         if !self.machine.state().takes_sacks() {
             return Ok(Step::Refused(Reason::Unexpected));

@@ -4,6 +4,7 @@ ghost use Rattle.std.specs.Prelude.{◌≡◌, ◌⊎◌, ◌-◌, Ok, OnErr};
 ghost use Rattle.sctp_association.specs.Acks.{without_blocks};
 ghost use Rattle.sctp_association.specs.Arrivals.{AsksToHear, HearsBy, IsCount, without_gaps};
 ghost use Rattle.sctp_association.specs.Counts.{IsCountedAlike};
+ghost use Rattle.sctp_association.specs.Sacks.{HearsSackFirst};
 ghost use Rattle.sctp_association.specs.Telling.{Stays};
 ghost use Rattle.sctp_association.specs.declared.outbound.acks.SackTaken.TheVariants.{Taken, Forged};
 ghost use Rattle.sctp_chunks.specs.Wire.{sack_chunk, shutdown_chunk};
@@ -120,6 +121,9 @@ impl Outbound {
         ensures low { Stays low.old low.new }
         ensures hearing { HearsBy (AsksToHear (sack_chunk (sack_of sack.old)))
             self.old.sender self.new.sender }
+        // The sender takes it, or it is outdated.
+        ensures hears { result ≡ Ok Taken
+            → HearsSackFirst (sack_of sack.old) self.old.sender self.new.sender }
         ensures counts { IsCountedAlike self.old self.new }
         ensures forged { result ≡ Ok Forged → self.new ≡ self.old }
         ensures err { OnErr result ((self.new ≡ self.old) × (low.new ≡ low.old)) }

@@ -10,6 +10,7 @@ use Rattle.sctp_association.proofs.Offered.{offered_less, offered_same}
 use Rattle.sctp_association.proofs.association.Association.handle_datagram.Goals as goal
 use Rattle.sctp_association.proofs.Each.{told_once}
 use Rattle.sctp_association.specs.Coming.{TakesEachOf, zero_checksum_of}
+use Rattle.sctp_association.specs.Sacks.{HearsFirstOf}
 use Rattle.std.specs.Prelude.{ℕ}
 use Rattle.sctp_association.proofs.association.Association.handle_datagram.Goals.{else-self, then-self}
 use Rattle.sctp_datagram.specs.declared.datagram.ChunkPlace.{ChunkPlace}
@@ -49,6 +50,7 @@ returns-in-Err c = record {
       let tells = subst (λ (l : List ℕ). TellsAll place_at l (due.first ∷ due.rest)) (sym c.as_slice.ensures) due.tells in
       on_ok _ _ e c.dropped_by.ensures.read (c.in-Err.ensures.only (due.first ∷ due.rest) valid tells);
   each = λ takes e. absurd (never_told _ _ e refl c.dropped_by.ensures.never);
+  sacks = λ takes e. absurd (never_told _ _ e refl c.dropped_by.ensures.never);
 }
 
 pub returns-then-header-self-clause-came : goal.returns-then-header-self-clause-came
@@ -94,6 +96,15 @@ returns-clause-each c takes is chunks tells =
     let all : TellsAll place_at c.args.datagram.now c.in-Ok.chunks.left = search rules in
     subst (λ (l : List ChunkPlace). TakesEachOf l c.args.datagram.now c.args.self.now c.take_chunks.new.self) (told_once _ _ _ all tells)
     (c.take_chunks.ensures.each takes is)
+
+pub returns-then-self-2-clause-sacks : goal.returns-then-self-2-clause-sacks
+returns-then-self-2-clause-sacks c takes is chunks tells = inl (ap (λ (a : Association). a.is_over) c.take_after_end.ensures.rest ∙ c.if-self-2.true)
+
+pub returns-clause-sacks : goal.returns-clause-sacks
+returns-clause-sacks c takes is chunks tells =
+    let all : TellsAll place_at c.args.datagram.now c.in-Ok.chunks.left = search rules in
+    subst (λ (l : List ChunkPlace). HearsFirstOf l c.args.datagram.now c.args.self.now c.take_chunks.new.self) (told_once _ _ _ all tells)
+    (c.take_chunks.ensures.sacks takes is)
 
 pub returns-clause-due : goal.returns-clause-due
 returns-clause-due c due r is =

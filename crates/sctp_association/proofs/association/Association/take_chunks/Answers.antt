@@ -15,6 +15,8 @@ use Rattle.sctp_util.specs.Field.{u32_at}
 use Rattle.sctp_association.proofs.Carrying.{all_own, next_own}
 use Rattle.sctp_association.proofs.association.Association.take_chunks.Goals as goal
 use Rattle.sctp_association.proofs.Each.{each_ended, first_next, first_same, first_stop}
+use Rattle.sctp_association.proofs.Sacks.{first_sack_next, first_sack_stop, sack_ended}
+use Rattle.sctp_association.specs.Sacks.{HearsFirstOf, TakesSacksOf}
 use Rattle.std.specs.Prelude.{ℕ, true}
 use Rattle.sctp_datagram.specs.declared.datagram.ChunkPlace.{ChunkPlace}
 
@@ -159,6 +161,34 @@ returns-clause-each c takes is =
     first_next _ c.args.datagram.now c.in-Some.first c.next.new.self.left c.args.self.now c.take_first.new.self c.take_first.result
     (c.take_first.ensures.on of) next (arrives_of _ _ _ _ c.take_first.ensures.came.arrives) c.take_others-is_whole.new.self
     (arrives_of _ _ _ _ c.take_others-is_whole.ensures.came.arrives) others
+    )
+    )
+
+pub returns-in-Stop-clause-sacks : goal.returns-in-Stop-clause-sacks
+returns-in-Stop-clause-sacks c takes is =
+    let stop : c.take_first.result ≡ Ok step.Stop = search rules in
+    let tag : c.header-tag.result.verification_tag ≡ u32_at c.args.datagram.now 4 =
+    c.header-tag.ensures.verification_tag ∙ ap (λ l. u32_at l 4) c.requires.whole in
+    let of : TakesSacksOf c.header-tag.result.verification_tag c.args.self.now = subst (λ (n : ℕ). TakesSacksOf n c.args.self.now) (sym tag) takes in
+    subst (λ (l : List ChunkPlace). HearsFirstOf l c.args.datagram.now c.args.self.now c.take_first.new.self) (sym c.in-Some.ensures.place)
+    (first_sack_stop _ c.args.datagram.now c.in-Some.first c.next.new.self.left c.args.self.now c.take_first.new.self c.take_first.result
+    (c.take_first.ensures.sacks of) stop)
+
+pub returns-clause-sacks : goal.returns-clause-sacks
+returns-clause-sacks c takes is =
+    let ended = c.end_datagram-2.ensures in
+    let next : c.take_first.result ≡ Ok step.Next = search rules in
+    let tag : c.header-tag.result.verification_tag ≡ u32_at c.args.datagram.now 4 =
+    c.header-tag.ensures.verification_tag ∙ ap (λ l. u32_at l 4) c.requires.whole in
+    let of : TakesSacksOf c.header-tag.result.verification_tag c.args.self.now = subst (λ (n : ℕ). TakesSacksOf n c.args.self.now) (sym tag) takes in
+    let others = λ (other : c.in-Some.first.typ ≡ 3 → ⊥) (t : TakesSacksOf c.header-tag.result.verification_tag c.take_first.new.self).
+    c.take_others-is_whole.ensures.sacks other (subst (λ (n : ℕ). TakesSacksOf n c.take_first.new.self) tag t) c.if-not-is_whole.false in
+    subst (λ (l : List ChunkPlace). HearsFirstOf l c.args.datagram.now c.args.self.now c.end_datagram-2.new.self) (sym c.in-Some.ensures.place) (
+    sack_ended (c.in-Some.first ∷ c.next.new.self.left) c.args.datagram.now c.args.self.now c.take_others-is_whole.new.self c.end_datagram-2.new.self
+    ended.over (alike_halves c.take_others-is_whole.new.self c.end_datagram-2.new.self ended.halves) (
+    first_sack_next _ c.args.datagram.now c.in-Some.first c.next.new.self.left c.args.self.now c.take_first.new.self c.take_first.result
+    (c.take_first.ensures.sacks of) (arrives_of _ _ _ _ c.take_first.ensures.came.arrives) c.take_others-is_whole.new.self
+    (arrives_of _ _ _ _ c.take_others-is_whole.ensures.came.arrives) others next
     )
     )
 

@@ -1,5 +1,5 @@
 use Rattle.sctp_association.proofs.Telling.{end_then, to_in}
-use Rattle.std.proofs.Common.{Ok, Some, ap, refl, subst, sym, ◌∙◌}
+use Rattle.std.proofs.Common.{arith, Ok, Some, ap, refl, subst, sym, ◌∙◌}
 use Rattle.sctp_association.proofs.Arrived.{came_alike, came_same, came_then, receiver_came}
 use Rattle.sctp_association.proofs.Coming.{done_unless, follows_data}
 use Rattle.sctp_association.specs.Arrivals.{Halves}
@@ -9,6 +9,8 @@ use Rattle.sctp_association.proofs.First.{on_err}
 use Rattle.sctp_association.proofs.Kept.{same_inbound, same_machine}
 use Rattle.sctp_association.proofs.Known.{keeps_by, keeps_then, knows_arrived}
 use Rattle.sctp_association.proofs.Going.{arrived_state, arrived_told, goes_by_data, served_alike, takes_on}
+use Rattle.sctp_association.proofs.Sacks.{hears_by, sacks_on}
+use Rattle.sctp_association.specs.Sacks.{TakesSacksOf}
 use Rattle.sctp_handshake.specs.declared.machine.Machine.{Machine}
 use Rattle.sctp_association.proofs.association.Association.take_data.Goals as goal
 
@@ -94,4 +96,20 @@ returns-clause-on c tag takes =
     (served_alike (Some c.take_data.new.self) c.follow.new.self.inbound ((c.follow.ensures.quiet quiet).receiver ∙ c.run_again.ensures.halves.receiver) refl) in
     goes_by_data c.args.chunk tag c.args.datagram.now c.end_by.result c.end_by.new.self c.end_by.ensures.never (returns-clause-takes c) (
     λ next. subst (TakesDataOf tag) (sym (c.end_by.ensures.on next)) there
+    )
+
+-- ## So are SACKs
+
+pub returns-clause-sacks : goal.returns-clause-sacks
+returns-clause-sacks c tag takes =
+    let old = c.args.self.now in
+    let quiet = arrived_told old.machine _ _ c.packet_arrived-answer.ensures in
+    let kept = c.follow.ensures.kept.machine ∙ c.run_again.ensures.kept.machine in
+    let there : TakesSacksOf tag c.follow.new.self =
+    sacks_on tag old c.follow.new.self takes (c.follow.ensures.over quiet ∙ c.run_again.ensures.over)
+    (ap (λ (m : Machine). m.state) kept ∙ arrived_state old.machine _ _ c.packet_arrived-answer.ensures)
+    (ap (λ (m : Machine). m.own) kept ∙ (knows_arrived old.machine _ _ c.packet_arrived-answer.ensures).own) in
+    hears_by c.args.chunk tag c.args.datagram.now c.end_by.result c.args.self.now c.end_by.new.self
+    (λ is. absurd (omega (arith, c.requires.typ, is))) (λ r e. absurd (c.end_by.ensures.never r e)) c.end_by.ensures.over (
+    λ next. subst (TakesSacksOf tag) (sym (c.end_by.ensures.on next)) there
     )

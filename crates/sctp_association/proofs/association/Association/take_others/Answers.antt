@@ -2,6 +2,9 @@ use Rattle.std.proofs.Common.{Ok, ap, arith, inr, length, refl, rules, sym, ◌�
 use Rattle.std.proofs.lemmas.Bool.{false≢true}
 use Rattle.sctp_association.proofs.Each.{data_counts, none_left, one_less, owed_at, owed_first, owed_next, owed_none, owed_passed, owed_refused, owed_stop, tagged}
 use Rattle.sctp_association.proofs.Arrived.{arrives_of}
+use Rattle.sctp_association.proofs.Sacks.{owed_sack, sack_at, sack_next, sack_none, sack_noted, sack_passed, sack_refused, sack_stop}
+use Rattle.sctp_association.proofs.Sacks.{sacks_tagged}
+use Rattle.sctp_association.specs.Once.{seen}
 use Rattle.sctp_association.specs.Halves.{halves_of}
 use Rattle.sctp_util.specs.Field.{u32_at}
 use Rattle.sctp_association.proofs.Offered.{offered_same, offered_then}
@@ -16,6 +19,7 @@ loop-init c = record {
   came = offered_same _ _ _ refl;
   tells = tells_same _ _ refl;
   each = owed_first _ _ _ _;
+  sacks = λ other takes. owed_sack _ _ _ _ _ _ c.behind-once.ensures other takes;
   count = omega arith;
   idle = λ e. refl;
 }
@@ -30,6 +34,10 @@ loop-preserved-then-not-counts c = record {
       c.args.chunks.left (halves_of c.args.self.now) (data_counts c.in-Some.chunk c.loop.once (sym c.if-not-counts.ensures.value)) refl (
       owed_at _ _ _ _ _ _ _ c.in-Some.ensures.place (c.loop.invariant.each takes)
       );
+  sacks = λ other takes. sack_noted _ _ _ _ _ _ (seen c.in-Some.chunk.typ c.loop.once) _ c.if-not-counts.ensures.noted (
+      sack_passed c.header-tag.result.verification_tag c.args.datagram.now c.in-Some.chunk c.next.new.self.left c.loop.self c.args.chunks.left
+      (halves_of c.args.self.now) c.loop.once (sym c.if-not-counts.ensures.value)
+      (sack_at _ _ _ _ _ _ _ _ c.in-Some.ensures.place (c.loop.invariant.sacks other takes)));
   count = one_less _ _ _ _ _ c.in-Some.ensures.place c.loop.invariant.count;
   idle = λ e. absurd (omega (arith, c.left-end.ensures, ap length e, c.loop-test.true));
 }
@@ -43,6 +51,10 @@ loop-preserved c = record {
   each = λ takes. owed_next c.header-tag.result.verification_tag c.args.datagram.now c.in-Some.chunk c.next.new.self.left c.loop.self c.take_other.new.self
       c.args.chunks.left (halves_of c.args.self.now) c.take_other.result (arrives_of _ _ _ _ c.take_other.ensures.came.arrives) c.take_other.ensures.on
       (search rules) (owed_at _ _ _ _ _ _ _ c.in-Some.ensures.place (c.loop.invariant.each takes));
+  sacks = λ other takes. sack_noted _ _ _ _ _ _ (seen c.in-Some.chunk.typ c.loop.once) _ c.if-not-counts.ensures.noted (
+      sack_next c.header-tag.result.verification_tag c.args.datagram.now c.in-Some.chunk c.next.new.self.left c.loop.self c.take_other.new.self
+      c.args.chunks.left (halves_of c.args.self.now) c.loop.once c.take_other.result (arrives_of _ _ _ _ c.take_other.ensures.came.arrives)
+      c.take_other.ensures.sacks (search rules) (sack_at _ _ _ _ _ _ _ _ c.in-Some.ensures.place (c.loop.invariant.sacks other takes)));
   count = one_less _ _ _ _ _ c.in-Some.ensures.place c.loop.invariant.count;
   idle = λ e. absurd (omega (arith, c.left-end.ensures, ap length e, c.loop-test.true));
 }
@@ -53,6 +65,7 @@ take_other-requires-clause-own c = (next_own _ _ _ _ c.in-Some.ensures.place c.l
 pub returns-in-Ok-Cut : goal.returns-in-Ok-Cut
 returns-in-Ok-Cut c = record {
   each = λ takes is. absurd (false≢true is);
+  sacks = λ other takes is. absurd (false≢true is);
   none = λ e. absurd (omega (arith, c.left-end.ensures, ap length e, c.loop-test.true));
   came = offered_then _ _ _ c.loop.invariant.came _ c.take_other.ensures.came;
   tells = tells_then _ _ _ c.loop.invariant.tells c.take_other.ensures.tells;
@@ -61,6 +74,7 @@ returns-in-Ok-Cut c = record {
 pub returns-in-Ok-Cut-2 : goal.returns-in-Ok-Cut-2
 returns-in-Ok-Cut-2 c = record {
   each = λ takes is. absurd (false≢true is);
+  sacks = λ other takes is. absurd (false≢true is);
   none = λ e. absurd (omega (arith, c.left-end.ensures, ap length e, c.loop-test.true));
   came = offered_then _ _ _ c.loop.invariant.came _ c.take_other.ensures.came;
   tells = tells_then _ _ _ c.loop.invariant.tells c.take_other.ensures.tells;
@@ -71,6 +85,9 @@ returns-after-loop c = record {
   each = λ takes is. inr (owed_none c.header-tag.result.verification_tag c.args.datagram.now c.loop.chunks.left c.args.chunks.left c.loop.self
       (halves_of c.args.self.now) (none_left _ _ _ _ c.loop.invariant.count c.left-end.ensures c.loop-test.false)
       (c.loop.invariant.each (tagged _ _ _ (c.header-tag.ensures.verification_tag ∙ ap (λ l. u32_at l 4) c.requires.whole) takes)));
+  sacks = λ other takes is. inr (sack_none c.header-tag.result.verification_tag c.args.datagram.now c.loop.chunks.left c.args.chunks.left c.loop.self
+      (halves_of c.args.self.now) c.loop.once (none_left _ _ _ _ c.loop.invariant.count c.left-end.ensures c.loop-test.false)
+      (c.loop.invariant.sacks other (sacks_tagged _ _ _ (c.header-tag.ensures.verification_tag ∙ ap (λ l. u32_at l 4) c.requires.whole) takes)));
   came = c.loop.invariant.came;
   tells = c.loop.invariant.tells;
   none = λ e. (refl, c.loop.invariant.idle e);
@@ -81,6 +98,9 @@ returns-in_default c = record {
   each = λ takes is. inr (owed_none c.header-tag.result.verification_tag c.args.datagram.now c.loop.chunks.left c.args.chunks.left c.loop.self
       (halves_of c.args.self.now) (search rules)
       (c.loop.invariant.each (tagged _ _ _ (c.header-tag.ensures.verification_tag ∙ ap (λ l. u32_at l 4) c.requires.whole) takes)));
+  sacks = λ other takes is. inr (sack_none c.header-tag.result.verification_tag c.args.datagram.now c.loop.chunks.left c.args.chunks.left c.loop.self
+      (halves_of c.args.self.now) c.loop.once (search rules)
+      (c.loop.invariant.sacks other (sacks_tagged _ _ _ (c.header-tag.ensures.verification_tag ∙ ap (λ l. u32_at l 4) c.requires.whole) takes)));
   came = c.loop.invariant.came;
   tells = c.loop.invariant.tells;
   none = λ e. (refl, c.loop.invariant.idle e);
@@ -91,6 +111,11 @@ returns-in-Ok-Stop c = record {
   each = λ takes is. owed_stop c.header-tag.result.verification_tag c.args.datagram.now c.in-Some.chunk c.next.new.self.left c.loop.self c.take_other.new.self
       c.args.chunks.left (halves_of c.args.self.now) c.take_other.result (arrives_of _ _ _ _ c.take_other.ensures.came.arrives) c.take_other.ensures.on
       (search rules) (owed_at _ _ _ _ _ _ _ c.in-Some.ensures.place (c.loop.invariant.each (tagged _ _ _ (c.header-tag.ensures.verification_tag ∙ ap (λ l. u32_at l 4) c.requires.whole) takes)));
+  sacks = λ other takes is. sack_stop c.header-tag.result.verification_tag c.args.datagram.now c.in-Some.chunk c.next.new.self.left c.loop.self
+      c.take_other.new.self c.args.chunks.left (halves_of c.args.self.now) c.loop.once c.take_other.result
+      (arrives_of _ _ _ _ c.take_other.ensures.came.arrives) c.take_other.ensures.sacks (search rules)
+      (sack_at _ _ _ _ _ _ _ _ c.in-Some.ensures.place (c.loop.invariant.sacks other
+      (sacks_tagged _ _ _ (c.header-tag.ensures.verification_tag ∙ ap (λ l. u32_at l 4) c.requires.whole) takes)));
   came = offered_then _ _ _ c.loop.invariant.came _ c.take_other.ensures.came;
   tells = tells_then _ _ _ c.loop.invariant.tells c.take_other.ensures.tells;
   none = λ e. absurd (omega (arith, c.left-end.ensures, ap length e, c.loop-test.true));
@@ -101,6 +126,12 @@ returns-in-Ok-Refused c = record {
   each = λ takes is. inr (owed_refused c.header-tag.result.verification_tag c.args.datagram.now c.in-Some.chunk c.next.new.self.left c.loop.self c.take_other.new.self
       c.args.chunks.left (halves_of c.args.self.now) c.take_other.result (arrives_of _ _ _ _ c.take_other.ensures.came.arrives) c.take_other.ensures.on
       (λ t going. c.take_other.ensures.never t going c.in-Ok-Refused.field-0-0 (c.in-Ok-Refused.is ∙ ap Ok c.in-Ok-Refused.field-0-is)) (owed_at _ _ _ _ _ _ _ c.in-Some.ensures.place (c.loop.invariant.each (tagged _ _ _ (c.header-tag.ensures.verification_tag ∙ ap (λ l. u32_at l 4) c.requires.whole) takes))));
+  sacks = λ other takes is. inr (sack_refused c.header-tag.result.verification_tag c.args.datagram.now c.in-Some.chunk c.next.new.self.left c.loop.self
+      c.take_other.new.self c.args.chunks.left (halves_of c.args.self.now) c.loop.once c.take_other.result
+      (arrives_of _ _ _ _ c.take_other.ensures.came.arrives) c.take_other.ensures.sacks
+      (λ t going. c.take_other.ensures.never_sacks t going c.in-Ok-Refused.field-0-0 (c.in-Ok-Refused.is ∙ ap Ok c.in-Ok-Refused.field-0-is))
+      (sack_at _ _ _ _ _ _ _ _ c.in-Some.ensures.place (c.loop.invariant.sacks other
+      (sacks_tagged _ _ _ (c.header-tag.ensures.verification_tag ∙ ap (λ l. u32_at l 4) c.requires.whole) takes))));
   came = offered_then _ _ _ c.loop.invariant.came _ c.take_other.ensures.came;
   tells = tells_then _ _ _ c.loop.invariant.tells c.take_other.ensures.tells;
   none = λ e. absurd (omega (arith, c.left-end.ensures, ap length e, c.loop-test.true));

@@ -1,10 +1,12 @@
 use Rattle.std.proofs.Common.{◌≡◌, ◌+◌, [], length}
 use Rattle.std.specs.List.{AllByRecursion}
 use Rattle.sctp_association.proofs.Each.{Owed}
+use Rattle.sctp_association.proofs.Sacks.{OwedSack}
 use Rattle.sctp_association.specs.Beginnings.{ArrivesAsOffered}
 use Rattle.sctp_association.specs.Telling.{Tells}
 use Rattle.sctp_association.specs.Coming.{TakesDataOf}
 use Rattle.sctp_association.specs.Halves.{halves_of}
+use Rattle.sctp_association.specs.Sacks.{TakesSacksOf}
 use Rattle.sctp_datagram.specs.Carried.{IsChunkOf}
 use Rattle.sctp_association.proofs.association.Association.take_others.Given as goal
 
@@ -16,6 +18,8 @@ invariant-loop l = record {
   came : ArrivesAsOffered l.datagram l.initial.self l.self;
   tells : Tells l.initial.self l.self;
   each : TakesDataOf l.tag l.initial.self → Owed l.tag l.datagram l.chunks.left l.self l.initial.chunks.left (halves_of l.initial.self);
+  sacks : (l.first ≡ 3 → ⊥) → TakesSacksOf l.tag l.initial.self
+      → OwedSack l.tag l.datagram l.chunks.left l.self l.initial.chunks.left (halves_of l.initial.self) l.once;
   count : l.counter + length l.chunks.left ≡ length l.initial.chunks.left;
   idle : l.initial.chunks.left ≡ [] → l.self ≡ l.initial.self;
 }

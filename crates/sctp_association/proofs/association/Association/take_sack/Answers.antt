@@ -1,7 +1,8 @@
 use Rattle.sctp_association.proofs.Telling.{end_then, to_low, to_same}
-use Rattle.std.proofs.Common.{refl}
+use Rattle.std.proofs.Common.{refl, rules}
 use Rattle.sctp_association.proofs.Arrived.{came_alike, came_same, came_then, sack_came}
 use Rattle.sctp_association.proofs.Going.{sack_read}
+use Rattle.sctp_association.proofs.Sacks.{hears_in}
 use Rattle.sctp_association.proofs.association.Association.take_sack.Goals as goal
 
 pub returns-then-not-takes_sacks-clause-came : goal.returns-then-not-takes_sacks-clause-came
@@ -17,6 +18,16 @@ returns-in-Err-clause-due c due r e =
 pub returns-in-Err-clause-on : goal.returns-in-Err-clause-on
 returns-in-Err-clause-on c tag takes = absurd (
     sack_read _ _ c.requires.place c.requires.typ _ c.bytes_of.ensures _ c.in_ok-unless_memory-in-Err.ensures c.in-Err.ensures.fault)
+
+pub returns-in-Err-clause-sacks : goal.returns-in-Err-clause-sacks
+returns-in-Err-clause-sacks c tag takes = absurd (
+    sack_read _ _ c.requires.place c.requires.typ _ c.bytes_of.ensures _ c.in_ok-unless_memory-in-Err.ensures c.in-Err.ensures.fault)
+
+pub returns-in-Taken-clause-sacks : goal.returns-in-Taken-clause-sacks
+returns-in-Taken-clause-sacks c tag takes = (
+  record { going = takes.going; state = takes.state; own = takes.own },
+  λ is. hears_in _ _ c.requires.own _ _ c.bytes_of.ensures c.in-Ok.ensures.found _ _ _ (c.take_sack.ensures.hears (search rules)),
+)
 
 pub returns-in_err-unless_memory-in-Err-clause-came : goal.returns-in_err-unless_memory-in-Err-clause-came
 returns-in_err-unless_memory-in-Err-clause-came c = came_same _ _ _ refl

@@ -1,7 +1,9 @@
 use Rattle.sctp_association.proofs.Telling.{end_then, to_in}
-use Rattle.std.proofs.Common.{drop, refl, rules, Ok, ap, subst, sym}
+use Rattle.std.proofs.Common.{arith, drop, refl, rules, Ok, ap, subst, sym}
 use Rattle.sctp_association.proofs.Going.{forward_read, goes_by}
+use Rattle.sctp_association.proofs.Sacks.{hears_by}
 use Rattle.sctp_association.specs.Coming.{TakesDataOf}
+use Rattle.sctp_association.specs.Sacks.{TakesSacksOf}
 use Rattle.sctp_association.proofs.Arrived.{came_alike, came_same, came_then, receiver_came}
 use Rattle.sctp_chunks.specs.Wire.{ReadsChunk, forward_tsn_chunk}
 use Rattle.sctp_data.specs.ForwardTsn.{forward_tsn_of}
@@ -57,3 +59,14 @@ returns-clause-on c tag takes =
     goes_by c.args.chunk 191 tag c.args.datagram.now c.end_by.result c.end_by.new.self c.requires.typ (λ r e. absurd (c.end_by.ensures.never r e))
     c.end_by.ensures.over (λ next.
     subst (TakesDataOf tag) (sym (c.end_by.ensures.on next)) (record { going = takes.going; state = takes.state; served = refl; own = takes.own }))
+
+pub returns-in_default-clause-sacks : goal.returns-in_default-clause-sacks
+returns-in_default-clause-sacks c tag takes =
+    let read = forward_read _ _ c.requires.place c.requires.typ in
+    absurd (c.in_ok-skip.ensures.some read.0 read.1.0 read.1.1 (ap Ok c.in_default.is))
+
+pub returns-clause-sacks : goal.returns-clause-sacks
+returns-clause-sacks c tag takes =
+    hears_by c.args.chunk tag c.args.datagram.now c.end_by.result c.args.self.now c.end_by.new.self
+    (λ is. absurd (omega (arith, c.requires.typ, is))) (λ r e. absurd (c.end_by.ensures.never r e)) c.end_by.ensures.over (λ next.
+    subst (TakesSacksOf tag) (sym (c.end_by.ensures.on next)) (record { going = takes.going; state = takes.state; own = takes.own }))
