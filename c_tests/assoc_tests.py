@@ -7,7 +7,8 @@ PROGRAM is crates/assocrun/out/assocrun unless told otherwise: `rt ci` leaves it
 (docs/ASSOCRUN.md), and below each, further in, what it must answer. The expected values are written from the sections of the RFCs that stand beside them.
 `in T` takes a datagram as c_tests/assoc/wire.py has it as text, and `out` shows one: its chunks are all there, in this order; of their fields those that
 are named are compared. `$name` is what stood there first, `A..B` a number between, `!=N` another one, `~` the same bytes in any order, and a last `*`
-anything. `next` is compared where it is named. Each datagram that is sent is decoded by wire.py, with --tshark by tshark too.
+anything. `N times` before a command gives it so often. `next` is compared where it is named. Each datagram that is sent is decoded by wire.py, with
+--tshark by tshark too.
 N datagrams of any bytes, and of chunks with random fields, are given to an association (50,000 unless told otherwise). Each 7th
 allocation of an exchange, or each Nth, is refused. The RTO of ten associations is compared with a model. N sessions of two hosts over a bad network
 follow (40), half as many with a restart, half as many with each datagram watched, and half as many with usrsctp, where Debian's package
@@ -168,17 +169,18 @@ def lines_of(path):
 
 
 def commands_of(path):
-    """Each command, with what it must answer."""
-    command = None
+    """Each command, with what it must answer. One that stands behind `N times` comes so often."""
+    command, count = None, 1
     for place, line in lines_of(path):
         if line.startswith(" "):
             command[2].append(line.strip())
         else:
             if command:
-                yield command
-            command = (place, line, [])
+                yield from [command] * count
+            count, line = re.fullmatch(r"(?:(\d+) times )?(.*)", line).groups()
+            command, count = (place, line, []), int(count or 1)
     if command:
-        yield command
+        yield from [command] * count
 
 
 def play(program, path):

@@ -11,6 +11,7 @@ use Rattle.std.proofs.lemmas.List.Sums.{sum_by-cons}
 use Rattle.sctp_association.proofs.Making.{of-some, some-none, told-once}
 use Rattle.sctp_association.specs.Idle.{IsMarkedBehind, WaitsBehind, in_flight}
 use Rattle.sctp_association.specs.Packets.{Adds, with_chunks}
+use Rattle.sctp_association.specs.Sending.{flight_of}
 use Rattle.sctp_chunks.proofs.Lengths.{length_data_value, length_sack_value}
 use Rattle.sctp_chunks.specs.Wire.{HasEncoding, HasForm, Wire, cookie_ack_chunk, data_chunk, sack_chunk, shutdown_ack_chunk, shutdown_chunk, value_of}
 use Rattle.sctp_data.specs.declared.chunk.chunk_payload_data.ChunkPayloadData.{ChunkPayloadData}
@@ -78,7 +79,7 @@ waits_not room t lost (inr none) e =
     if_none (λ c. fits room c ≡ true → in_flight t ≢ []) (next_pending t.flight.queue.pending) (none_waits t.flight.queue.pending none)
 
 pub none_marked : (room : ℕ) (t : Transmission) → (outstanding_of (in_flight t)).marked ≡ 0 → IsMarkedBehind room t
-none_marked room t e = if_none (λ c. fits room c ≡ true → 0 < (outstanding_of (in_flight t)).bytes) (find is_to_resend (in_flight t))
+none_marked room t e = if_none (λ c. fits room c ≡ true → 0 < flight_of (in_flight t)) (find is_to_resend (in_flight t))
     (none_found is_to_resend (in_flight t) e)
 
 -- ## What fits

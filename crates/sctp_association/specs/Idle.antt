@@ -3,12 +3,11 @@ use Rattle.std.specs.Prelude.{◌≡◌, ◌≢◌, ◌⊎◌, ℕ, ◌-◌, ◌
 use Rattle.std.specs.Option.{option_map}
 use Rattle.sctp_association.specs.declared.association.Association.{Association}
 use Rattle.sctp_association.specs.declared.outbound.Outbound.{Outbound}
-use Rattle.sctp_association.specs.Sending.{IsTimed}
+use Rattle.sctp_association.specs.Sending.{IsTimed, flight_of}
 use Rattle.sctp_data.specs.declared.chunk.chunk_payload_data.ChunkPayloadData.{ChunkPayloadData}
 use Rattle.sctp_handshake.specs.declared.state.State.{State}
 use Rattle.sctp_handshake.specs.declared.state.State.TheVariants.{Closed, CookieWait, CookieEchoed, Established}
 use Rattle.sctp_handshake.specs.declared.state.State.TheVariants.{ShutdownPending, ShutdownSent, ShutdownReceived, ShutdownAckSent}
-use Rattle.sctp_outbound.specs.Outstanding.{outstanding_of}
 use Rattle.sctp_outbound.specs.pending_queue.PendingQueue.{next_pending}
 use Rattle.sctp_path.specs.Timers.{Delay, is_due}
 use Rattle.sctp_sender.specs.Resending.{fits, is_to_resend}
@@ -39,7 +38,7 @@ WaitsBehind room t =
 abbrev pub IsMarkedBehind : (room : ℕ) → Transmission → Type 0
 IsMarkedBehind room t =
     IfSome (find is_to_resend (in_flight t))
-    (λ c. fits room c ≡ true → 0 < (outstanding_of (in_flight t)).bytes)
+    (λ c. fits room c ≡ true → 0 < flight_of (in_flight t))
 
 -- nothing was sent again. Where nothing is in flight, what waits may go
 pub record SendsNoneAgain (room : ℕ) (old new : Outbound) : Type 0 where

@@ -1,5 +1,5 @@
 -- When DATA leaves, and when T3-rtx runs (RFC 9260 6.1, 6.3.2, 7.2). Amounts are bytes, moments nanoseconds.
-use Rattle.std.specs.Prelude.{◌≡◌, ℕ, zero, suc, ◌+◌, ◌-◌, ◌/◌, ◌≤◌, ◌==◌, Bool, true, false, not, ◌&&◌, ◌||◌, nat_le, nat_lt, min, max, if◌then◌else◌, List}
+use Rattle.std.specs.Prelude.{◌≡◌, ℕ, zero, suc, ◌+◌, ◌-◌, ◌*◌, ◌/◌, ◌^◌, ◌≤◌, ◌==◌, Bool, true, false, not, ◌&&◌, ◌||◌, nat_le, nat_lt, min, max, if◌then◌else◌, List}
 use Rattle.std.specs.Prelude.{[]}
 use Rattle.std.specs.Prelude.{◌∷◌, Option, Some, None, IfSome, is_some, ◌⊎◌, length}
 use Rattle.sctp_data.specs.declared.chunk.chunk_payload_data.ChunkPayloadData.{ChunkPayloadData}
@@ -12,11 +12,18 @@ use Rattle.sctp_sender.specs.Sender.{Transmission}
 
 -- ## What may be sent
 
--- New DATA of so many bytes may leave: one chunk where nothing is outstanding, which probes a window of 0 (6.1 A); else where the peer's
--- window has room for it (A), and less than cwnd (B, 7.2.3) and than a burst from its beginning allows (D) is outstanding.
-abbrev pub may_send_data : (bytes flight peer_window base : ℕ) → Control → Bool
-may_send_data bytes flight peer_window base c =
-    flight == 0 || (nat_le (flight + bytes) peer_window
+-- the total size of the DATA chunks that are outstanding: their bytes of user data, and a header of 16 for each (RFC 9260 2.3, 3.3.1)
+abbrev pub flight_of : List ChunkPayloadData → ℕ
+flight_of chunks =
+    let o = outstanding_of chunks in
+    min (o.bytes + 16 * o.chunks) (2 ^ 64 - 1)
+
+-- New DATA of so many bytes may leave: one chunk where nothing is outstanding, which probes a window of 0 (6.1 A). Else the peer's window has
+-- room for it beside the user data that is outstanding (A), and the DATA chunks that are outstanding have less than cwnd (B, 7.2.3), and less than
+-- a burst from its beginning allows (D)
+abbrev pub may_send_data : (bytes user_data peer_window flight base : ℕ) → Control → Bool
+may_send_data bytes user_data peer_window flight base c =
+    flight == 0 || (nat_le (user_data + bytes) peer_window
     && (may_send flight c && nat_lt flight (burst_limit base c)))
 
 -- the bytes that were outstanding when the burst began that is under way
@@ -28,9 +35,10 @@ base_of flight (Some base) = base
 abbrev pub may_send_next : (bytes most peer_window : ℕ) → Option ℕ → Control
     → List ChunkPayloadData → Bool
 may_send_next bytes most peer_window burst c chunks =
-    let flight = (outstanding_of chunks).bytes in
+    let flight = flight_of chunks in
     nat_lt (length chunks) (max 1 most)
-    && may_send_data bytes flight peer_window (base_of flight burst) c
+    && may_send_data bytes (outstanding_of chunks).bytes peer_window flight
+    (base_of flight burst) c
 
 -- a time to send begins: the moment is later than that at which nothing more left
 abbrev pub is_later : ℕ → Option ℕ → Bool

@@ -11,9 +11,8 @@ ghost use Rattle.sctp_association.specs.Waiting.{IsRefusal, closed_where, fault_
 ghost use Rattle.sctp_sender.specs.Settings.{IsKeptWithin, with_fragment_size, with_low_on};
 ghost use Rattle.sctp_stream.specs.Stats.{count_up};
 ghost use Rattle.sctp_stream.specs.declared.outbound_stream.OutboundStream.{OutboundStream};
-ghost use Rattle.sctp_association.specs.Sending.{EndsWithin, IsTimed, holds_nothing, is_front_late, is_none_of, may_drop, t3_after, t3_time};
+ghost use Rattle.sctp_association.specs.Sending.{EndsWithin, IsTimed, flight_of, holds_nothing, is_front_late, is_none_of, may_drop, t3_after, t3_time};
 ghost use Rattle.sctp_delivery.specs.SenderCalls.{sets_low, sets_mode, writes};
-ghost use Rattle.sctp_outbound.specs.Outstanding.{outstanding_of};
 ghost use Rattle.sctp_outbound.specs.pending_queue.PendingQueue.{chunk_count, next_pending};
 ghost use Rattle.sctp_path.specs.Congestion.{after_timeout};
 ghost use Rattle.sctp_path.specs.Rto.{after_back_off};
@@ -74,7 +73,7 @@ pub(crate) struct Outbound {
     came_back: usize,
     // The credit of the last SACK, or of the handshake.
     pub(crate) peer_window: usize,
-    // How many bytes were outstanding when the burst began that is under way.
+    // How many bytes of DATA chunks were outstanding when the burst began that is under way.
     burst: Option<usize>,
     // When nothing more left in it: it is over at a later moment.
     paused: Option<u64>,
@@ -355,11 +354,13 @@ impl Outbound {
         self.failures.count()
     }
 
-    // How many bytes are under way: sent, and neither acknowledged nor abandoned nor taken for lost (RFC 9260 7.2).
+    // The total size of the DATA chunks that are outstanding: sent, and neither acknowledged nor abandoned nor taken for lost (RFC 9260 2.3, 7.2).
     fn flight(&self) -> usize
-        ensures { result ≡ (outstanding_of self.now.sender.flight.queue.inflight.chunks).bytes }
+        ensures { result ≡ flight_of self.now.sender.flight.queue.inflight.chunks }
     {
-        self.sender.outstanding().bytes
+        let outstanding = self.sender.outstanding();
+        let headers = outstanding.chunks.saturating_mul(DATA_HEADER);
+        outstanding.bytes.saturating_add(headers)
     }
 
     /// T3-rtx ran out, if it did (RFC 9260 6.3.3). Answers whether it did so once too often (8.1). It runs then while something is in flight.

@@ -11,7 +11,7 @@ use sctp_stream::DataChannelStats;
 pub struct Stats {
     /// What was written and is not sent: user data.
     pub waiting: usize,
-    /// What was sent, and neither acknowledged, abandoned nor taken for lost: the user data that the congestion window limits (RFC 9260 7.2).
+    /// What was sent, and neither acknowledged, abandoned nor taken for lost: user data, which the peer's window limits (RFC 9260 6.2.1).
     pub outstanding: usize,
     /// How often a DATA chunk was sent again (RFC 9260 6.3.3, 7.2.4). As the next count it begins at 0 where the peer began anew
     /// (`Event::Restarted`), and stops at the greatest u64.

@@ -1,7 +1,7 @@
 //! What a SACK acknowledges (RFC 9260 6.2.1, 6.3, 7.2).
 
 ghost use Rattle.std.specs.Prelude.{◌≡◌, ◌⊎◌, ◌-◌, Ok, OnErr};
-ghost use Rattle.sctp_association.specs.Acks.{without_blocks};
+ghost use Rattle.sctp_association.specs.Acks.{acked_by, grown_by, size_acked, without_blocks};
 ghost use Rattle.sctp_association.specs.Arrivals.{AsksToHear, HearsBy, IsCount, without_gaps};
 ghost use Rattle.sctp_association.specs.Counts.{IsCountedAlike};
 ghost use Rattle.sctp_association.specs.Sacks.{HearsSackFirst};
@@ -13,7 +13,7 @@ ghost use Rattle.sctp_sender.specs.Sender.{after_acked};
 ghost use Rattle.sctp_stream.specs.Stats.{count_up};
 ghost use Rattle.sctp_util.specs.Serial.{distance};
 
-use super::Outbound;
+use super::{DATA_HEADER, Outbound};
 use crate::fault::Fault;
 use crate::stream_set::StreamSet;
 use sctp_data::chunk::chunk_selective_ack::ChunkSelectiveAck;
@@ -33,13 +33,16 @@ pub(crate) enum SackTaken {
     Forged,
 }
 
-// How many bytes were acknowledged, with the headers of their chunks (RFC 9260 7.2.2).
-fn bytes_of(released: &[Released]) -> usize {
+// The total size of the DATA chunks that are acknowledged, as `flight` counts it (RFC 9260 7.2.1, 7.2.2). An abandoned one was not outstanding: it has
+// no bytes (RFC 3758 3.5).
+fn size_acked(released: &[Released]) -> usize
+    ensures { result ≡ size_acked released.now }
+{
     let mut sum = 0usize;
     for one in released {
-        sum = sum
-            .saturating_add(one.bytes)
-            .saturating_add(super::DATA_HEADER);
+        if one.bytes > 0 {
+            sum = sum.saturating_add(one.bytes).saturating_add(DATA_HEADER);
+        }
     }
     sum
 }
@@ -176,6 +179,9 @@ impl Outbound {
 
     // Follows what was acknowledged: round trip, congestion window, and T3-rtx, which begins again where the cumulative TSN moved.
     fn follow(&mut self, released: &[Released], before: u32, flight: usize, now: u64)
+        ensures grown { self.new.congestion
+            ≡ grown_by (acked_by before flight released.now self.old.sender) released.now
+            self.old.congestion }
         ensures rest { self.new ≡ record self.old {
           congestion = self.new.congestion;
           rto = self.new.rto;
@@ -201,7 +207,7 @@ impl Outbound {
             self.congestion.acked(Acknowledged {
                 cumulative_tsn: self.sender.acked_tsn(),
                 advances: has_advanced,
-                bytes: bytes_of(released),
+                bytes: size_acked(released),
                 flight,
                 all: self.sender.outbound().inflight_len() == 0,
             });

@@ -5,8 +5,7 @@ ghost use Rattle.sctp_association.specs.Counts.{CountsNone, IsCountedAlong, IsCo
 ghost use Rattle.sctp_association.specs.Filled.{IfNonePut};
 ghost use Rattle.sctp_association.specs.Idle.{IsMarkedBehind, SendsNoneAgain, SendsNoneNew, WaitsBehind, WaitsForSacks, in_flight};
 ghost use Rattle.sctp_association.specs.Packets.{PutsOut};
-ghost use Rattle.sctp_association.specs.Sending.{EndsWithin, IsTimed, idle_times, is_early, is_front_late, is_later, lowered_times, lowered, may_send_again, may_send_next, sent_at};
-ghost use Rattle.sctp_outbound.specs.Outstanding.{outstanding_of};
+ghost use Rattle.sctp_association.specs.Sending.{EndsWithin, IsTimed, flight_of, idle_times, is_early, is_front_late, is_later, lowered_times, lowered, may_send_again, may_send_next, sent_at};
 ghost use Rattle.sctp_outbound.specs.pending_queue.PendingQueue.{chunk_count, next_pending};
 ghost use Rattle.sctp_path.specs.Rto.{smoothed_of};
 ghost use Rattle.sctp_sender.specs.Resending.{is_to_resend, next_within};
@@ -115,7 +114,7 @@ impl Outbound {
         ensures limit { packet.new.limit ≡ packet.old.limit }
         ensures grows { length packet.old.bytes ≤ length packet.new.bytes }
         ensures idle { OnOk result (IfNonePut packet.old.bytes packet.new.bytes
-            (flight ≡ (outstanding_of (in_flight self.old.sender)).bytes
+            (flight ≡ flight_of (in_flight self.old.sender)
             → SendsNoneAgain (packet.old.limit - length packet.old.bytes) self.old self.new)) }
     {
         if !self.put_again(packet, is_fast, flight, now)? {
@@ -157,7 +156,7 @@ impl Outbound {
         ensures put { 12 ≤ length packet.old.bytes
             → IfOk result (λ sent. sent ≡ true → 12 < length packet.new.bytes) }
         ensures none { IfOk result (λ sent. sent ≡ false
-            → flight ≡ (outstanding_of (in_flight self.old.sender)).bytes
+            → flight ≡ flight_of (in_flight self.old.sender)
             → SendsNoneAgain (packet.old.limit - length packet.old.bytes) self.old self.new) }
     {
         if !self.may_send_again(is_fast, flight, now) {
@@ -352,7 +351,8 @@ impl Outbound {
         if flight == 0 {
             return true;
         }
-        if flight as u128 + bytes as u128 > self.peer_window as u128 {
+        let user_data = self.sender.outstanding().bytes;
+        if user_data as u128 + bytes as u128 > self.peer_window as u128 {
             return false;
         }
         if !self.congestion.may_send(flight) {
