@@ -1,4 +1,6 @@
 pub mod First
+pub mod BackOff
+pub mod Congested
 pub mod Firsts
 pub mod Stale
 pub mod Opened

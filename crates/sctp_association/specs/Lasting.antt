@@ -1,13 +1,16 @@
 -- How long an association lasts that hears nothing of its peer: each expiry of T3-rtx, and of the timer of the state, leaves fewer (RFC 9260 4, 8.1, 9.2).
 use Rattle.std.specs.Prelude.{◌≡◌, ℕ, suc, ◌+◌, ◌-◌, ◌^◌, ◌<◌, ◌≤◌, max, Bool, true, false, not, ◌&&◌, ◌||◌, if◌then◌else◌, List, [], ◌∷◌, is_some}
 use Rattle.sctp_association.specs.declared.association.Association.{Association}
+use Rattle.sctp_association.specs.declared.config.Config.{Config}
 use Rattle.sctp_handshake.specs.declared.machine.Limits.{Limits}
 use Rattle.sctp_handshake.specs.declared.machine.Machine.{Machine}
 use Rattle.sctp_handshake.specs.declared.state.State.{State}
 use Rattle.sctp_handshake.specs.declared.state.State.TheVariants.{Closed, CookieWait, CookieEchoed, Established}
 use Rattle.sctp_handshake.specs.declared.state.State.TheVariants.{ShutdownPending, ShutdownSent, ShutdownReceived, ShutdownAckSent}
 use Rattle.sctp_handshake.specs.States.{timer}
+use Rattle.sctp_path.specs.Congestion.{first as first_control}
 use Rattle.sctp_path.specs.declared.failures.Failures.{Failures}
+use Rattle.sctp_path.specs.Rto.{first as first_rto}
 use Rattle.sctp_path.specs.Timers.{is_due}
 
 -- ## Expiries that are left
@@ -42,6 +45,16 @@ expires_control now a = is_some (timer a.machine.state) && is_due now a.control.
 -- T3-rtx expires, or the timer of the state
 abbrev pub expires : (now : ℕ) → Association → Bool
 expires now a = not a.is_over && (is_due now a.outbound.timer.at || expires_control now a)
+
+-- A new association counts up to the limits of its `Config`; its RTO is RTO.Initial, and cwnd the first window of its MTU (6.3.1 C1, 7.2.1)
+pub record BeginsWithin (c : Config) (a : Association) : Type 0 where
+  pub failures : a.outbound.failures ≡ record { count = 0; most = c.max_retrans }
+  pub limits : a.machine.limits ≡ record {
+    max_init_retransmits = c.max_init_retrans;
+    association_max_retrans = c.max_retrans;
+  }
+  pub rto : a.outbound.rto ≡ first_rto c.rto
+  pub congestion : a.outbound.congestion ≡ first_control c.mtu 0
 
 -- ## What calls leave
 

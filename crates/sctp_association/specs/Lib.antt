@@ -1,9 +1,11 @@
 pub mod Acks
 pub mod Arrivals
 pub mod Asked
+pub mod BackOff
 pub mod Beginnings
 pub mod Calls
 pub mod Coming
+pub mod Congested
 pub mod Cookies
 pub mod Counts
 pub mod Delivered

@@ -120,6 +120,8 @@ fn outbound_config(config: &Config, first_tsn: u32) -> OutboundConfig
     ensures first_tsn { result.first_tsn ≡ first_tsn }
     ensures sizes { (result.mtu ≡ config.now.mtu)
         × (result.max_message_size ≡ config.now.max_message_size) }
+    ensures limits { (result.max_retrans ≡ config.now.max_retrans)
+        × (result.rto ≡ config.now.rto) }
 {
     OutboundConfig {
         first_tsn,
@@ -138,7 +140,7 @@ impl Association {
     ghost use Rattle.sctp_association.specs.Failing.{farewell_to};
     ghost use Rattle.sctp_association.specs.Held.{HoldsFewChunks, OfReceiver, OpensFewStreams, held_by};
     ghost use Rattle.sctp_association.specs.Reads.{AreReadOff, IsSameBeside, length_of, message_in};
-    ghost use Rattle.sctp_association.specs.Lasting.{LastsNoLonger};
+    ghost use Rattle.sctp_association.specs.Lasting.{BeginsWithin, LastsNoLonger};
     ghost use Rattle.sctp_association.specs.Telling.{HasPlaces, Tells};
     ghost use Rattle.sctp_association.specs.declared.due.AloneKind.TheVariants.{Abort};
 
@@ -149,6 +151,7 @@ impl Association {
             ≡ first_halves secrets.first_tsn config.mtu config.max_message_size) }
         ensures unbegun { IfOk result IsUnbegun }
         ensures made { IfOk result (IsMadeOf config secrets.cookie_key secrets.first_tsn) }
+        ensures limits { IfOk result (BeginsWithin config) }
         ensures refused { IfErr result (λ e. e ≡ BadConfig) }
     {
         if secrets.tag == 0 || !config.is_usable() {

@@ -14,8 +14,8 @@ ghost use Rattle.sctp_stream.specs.declared.outbound_stream.OutboundStream.{Outb
 ghost use Rattle.sctp_association.specs.Sending.{EndsWithin, IsTimed, flight_of, holds_nothing, is_front_late, is_none_of, may_drop, t3_after, t3_time};
 ghost use Rattle.sctp_delivery.specs.SenderCalls.{sets_low, sets_mode, writes};
 ghost use Rattle.sctp_outbound.specs.pending_queue.PendingQueue.{chunk_count, next_pending};
-ghost use Rattle.sctp_path.specs.Congestion.{after_timeout};
-ghost use Rattle.sctp_path.specs.Rto.{after_back_off};
+ghost use Rattle.sctp_path.specs.Congestion.{after_timeout, first as first_control};
+ghost use Rattle.sctp_path.specs.Rto.{after_back_off, first as first_rto};
 ghost use Rattle.sctp_path.specs.Timers.{is_due, is_passed, one_more};
 ghost use Rattle.sctp_sender.specs.Drops.{with_lifetimes};
 ghost use Rattle.sctp_sender.specs.Resending.{all_marked};
@@ -115,6 +115,9 @@ impl Outbound {
     pub(crate) fn new(alloc: Global, config: OutboundConfig) -> Outbound
         ensures sender { result.sender ≡ new_sender
             config.first_tsn (fragment_size config.mtu) config.max_message_size }
+        ensures failures { result.failures ≡ record { count = 0; most = config.max_retrans } }
+        ensures rto { result.rto ≡ first_rto config.rto }
+        ensures congestion { result.congestion ≡ first_control config.mtu 0 }
     {
         let congestion = Congestion::new(config.mtu, 0);
         Outbound {
@@ -345,6 +348,7 @@ impl Outbound {
         ensures counted { self.new.failures ≡ one_more self.old.failures }
         ensures more { self.old.failures.count ≤ self.new.failures.count }
         ensures passed { result ≡ is_passed self.new.failures }
+        ensures backed_off { self.new.rto ≡ after_back_off self.old.rto }
         ensures rest { self.new ≡ record self.old {
           rto = self.new.rto;
           failures = self.new.failures;

@@ -2,6 +2,7 @@
 
 ghost use Rattle.std.specs.Prelude.{◌≡◌, ◌≢◌, ◌⊎◌, ◌≤◌, None, Ok, IfOk, IfSome, OnOk, [], map, true, false, length};
 ghost use Rattle.sctp_association.specs.Beginnings.{KeepsPeer};
+ghost use Rattle.sctp_association.specs.Congested.{LeavesWithin, SendsWithin};
 ghost use Rattle.sctp_association.specs.Halves.{HalvesAlike, PutsOthers, is_sent, sides_of};
 ghost use Rattle.sctp_association.specs.Filled.{IfNoneAdded, IfNonePut};
 ghost use Rattle.sctp_association.specs.Idle.{HasNoSackDue, IsIdle, MayReply, MaySend, OwesNoControl, OwesNone, WaitsForSacks, in_flight, sack_delay, sends};
@@ -65,6 +66,8 @@ impl Association {
         ensures owes { result ≡ Ok false → MayReply self.new → OwesNone self.new }
         // Where there is no datagram though DATA may leave: what waits or is to be sent again waits for a SACK, or for T3-rtx.
         ensures idle { result ≡ Ok false → MaySend self.new → IsIdle now self.new }
+        // New DATA leaves while nothing is outstanding, or less than cwnd is and the peer's window has room (RFC 9260 6.1 A, B).
+        ensures within { SendsWithin self.old.outbound.sender self.new.outbound }
     {
         if let Some(alone) = self.due.alone {
             self.put_alone(alone, now)?;
@@ -93,6 +96,7 @@ impl Association {
             → OwesNone self.new }
         ensures idle { result ≡ Ok false → sends self.new.machine.state ≡ true
             → IsIdle now self.new }
+        ensures within { LeavesWithin self.old.outbound.sender self.new.outbound }
     {
         self.draft.begin(header)?;
         let filled = self.fill(now);
@@ -273,6 +277,7 @@ impl Association {
         ensures idle { OnOk result (sends self.new.machine.state ≡ true → (p : Parts)
             → IsDraft p self.old.draft.bytes → length self.new.draft.bytes ≤ 12
             → IsIdle now self.new) }
+        ensures within { LeavesWithin self.old.outbound.sender self.new.outbound }
     {
         self.put_cookies();
         if self.machine.state() == State::CookieEchoed {
@@ -295,6 +300,7 @@ impl Association {
         ensures owes { OnOk result (IfNoneAdded self.old.draft.bytes self.new.draft.bytes
             (OwesNoControl self.new)) }
         ensures acks { sack_delay self.new ≡ sack_delay self.old }
+        ensures sender { self.new.outbound.sender ≡ self.old.outbound.sender }
     {
         self.put_shutdown();
         self.put_heartbeats(now)?;
@@ -312,6 +318,7 @@ impl Association {
             → IfNonePut self.old.draft.bytes self.new.draft.bytes
             (WaitsForSacks self.new.draft.limit self.new.outbound.sender
             × IsTimed (in_flight self.new.outbound.sender) self.new.outbound.timer.at)) }
+        ensures within { LeavesWithin self.old.outbound.sender self.new.outbound }
     {
         if !self.machine.state().sends_data() {
             return Ok(());
@@ -379,6 +386,7 @@ impl Association {
         ensures kept { IsUnmoved self.old self.new }
         ensures idle { OnOk result (IfNonePut self.old.draft.bytes self.new.draft.bytes
             (HasNoSackDue now self.new)) }
+        ensures sender { self.new.outbound.sender ≡ self.old.outbound.sender }
     {
         let has_data = self.outbound.has_data() && self.machine.state().sends_data();
         match &mut self.inbound {
@@ -395,6 +403,7 @@ impl Association {
             (((self.new.due.shutdown ≡ false) ⊎ (sack_delay self.new ≡ None))
             × (self.new.due.shutdown_ack ≡ false)) }
         ensures acks { sack_delay self.new ≡ sack_delay self.old }
+        ensures sender { self.new.outbound.sender ≡ self.old.outbound.sender }
     {
         self.put_shutdown_asked();
         self.put_shutdown_ack();
@@ -408,6 +417,7 @@ impl Association {
         ensures owes { IfNonePut self.old.draft.bytes self.new.draft.bytes
             ((self.new.due.shutdown ≡ false) ⊎ (sack_delay self.new ≡ None)) }
         ensures acks { sack_delay self.new ≡ sack_delay self.old }
+        ensures sender { self.new.outbound.sender ≡ self.old.outbound.sender }
     {
         if !self.due.shutdown {
             return;

@@ -1,6 +1,7 @@
 //! When something is to be done though nothing came (RFC 9260 6.3.3, 8.1, 8.3, 9.2).
 
 ghost use Rattle.std.specs.Prelude.{◌≡◌, ◌⊎◌, ◌≤◌, None, Some, true, false, is_some, option_map};
+ghost use Rattle.sctp_association.specs.BackOff.{IsAsIdle, counted_where, doubled_where, failures_after, is_missed, is_unanswered, reduced_where, rto_after};
 ghost use Rattle.sctp_association.specs.Beginnings.{KeepsPeer};
 ghost use Rattle.sctp_association.specs.Kept.{ticket_due};
 ghost use Rattle.sctp_association.specs.Halves.{MarksByT3};
@@ -9,6 +10,7 @@ ghost use Rattle.sctp_association.specs.Sending.{IsTimed, t3_time};
 ghost use Rattle.sctp_association.specs.Telling.{Tells, TellsEnd};
 ghost use Rattle.sctp_handshake.specs.declared.ticket.Ticket.{Ticket};
 ghost use Rattle.sctp_handshake.specs.States.{timer};
+ghost use Rattle.sctp_path.specs.Rto.{after_back_off};
 ghost use Rattle.sctp_path.specs.Timers.{is_due, is_passed, one_more};
 ghost use Rattle.sctp_reset.specs.Own.{after_failed, has_failed, time_of};
 ghost use Rattle.sctp_stream.specs.Stats.{count_up};
@@ -124,6 +126,14 @@ impl Association {
         ensures left { Expires (expires now self.old) self.old self.new }
         ensures halves { MarksByT3 now self.old self.new }
         ensures peer { KeepsPeer self.old self.new }
+        // Where the shutdown goes on: the RTO doubles, and failures are counted, exactly so often; T3-rtx alone lowers cwnd.
+        ensures backs_off { self.old.is_over ≡ false → is_due now self.old.guard.at ≡ false
+            → self.new.outbound.rto ≡ rto_after now self.old }
+        ensures fails { self.old.is_over ≡ false → is_due now self.old.guard.at ≡ false
+            → self.new.outbound.failures ≡ failures_after now self.old }
+        ensures congestion { self.old.is_over ≡ false → is_due now self.old.guard.at ≡ false
+            → self.new.outbound.congestion ≡ reduced_where
+            (is_due now self.old.outbound.timer.at) self.old.outbound.congestion }
     {
         if self.is_over {
             return;
@@ -150,6 +160,11 @@ impl Association {
         ensures left { self.old.is_over ≡ false
             → Expires (expires_control now self.old) self.old self.new }
         ensures peer { KeepsPeer self.old self.new }
+        ensures rto { self.new.outbound.rto
+            ≡ doubled_where (is_due now self.old.control.at) self.old.outbound.rto }
+        ensures requests { self.new.requests ≡ self.old.requests }
+        ensures heartbeat { self.new.heartbeat ≡ self.old.heartbeat }
+        ensures state { IsAsIdle self.old.machine.state self.new.machine.state }
     {
         if self.control.is_due(now) {
             self.run_out();
@@ -169,6 +184,10 @@ impl Association {
         ensures left { self.old.is_over ≡ false
             → Expires (is_some (timer self.old.machine.state)) self.old self.new }
         ensures peer { KeepsPeer self.old self.new }
+        ensures rto { self.new.outbound.rto ≡ after_back_off self.old.outbound.rto }
+        ensures requests { self.new.requests ≡ self.old.requests }
+        ensures heartbeat { self.new.heartbeat ≡ self.old.heartbeat }
+        ensures state { IsAsIdle self.old.machine.state self.new.machine.state }
     {
         self.outbound.rto.backed_off();
         let answer = self.machine.timed_out();
@@ -207,6 +226,10 @@ impl Association {
         ensures more { self.old.outbound.failures.count ≤ self.new.outbound.failures.count }
         ensures passed { result ≡ false → is_passed self.old.outbound.failures ≡ false
             → is_passed self.new.outbound.failures ≡ false }
+        ensures backs_off { self.new.outbound.rto ≡ doubled_where
+            (is_unanswered now self.old.outbound.rto.rto self.old) self.old.outbound.rto }
+        ensures fails { self.new.outbound.failures ≡ counted_where
+            (is_unanswered now self.old.outbound.rto.rto self.old) self.old.outbound.failures }
     {
         let is_asked = self.requests.failed(now);
         let is_missed = self.has_missed(now);
@@ -218,7 +241,9 @@ impl Association {
 
     // Whether the next HEARTBEAT is due, and the last one was not answered: that is noted once (RFC 9260 8.3).
     fn has_missed(&mut self, now: u64) -> bool
-        ensures { self.new ≡ record self.old { heartbeat = self.new.heartbeat } }
+        ensures rest { self.new ≡ record self.old { heartbeat = self.new.heartbeat } }
+        ensures value { result ≡ is_missed now self.old.machine.state
+            self.old.outbound.rto.rto self.old.heartbeat }
     {
         let is_late = match self.next_heartbeat() {
             Some(at) => at <= now,

@@ -1,6 +1,7 @@
 //! What goes into a packet (RFC 9260 6.1, 6.10).
 
 ghost use Rattle.std.specs.Prelude.{◌≡◌, ◌⊎◌, ◌+◌, ◌-◌, ◌^◌, ◌<◌, ◌≤◌, [], min, true, false, None, Some, IfOk, IfSome, OnErr, OnOk, find, length};
+ghost use Rattle.sctp_association.specs.Congested.{LeavesWithin, StaysOrLeft};
 ghost use Rattle.sctp_association.specs.Counts.{CountsNone, IsCountedAlong, IsCountedOn};
 ghost use Rattle.sctp_association.specs.Filled.{IfNonePut};
 ghost use Rattle.sctp_association.specs.Idle.{IsMarkedBehind, SendsNoneAgain, SendsNoneNew, WaitsBehind, WaitsForSacks, in_flight};
@@ -47,6 +48,7 @@ impl Outbound {
         // Where nothing was put: what waits, or is to be sent again, waits for a SACK.
         ensures idle { OnOk result (IfNonePut packet.old.bytes packet.new.bytes
             (WaitsForSacks packet.old.limit self.new.sender)) }
+        ensures within { LeavesWithin self.old.sender self.new }
     {
         let filled = self.put_all(packet, now);
         self.run_timer(now);
@@ -62,6 +64,7 @@ impl Outbound {
         ensures grows { length packet.old.bytes ≤ length packet.new.bytes }
         ensures idle { OnOk result (IfNonePut packet.old.bytes packet.new.bytes
             (WaitsForSacks packet.old.limit self.new.sender)) }
+        ensures within { LeavesWithin self.old.sender self.new }
     {
         self.put_skip(packet)?;
         self.put_lost(packet, now)?;
@@ -95,6 +98,7 @@ impl Outbound {
         ensures grows { length packet.old.bytes ≤ length packet.new.bytes }
         ensures idle { OnOk result (IfNonePut packet.old.bytes packet.new.bytes
             (SendsNoneAgain (packet.old.limit - length packet.old.bytes) self.old self.new)) }
+        ensures many { length (in_flight self.new.sender) ≡ length (in_flight self.old.sender) }
     {
         let flight = self.flight();
         self.put_marked(packet, self.is_fast, flight, now)
@@ -116,6 +120,7 @@ impl Outbound {
         ensures idle { OnOk result (IfNonePut packet.old.bytes packet.new.bytes
             (flight ≡ flight_of (in_flight self.old.sender)
             → SendsNoneAgain (packet.old.limit - length packet.old.bytes) self.old self.new)) }
+        ensures many { length (in_flight self.new.sender) ≡ length (in_flight self.old.sender) }
     {
         if !self.put_again(packet, is_fast, flight, now)? {
             return Ok(());
@@ -158,6 +163,7 @@ impl Outbound {
         ensures none { IfOk result (λ sent. sent ≡ false
             → flight ≡ flight_of (in_flight self.old.sender)
             → SendsNoneAgain (packet.old.limit - length packet.old.bytes) self.old self.new) }
+        ensures many { length (in_flight self.new.sender) ≡ length (in_flight self.old.sender) }
     {
         if !self.may_send_again(is_fast, flight, now) {
             return Ok(false);
@@ -224,6 +230,7 @@ impl Outbound {
             → IfOk result (λ sent. sent ≡ true → 12 < length packet.new.bytes) }
         ensures none { IfOk result (λ sent. sent ≡ false → next_within
             (packet.old.limit - length packet.old.bytes) self.old.sender.flight ≡ None) }
+        ensures many { length (in_flight self.new.sender) ≡ length (in_flight self.old.sender) }
     {
         let Some(chunk) = self.sender.resend_next(now, packet.room())? else {
             return Ok(false);
@@ -295,6 +302,7 @@ impl Outbound {
         ensures grows { length packet.old.bytes ≤ length packet.new.bytes }
         ensures idle { OnOk result (IfNonePut packet.old.bytes packet.new.bytes
             (SendsNoneNew (packet.old.limit - length packet.old.bytes) self.old self.new)) }
+        ensures within { LeavesWithin self.old.sender self.new }
     {
         if !self.begin_new(now) {
             return Ok(());
@@ -373,6 +381,7 @@ impl Outbound {
         ensures counts { CountsNone self.old self.new }
         ensures limit { packet.new.limit ≡ packet.old.limit }
         ensures grows { length packet.old.bytes ≤ length packet.new.bytes }
+        ensures within { StaysOrLeft self.old self.new }
     {
         if self.is_partial && self.is_front_late(now) {
             return Ok(false);
@@ -397,6 +406,7 @@ impl Outbound {
             → IfOk result (λ sent. sent ≡ true → 12 < length packet.new.bytes) }
         ensures none { IfOk result (λ sent. sent ≡ false
             → WaitsBehind (packet.old.limit - length packet.old.bytes) self.old.sender) }
+        ensures within { StaysOrLeft self.old self.new }
     {
         let Some(chunk) = self.sender.outbound().peek_pending() else {
             return Ok(false);

@@ -1,5 +1,6 @@
 use Rattle.std.proofs.Common.{◌≡◌, arith, false, subst, sym, ◌∙◌}
 use Rattle.std.specs.Prelude.{IfSome}
+use Rattle.sctp_association.proofs.Congested.{leaves_behind, leaves_same}
 use Rattle.sctp_association.proofs.Idle.{added_longer, no_shutdown, on_ok, on_ok_so}
 use Rattle.sctp_association.proofs.Putting.{and_then}
 use Rattle.sctp_path.specs.Timers.{is_due}
@@ -64,3 +65,24 @@ returns-clause-owes c = on_ok c.put_data.result (λ state p draft short.
         heartbeat = after.heartbeat owed.heartbeat;
       };
     })
+
+-- ## What had room
+
+pub returns-then-is_empty-clause-within : goal.returns-then-is_empty-clause-within
+returns-then-is_empty-clause-within c = leaves_same c.args.self.now.outbound.sender c.put_cookies.new.self.outbound c.put_cookies.ensures.others.halves.sender
+
+pub returns-else-is_empty-clause-within : goal.returns-else-is_empty-clause-within
+returns-else-is_empty-clause-within c =
+    leaves_same c.args.self.now.outbound.sender c.put_report.new.self.outbound (c.put_report.ensures.others.halves.sender ∙ c.put_cookies.ensures.others.halves.sender)
+
+pub returns-in_err-put_sack-clause-within : goal.returns-in_err-put_sack-clause-within
+returns-in_err-put_sack-clause-within c =
+    leaves_same c.args.self.now.outbound.sender c.put_sack.new.self.outbound (c.put_sack.ensures.sender ∙ c.put_cookies.ensures.others.halves.sender)
+
+pub returns-in_err-put_control-clause-within : goal.returns-in_err-put_control-clause-within
+returns-in_err-put_control-clause-within c =
+    leaves_same c.args.self.now.outbound.sender c.put_control.new.self.outbound (c.put_control.ensures.sender ∙ (c.put_sack.ensures.sender ∙ c.put_cookies.ensures.others.halves.sender))
+
+pub returns-clause-within : goal.returns-clause-within
+returns-clause-within c = leaves_behind c.args.self.now.outbound.sender c.put_control.new.self.outbound.sender c.put_data.new.self.outbound
+    (c.put_control.ensures.sender ∙ (c.put_sack.ensures.sender ∙ c.put_cookies.ensures.others.halves.sender)) c.put_data.ensures.within

@@ -1,7 +1,10 @@
 use Rattle.sctp_association.proofs.association.Association.handle_timeout.Goals.{then-time_out-via-then-time_out}
 use Rattle.sctp_association.proofs.association.Association.handle_timeout.Goals.{then-time_out-via-else-time_out+then-has_failed}
 use Rattle.sctp_association.specs.Telling.{TellsEnd}
-use Rattle.std.proofs.Common.{ap, arith, sym, ◌≡◌, ◌∙◌}
+use Rattle.std.proofs.Common.{Bool, ap, arith, false, sym, ◌≡◌, ◌∙◌}
+use Rattle.std.specs.Prelude.{◌&&◌, not}
+use Rattle.sctp_association.proofs.BackOff.{failures_is, rto_is, unanswered_same}
+use Rattle.sctp_association.specs.BackOff.{is_unanswered}
 use Rattle.sctp_association.specs.declared.association.Association.{Association}
 use Rattle.sctp_association.proofs.Known.{knows_same}
 use Rattle.sctp_association.proofs.Lasting.{counted_most, expires_over, t3_most, timed_lasts}
@@ -48,3 +51,63 @@ returns-else-has_failed-clause-left c =
     (ap (λ (x : Association). x.is_over) rest) (ap (λ (x : Association). x.machine) rest) c.time_out.ensures.more c.has_failed.ensures.more
     (λ is. ap (λ (o : Outbound). o.failures) (c.time_out.ensures.waits is).1)
     (λ is. let counted = c.time_out.ensures.counted is in (counted.0, sym counted.1 ∙ c.if-time_out.false)) c.has_failed.ensures.counted
+
+pub returns-then-time_out-clause-backs_off : goal.returns-then-time_out-clause-backs_off
+returns-then-time_out-clause-backs_off c _ _ =
+    let ran = c.time_out_control.ensures in
+    let old = c.args.self.now in
+    let out = c.time_out.new.self in
+    let fact = rto_is c.args.now old c.time_out_control.new.self.outbound out c.time_out.result ran.outbound ran.rto c.time_out.ensures.waits
+    c.time_out.ensures.counted (λ is. (c.time_out.ensures.backed_off is).0) c.fail.new.self.outbound.rto in
+    elim c.then-time_out.branch [
+      | then-time_out-via-then-time_out w ↦ fact false
+          (ap (λ (o : Outbound). o.rto) c.fail.ensures.outbound ∙ ap (λ (x : Association). x.outbound.rto) w.self-is)
+          (ap (λ (b : Bool). not b && is_unanswered c.args.now out.rto.rto old) (sym w.if-time_out.true))
+      | then-time_out-via-else-time_out+then-has_failed w ↦ fact
+          (is_unanswered c.args.now out.rto.rto (record c.time_out_control.new.self { outbound = out }))
+          (ap (λ (o : Outbound). o.rto) c.fail.ensures.outbound
+          ∙ (ap (λ (x : Association). x.outbound.rto) w.self-is ∙ w.has_failed.ensures.backs_off))
+          (unanswered_same c.args.now out.rto.rto old (record c.time_out_control.new.self { outbound = out }) ran.requests ran.heartbeat ran.state
+          ∙ ap (λ (b : Bool). not b && is_unanswered c.args.now out.rto.rto old) (sym w.if-time_out.false))
+    ]
+
+pub returns-then-time_out-clause-fails : goal.returns-then-time_out-clause-fails
+returns-then-time_out-clause-fails c _ _ =
+    let ran = c.time_out_control.ensures in
+    let old = c.args.self.now in
+    let out = c.time_out.new.self in
+    let fact = failures_is c.args.now old c.time_out_control.new.self.outbound out c.time_out.result ran.outbound ran.rto c.time_out.ensures.waits
+    c.time_out.ensures.counted (λ is. (c.time_out.ensures.backed_off is).0) c.fail.new.self.outbound.failures in
+    elim c.then-time_out.branch [
+      | then-time_out-via-then-time_out w ↦ fact false
+          (ap (λ (o : Outbound). o.failures) c.fail.ensures.outbound ∙ ap (λ (x : Association). x.outbound.failures) w.self-is)
+          (ap (λ (b : Bool). not b && is_unanswered c.args.now out.rto.rto old) (sym w.if-time_out.true))
+      | then-time_out-via-else-time_out+then-has_failed w ↦ fact
+          (is_unanswered c.args.now out.rto.rto (record c.time_out_control.new.self { outbound = out }))
+          (ap (λ (o : Outbound). o.failures) c.fail.ensures.outbound
+          ∙ (ap (λ (x : Association). x.outbound.failures) w.self-is ∙ w.has_failed.ensures.fails))
+          (unanswered_same c.args.now out.rto.rto old (record c.time_out_control.new.self { outbound = out }) ran.requests ran.heartbeat ran.state
+          ∙ ap (λ (b : Bool). not b && is_unanswered c.args.now out.rto.rto old) (sym w.if-time_out.false))
+    ]
+
+pub returns-else-has_failed-clause-backs_off : goal.returns-else-has_failed-clause-backs_off
+returns-else-has_failed-clause-backs_off c _ _ =
+    let ran = c.time_out_control.ensures in
+    let old = c.args.self.now in
+    let out = c.time_out.new.self in
+    rto_is c.args.now old c.time_out_control.new.self.outbound out c.time_out.result ran.outbound ran.rto c.time_out.ensures.waits
+    c.time_out.ensures.counted (λ is. (c.time_out.ensures.backed_off is).0) c.has_failed.new.self.outbound.rto
+    (is_unanswered c.args.now out.rto.rto (record c.time_out_control.new.self { outbound = out })) c.has_failed.ensures.backs_off
+    (unanswered_same c.args.now out.rto.rto old (record c.time_out_control.new.self { outbound = out }) ran.requests ran.heartbeat ran.state
+    ∙ ap (λ (b : Bool). not b && is_unanswered c.args.now out.rto.rto old) (sym c.if-time_out.false))
+
+pub returns-else-has_failed-clause-fails : goal.returns-else-has_failed-clause-fails
+returns-else-has_failed-clause-fails c _ _ =
+    let ran = c.time_out_control.ensures in
+    let old = c.args.self.now in
+    let out = c.time_out.new.self in
+    failures_is c.args.now old c.time_out_control.new.self.outbound out c.time_out.result ran.outbound ran.rto c.time_out.ensures.waits
+    c.time_out.ensures.counted (λ is. (c.time_out.ensures.backed_off is).0) c.has_failed.new.self.outbound.failures
+    (is_unanswered c.args.now out.rto.rto (record c.time_out_control.new.self { outbound = out })) c.has_failed.ensures.fails
+    (unanswered_same c.args.now out.rto.rto old (record c.time_out_control.new.self { outbound = out }) ran.requests ran.heartbeat ran.state
+    ∙ ap (λ (b : Bool). not b && is_unanswered c.args.now out.rto.rto old) (sym c.if-time_out.false))

@@ -1,6 +1,7 @@
 use Rattle.std.proofs.Common.{ap, refl}
 use Rattle.sctp_association.proofs.Telling.{tells_kept, tells_peer, tells_same, tells_then, to_same, transmits_end, unmoved_end}
 use Rattle.std.proofs.lemmas.Option.{none-some}
+use Rattle.sctp_association.proofs.Congested.{leaves_same, sends_after, sends_dropped, sends_same}
 use Rattle.sctp_association.proofs.Known.{keeps_then, knows_same, unmoved_keeps}
 use Rattle.sctp_association.proofs.Lasting.{lasts_same, lasts_then, lasts_unmoved}
 use Rattle.sctp_association.proofs.Offering.{offers_none, offers_reply}
@@ -119,3 +120,27 @@ pub returns-clause-left : goal.returns-clause-left
 returns-clause-left c = lasts_then c.args.self.now c.settle.new.self _ (
     lasts_then c.args.self.now _ _ (lasts_same c.args.self.now _ refl refl (ap (λ (o : Outbound). o.failures) c.abandon.ensures.rest)) c.settle.ensures.left
     ) (lasts_unmoved _ _ c.put_packet.ensures.kept)
+
+-- ## What had room
+
+pub returns-in_err-put_alone-clause-within : goal.returns-in_err-put_alone-clause-within
+returns-in_err-put_alone-clause-within c = sends_same c.args.self.now.outbound.sender c.put_alone.new.self.outbound c.put_alone.ensures.halves.sender
+
+pub returns-in-Some-clause-within : goal.returns-in-Some-clause-within
+returns-in-Some-clause-within c = sends_same c.args.self.now.outbound.sender c.put_alone.new.self.outbound c.put_alone.ensures.halves.sender
+
+pub returns-then-self-clause-within : goal.returns-then-self-clause-within
+returns-then-self-clause-within c = sends_same c.args.self.now.outbound.sender c.args.self.now.outbound refl
+
+pub returns-in_err-abandon-clause-within : goal.returns-in_err-abandon-clause-within
+returns-in_err-abandon-clause-within c = sends_dropped c.args.self.now.outbound.sender c.abandon.new.self c.abandon.ensures.dropped
+
+pub returns-in_default-peer-clause-within : goal.returns-in_default-peer-clause-within
+returns-in_default-peer-clause-within c =
+    sends_after c.args.self.now.outbound.sender c.abandon.new.self.sender c.settle.new.self.outbound.sender c.settle.new.self.outbound c.abandon.ensures.dropped
+    c.settle.ensures.halves.sender (leaves_same c.settle.new.self.outbound.sender c.settle.new.self.outbound refl)
+
+pub returns-clause-within : goal.returns-clause-within
+returns-clause-within c =
+    sends_after c.args.self.now.outbound.sender c.abandon.new.self.sender c.settle.new.self.outbound.sender c.put_packet.new.self.outbound c.abandon.ensures.dropped
+    c.settle.ensures.halves.sender c.put_packet.ensures.within

@@ -1,6 +1,8 @@
-use Rattle.std.proofs.Common.{subst, sym}
+use Rattle.std.proofs.Common.{refl, subst, sym}
+use Rattle.sctp_association.proofs.Congested.{leaves_same}
 use Rattle.sctp_association.proofs.Putting.{nothing}
 use Rattle.sctp_association.proofs.association.Association.put_data.Goals as goal
+use Rattle.sctp_association.specs.Congested.{LeavesWithin}
 use Rattle.sctp_association.specs.declared.association.Association.{Association}
 use Rattle.sctp_association.specs.Halves.{receiver_of, sides_of}
 use Rattle.sctp_association.specs.Packets.{Puts}
@@ -14,3 +16,10 @@ returns-in_err-put-clause-made c = c.put.ensures.made (receiver_of c.args.self.n
 pub returns-clause-made : goal.returns-clause-made
 returns-clause-made c = subst (λ (a : Association). Puts (sides_of c.args.self.now) (sides_of a)) (sym c.note_use.ensures)
     (c.put.ensures.made (receiver_of c.args.self.now.inbound))
+
+pub returns-then-not-sends_data-clause-within : goal.returns-then-not-sends_data-clause-within
+returns-then-not-sends_data-clause-within c = leaves_same c.args.self.now.outbound.sender c.args.self.now.outbound refl
+
+pub returns-clause-within : goal.returns-clause-within
+returns-clause-within c =
+    subst (λ (a : Association). LeavesWithin c.args.self.now.outbound.sender a.outbound) (sym c.note_use.ensures) c.put.ensures.within

@@ -1,5 +1,6 @@
-use Rattle.std.proofs.Common.{[], ap, subst, sym, ◌∙◌}
+use Rattle.std.proofs.Common.{[], ap, refl, subst, sym, ◌∙◌}
 use Rattle.std.proofs.lemmas.Bool.{leb-true}
+use Rattle.sctp_association.proofs.Congested.{leaves_same, leaves_so}
 use Rattle.sctp_association.proofs.Others.{none_sent_so, plain_after, sealed_after, sent_same, unsent, unsent_after, unsent_err}
 use Rattle.sctp_association.proofs.Putting.{nothing}
 use Rattle.sctp_association.proofs.association.Association.put_packet.Goals as goal
@@ -53,3 +54,12 @@ returns-then-is_empty-clause-owes c _ state =
       cookie_ack = owed.cookie_ack;
       control = record { shutdown = control.shutdown; shutdown_ack = control.shutdown_ack; heartbeat = control.heartbeat };
     }
+
+-- ## What had room
+
+pub returns-in_err-begin-clause-within : goal.returns-in_err-begin-clause-within
+returns-in_err-begin-clause-within c = leaves_same c.args.self.now.outbound.sender c.args.self.now.outbound refl
+
+pub returns-then-is_empty-clause-within : goal.returns-then-is_empty-clause-within
+returns-then-is_empty-clause-within c = leaves_so c.args.self.now.outbound.sender c.fill-filled.new.self.outbound c.pause.new.self (ap (λ (o : Outbound). o.sender) c.pause.ensures)
+    (ap (λ (o : Outbound). o.peer_window) c.pause.ensures) (ap (λ (o : Outbound). o.congestion) c.pause.ensures) c.fill-filled.ensures.within

@@ -1,8 +1,11 @@
-use Rattle.std.proofs.Common.{ap, refl, sym, ◌∙◌}
+use Rattle.std.proofs.Common.{ap, length, refl, sym, ◌∙◌}
+use Rattle.sctp_association.proofs.Congested.{again_many}
 use Rattle.sctp_association.proofs.Idle.{data_put, resent_fits}
 use Rattle.sctp_association.proofs.Making.{again_put, none_again}
 use Rattle.sctp_association.proofs.Putting.{kept, to_same}
 use Rattle.sctp_association.proofs.outbound.Outbound.put_first.Goals as goal
+use Rattle.sctp_association.specs.Idle.{in_flight}
+use Rattle.sctp_sender.specs.Sender.{Transmission}
 
 pub returns-in_err-chunk-clause-made : goal.returns-in_err-chunk-clause-made
 returns-in_err-chunk-clause-made c = kept _ _ _ _ c.in_err-chunk.ensures.err refl
@@ -21,3 +24,11 @@ pub returns-clause-put : goal.returns-clause-put
 returns-clause-put c head _ = data_put c.in-Some.chunk c.room.result _ _ _ c.put.result
     (resent_fits c.args.now c.room.result c.args.self.now.sender.flight c.in-Some.chunk (sym c.in-Some.is ∙ c.in_ok-chunk.ensures.answer))
     c.room.ensures.value c.room.ensures.most c.put.ensures.fits c.put.ensures.put head
+
+pub returns-in_default-clause-many : goal.returns-in_default-clause-many
+returns-in_default-clause-many c =
+    again_many c.args.now c.room.result _ _ c.in_ok-chunk.ensures.none c.in_ok-chunk.ensures.ok
+
+pub returns-clause-many : goal.returns-clause-many
+returns-clause-many c = ap (λ o. length (in_flight o.sender)) c.stop_where_first.ensures.rest
+    ∙ again_many c.args.now c.room.result c.args.self.now.sender c.resend_next.new.self c.in_ok-chunk.ensures.none c.in_ok-chunk.ensures.ok

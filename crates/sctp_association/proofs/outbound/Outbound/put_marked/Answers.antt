@@ -4,7 +4,7 @@ use Rattle.sctp_association.proofs.Putting.{nothing, out_then}
 use Rattle.sctp_association.proofs.outbound.Outbound.put_marked.Goals as goal
 
 pub loop-init : goal.loop-init
-loop-init c = (refl, on_same _, λ r. nothing _, omega arith)
+loop-init c = (refl, on_same _, (λ r. nothing _), omega arith, refl)
 
 pub loop-preserved : goal.loop-preserved
 loop-preserved c = (
@@ -12,6 +12,7 @@ loop-preserved c = (
   on_then _ _ _ c.loop.invariant.1 c.put_again-in-loop.ensures.counts,
   out_then _ _ _ _ _ _ c.loop.invariant.2 c.put_again-in-loop.ensures.made,
   omega (arith, c.loop.invariant.3, c.put_again-in-loop.ensures.grows),
+  c.put_again-in-loop.ensures.many ∙ c.loop.invariant.4,
 )
 
 pub returns-in_err-put_again-2-clause-made : goal.returns-in_err-put_again-2-clause-made
@@ -46,3 +47,12 @@ returns-then-not-branch-2-clause-idle c head short _ = absurd (omega (
   c.loop.invariant.3,
   c.put_again-in-loop.ensures.grows,
 ))
+
+pub returns-in_err-put_again-2-clause-many : goal.returns-in_err-put_again-2-clause-many
+returns-in_err-put_again-2-clause-many c = c.put_again-in-loop.ensures.many ∙ (c.loop.invariant.4 ∙ c.put_again.ensures.many)
+
+pub returns-after-loop-clause-many : goal.returns-after-loop-clause-many
+returns-after-loop-clause-many c = c.loop.invariant.4 ∙ c.put_again.ensures.many
+
+pub returns-then-not-branch-2-clause-many : goal.returns-then-not-branch-2-clause-many
+returns-then-not-branch-2-clause-many c = c.put_again-in-loop.ensures.many ∙ (c.loop.invariant.4 ∙ c.put_again.ensures.many)

@@ -1,4 +1,5 @@
 use Rattle.std.proofs.Common.{◌≡◌, ◌≤◌, length}
+use Rattle.sctp_association.specs.Congested.{StaysOrLeft}
 use Rattle.sctp_association.specs.Counts.{CountsNone}
 use Rattle.sctp_association.specs.Packets.{PutsOut}
 use Rattle.sctp_association.proofs.outbound.Outbound.put_new.Given as goal
@@ -8,3 +9,4 @@ abbrev pub invariant-loop : goal.invariant-loop
 invariant-loop l = (l.packet.limit ≡ l.initial.packet.limit) × CountsNone l.initial.self l.self
     × PutsOut l.initial.self.sender l.self.sender l.initial.packet.bytes l.packet.bytes
     × (length l.initial.packet.bytes ≤ length l.packet.bytes)
+    × StaysOrLeft l.initial.self l.self

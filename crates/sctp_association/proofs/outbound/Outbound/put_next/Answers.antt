@@ -1,9 +1,12 @@
-use Rattle.std.proofs.Common.{ℕ, Some, ap, arith, length, min, refl, sym, ◌∙◌, ◌≡◌, ◌+◌, ◌-◌, ◌^◌}
+use Rattle.std.proofs.Common.{ℕ, Some, ap, arith, inr, length, min, refl, subst, sym, true, ◌∙◌, ◌≡◌, ◌+◌, ◌-◌, ◌^◌}
+use Rattle.sctp_association.proofs.Congested.{as_full, full_same, sent_within}
 use Rattle.sctp_association.proofs.Idle.{data_put, fits_so, lent_fits}
 use Rattle.sctp_association.proofs.Making.{lent_put, none_put, sent_there}
 use Rattle.sctp_association.proofs.Putting.{kept, nothing}
 use Rattle.sctp_association.proofs.outbound.Outbound.put_next.Goals as goal
 use Rattle.sctp_association.specs.declared.outbound.Outbound.{Outbound}
+use Rattle.sctp_association.specs.Idle.{in_flight}
+use Rattle.sctp_association.specs.Sending.{may_send_next}
 use Rattle.sctp_outbound.specs.outbound_queue.OutboundQueue.{Outbound as Queue}
 use Rattle.sctp_outbound.specs.pending_queue.PendingQueue.{next_pending}
 use Rattle.sctp_sender.specs.Sender.{Transmission}
@@ -31,6 +34,7 @@ returns-in-Err c = record {
   grows = omega arith;
   put = λ _. tt;
   none = tt;
+  within = full_same _ _ (ap (λ (s : Transmission). let y : Outbound = record c.args.self.now { sender = s } in y) c.in-Err.ensures.err);
 }
 
 pub returns-in-Some-get-clause-made : goal.returns-in-Some-get-clause-made
@@ -65,3 +69,14 @@ returns-in-Some-get-clause-put c head _ =
     (sym c.in-Some-sent.is ∙ c.in-Ok.ensures.answer) c.in-Ok.ensures.noted
     (c.in-Some-get.ensures ∙ ap (λ (o : Queue). find (has_tsn c.in-Some-sent.tsn) o.inflight.chunks) c.outbound-in-Some-sent.ensures) e fit
     ) c.room.ensures.value c.room.ensures.most c.put.ensures.fits c.put.ensures.put head
+
+pub returns-in-Some-get-clause-within : goal.returns-in-Some-get-clause-within
+returns-in-Some-get-clause-within c =
+    let t : Transmission = c.args.self.now.sender in
+    let e : next_pending t.flight.queue.pending ≡ Some c.in-Some.chunk.now =
+    sym (c.in-Some.ensures.value ∙ ap (λ (o : Queue). next_pending o.pending) c.outbound.ensures) in
+    inr (sent_within c.args.now c.args.self.now.peer_window c.args.self.now.most_in_flight c.args.self.now.burst c.args.self.now.congestion t
+    c.send_next_tsn.new.sender c.in-Some.chunk.now e (
+    subst (λ (n : ℕ). may_send_next n c.args.self.now.most_in_flight c.args.self.now.peer_window c.args.self.now.burst c.args.self.now.congestion
+    (in_flight t) ≡ true) c.len-bytes.ensures.value (sym c.may_send.ensures.value ∙ c.if-not-may_send.false)
+    ) c.in-Ok.ensures.ok)
