@@ -105,6 +105,17 @@ static void padded_cause(uint8_t type) {
     CHECK(sctpr_read_cause(value_of(0, 16), 4, &cause) == SCTPR_OK && cause.code == SCTPR_CAUSE_USER_INITIATED_ABORT && cause.next == 4);
 }
 
+/* Padding of any bytes is ignored (RFC 9260 3.2): behind a DATA chunk of 17 bytes, behind an unknown chunk before it, and in its bytes. */
+static void padding(void) {
+    struct sctpr_data data;
+    size_t length = SEAL("\xc1\0\0\5a\xff\xff\xff" "\0\3\0\x11\0\0\0\5\0\1\0\0\0\0\0\x33!\xff\xff\xff");
+    reads(length, SCTPR_UNKNOWN_CHUNK, 2);
+    length = SEAL("\0\3\0\x11\0\0\0\5\0\1\0\0\0\0\0\x33!\xff\0\0");
+    reads(length, SCTPR_ERR_CHUNK_HEADER_PADDING_NON_ZERO, 1);
+    WITHOUT_MEMORY(sctpr_read_data(value_of(0, 0), 20, &data), SCTPR_OK);
+    CHECK(data.tsn == 5 && data.length == 1);
+}
+
 /* Flags 5, an IPv4 address, a cookie preservative, extensions (RFC 9260 3.3.2; RFC 5061 4.2.7): each told by type and place. */
 static void init(void) {
     static const uint16_t types[] = { 5, 9, 32776 };
@@ -170,6 +181,7 @@ int main(void) {
     padded_cause(SCTPR_ERROR);
     padded_cause(SCTPR_ABORT);
     init();
+    padding();
     payload_types();
     as_given();
     return report("allowed");

@@ -67,7 +67,7 @@ static void refused(void) {
     length = SEAL("\x84\0\0\5" "a\0\0");
     CHECK(sctpr_read_any_packet(packet, length, &got, rows, 8, &count) == SCTPR_ERR_PARSE_SCTP_CHUNK_NOT_ENOUGH_DATA);
     length = SEAL("\x84\0\0\4" "abc");
-    CHECK(sctpr_read_any_packet(packet, length, &got, rows, 8, &count) == SCTPR_ERR_CHUNK_HEADER_PADDING_NON_ZERO);
+    CHECK(sctpr_read_any_packet(packet, length, &got, rows, 8, &count) == SCTPR_ERR_PARSE_SCTP_CHUNK_NOT_ENOUGH_DATA);
     packet[15] ^= 1;
     CHECK(sctpr_read_any_packet(packet, length, &got, rows, 8, &count) == SCTPR_BAD_CHECKSUM);
     CHECK(sctpr_read_any_packet(NULL, 0, &got, rows, 8, &count) == SCTPR_ERR_PACKET_RAW_TOO_SMALL);

@@ -96,7 +96,7 @@ enum class code : sctpr_code {
     err_chunk_header_invalid_length = SCTPR_ERR_CHUNK_HEADER_INVALID_LENGTH,
     /** A chunk's length passes the bytes that are there (RFC 4960 3.2). */
     err_chunk_header_not_enough_space = SCTPR_ERR_CHUNK_HEADER_NOT_ENOUGH_SPACE,
-    /** After a chunk's length come one to three bytes, and one of them is not zero (RFC 4960 3.2). Where four or more follow, padding is not looked at. */
+    /** After a chunk's length come one to three bytes, and one of them is not zero (RFC 4960 3.2). Where four or more follow, padding is not looked at. sctpr_read_any_packet and the readers of DATA, of a SACK and of an INIT ignore padding, and do not answer this. */
     err_chunk_header_padding_non_zero = SCTPR_ERR_CHUNK_HEADER_PADDING_NON_ZERO,
     /** Read as an ABORT: the type is not 6 (RFC 4960 3.3.7). */
     err_chunk_type_not_abort = SCTPR_ERR_CHUNK_TYPE_NOT_ABORT,

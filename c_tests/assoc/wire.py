@@ -1,6 +1,7 @@
 """SCTP datagrams as text, and as bytes: RFC 9260 3, RFC 3758 3, RFC 6525 3 and 4, RFC 9653 4. Written from these alone.
 
 A datagram is `tag=N CHUNK FIELD=VALUE .. | CHUNK ..`, with `src=`, `dst=` and `sum=zero|bad` before the first chunk where they are not usual.
+With `pad=HH` padding has bytes HH in place of 0, and that of a last parameter or cause is not counted in the length of its chunk (RFC 9260 3.2).
 Bytes are hex text, or `*N` for N bytes counted up from 0.
 """
 import struct
@@ -8,6 +9,9 @@ import struct
 NAMES = {0: "DATA", 1: "INIT", 2: "INIT-ACK", 3: "SACK", 4: "HEARTBEAT", 5: "HEARTBEAT-ACK", 6: "ABORT", 7: "SHUTDOWN", 8: "SHUTDOWN-ACK", 9: "ERROR",
          10: "COOKIE-ECHO", 11: "COOKIE-ACK", 14: "SHUTDOWN-COMPLETE", 130: "RE-CONFIG", 192: "FORWARD-TSN"}
 TYPES = {name: typ for typ, name in NAMES.items()}
+
+# Chunks whose value is a list of parameters or causes.
+LISTS = ("INIT", "INIT-ACK", "HEARTBEAT", "HEARTBEAT-ACK", "ABORT", "ERROR", "RE-CONFIG")
 
 # Parameters of INIT and INIT ACK.
 COOKIE, EXTENSIONS, ZERO, FORWARD = 7, 0x8008, 0x8001, 0xC000
@@ -50,6 +54,17 @@ def octets(text):
 def tlv(typ, value):
     """A parameter or an error cause: type, length, value, padding."""
     return struct.pack(">HH", typ, 4 + len(value)) + value + bytes(-len(value) % 4)
+
+
+def padding_as(name, value, fill):
+    """The value of a chunk of parameters or causes: their padding has these bytes, and that of the last one is left out."""
+    value, at = bytearray(value), 16 if name in ("INIT", "INIT-ACK") else 0
+    end = len(value)
+    while at < len(value):
+        end = at + struct.unpack_from(">H", value, at + 2)[0]
+        at = end + -end % 4
+        value[end:at] = fill * (at - end)
+    return bytes(value[:end])
 
 
 def split(text):
@@ -120,13 +135,15 @@ def value_of(name, fields):
     return flag, b""
 
 
-def chunk_bytes(text):
+def chunk_bytes(text, fill=None):
     name, _, rest = text.strip().partition(" ")
     flag, value = value_of(name, split(rest))
+    if fill and name in LISTS:
+        value = padding_as(name, value, fill)
     typ = TYPES.get(name)
     if typ is None:
         typ = number(name[4:])
-    return struct.pack(">BBH", typ, flag, 4 + len(value)) + value + bytes(-len(value) % 4)
+    return struct.pack(">BBH", typ, flag, 4 + len(value)) + value + (fill or b"\0") * (-len(value) % 4)
 
 
 def sealed(head, body, kind=""):
@@ -143,12 +160,13 @@ def encode(text):
     """The bytes of a datagram."""
     words = text.split()
     head, at = {}, 0
-    while at < len(words) and words[at].partition("=")[0] in ("src", "dst", "sum", "tag") and "=" in words[at]:
+    while at < len(words) and words[at].partition("=")[0] in ("src", "dst", "sum", "pad", "tag") and "=" in words[at]:
         key, _, value = words[at].partition("=")
         head[key] = value
         at += 1
     chunks = " ".join(words[at:])
-    body = b"".join(chunk_bytes(part) for part in chunks.split("|") if part.strip())
+    fill = octets(head["pad"]) if "pad" in head else None
+    body = b"".join(chunk_bytes(part, fill) for part in chunks.split("|") if part.strip())
     first = struct.pack(">HHI", number(head.get("src", "5000")), number(head.get("dst", "5000")), number(head["tag"]))
     return sealed(first, body, head.get("sum", ""))
 

@@ -79,7 +79,7 @@ const (
 	CodeErrChunkHeaderInvalidLength Code = 47
 	// A chunk's length passes the bytes that are there (RFC 4960 3.2).
 	CodeErrChunkHeaderNotEnoughSpace Code = 48
-	// After a chunk's length come one to three bytes, and one of them is not zero (RFC 4960 3.2). Where four or more follow, padding is not looked at.
+	// After a chunk's length come one to three bytes, and one of them is not zero (RFC 4960 3.2). Where four or more follow, padding is not looked at. sctpr_read_any_packet and the readers of DATA, of a SACK and of an INIT ignore padding, and do not answer this.
 	CodeErrChunkHeaderPaddingNonZero Code = 49
 	// Read as an ABORT: the type is not 6 (RFC 4960 3.3.7).
 	CodeErrChunkTypeNotAbort Code = 50
@@ -240,7 +240,7 @@ func (c Code) text() string {
 	case CodeErrChunkHeaderNotEnoughSpace:
 		return "A chunk's length passes the bytes that are there (RFC 4960 3.2)."
 	case CodeErrChunkHeaderPaddingNonZero:
-		return "After a chunk's length come one to three bytes, and one of them is not zero (RFC 4960 3.2). Where four or more follow, padding is not looked at."
+		return "After a chunk's length come one to three bytes, and one of them is not zero (RFC 4960 3.2). Where four or more follow, padding is not looked at. sctpr_read_any_packet and the readers of DATA, of a SACK and of an INIT ignore padding, and do not answer this."
 	case CodeErrChunkTypeNotAbort:
 		return "Read as an ABORT: the type is not 6 (RFC 4960 3.3.7)."
 	case CodeErrChunkTypeNotCookieAck:

@@ -9,9 +9,10 @@ use Rattle.sctp_association.specs.Arrivals.{by_chunk, by_param, halves, hears, r
 use Rattle.sctp_association.specs.declared.association.Association.{Association}
 use Rattle.sctp_association.specs.declared.inbound.Inbound.{Inbound}
 use Rattle.sctp_association.specs.Halves.{HalvesAlike, halves_of, receiver_of}
-use Rattle.sctp_chunks.specs.Wire.{ReadsChunk, Wire, sack_chunk}
+use Rattle.sctp_chunks.specs.Wire.{Wire, sack_chunk}
 use Rattle.sctp_data.specs.SelectiveAck.{Sack}
 use Rattle.sctp_datagram.specs.Carried.{IsChunkOf}
+use Rattle.sctp_datagram.specs.Framing.{StartsWith}
 use Rattle.sctp_datagram.specs.declared.datagram.ChunkPlace.{ChunkPlace}
 use Rattle.sctp_params.specs.Param.{Parameter, outgoing_reset_request, reconfig_response}
 use Rattle.sctp_params.specs.ParamKind.{ReadsParam}
@@ -98,7 +99,7 @@ pub came_alike : (d : List ℕ) (a b : Association) → HalvesAlike a b → Call
 came_alike d a b h = came_same d (halves_of a) (halves_of b) (alike_halves a b h)
 
 -- each is for the chunk at a place
-module _ (d : List ℕ) (p : ChunkPlace) (own : IsChunkOf d p) (w : Wire) (reads : ReadsChunk (drop p.at d) w) where
+module _ (d : List ℕ) (p : ChunkPlace) (own : IsChunkOf d p) (w : Wire) (reads : StartsWith (drop p.at d) w) where
   brought : (a : Arrival) → Asks w a → IsOfHalf a → IsBroughtAs IsOfHalf d a
   brought a asks of = record { brought = by_chunk w (record { place = p; own = own; reads = reads }) asks; rule = of }
 
@@ -112,10 +113,10 @@ module _ (d : List ℕ) (p : ChunkPlace) (own : IsChunkOf d p) (w : Wire) (reads
   sender_came r t u h = sender_led (AsksToHear w) (IsBroughtAs IsOfHalf d) (λ c a. brought (hears c) a tt) r t u h
 
 -- a SACK that is read where it lies
-pub sack_came : (d : List ℕ) (p : ChunkPlace) → IsChunkOf d p → (bytes : List ℕ) (s : Sack) → bytes ≡ drop p.at d → ReadsChunk bytes (sack_chunk s)
+pub sack_came : (d : List ℕ) (p : ChunkPlace) → IsChunkOf d p → (bytes : List ℕ) (s : Sack) → bytes ≡ drop p.at d → StartsWith bytes (sack_chunk s)
     → (r : Option Reception) (t u : Transmission) → HearsBy (AsksToHear (sack_chunk s)) t u → CallsArrive d (halves t r) (halves u r)
 sack_came d p own bytes s e reads r t u h =
-    sender_came d p own (sack_chunk s) (subst (λ (l : List ℕ). ReadsChunk l (sack_chunk s)) e reads) r t u h
+    sender_came d p own (sack_chunk s) (subst (λ (l : List ℕ). StartsWith l (sack_chunk s)) e reads) r t u h
 
 -- a parameter asks for calls of halves that are there
 param-of-half : (q : Parameter) (a : Arrival) → ParamAsks q a → IsOfHalf a

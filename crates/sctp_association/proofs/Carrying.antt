@@ -9,6 +9,7 @@ use Rattle.sctp_chunks.specs.Framing.{declared_length}
 use Rattle.sctp_chunks.specs.Wire.{ReadsChunk, Wire}
 use Rattle.sctp_datagram.proofs.Alone.{cut_reads, reads_of_cut}
 use Rattle.sctp_datagram.specs.Carried.{IsChunkOf}
+use Rattle.sctp_datagram.specs.Framing.{StartsWith}
 use Rattle.sctp_datagram.specs.declared.datagram.ChunkPlace.{ChunkPlace}
 use Rattle.sctp_datagram.specs.Places.{IsPlace, TellsAll, place_at}
 
@@ -36,7 +37,7 @@ place_within d p place =
 
 -- what its bytes alone are read as, it is read as where it lies
 pub read_there : (d : List ℕ) (p : ChunkPlace) → IsPlace d p → (end : ℕ) → end ≡ p.at + p.length → (raw : List ℕ) → raw ≡ slice_range d p.at end
-    → (w : Wire) → ReadsChunk raw w → ReadsChunk (drop p.at d) w
+    → (w : Wire) → ReadsChunk raw w → StartsWith (drop p.at d) w
 read_there d p place end is raw cut w reads =
     let size : p.length ≡ declared_length (drop p.at d) = ap (λ k. k.length) place.told in
     let span : end - p.at ≡ declared_length (drop p.at d) = omega (arith, is, size) in
@@ -44,8 +45,8 @@ read_there d p place end is raw cut w reads =
 
 -- and what it is read as where it lies, its bytes alone are read as
 pub read_cut : (d : List ℕ) (p : ChunkPlace) → IsPlace d p → (end : ℕ) → end ≡ p.at + p.length → (raw : List ℕ) → raw ≡ slice_range d p.at end
-    → (w : Wire) → ReadsChunk (drop p.at d) w → ReadsChunk raw w
+    → (w : Wire) → StartsWith (drop p.at d) w → ReadsChunk raw w
 read_cut d p place end is raw cut w reads =
     let size : p.length ≡ declared_length (drop p.at d) = ap (λ k. k.length) place.told in
     let span : end - p.at ≡ declared_length (drop p.at d) = omega (arith, is, size) in
-    cut_reads (drop p.at d) raw w place.there.is_framed (cut ∙ ap (λ n. take n (drop p.at d)) span) reads
+    cut_reads (drop p.at d) raw w (cut ∙ ap (λ n. take n (drop p.at d)) span) reads

@@ -1,7 +1,7 @@
 -- Chunks that are read whole, and states in which they are taken.
-use Rattle.std.proofs.Common.{◌≡◌, ◌⊎◌, ℕ, ◌≤◌, ◌+◌, Bool, true, false, List, length, drop, Option, Some, None, refl, ap, sym, subst, ◌∙◌, inl, inr, arith}
+use Rattle.std.proofs.Common.{◌≡◌, ◌⊎◌, ℕ, ◌≤◌, Bool, true, false, List, drop, Option, Some, None, refl, ap, sym, subst, ◌∙◌, inl, inr, arith}
 use Rattle.std.proofs.lemmas.Bool.{and_from, and_parts, cases_Bool, eqb-true, false≢true, or_cases}
-use Rattle.std.specs.Prelude.{◌*◌, ◌==◌, ◌||◌, is_some, suc}
+use Rattle.std.specs.Prelude.{◌==◌, ◌||◌, is_some, suc}
 use Rattle.crc32c.specs.Castagnoli.{crc32c_of}
 use Rattle.sctp_association.proofs.Each.{going_types}
 use Rattle.sctp_association.specs.Coming.{FollowsData, GoesOn, TakesDataOf, goes_on, is_due, zero_checksum_of}
@@ -13,13 +13,13 @@ use Rattle.sctp_association.specs.declared.association.arrivals.Step.{Step}
 use Rattle.sctp_association.specs.declared.association.arrivals.Step.TheVariants.{Next, Stop, Cut, Refused}
 use Rattle.sctp_association.specs.declared.inbound.Inbound.{Inbound}
 use Rattle.sctp_chunks.specs.Fault.{SackFault}
-use Rattle.sctp_chunks.specs.Framing.{type_at, value_at}
+use Rattle.sctp_chunks.specs.Framing.{type_at}
 use Rattle.sctp_chunks.specs.Init.{ack_type}
-use Rattle.sctp_chunks.specs.Wire.{IsForwardTsn, ReadsChunk, Wire, abort_chunk, cookie_ack_chunk, cookie_echo_chunk, data_chunk, error_chunk}
+use Rattle.sctp_chunks.specs.Wire.{IsForwardTsn, Wire, abort_chunk, cookie_ack_chunk, cookie_echo_chunk, data_chunk, error_chunk}
 use Rattle.sctp_chunks.specs.Wire.{forward_tsn_chunk, heartbeat_ack_chunk, heartbeat_chunk, i_forward_tsn_chunk, init_chunk, reconfig_chunk, sack_chunk}
 use Rattle.sctp_chunks.specs.Wire.{shutdown_ack_chunk, shutdown_chunk, shutdown_complete_chunk, type_of}
-use Rattle.sctp_data.specs.SelectiveAck.{blocks_in, duplicates_in}
-use Rattle.sctp_datagram.proofs.Alone.{no-header-fault}
+use Rattle.sctp_datagram.proofs.InPlace.{sack_valid}
+use Rattle.sctp_datagram.specs.Framing.{ChunkFault, StartsWith}
 use Rattle.sctp_association.specs.declared.config.Config.{Config}
 use Rattle.sctp_datagram.specs.Fault.{IsAccepted}
 use Rattle.sctp_datagram.specs.Places.{IsPlace}
@@ -44,36 +44,6 @@ not-ack : (b : Bool) (n : ℕ) → 3 ≤ n → n ≡ ack_type b → ⊥
 not-ack true n most e = omega (arith, most, e)
 not-ack false n most e = omega (arith, most, e)
 
-abbrev HasSack : List ℕ → Type 0
-HasSack value = (12 ≤ length value) × (12 + 4 * blocks_in value + 4 * duplicates_in value ≤ length value)
-
-sack-long : (bytes : List ℕ) (w : Wire) → ReadsChunk bytes w → type_of w ≡ 3 → HasSack (value_at bytes)
-sack-long bytes (data_chunk d) reads typ = absurd (omega (arith, typ))
-sack-long bytes (init_chunk i) reads typ = absurd (not-ack i.is_ack 3 (omega arith) (sym typ))
-sack-long bytes (sack_chunk s) reads typ = (reads.value.headed, reads.value.long)
-sack-long bytes (heartbeat_chunk ps) reads typ = absurd (omega (arith, typ))
-sack-long bytes (heartbeat_ack_chunk ps) reads typ = absurd (omega (arith, typ))
-sack-long bytes (abort_chunk cs) reads typ = absurd (omega (arith, typ))
-sack-long bytes (shutdown_chunk n) reads typ = absurd (omega (arith, typ))
-sack-long bytes shutdown_ack_chunk reads typ = absurd (omega (arith, typ))
-sack-long bytes (error_chunk cs) reads typ = absurd (omega (arith, typ))
-sack-long bytes (cookie_echo_chunk b) reads typ = absurd (omega (arith, typ))
-sack-long bytes cookie_ack_chunk reads typ = absurd (omega (arith, typ))
-sack-long bytes shutdown_complete_chunk reads typ = absurd (omega (arith, typ))
-sack-long bytes (reconfig_chunk r) reads typ = absurd (omega (arith, typ))
-sack-long bytes (forward_tsn_chunk f) reads typ = absurd (omega (arith, typ))
-sack-long bytes (i_forward_tsn_chunk f) reads typ = absurd (omega (arith, typ))
-
-sack-valid : (e : Error) (bytes : List ℕ) (w : Wire) → ReadsChunk bytes w → type_at bytes ≡ 3 → SackFault e bytes → ⊥
-sack-valid e bytes w reads typ (inl (inl h)) = no-header-fault e bytes reads.is_framed h
-sack-valid e bytes w reads typ (inl (inr other)) = other.2 typ
-sack-valid e bytes w reads typ (inr (short, chunk, inl few)) =
-    let has = sack-long bytes w reads (sym reads.typ ∙ typ) in
-    omega (arith, has.0, few)
-sack-valid e bytes w reads typ (inr (short, chunk, inr few)) =
-    let has = sack-long bytes w reads (sym reads.typ ∙ typ) in
-    omega (arith, has.1, few)
-
 forward-kind : (w : Wire) → type_of w ≡ 192 → IsForwardTsn w
 forward-kind (data_chunk d) typ = absurd (omega (arith, typ))
 forward-kind (init_chunk i) typ = absurd (not-ack i.is_ack 192 (omega arith) (sym typ))
@@ -95,18 +65,18 @@ module _ (d : List ℕ) (p : ChunkPlace) (place : IsPlace d p) where
   type-there : (n : ℕ) → p.typ ≡ n → type_at (drop p.at d) ≡ n
   type-there n is = sym (ap (λ (k : ChunkPlace). k.typ) place.told) ∙ is
 
-  reads-there : (n : ℕ) → p.typ ≡ n → is_whole_type n ≡ true → (w : Wire) × ReadsChunk (drop p.at d) w
+  reads-there : (n : ℕ) → p.typ ≡ n → is_whole_type n ≡ true → (w : Wire) × StartsWith (drop p.at d) w
   reads-there n is whole = place.there.reads (ap is_whole_type (type-there n is) ∙ whole)
 
   -- a SACK of a datagram is read, unless memory is wanting
-  pub sack_read : p.typ ≡ 3 → (bytes : List ℕ) → bytes ≡ drop p.at d → (e : Error) → (e ≡ ErrOutOfMemory → ⊥) → OrMemory e (SackFault e bytes) → ⊥
+  pub sack_read : p.typ ≡ 3 → (bytes : List ℕ) → bytes ≡ drop p.at d → (e : Error) → (e ≡ ErrOutOfMemory → ⊥) → OrMemory e (ChunkFault SackFault e bytes) → ⊥
   sack_read is bytes cut e not (inl memory) = not memory
   sack_read is bytes cut e not (inr fault) =
       let reads = reads-there 3 is refl in
-      sack-valid e (drop p.at d) reads.0 reads.1 (type-there 3 is) (subst (SackFault e) cut fault)
+      sack_valid e (drop p.at d) reads.0 reads.1 (type-there 3 is) (subst (ChunkFault SackFault e) cut fault)
 
   -- so is a FORWARD-TSN
-  pub forward_read : p.typ ≡ 192 → (w : Wire) × (IsForwardTsn w × ReadsChunk (drop p.at d) w)
+  pub forward_read : p.typ ≡ 192 → (w : Wire) × (IsForwardTsn w × StartsWith (drop p.at d) w)
   forward_read is =
       let reads = reads-there 192 is refl in
       (reads.0, (forward-kind reads.0 (sym reads.1.typ ∙ type-there 192 is), reads.1))

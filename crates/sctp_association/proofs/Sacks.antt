@@ -18,9 +18,10 @@ use Rattle.sctp_association.specs.declared.association.arrivals.Step.{Step}
 use Rattle.sctp_association.specs.declared.association.arrivals.Step.TheVariants.{Next, Stop, Cut, Refused}
 use Rattle.sctp_association.specs.declared.fault.Fault.{Fault}
 use Rattle.sctp_association.specs.declared.once.Once.{Once}
-use Rattle.sctp_chunks.specs.Wire.{ReadsChunk, sack_chunk}
+use Rattle.sctp_chunks.specs.Wire.{sack_chunk}
 use Rattle.sctp_data.specs.SelectiveAck.{Sack}
 use Rattle.sctp_datagram.specs.Carried.{IsChunkOf}
+use Rattle.sctp_datagram.specs.Framing.{StartsWith}
 use Rattle.sctp_datagram.specs.declared.datagram.ChunkPlace.{ChunkPlace}
 use Rattle.sctp_delivery.proofs.WholeSacks as whole
 use Rattle.sctp_handshake.specs.States.{takes_sacks}
@@ -49,11 +50,11 @@ hears_outdated s t w late same =
     record { mid = t; hears = inl (late, refl); after = acknowledged_same (AsksToHear (sack_chunk s)) t w same }
 
 -- one that is read where it lies is so in the datagram
-pub hears_in : (d : List ℕ) (p : ChunkPlace) → IsChunkOf d p → (bytes : List ℕ) (s : Sack) → bytes ≡ drop p.at d → ReadsChunk bytes (sack_chunk s)
+pub hears_in : (d : List ℕ) (p : ChunkPlace) → IsChunkOf d p → (bytes : List ℕ) (s : Sack) → bytes ≡ drop p.at d → StartsWith bytes (sack_chunk s)
     → (r : Option Reception) (t u : Transmission) → HearsSackFirst s t u → IsSackIn p.at d (halves t r) (halves u r)
 hears_in d p own bytes s cut reads r t u h = record {
   sack = s;
-  reads = subst (λ (l : List ℕ). ReadsChunk l (sack_chunk s)) cut reads;
+  reads = subst (λ (l : List ℕ). StartsWith l (sack_chunk s)) cut reads;
   moment = halves t r;
   next = halves h.mid r;
   before = arrives_same d (halves t r) (halves t r) refl;

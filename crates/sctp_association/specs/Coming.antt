@@ -8,13 +8,14 @@ use Rattle.sctp_association.specs.declared.association.arrivals.Step.{Step}
 use Rattle.sctp_association.specs.declared.association.arrivals.Step.TheVariants.{Next, Stop, Cut, Refused}
 use Rattle.sctp_association.specs.declared.config.Config.{Config}
 use Rattle.sctp_association.specs.Halves.{halves_of, receiver_of}
-use Rattle.sctp_chunks.specs.Wire.{ReadsChunk, data_chunk}
+use Rattle.sctp_chunks.specs.Wire.{data_chunk}
 use Rattle.sctp_data.specs.declared.chunk.chunk_payload_data.ChunkPayloadData.{ChunkPayloadData}
 use Rattle.sctp_data.specs.PayloadData.{data_of}
 use Rattle.sctp_datagram.specs.declared.datagram.ChunkPlace.{ChunkPlace}
 use Rattle.sctp_datagram.specs.declared.datagram.ZeroChecksum.{ZeroChecksum}
 use Rattle.sctp_datagram.specs.declared.datagram.ZeroChecksum.TheVariants as zero
 use Rattle.sctp_datagram.specs.Fault.{IsAccepted}
+use Rattle.sctp_datagram.specs.Framing.{StartsWith}
 use Rattle.sctp_datagram.specs.Places.{TellsAll, place_at}
 use Rattle.sctp_handshake.specs.States.{takes_data, takes_sacks}
 use Rattle.sctp_receiver.specs.Advice.{advice_for}
@@ -38,7 +39,7 @@ HasComeOrIsDropped c (Some r) = (has_come c.tsn (filter_of r) ≡ true) ⊎ IsDr
 -- so of the DATA chunk at a place of a datagram
 pub record HasTakenData (at : ℕ) (datagram : List ℕ) (r : Option Reception) : Type 0 where
   pub chunk : ChunkPayloadData
-  pub reads : ReadsChunk (drop at datagram) (data_chunk (data_of chunk))
+  pub reads : StartsWith (drop at datagram) (data_chunk (data_of chunk))
   pub taken : HasComeOrIsDropped chunk r
 
 abbrev pub TakesDataAt : (at : ℕ) → List ℕ → Association → Type 0

@@ -7,8 +7,9 @@ use Rattle.sctp_association.specs.declared.association.Reason.TheVariants.{Unexp
 use Rattle.sctp_association.specs.declared.association.Association.{Association}
 use Rattle.sctp_association.specs.declared.association.arrivals.Step.{Step}
 use Rattle.sctp_association.specs.declared.association.arrivals.Step.TheVariants.{Next, Stop, Cut, Refused}
-use Rattle.sctp_chunks.specs.Wire.{ReadsChunk, sack_chunk}
+use Rattle.sctp_chunks.specs.Wire.{sack_chunk}
 use Rattle.sctp_data.specs.SelectiveAck.{Sack}
+use Rattle.sctp_datagram.specs.Framing.{StartsWith}
 use Rattle.sctp_datagram.specs.declared.datagram.ChunkPlace.{ChunkPlace}
 use Rattle.sctp_handshake.specs.States.{takes_sacks}
 use Rattle.sctp_sender.specs.Flight.{is_outdated}
@@ -47,7 +48,7 @@ pub record TakesSacksOf (tag : ℕ) (a : Association) : Type 0 where
 -- At a moment while the datagram is taken the SACK at a place is taken, or outdated. Calls for chunks of the datagram lead there, and on.
 pub record IsSackIn (at : ℕ) (datagram : List ℕ) (old new : Halves) : Type 0 where
   pub sack : Sack
-  pub reads : ReadsChunk (drop at datagram) (sack_chunk sack)
+  pub reads : StartsWith (drop at datagram) (sack_chunk sack)
   pub moment : Halves
   pub next : Halves
   pub before : Arrives datagram old moment

@@ -6,12 +6,12 @@ use Rattle.sctp_util.specs.Walk.{Walks}
 use Rattle.sctp_util.proofs.EachAt.{length_each}
 use Rattle.sctp_util.specs.Each.{each}
 use Rattle.sctp_util.specs.Field.{u32_at}
-use Rattle.sctp_chunks.specs.Fault.{IsChunk}
 use Rattle.sctp_chunks.specs.Framing.{value_at}
 use Rattle.sctp_chunks.specs.Wire.{Wire}
 use Rattle.sctp_data.specs.SelectiveAck.{block_at, sack_in, blocks_in, duplicates_in}
 use Rattle.sctp_data.specs.declared.chunk.chunk_selective_ack.GapAckBlock.{GapAckBlock}
 use Rattle.sctp_datagram.proofs.InPlace.{sack_reads}
+use Rattle.sctp_datagram.specs.Framing.{HasChunk}
 use Rattle.sctp_datagram.specs.InPlace.{IsInPlace}
 use Rattle.sctp_c.specs.Answered.{IsSack, gap_answered}
 use Rattle.sctp_c.specs.Out.{filled}
@@ -20,7 +20,7 @@ use Rattle.sctp_c.specs.declared.reading.SctpGap.{SctpGap}
 use Rattle.sctp_c.specs.declared.reading.SctpSack.{SctpSack}
 
 -- of a SACK with so many blocks and duplicates, as many as there is room for
-pub is_sack : (bytes value : List ℕ) (t : SctpSack) (old_blocks blocks : List SctpGap) (old_duplicates duplicates : List ℕ) → IsChunk 3 bytes
+pub is_sack : (bytes value : List ℕ) (t : SctpSack) (old_blocks blocks : List SctpGap) (old_duplicates duplicates : List ℕ) → HasChunk 3 bytes
     → value ≡ value_at bytes → 12 ≤ length value → 12 + 4 * blocks_in value + 4 * duplicates_in value ≤ length value → t.blocks ≡ blocks_in value
     → t.duplicates ≡ duplicates_in value → t.cumulative_tsn ≡ u32_at value 0 → t.credit ≡ u32_at value 4
     → blocks ≡ filled (map gap_answered (each t.blocks (λ i. block_at value (12 + 4 * i)))) old_blocks

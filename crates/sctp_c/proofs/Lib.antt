@@ -13,6 +13,7 @@ pub mod OwnParams
 pub mod Resets
 pub mod Rows
 pub mod Sacks
+pub mod Padded
 pub mod Noted
 pub mod SenderBox
 pub mod Tails

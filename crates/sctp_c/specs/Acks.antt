@@ -1,7 +1,8 @@
 -- A SACK that a caller in C hands in (RFC 4960 6.2.1).
 use Rattle.std.specs.Prelude.{◌≡◌, ℕ, false, true, List, [], length, map, None}
-use Rattle.sctp_chunks.specs.Wire.{ReadsChunk, sack_chunk}
+use Rattle.sctp_chunks.specs.Wire.{sack_chunk}
 use Rattle.sctp_data.specs.SelectiveAck.{Sack}
+use Rattle.sctp_datagram.specs.Framing.{StartsWith}
 use Rattle.sctp_sender.specs.declared.sender.flight.Released.{Released}
 use Rattle.sctp_sender.specs.Flight.{is_outdated, released_by, sack_refusal}
 use Rattle.sctp_sender.specs.Sender.{Transmission, after_acked, after_take_back, take_back_refusal, taken_back_by}
@@ -29,13 +30,13 @@ pub record Takes (sack : Sack) (rows_old rows_new : List SctpAcked) (count : ℕ
 pub record TakesSack (bytes : List ℕ) (rows_old rows_new : List SctpAcked) (count : ℕ)
     (old new : Transmission) : Type 0 where
   pub sack : Sack
-  pub reads : ReadsChunk bytes (sack_chunk sack)
+  pub reads : StartsWith bytes (sack_chunk sack)
   pub taken : Takes sack rows_old rows_new count old new
 
 -- they are a SACK that is out of date: its cumulative TSN is before the last one that was acknowledged
 pub record IsStale (bytes : List ℕ) (old : Transmission) : Type 0 where
   pub sack : Sack
-  pub reads : ReadsChunk bytes (sack_chunk sack)
+  pub reads : StartsWith bytes (sack_chunk sack)
   pub outdated : is_outdated sack old.flight ≡ true
 
 -- the SACK without gap ack blocks up to a TSN: so much a SHUTDOWN acknowledges (RFC 4960 3.3.8)
@@ -50,14 +51,14 @@ up_to tsn = record {
 -- they are a SACK, which is refused
 pub record RefusesSack (bytes : List ℕ) (code : ℕ) (old : Transmission) : Type 0 where
   pub sack : Sack
-  pub reads : ReadsChunk bytes (sack_chunk sack)
+  pub reads : StartsWith bytes (sack_chunk sack)
   pub number : code ≡ sender_code_for (sack_refusal sack old.flight)
 
 -- they are a SACK that is not out of date, and a row tells of each chunk that it takes back, as far as there is room
 pub record TakesBack (bytes : List ℕ) (rows_old rows_new : List SctpTakenBack) (count : ℕ)
     (old new : Transmission) : Type 0 where
   pub sack : Sack
-  pub reads : ReadsChunk bytes (sack_chunk sack)
+  pub reads : StartsWith bytes (sack_chunk sack)
   pub current : is_outdated sack old.flight ≡ false
   pub accepted : take_back_refusal sack old ≡ None
   pub rows : rows_new ≡ filled (map taken_back_row (taken_back_by sack old)) rows_old
@@ -67,5 +68,5 @@ pub record TakesBack (bytes : List ℕ) (rows_old rows_new : List SctpTakenBack)
 -- they are a SACK, of which nothing is taken back
 pub record RefusesTakeBack (bytes : List ℕ) (code : ℕ) (old : Transmission) : Type 0 where
   pub sack : Sack
-  pub reads : ReadsChunk bytes (sack_chunk sack)
+  pub reads : StartsWith bytes (sack_chunk sack)
   pub number : IsSenderCode (take_back_refusal sack old) code

@@ -13,6 +13,7 @@ use Rattle.sctp_data.specs.SelectiveAck.{Sack}
 use Rattle.sctp_data.specs.ForwardTsn.{ForwardTsn}
 use Rattle.sctp_data.specs.declared.chunk.chunk_selective_ack.GapAckBlock.{GapAckBlock}
 use Rattle.sctp_data.specs.declared.chunk.chunk_forward_tsn.ChunkForwardTsnStream.{ChunkForwardTsnStream}
+use Rattle.sctp_datagram.specs.Framing.{StartsWith}
 use Rattle.sctp_datagram.specs.InPlace.{HasInit}
 use Rattle.sctp_c.specs.Out.{filled}
 use Rattle.sctp_c.specs.declared.reading.SctpData.{SctpData}
@@ -66,14 +67,14 @@ init_answered i = record {
 -- the bytes begin with a DATA chunk of these fields
 pub record IsData (bytes : List ℕ) (t : SctpData) : Type 0 where
   pub fields : Data
-  pub reads : ReadsChunk bytes (data_chunk fields)
+  pub reads : StartsWith bytes (data_chunk fields)
   pub answered : t ≡ data_answered (payload_type_at bytes) fields
 
 -- the bytes begin with a SACK of these fields; as many blocks and duplicates as there is room for stand in the rows
 pub record IsSack (bytes : List ℕ) (t : SctpSack) (old_blocks blocks : List SctpGap)
     (old_duplicates duplicates : List ℕ) : Type 0 where
   pub sack : Sack
-  pub reads : ReadsChunk bytes (sack_chunk sack)
+  pub reads : StartsWith bytes (sack_chunk sack)
   pub answered : t ≡ sack_answered sack
   pub gaps : blocks ≡ filled (map gap_answered sack.gap_ack_blocks) old_blocks
   pub repeats : duplicates ≡ filled sack.duplicate_tsn old_duplicates

@@ -5,6 +5,7 @@ use Rattle.sctp_data.specs.ChunkSet.{ChunkSet, fresh}
 use Rattle.sctp_data.specs.ForwardTsn.{ForwardTsn}
 use Rattle.sctp_data.specs.PayloadData.{Data}
 use Rattle.sctp_data.specs.declared.chunk.chunk_payload_data.ChunkPayloadData.{ChunkPayloadData}
+use Rattle.sctp_datagram.specs.Framing.{StartsWith}
 use Rattle.sctp_reassembly.specs.reassembly_queue.Fragments.{payload_of}
 use Rattle.sctp_receiver.specs.declared.receiver.arrival.Arrival.{Arrival}
 use Rattle.sctp_receiver.specs.declared.receiver.arrival.Arrival.TheVariants.{New}
@@ -40,7 +41,7 @@ payload_type_of (c ∷ cs) = c.message_id % 2 ^ 32
 -- they are a DATA chunk, which is taken with this answer
 pub record TakesData (bytes : List ℕ) (a : Arrival) (old new : Reception) : Type 0 where
   pub wire : Data
-  pub reads : ReadsChunk bytes (data_chunk wire)
+  pub reads : StartsWith bytes (data_chunk wire)
   pub taken : TakesFirstBy arrival_refusal (kept_with (payload_type_at bytes) wire) a old new
 
 -- the same, where its TSN is new: 1 is told where a message of its stream became complete with it, else 0
@@ -51,7 +52,7 @@ TakesNew bytes answered old new =
 -- they are a DATA chunk, which is refused
 pub record RefusesData (bytes : List ℕ) (code : ℕ) (old : Reception) : Type 0 where
   pub wire : Data
-  pub reads : ReadsChunk bytes (data_chunk wire)
+  pub reads : StartsWith bytes (data_chunk wire)
   pub number : code
       ≡ receiver_code_for (arrival_refusal (kept_with (payload_type_at bytes) wire) old)
 

@@ -8,7 +8,8 @@ ghost use Rattle.sctp_util.specs.Padding.{four_zeroes, padded_length};
 ghost use Rattle.sctp_util.specs.Outcome.{OrMemory};
 ghost use Rattle.sctp_util.specs.Walk.{Walks};
 ghost use Rattle.sctp_util.specs.declared.error.Error.TheVariants.{ErrOutOfMemory};
-ghost use Rattle.sctp_chunks.specs.Framing.{declared_length};
+ghost use Rattle.sctp_chunks.specs.Fault.{HeaderFault};
+ghost use Rattle.sctp_chunks.specs.Framing.{IsFramed, declared_length};
 ghost use Rattle.sctp_chunks.specs.Wire.{Wire};
 ghost use Rattle.sctp_packets.specs.Fault.{PacketFault, PlaceFault, WalkFault};
 ghost use Rattle.sctp_packets.specs.Packet.{IsHeaded, Parts, ReadsPacket, Steps, after, body_of, packet_encoding};
@@ -23,7 +24,7 @@ pub mod any;
 use crate::code::{SCTPR_OK, SCTPR_SHORT_BUFFER, of_error};
 use sctp_chunks::chunk::chunk_header::CHUNK_HEADER_SIZE;
 use sctp_datagram::datagram::check_head;
-use sctp_datagram::in_place::{padded_span, read_length};
+use sctp_datagram::in_place::{chunk_length, padded_span, read_length};
 use sctp_packets::checksum::Crc32c;
 use sctp_packets::packet::PACKET_HEADER_SIZE;
 use sctp_util::error::{Error, Result};
@@ -89,6 +90,18 @@ fn head_at(raw: &[u8]) -> SctpHead
     }
 }
 
+// Tests the header of the chunk that the bytes begin with, and one to three bytes behind it, which are its padding: they are all that follow.
+fn check_frame(rest: &[u8]) -> Result<()>
+    ensures framed { OnOk result (IsFramed rest.now) }
+    ensures fault { IfErr result (λ e. HeaderFault e rest.now) }
+{
+    let length = chunk_length(rest)?;
+    if rest.len() < length + 4 && !rest[length..].iter().all(|b| *b == 0) {
+        return Err(Error::ErrChunkHeaderPaddingNonZero);
+    }
+    Ok(())
+}
+
 // How many bytes the chunk that the bytes begin with takes with its padding.
 fn read_next(alloc: Global, rest: &[u8]) -> Result<usize>
     requires { 0 < length rest.now }
@@ -103,6 +116,7 @@ fn read_next(alloc: Global, rest: &[u8]) -> Result<usize>
     if rest.len() < CHUNK_HEADER_SIZE {
         return Err(Error::ErrParseSctpChunkNotEnoughData);
     }
+    check_frame(rest)?;
     let length = read_length(alloc, rest)?;
     padded_span(rest, length)
 }

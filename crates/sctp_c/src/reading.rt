@@ -13,6 +13,7 @@ ghost use Rattle.sctp_chunks.specs.Wire.{Wire, ReadsChunk, data_chunk, sack_chun
 ghost use Rattle.sctp_data.specs.PayloadData.{Data, data_in, weight};
 ghost use Rattle.sctp_data.specs.SelectiveAck.{Sack, block_at};
 ghost use Rattle.sctp_data.specs.ForwardTsn.{ForwardTsn};
+ghost use Rattle.sctp_datagram.specs.Framing.{ChunkFault, StartsWith};
 ghost use Rattle.sctp_datagram.specs.InPlace.{HasInit, NoInitFault};
 ghost use Rattle.sctp_c.specs.Out.{filled};
 ghost use Rattle.sctp_c.specs.Refusal.{IsFaultCode, IsRefusal};
@@ -136,12 +137,13 @@ fn answered(flags: u8, value: &[u8]) -> SctpData
     }
 }
 
-/// Reads a DATA chunk. Refuses as `ChunkPayloadData::unmarshal` does, and then changes nothing.
+/// Reads a DATA chunk. Its padding is ignored (RFC 9260 3.2). Refuses as `ChunkPayloadData::unmarshal` does the chunk by itself, and then
+/// changes nothing.
 #[unsafe(no_mangle)]
 pub extern "C" fn sctpr_read_data(_alloc: Global, chunk: &[u8], fields: &mut SctpData) -> u32
     ensures read { result ≡ 0 → IsData chunk.now fields.new }
-    ensures only { (d : Data) → ReadsChunk chunk.now (data_chunk d) → result ≢ 0 → result ≡ 16 }
-    ensures refused { result ≢ 0 → IsRefusal (λ e. DataFault e chunk.now) result }
+    ensures only { (d : Data) → StartsWith chunk.now (data_chunk d) → result ≢ 0 → result ≡ 16 }
+    ensures refused { result ≢ 0 → IsRefusal (λ e. ChunkFault DataFault e chunk.now) result }
     // It takes no memory.
     ensures granted { result ≢ 16 }
     ensures kept { result ≢ 0 → fields.new ≡ fields.old }
@@ -195,7 +197,7 @@ fn fill_skips(rows: &mut [SctpSkip], streams: &[ChunkForwardTsnStream])
 }
 
 /// Reads a SACK. As many blocks and duplicates as there is room for stand in `blocks` and `duplicates`; `sack` says how many there are.
-/// Refuses as `ChunkSelectiveAck::unmarshal` does, and then changes nothing.
+/// Its padding is ignored (RFC 9260 3.2). Refuses as `ChunkSelectiveAck::unmarshal` does the chunk by itself, and then changes nothing.
 #[unsafe(no_mangle)]
 pub extern "C" fn sctpr_read_sack(
     _alloc: Global,
@@ -206,8 +208,8 @@ pub extern "C" fn sctpr_read_sack(
 ) -> u32
     ensures read { result ≡ 0
         → IsSack chunk.now sack.new blocks.old blocks.new duplicates.old duplicates.new }
-    ensures only { (s : Sack) → ReadsChunk chunk.now (sack_chunk s) → result ≢ 0 → result ≡ 16 }
-    ensures refused { result ≢ 0 → IsRefusal (λ e. SackFault e chunk.now) result }
+    ensures only { (s : Sack) → StartsWith chunk.now (sack_chunk s) → result ≢ 0 → result ≡ 16 }
+    ensures refused { result ≢ 0 → IsRefusal (λ e. ChunkFault SackFault e chunk.now) result }
     // It takes no memory.
     ensures granted { result ≢ 16 }
     ensures kept { result ≢ 0 → (sack.new ≡ sack.old) × (blocks.new ≡ blocks.old)

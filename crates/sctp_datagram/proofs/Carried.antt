@@ -14,14 +14,16 @@ use Rattle.sctp_chunks.proofs.Again.{framed_declared, framed_reads}
 use Rattle.sctp_chunks.proofs.AgainKinds.{chunk_again}
 use Rattle.sctp_chunks.proofs.One.{reads_one}
 use Rattle.sctp_chunks.specs.Fits.{Canonical, Fits}
-use Rattle.sctp_chunks.specs.Framing.{IsFramed, declared_length, type_at}
+use Rattle.sctp_chunks.specs.Framing.{declared_length, type_at}
 use Rattle.sctp_chunks.specs.Init.{ack_type}
-use Rattle.sctp_chunks.specs.Wire.{HasEncoding, ReadsChunk, Wire, encoding_of, flags_of, type_of, value_of}
+use Rattle.sctp_chunks.specs.Wire.{HasEncoding, Wire, encoding_of, flags_of, type_of, value_of}
 use Rattle.sctp_chunks.specs.Wire.{abort_chunk, cookie_ack_chunk, cookie_echo_chunk, data_chunk, error_chunk, forward_tsn_chunk, heartbeat_ack_chunk}
 use Rattle.sctp_chunks.specs.Wire.{heartbeat_chunk, i_forward_tsn_chunk, init_chunk, reconfig_chunk, sack_chunk, shutdown_ack_chunk, shutdown_chunk}
 use Rattle.sctp_chunks.specs.Wire.{shutdown_complete_chunk}
+use Rattle.sctp_datagram.proofs.Alone.{alone-reads, has-frame, starts-with}
 use Rattle.sctp_datagram.proofs.Strict.{read-type}
 use Rattle.sctp_datagram.specs.Carried.{AddsNoPlain, AddsNone, Carries, CarriesEach, IsPassed, IsPlain, IsReadAt, KeepsOrder}
+use Rattle.sctp_datagram.specs.Framing.{HasFrame, StartsWith, alone}
 use Rattle.sctp_datagram.specs.Places.{IsThere, Passes, TellsAll, behind, place_at}
 use Rattle.sctp_datagram.specs.Types.{is_read_type, is_stopping, is_whole_type}
 use Rattle.sctp_datagram.specs.declared.datagram.ChunkPlace.{ChunkPlace}
@@ -73,11 +75,11 @@ zeros_behind w (v ∷ ws) short = absurd (omega (arith, short, length-append (pa
 
 -- the bytes begin with the chunk, and others follow
 record Starts (bytes : List ℕ) (w : Wire) (ws : List Wire) : Type 0 where
-  is_framed : IsFramed bytes
+  is_framed : HasFrame bytes
   typ : type_at bytes ≡ type_of w
   whole : padded_length (declared_length bytes) ≤ length bytes
   next : drop (padded_length (declared_length bytes)) bytes ≡ body_of ws
-  reads : Canonical w → Fits w → ReadsChunk bytes w
+  reads : Canonical w → Fits w → StartsWith bytes w
 
 module _ (w : Wire) (ws : List Wire) (short : HasEncoding w) where
   abbrev whole : List ℕ
@@ -96,7 +98,7 @@ module _ (w : Wire) (ws : List Wire) (short : HasEncoding w) where
 
   begins : Starts whole w ws
   begins = record {
-    is_framed = framed_reads (type_of w) (flags_of w) (value_of w) (pad w ++ body_of ws) short.1 (zeros_behind w ws);
+    is_framed = has-frame whole (framed_reads (type_of w) (flags_of w) (value_of w) (pad w ++ body_of ws) short.1 (zeros_behind w ws));
     typ = refl;
     whole = omega (
       arith,
@@ -107,7 +109,7 @@ module _ (w : Wire) (ws : List Wire) (short : HasEncoding w) where
     );
     next = ap (drop (padded_length (declared_length whole))) (sym (append_assoc (encoding_of w) (pad w) (body_of ws)))
         ∙ drop_at (encoding_of w ++ pad w) (body_of ws) _ span;
-    reads = λ plain fits. chunk_again w (pad w ++ body_of ws) plain fits short.1 (zeros_behind w ws);
+    reads = λ plain fits. starts-with whole w (chunk_again w (pad w ++ body_of ws) plain fits short.1 (zeros_behind w ws));
   }
 
 starts : (w : Wire) (ws : List Wire) (bytes : List ℕ) → HasEncoding w → bytes ≡ body_of (w ∷ ws) → Starts bytes w ws
@@ -248,7 +250,7 @@ module _ (sum : List ℕ → ℕ) (p : Parts) (fits : FitsParts p) (encodings : 
   put w c =
       let at = c.own.own in
       let own = partner (Stands bytes) c.own.chunks p.chunks (zipped c.own.chunks c.own.tells) c.place at.0 at.1 at.2 in
-      (own.0, own.1, sym own.2.0 ∙ c.reads.typ, λ plain. reads_one (drop c.place.at bytes) own.0 w (own.2.1 plain) c.reads)
+      (own.0, own.1, sym own.2.0 ∙ c.reads.typ, λ plain. reads_one (alone (drop c.place.at bytes)) own.0 w (alone-reads _ own.0 (own.2.1 plain)) (alone-reads _ w c.reads))
 
   pub adds-no-plain : AddsNoPlain p bytes
   adds-no-plain w plain c =

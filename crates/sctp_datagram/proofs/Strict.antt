@@ -14,6 +14,8 @@ use Rattle.sctp_chunks.specs.Wire.{Wire, data_chunk, init_chunk, sack_chunk, hea
 use Rattle.sctp_chunks.specs.Wire.{shutdown_ack_chunk, error_chunk, cookie_echo_chunk, cookie_ack_chunk, shutdown_complete_chunk, reconfig_chunk}
 use Rattle.sctp_chunks.specs.Wire.{forward_tsn_chunk, i_forward_tsn_chunk, type_of}
 use Rattle.sctp_packets.specs.Packet.{Steps, after}
+use Rattle.sctp_datagram.proofs.Alone.{by-itself, starts-with}
+use Rattle.sctp_datagram.specs.Framing.{ChunkFault, HasFrame}
 use Rattle.sctp_datagram.specs.Places.{IsThere, Passes, TellsAll}
 use Rattle.sctp_datagram.specs.Types.{is_read_type, is_stopping}
 
@@ -40,10 +42,12 @@ read-type (forward_tsn_chunk f) = refl
 read-type (i_forward_tsn_chunk f) = refl
 
 -- other types are those of no chunk
-pub other_type : (e : Error) (bytes : List ℕ) → e ≡ ErrUnmarshalUnknownChunkType → 4 ≤ length bytes → is_read_type (type_at bytes) ≡ false
-    → KindFault e bytes
+pub other_type : (e : Error) (bytes : List ℕ) → e ≡ ErrUnmarshalUnknownChunkType → HasFrame bytes → is_read_type (type_at bytes) ≡ false
+    → ChunkFault KindFault e bytes
 unfolding KindFault
-other_type e bytes is headed unread = inr (inl (is, headed, λ w same. false≢true (sym unread ∙ ap is_read_type same ∙ read-type w)))
+other_type e bytes is framed unread =
+    let s = by-itself bytes framed in
+    inr (framed, inr (inl (is, s.is_framed.headed, λ w same. false≢true (sym unread ∙ ap is_read_type (sym s.typ ∙ same) ∙ read-type w))))
 
 -- none of them stops the reading
 goes-on-behind : (bytes : List ℕ) (w : Wire) → Steps bytes w → is_stopping (type_at bytes) ≡ false
@@ -57,7 +61,8 @@ unfolding Walks after
 strict-passes row packet at [] walk = ([], at, refl, walk)
 strict-passes row packet at (w ∷ ws) walk =
     let next = at + padded_length (declared_length (drop at packet)) in
-    let there : IsThere (drop at packet) = record { is_framed = walk.0.chunk.is_framed; whole = walk.0.whole; reads = λ _. (w, walk.0.chunk) } in
+    let starts = starts-with (drop at packet) w walk.0.chunk in
+    let there : IsThere (drop at packet) = record { is_framed = starts.is_framed; whole = walk.0.whole; reads = λ _. (w, starts) } in
     let later = strict-passes row packet next ws
     (subst (λ (b : List ℕ). Walks Steps after b ws []) (drop-drop (padded_length (declared_length (drop at packet))) at packet) walk.1) in
     (row packet at ∷ later.0, later.1, (refl, there, goes-on-behind (drop at packet) w walk.0, later.2), later.3)

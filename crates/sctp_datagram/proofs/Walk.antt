@@ -7,7 +7,8 @@ use Rattle.sctp_util.specs.Padding.{padded_length}
 use Rattle.sctp_util.specs.Walk.{Walks}
 use Rattle.sctp_chunks.specs.Framing.{declared_length, type_at}
 use Rattle.sctp_chunks.specs.Wire.{Wire}
-use Rattle.sctp_packets.specs.Packet.{Steps, after}
+use Rattle.sctp_packets.specs.Packet.{after}
+use Rattle.sctp_datagram.specs.Framing.{StartsPadded}
 use Rattle.sctp_datagram.specs.InPlace.{IsInPlace}
 use Rattle.sctp_datagram.specs.Places.{AreThere, HasChunks, IsThere, Passes, TellsAll, behind, place_at, rows_from}
 use Rattle.sctp_datagram.specs.Types.{is_stopping}
@@ -202,15 +203,15 @@ passed-stop packet at n so_far there stops =
 
 -- wherever the reading stands before the end, such a chunk is there, where all are of them
 pub in_place_passed : (packet : List ℕ) (at : ℕ) (rows : List ChunkPlace) (vs : List Wire) (here : ℕ) → Passes place_at packet at rows here
-    → Walks Steps after (drop at packet) vs [] → AllByRecursion IsInPlace vs → 0 < length (drop here packet)
-    → (w : Wire) × IsInPlace w × Steps (drop here packet) w
+    → Walks StartsPadded after (drop at packet) vs [] → AllByRecursion IsInPlace vs → 0 < length (drop here packet)
+    → (w : Wire) × IsInPlace w × StartsPadded (drop here packet) w
 unfolding Walks after
 in_place_passed packet at [] [] here passes walk all some =
     let none : length (drop here packet) ≡ 0 = ap (λ (p : ℕ). length (drop p packet)) (sym passes) ∙ ap (λ (l : List ℕ). length l) walk in
     absurd (omega (arith, none, some))
-in_place_passed packet at [] (v ∷ vs) here passes walk all some = (v, all.0, subst (λ (p : ℕ). Steps (drop p packet) v) passes walk.0)
+in_place_passed packet at [] (v ∷ vs) here passes walk all some = (v, all.0, subst (λ (p : ℕ). StartsPadded (drop p packet) v) passes walk.0)
 in_place_passed packet at (row ∷ rows) [] here passes walk all some =
     absurd (omega (arith, ap (λ (l : List ℕ). length l) walk, passes.1.is_framed.headed))
 in_place_passed packet at (row ∷ rows) (v ∷ vs) here passes walk all some =
-    let rest = subst (λ (b : List ℕ). Walks Steps after b vs []) (drop-drop (padded_length (declared_length (drop at packet))) at packet) walk.1 in
+    let rest = subst (λ (b : List ℕ). Walks StartsPadded after b vs []) (drop-drop (padded_length (declared_length (drop at packet))) at packet) walk.1 in
     in_place_passed packet (behind packet at) rows vs here passes.3 rest all.1 some

@@ -2,7 +2,8 @@
 use Rattle.std.specs.Prelude.{ℕ, List, Contains, drop}
 use Rattle.std.specs.List.{AllByRecursion, AllZip}
 use Rattle.sctp_chunks.specs.Fits.{Canonical}
-use Rattle.sctp_chunks.specs.Wire.{Wire, ReadsChunk, heartbeat_ack_chunk, heartbeat_chunk, init_chunk, reconfig_chunk}
+use Rattle.sctp_chunks.specs.Wire.{Wire, heartbeat_ack_chunk, heartbeat_chunk, init_chunk, reconfig_chunk}
+use Rattle.sctp_datagram.specs.Framing.{StartsWith}
 use Rattle.sctp_datagram.specs.Places.{TellsAll, place_at}
 use Rattle.sctp_datagram.specs.declared.datagram.ChunkPlace.{ChunkPlace}
 use Rattle.sctp_packets.specs.Packet.{FitsParts, HavePacketEncoding, IsCanonical, Parts, packet_encoding}
@@ -17,7 +18,7 @@ pub record IsChunkOf (datagram : List ℕ) (c : ChunkPlace) : Type 0 where
 pub record Carries (datagram : List ℕ) (w : Wire) : Type 0 where
   pub place : ChunkPlace
   pub own : IsChunkOf datagram place
-  pub reads : ReadsChunk (drop place.at datagram) w
+  pub reads : StartsWith (drop place.at datagram) w
 
 -- ## What a packet that is written carries
 
@@ -56,7 +57,7 @@ CarriesEach p datagram =
 
 -- the chunk is read at the place, where it reads back at all
 abbrev pub IsReadAt : List ℕ → ChunkPlace → Wire → Type 0
-IsReadAt datagram place w = Canonical w → ReadsChunk (drop place.at datagram) w
+IsReadAt datagram place w = Canonical w → StartsWith (drop place.at datagram) w
 
 -- all of its places are those of the chunks that were put, one for one and in order
 abbrev pub KeepsOrder : Parts → List ℕ → Type 0

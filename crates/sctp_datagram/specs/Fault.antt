@@ -3,11 +3,11 @@ use Rattle.std.specs.Prelude.{◌≡◌, ◌⊎◌, ℕ, ◌<◌, true, false, L
 use Rattle.sctp_util.specs.declared.error.Error.{Error}
 use Rattle.sctp_util.specs.declared.error.Error.TheVariants.{ErrParseSctpChunkNotEnoughData}
 use Rattle.sctp_util.specs.Padding.{padded_length}
-use Rattle.sctp_chunks.specs.Fault.{HeaderFault}
 use Rattle.sctp_chunks.specs.Framing.{declared_length, type_at}
 use Rattle.sctp_chunks.specs.Kind.{KindFault}
 use Rattle.sctp_packets.specs.Fault.{HeadFault}
 use Rattle.sctp_packets.specs.Packet.{IsHeaded}
+use Rattle.sctp_datagram.specs.Framing.{ChunkFault, FrameFault}
 use Rattle.sctp_datagram.specs.Places.{Passes, place_at}
 use Rattle.sctp_datagram.specs.Types.{is_whole_type}
 use Rattle.sctp_datagram.specs.declared.datagram.ChunkPlace.{ChunkPlace}
@@ -17,8 +17,8 @@ use Rattle.sctp_datagram.specs.declared.datagram.ZeroChecksum.TheVariants.{Allow
 -- of the chunk that the bytes begin with: by its reader, or by its header alone where its type is not read whole
 abbrev pub NextFault : Error → List ℕ → Type 0
 NextFault e bytes =
-    ((is_whole_type (type_at bytes) ≡ true) × KindFault e bytes)
-    ⊎ ((is_whole_type (type_at bytes) ≡ false) × HeaderFault e bytes)
+    ((is_whole_type (type_at bytes) ≡ true) × ChunkFault KindFault e bytes)
+    ⊎ ((is_whole_type (type_at bytes) ≡ false) × FrameFault e bytes)
 
 -- the same, or for want of bytes
 abbrev pub AnyPlaceFault : Error → List ℕ → Type 0

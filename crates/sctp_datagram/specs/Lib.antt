@@ -2,6 +2,7 @@ pub mod Carried
 pub mod Causes
 pub mod Datagram
 pub mod Fault
+pub mod Framing
 pub mod InPlace
 pub mod Params
 pub mod Places

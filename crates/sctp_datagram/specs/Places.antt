@@ -1,16 +1,17 @@
 -- Where the chunks of a packet lie, which may be of any types (RFC 9260 3.2).
 use Rattle.std.specs.Prelude.{◌≡◌, ◌⊎◌, ℕ, zero, suc, ◌+◌, ◌≤◌, true, false, List, [], ◌∷◌, ◌++◌, length, drop}
 use Rattle.sctp_util.specs.Padding.{padded_length}
-use Rattle.sctp_chunks.specs.Framing.{IsFramed, type_at, flags_at, declared_length}
-use Rattle.sctp_chunks.specs.Wire.{Wire, ReadsChunk}
+use Rattle.sctp_chunks.specs.Framing.{type_at, flags_at, declared_length}
+use Rattle.sctp_chunks.specs.Wire.{Wire}
+use Rattle.sctp_datagram.specs.Framing.{HasFrame, StartsWith}
 use Rattle.sctp_datagram.specs.Types.{is_read_type, is_reported, is_stopping, is_whole_type}
 use Rattle.sctp_datagram.specs.declared.datagram.ChunkPlace.{ChunkPlace}
 
--- the bytes begin with a chunk and all of its padding; one of a type that is read whole is read
+-- the bytes begin with a chunk and its padding, which may be any bytes; one of a type that is read whole is read
 pub record IsThere (bytes : List ℕ) : Type 0 where
-  pub is_framed : IsFramed bytes
+  pub is_framed : HasFrame bytes
   pub whole : padded_length (declared_length bytes) ≤ length bytes
-  pub reads : is_whole_type (type_at bytes) ≡ true → (w : Wire) × ReadsChunk bytes w
+  pub reads : is_whole_type (type_at bytes) ≡ true → (w : Wire) × StartsWith bytes w
 
 -- where the chunk behind the one at a place begins
 abbrev pub behind : List ℕ → ℕ → ℕ

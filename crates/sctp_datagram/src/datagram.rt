@@ -6,12 +6,13 @@ ghost use Rattle.sctp_util.specs.Outcome.{OrMemory};
 ghost use Rattle.sctp_util.specs.Padding.{padded_length};
 ghost use Rattle.sctp_util.specs.Walk.{Walks};
 ghost use Rattle.sctp_util.specs.declared.error.Error.TheVariants.{ErrOutOfMemory};
-ghost use Rattle.sctp_chunks.specs.Framing.{IsFramed, declared_length, type_at};
-ghost use Rattle.sctp_chunks.specs.Wire.{Wire, ReadsChunk};
+ghost use Rattle.sctp_chunks.specs.Framing.{declared_length, type_at};
+ghost use Rattle.sctp_chunks.specs.Wire.{Wire};
 ghost use Rattle.sctp_packets.specs.Fault.{HeadFault};
-ghost use Rattle.sctp_packets.specs.Packet.{IsHeaded, Steps, after};
+ghost use Rattle.sctp_packets.specs.Packet.{IsHeaded, after};
 ghost use Rattle.sctp_datagram.specs.Datagram.{IsHeader};
 ghost use Rattle.sctp_datagram.specs.Fault.{AnyPlaceFault, AnyWalkFault, DatagramFault, HeadRefusal, IsAccepted, NextFault};
+ghost use Rattle.sctp_datagram.specs.Framing.{HasFrame, StartsPadded, StartsWith};
 ghost use Rattle.sctp_datagram.specs.InPlace.{IsInPlace};
 ghost use Rattle.sctp_datagram.specs.Places as places;
 ghost use Rattle.sctp_datagram.specs.Places.{HasChunks, IsPlace, IsThere, TellsAll};
@@ -91,12 +92,12 @@ fn is_stopping(typ: u8) -> bool
 // The declared length of the chunk that the bytes begin with. It is read whole, where its type is one of those; else its header is.
 fn length_next(alloc: Global, rest: &[u8]) -> Result<usize>
     requires { 4 ≤ length rest.now }
-    ensures framed { OnOk result (IsFramed rest.now) }
+    ensures framed { OnOk result (HasFrame rest.now) }
     ensures length { IfOk result (λ n. n ≡ declared_length rest.now) }
     ensures reads { OnOk result (types.is_whole_type (type_at rest.now) ≡ true
-        → (w : Wire) × ReadsChunk rest.now w) }
+        → (w : Wire) × StartsWith rest.now w) }
     ensures only { IsThere rest.now → IsOkUnless result ErrOutOfMemory }
-    ensures in_place { (w : Wire) → IsInPlace w → ReadsChunk rest.now w → IsOk result }
+    ensures in_place { (w : Wire) → IsInPlace w → StartsWith rest.now w → IsOk result }
     ensures fault { IfErr result (λ e. OrMemory e (NextFault e rest.now)) }
 {
     if is_whole_type(rest[0]) {
@@ -113,7 +114,7 @@ fn read_next(alloc: Global, rest: &[u8]) -> Result<usize>
     ensures some { IfOk result (λ n. 4 ≤ n) }
     ensures within { IfOk result (λ n. n ≤ length rest.now) }
     ensures only { IsThere rest.now → IsOkUnless result ErrOutOfMemory }
-    ensures in_place { (w : Wire) → IsInPlace w → Steps rest.now w → IsOk result }
+    ensures in_place { (w : Wire) → IsInPlace w → StartsPadded rest.now w → IsOk result }
     ensures fault { IfErr result (λ e. OrMemory e (AnyPlaceFault e rest.now)) }
 {
     if rest.len() < CHUNK_HEADER_SIZE {
@@ -130,7 +131,7 @@ fn count_chunks(alloc: Global, raw: &[u8]) -> Result<usize>
     ensures only { (rows : List ChunkPlace)
         → TellsAll places.place_at raw.now rows → IsOkUnless result ErrOutOfMemory }
     ensures in_place { (ws : List Wire) → AllByRecursion IsInPlace ws
-        → Walks Steps after (drop 12 raw.now) ws [] → IsOk result }
+        → Walks StartsPadded after (drop 12 raw.now) ws [] → IsOk result }
     ensures fault { IfErr result (λ e. OrMemory e (AnyWalkFault e raw.now)) }
 {
     let mut count = 0;
@@ -205,7 +206,7 @@ impl<'a> Datagram<'a> {
             → TellsAll places.place_at raw.now rows → IsOkUnless result ErrOutOfMemory }
         // Of DATA and SACKs alone it is read with no memory.
         ensures in_place { (ws : List Wire) → IsAccepted zero (C.sum checksum.now) raw.now
-            → AllByRecursion IsInPlace ws → Walks Steps after (drop 12 raw.now) ws []
+            → AllByRecursion IsInPlace ws → Walks StartsPadded after (drop 12 raw.now) ws []
             → IsOk result }
         ensures fault { IfErr result
             (λ e. OrMemory e (DatagramFault zero (C.sum checksum.now) e raw.now)) }

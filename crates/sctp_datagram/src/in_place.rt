@@ -1,20 +1,21 @@
 //! Chunks read where they lie (RFC 9260 3.2): DATA and SACK without a copy, another kind over a copy of its chunk alone.
 
-ghost use Rattle.std.specs.Prelude.{◌≡◌, ◌+◌, ◌*◌, ◌≤◌, ◌<◌, drop, length, IfOk, IfErr, OnOk, IsOk, IsOkUnless};
+ghost use Rattle.std.specs.Prelude.{◌≡◌, ◌≢◌, ◌⊎◌, ◌+◌, ◌*◌, ◌≤◌, ◌<◌, drop, length, IfOk, IfErr, OnOk, IsOk, IsOkUnless};
 ghost use Rattle.sctp_util.specs.Each.{each};
 ghost use Rattle.sctp_util.specs.Field.{u32_at};
 ghost use Rattle.sctp_util.specs.Outcome.{OrMemory};
 ghost use Rattle.sctp_util.specs.Padding.{padded_length};
 ghost use Rattle.sctp_util.specs.declared.error.Error.TheVariants.{ErrOutOfMemory, ErrParseSctpChunkNotEnoughData};
-ghost use Rattle.sctp_chunks.specs.Fault.{DataFault, HeaderFault, IsChunk, IsInitChunk, OpenFault, SackFault};
-ghost use Rattle.sctp_chunks.specs.Framing.{IsFramed, declared_length, value_at};
+ghost use Rattle.sctp_chunks.specs.Fault.{DataFault, SackFault};
+ghost use Rattle.sctp_chunks.specs.Framing.{declared_length, type_at, value_at};
 ghost use Rattle.sctp_chunks.specs.Kind.{KindFault};
-ghost use Rattle.sctp_chunks.specs.Wire.{Wire, ReadsChunk, data_chunk, sack_chunk};
+ghost use Rattle.sctp_chunks.specs.Wire.{Wire, data_chunk, sack_chunk};
 ghost use Rattle.sctp_data.specs.ChunkSet.{IsFreshData};
 ghost use Rattle.sctp_data.specs.PayloadData as payload;
 ghost use Rattle.sctp_data.specs.PayloadData.{data_of};
 ghost use Rattle.sctp_data.specs.SelectiveAck.{block_at, blocks_in, duplicates_in, sack_of};
-ghost use Rattle.sctp_datagram.specs.InPlace.{IsInPlace, NoInitFault};
+ghost use Rattle.sctp_datagram.specs.Framing.{ChunkFault, FrameFault, HasChunk, HasFrame, StartsWith};
+ghost use Rattle.sctp_datagram.specs.InPlace.{HasInitType, IsInPlace, NoInitFault};
 ghost use Rattle.sctp_datagram.specs.Places.{IsPlace};
 ghost use Rattle.sctp_datagram.specs.Types as types;
 
@@ -49,12 +50,12 @@ pub(crate) fn is_whole_type(typ: u8) -> bool
     is_read_type(typ) && !(typ == 1 || typ == 2 || typ == 6 || typ == 9 || typ == 130)
 }
 
-/// The length that the chunk declares that the bytes begin with, its header with it. They are all that follow from the chunk on, as with
-/// `ChunkHeader::unmarshal`, which refuses the same.
-pub(crate) fn chunk_length(bytes: &[u8]) -> Result<usize>
-    ensures framed { OnOk result (IsFramed bytes.now) }
+/// The length that the chunk declares that the bytes begin with, its header with it. What follows the chunk is not read: padding is ignored
+/// (RFC 9260 3.2). Else it refuses as `ChunkHeader::unmarshal` does.
+pub fn chunk_length(bytes: &[u8]) -> Result<usize>
+    ensures framed { OnOk result (HasFrame bytes.now) }
     ensures length { IfOk result (λ n. n ≡ declared_length bytes.now) }
-    ensures fault { IfErr result (λ e. HeaderFault e bytes.now) }
+    ensures fault { IfErr result (λ e. FrameFault e bytes.now) }
 {
     if bytes.len() < CHUNK_HEADER_SIZE {
         return Err(Error::ErrChunkHeaderTooSmall);
@@ -66,19 +67,18 @@ pub(crate) fn chunk_length(bytes: &[u8]) -> Result<usize>
     if bytes.len() < length {
         return Err(Error::ErrChunkHeaderNotEnoughSpace);
     }
-    if bytes.len() < length + 4 && !bytes[length..].iter().all(|b| *b == 0) {
-        return Err(Error::ErrChunkHeaderPaddingNonZero);
-    }
     Ok(length)
 }
 
 // The value of a chunk that is to have this type; another one is refused with the error `other`.
 #[tactic(auto, unfolding(sctp_chunks::specs::Framing::value_at))]
 fn value_of(bytes: &[u8], typ: ChunkType, other: Error) -> Result<&[u8]>
-    ensures chunk { OnOk result (IsChunk typ.0 bytes.now) }
+    ensures chunk { OnOk result (HasChunk typ.0 bytes.now) }
     ensures value { IfOk result (λ v. v.now ≡ value_at bytes.now) }
     ensures declares { IfOk result (λ v. 4 + length v.now ≡ declared_length bytes.now) }
-    ensures fault { IfErr result (λ e. OpenFault typ.0 other e bytes.now) }
+    ensures fault { IfErr result
+        (λ e. FrameFault e bytes.now
+        ⊎ ((e ≡ other) × HasFrame bytes.now × (type_at bytes.now ≢ typ.0))) }
 {
     let length = chunk_length(bytes)?;
     if bytes[0] != typ.0 {
@@ -88,13 +88,13 @@ fn value_of(bytes: &[u8], typ: ChunkType, other: Error) -> Result<&[u8]>
 }
 
 /// The value of the DATA chunk that the bytes begin with: twelve bytes of numbers, and the user data (RFC 4960 3.3.1). Refuses as
-/// `ChunkPayloadData::unmarshal` does, and takes no memory.
+/// `ChunkPayloadData::unmarshal` does the chunk by itself, and takes no memory.
 pub fn data_value(bytes: &[u8]) -> Result<&[u8]>
-    ensures chunk { OnOk result (IsChunk 0 bytes.now) }
+    ensures chunk { OnOk result (HasChunk 0 bytes.now) }
     ensures value { IfOk result (λ v. v.now ≡ value_at bytes.now) }
     ensures declares { IfOk result (λ v. 4 + length v.now ≡ declared_length bytes.now) }
     ensures long { IfOk result (λ v. 12 ≤ length v.now) }
-    ensures fault { IfErr result (λ e. DataFault e bytes.now) }
+    ensures fault { IfErr result (λ e. ChunkFault DataFault e bytes.now) }
 {
     let value = value_of(bytes, CT_PAYLOAD_DATA, Error::ErrChunkTypeNotPayloadData)?;
     if value.len() < PAYLOAD_DATA_HEADER_SIZE {
@@ -104,15 +104,15 @@ pub fn data_value(bytes: &[u8]) -> Result<&[u8]>
 }
 
 /// The value of the SACK that the bytes begin with: twelve bytes of numbers, its gap ack blocks and its duplicates (RFC 4960 3.3.4).
-/// Refuses as `ChunkSelectiveAck::unmarshal` does, and takes no memory.
+/// Refuses as `ChunkSelectiveAck::unmarshal` does the chunk by itself, and takes no memory.
 pub fn sack_value(bytes: &[u8]) -> Result<&[u8]>
-    ensures chunk { OnOk result (IsChunk 3 bytes.now) }
+    ensures chunk { OnOk result (HasChunk 3 bytes.now) }
     ensures value { IfOk result (λ v. v.now ≡ value_at bytes.now) }
     ensures declares { IfOk result (λ v. 4 + length v.now ≡ declared_length bytes.now) }
     ensures headed { IfOk result (λ v. 12 ≤ length v.now) }
     ensures long { IfOk result
         (λ v. 12 + 4 * blocks_in v.now + 4 * duplicates_in v.now ≤ length v.now) }
-    ensures fault { IfErr result (λ e. SackFault e bytes.now) }
+    ensures fault { IfErr result (λ e. ChunkFault SackFault e bytes.now) }
 {
     let value = value_of(bytes, CT_SACK, Error::ErrChunkTypeNotSack)?;
     if value.len() < SELECTIVE_ACK_HEADER_SIZE {
@@ -130,7 +130,7 @@ pub fn sack_value(bytes: &[u8]) -> Result<&[u8]>
 /// parameters are not looked at. It takes no memory.
 #[tactic(auto, unfolding(sctp_chunks::specs::Framing::value_at))]
 pub fn init_value(bytes: &[u8]) -> Result<&[u8]>
-    ensures init { OnOk result (IsInitChunk bytes.now) }
+    ensures init { OnOk result (HasInitType bytes.now) }
     ensures value { IfOk result (λ v. v.now ≡ value_at bytes.now) }
     ensures long { IfOk result (λ v. 16 ≤ length v.now) }
     ensures fault { IfErr result (λ e. NoInitFault e bytes.now) }
@@ -174,11 +174,12 @@ fn data_made(flags: u8, value: &[u8], user_data: Bytes) -> ChunkPayloadData
     }
 }
 
-/// Reads a DATA chunk: its user data alone are copied. Refuses as `ChunkPayloadData::unmarshal` does, or for memory.
+/// Reads a DATA chunk: its user data alone are copied. Refuses as `ChunkPayloadData::unmarshal` does the chunk by itself, or
+/// for memory.
 pub fn read_data(alloc: Global, bytes: &[u8]) -> Result<ChunkPayloadData>
-    ensures found { IfOk result (λ c. ReadsChunk bytes.now (data_chunk (data_of c))) }
+    ensures found { IfOk result (λ c. StartsWith bytes.now (data_chunk (data_of c))) }
     ensures fresh { IfOk result (λ c. IsFreshData c) }
-    ensures fault { IfErr result (λ e. OrMemory e (DataFault e bytes.now)) }
+    ensures fault { IfErr result (λ e. OrMemory e (ChunkFault DataFault e bytes.now)) }
 {
     let value = data_value(bytes)?;
     let user_data = Bytes::copy_from_slice(alloc, &value[PAYLOAD_DATA_HEADER_SIZE..])?;
@@ -192,7 +193,7 @@ pub fn data_in(raw: &Bytes, place: ChunkPlace) -> Result<ChunkPayloadData>
     requires place { IsPlace raw.now place }
     requires typ { place.typ ≡ 0 }
     ensures found { IfOk result
-        (λ c. ReadsChunk (drop place.at raw.now) (data_chunk (data_of c))) }
+        (λ c. StartsWith (drop place.at raw.now) (data_chunk (data_of c))) }
     ensures fresh { IfOk result (λ c. IsFreshData c) }
     ensures memory { IsOkUnless result ErrOutOfMemory }
 {
@@ -233,10 +234,11 @@ fn read_numbers(alloc: Global, bytes: &[u8], at: usize, count: usize) -> Result<
     Ok(numbers)
 }
 
-/// Reads a SACK: its gap ack blocks and duplicates alone take memory. Refuses as `ChunkSelectiveAck::unmarshal` does, or for memory.
+/// Reads a SACK: its gap ack blocks and duplicates alone take memory. Refuses as `ChunkSelectiveAck::unmarshal` does the chunk by
+/// itself, or for memory.
 pub fn read_sack(alloc: Global, bytes: &[u8]) -> Result<ChunkSelectiveAck>
-    ensures found { IfOk result (λ c. ReadsChunk bytes.now (sack_chunk (sack_of c))) }
-    ensures fault { IfErr result (λ e. OrMemory e (SackFault e bytes.now)) }
+    ensures found { IfOk result (λ c. StartsWith bytes.now (sack_chunk (sack_of c))) }
+    ensures fault { IfErr result (λ e. OrMemory e (ChunkFault SackFault e bytes.now)) }
 {
     let value = sack_value(bytes)?;
     let blocks = read_u16(value, 8) as usize;
@@ -254,10 +256,10 @@ pub fn read_sack(alloc: Global, bytes: &[u8]) -> Result<ChunkSelectiveAck>
 
 // The declared length of the chunk of any kind that the bytes begin with: the chunk alone is copied, and read.
 fn copied_length(alloc: Global, bytes: &[u8]) -> Result<usize>
-    ensures reads { OnOk result ((w : Wire) × ReadsChunk bytes.now w) }
+    ensures reads { OnOk result ((w : Wire) × StartsWith bytes.now w) }
     ensures length { IfOk result (λ n. n ≡ declared_length bytes.now) }
-    ensures only { (w : Wire) → ReadsChunk bytes.now w → IsOkUnless result ErrOutOfMemory }
-    ensures fault { IfErr result (λ e. OrMemory e (KindFault e bytes.now)) }
+    ensures only { (w : Wire) → StartsWith bytes.now w → IsOkUnless result ErrOutOfMemory }
+    ensures fault { IfErr result (λ e. OrMemory e (ChunkFault KindFault e bytes.now)) }
 {
     let length = chunk_length(bytes)?;
     let chunk = Bytes::copy_from_slice(alloc, &bytes[..length])?;
@@ -265,22 +267,25 @@ fn copied_length(alloc: Global, bytes: &[u8]) -> Result<usize>
     Ok(length)
 }
 
-/// The declared length of the chunk that the bytes begin with, where it can be read. Refuses as `ChunkKind::unmarshal` does, and for memory,
-/// of which a DATA chunk and a SACK take none.
+/// The declared length of the chunk that the bytes begin with, where it can be read. Refuses as `ChunkKind::unmarshal` does the chunk by itself,
+/// and for memory, of which a DATA chunk and a SACK take none.
 /// Precondition: there are the four bytes of its header.
 pub fn read_length(alloc: Global, bytes: &[u8]) -> Result<usize>
     requires { 4 ≤ length bytes.now }
-    ensures reads { OnOk result ((w : Wire) × ReadsChunk bytes.now w) }
+    ensures reads { OnOk result ((w : Wire) × StartsWith bytes.now w) }
     ensures length { IfOk result (λ n. n ≡ declared_length bytes.now) }
-    ensures only { (w : Wire) → ReadsChunk bytes.now w → IsOkUnless result ErrOutOfMemory }
-    ensures in_place { (w : Wire) → IsInPlace w → ReadsChunk bytes.now w → IsOk result }
-    ensures fault { IfErr result (λ e. OrMemory e (KindFault e bytes.now)) }
+    ensures only { (w : Wire) → StartsWith bytes.now w → IsOkUnless result ErrOutOfMemory }
+    ensures in_place { (w : Wire) → IsInPlace w → StartsWith bytes.now w → IsOk result }
+    ensures fault { IfErr result (λ e. OrMemory e (ChunkFault KindFault e bytes.now)) }
 {
     match ChunkType(bytes[0]) {
         CT_PAYLOAD_DATA => Ok(CHUNK_HEADER_SIZE + data_value(bytes)?.len()),
         CT_SACK => Ok(CHUNK_HEADER_SIZE + sack_value(bytes)?.len()),
         _ if is_read_type(bytes[0]) => copied_length(alloc, bytes),
-        _ => Err(Error::ErrUnmarshalUnknownChunkType),
+        _ => {
+            chunk_length(bytes)?;
+            Err(Error::ErrUnmarshalUnknownChunkType)
+        }
     }
 }
 

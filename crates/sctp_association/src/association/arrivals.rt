@@ -18,9 +18,10 @@ ghost use Rattle.sctp_association.specs.declared.association.Reason.TheVariants.
 ghost use Rattle.sctp_association.specs.declared.association.Taken.TheVariants.{Accepted, Dropped, Partly};
 ghost use Rattle.sctp_association.specs.declared.association.arrivals.Step.TheVariants as step;
 ghost use Rattle.sctp_association.specs.declared.inbound.Followed.TheVariants.{Done, Wanting};
-ghost use Rattle.sctp_chunks.specs.Wire.{ReadsChunk, Wire, data_chunk};
+ghost use Rattle.sctp_chunks.specs.Wire.{Wire, data_chunk};
 ghost use Rattle.sctp_data.specs.PayloadData.{data_of};
 ghost use Rattle.sctp_datagram.specs.Carried.{IsChunkOf};
+ghost use Rattle.sctp_datagram.specs.Framing.{StartsWith};
 ghost use Rattle.sctp_datagram.specs.Places.{IsPlace, TellsAll, place_at};
 ghost use Rattle.sctp_datagram.specs.declared.datagram.ChunkPlace.{ChunkPlace};
 ghost use Rattle.sctp_handshake.specs.Answers.{silent};
@@ -75,7 +76,7 @@ fn read_data(datagram: &Bytes, chunk: ChunkPlace) -> Result<ChunkPayloadData, Fa
     requires typ { chunk.typ ≡ 0 }
     ensures short { IfOk result (λ c. length c.user_data ≤ most_user_data) }
     ensures found { IfOk result
-        (λ c. ReadsChunk (drop chunk.at datagram.now) (data_chunk (data_of c))) }
+        (λ c. StartsWith (drop chunk.at datagram.now) (data_chunk (data_of c))) }
 {
     // Its length is a u16.
     read_u16(bytes_of(datagram, chunk), 2);
@@ -649,9 +650,9 @@ impl Association {
     ) -> Result<Option<C>, Fault>
         requires place { IsPlace datagram.now chunk }
         ensures found { IfOk result (λ read. IfSome read
-            (λ c. ReadsChunk (drop chunk.at datagram.now) (C.wire c))) }
+            (λ c. StartsWith (drop chunk.at datagram.now) (C.wire c))) }
         // A chunk of the kind is read.
-        ensures some { (w : Wire) → C.IsKind w → ReadsChunk (drop chunk.at datagram.now) w
+        ensures some { (w : Wire) → C.IsKind w → StartsWith (drop chunk.at datagram.now) w
             → result ≡ Ok None → ⊥ }
     {
         let end = chunk.at.saturating_add(chunk.length);

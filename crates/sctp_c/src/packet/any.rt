@@ -1,10 +1,13 @@
 //! Packets that may have chunks of types that are not read (RFC 9260 3.2).
 
-ghost use Rattle.std.specs.Prelude.{◌≡◌, ◌≢◌, List, map};
+ghost use Rattle.std.specs.Prelude.{◌≡◌, ◌≢◌, List, [], drop, map};
 ghost use Rattle.std.specs.List.{AllByRecursion};
 ghost use Rattle.crc32c.specs.Castagnoli.{crc32c_of};
-ghost use Rattle.sctp_packets.specs.Packet.{IsHeaded, Parts, ReadsPacket};
+ghost use Rattle.sctp_util.specs.Walk.{Walks};
+ghost use Rattle.sctp_chunks.specs.Wire.{Wire};
+ghost use Rattle.sctp_packets.specs.Packet.{IsHeaded, Parts, ReadsPacket, after};
 ghost use Rattle.sctp_datagram.specs.Fault.{AnyPacketFault};
+ghost use Rattle.sctp_datagram.specs.Framing.{StartsPadded};
 ghost use Rattle.sctp_datagram.specs.InPlace.{IsInPlace};
 ghost use Rattle.sctp_c.specs.AnyChunks.{IsAnyPacket, TellsAll, any_row};
 ghost use Rattle.sctp_c.specs.Out.{filled};
@@ -71,8 +74,9 @@ fn tell_any<C: Checksum>(
         → IsAnyPacket (C.sum checksum.now) raw.now head.new count.new rows.old rows.new }
     ensures only { (all : List SctpAnyChunk) → IsHeaded (C.sum checksum.now) raw.now
         → TellsAll raw.now all → result ≢ 0 → result ≡ 16 }
-    ensures in_place { (p : Parts) → AllByRecursion IsInPlace p.chunks
-        → ReadsPacket (C.sum checksum.now) raw.now p → result ≡ 0 }
+    ensures in_place { (ws : List Wire) → IsHeaded (C.sum checksum.now) raw.now
+        → AllByRecursion IsInPlace ws → Walks StartsPadded after (drop 12 raw.now) ws []
+        → result ≡ 0 }
     ensures refused { result ≢ 0
         → IsRefusal (λ e. AnyPacketFault (C.sum checksum.now) e raw.now) result }
     ensures kept { result ≢ 0
@@ -91,7 +95,7 @@ fn tell_any<C: Checksum>(
 
 /// Reads a packet under CRC-32C with all that RFC 9260 3.2 allows. Where it is one, `head` becomes its header, `count` how many chunks it has,
 /// and `rows` begin with the places of as many as there is room for. Of an unknown chunk, an INIT, an INIT-ACK, an ABORT, an ERROR and a
-/// RE-CONFIG the header is read, of others the whole chunk. An unknown type below 128 ends the reading.
+/// RE-CONFIG the header is read, of others the whole chunk. Padding is ignored. An unknown type below 128 ends the reading.
 #[unsafe(no_mangle)]
 pub extern "C" fn sctpr_read_any_packet(
     alloc: Global,
@@ -107,8 +111,9 @@ pub extern "C" fn sctpr_read_any_packet(
     // What `sctpr_read_packet` reads is read here too.
     ensures strict { (p : Parts) → ReadsPacket crc32c_of raw.now p → result ≢ 0 → result ≡ 16 }
     // Of DATA and SACKs alone it is read with no memory.
-    ensures in_place { (p : Parts) → AllByRecursion IsInPlace p.chunks
-        → ReadsPacket crc32c_of raw.now p → result ≡ 0 }
+    ensures in_place { (ws : List Wire) → IsHeaded crc32c_of raw.now
+        → AllByRecursion IsInPlace ws → Walks StartsPadded after (drop 12 raw.now) ws []
+        → result ≡ 0 }
     ensures refused { result ≢ 0 → IsRefusal (λ e. AnyPacketFault crc32c_of e raw.now) result }
     ensures kept { result ≢ 0
         → (head.new ≡ head.old) × (count.new ≡ count.old) × (rows.new ≡ rows.old) }
@@ -134,8 +139,9 @@ pub extern "C" fn sctpr_read_any_packet_with_sum(
     // What `sctpr_read_packet_with_sum` reads is read here too.
     ensures strict { (p : Parts) → ReadsPacket (λ _. sum) raw.now p → result ≢ 0 → result ≡ 16 }
     // Of DATA and SACKs alone it is read with no memory.
-    ensures in_place { (p : Parts) → AllByRecursion IsInPlace p.chunks
-        → ReadsPacket (λ _. sum) raw.now p → result ≡ 0 }
+    ensures in_place { (ws : List Wire) → IsHeaded (λ _. sum) raw.now
+        → AllByRecursion IsInPlace ws → Walks StartsPadded after (drop 12 raw.now) ws []
+        → result ≡ 0 }
     ensures refused { result ≢ 0 → IsRefusal (λ e. AnyPacketFault (λ _. sum) e raw.now) result }
     ensures kept { result ≢ 0
         → (head.new ≡ head.old) × (count.new ≡ count.old) × (rows.new ≡ rows.old) }

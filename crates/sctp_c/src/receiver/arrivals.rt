@@ -6,6 +6,7 @@ ghost use Rattle.sctp_chunks.specs.Fault.{DataFault, ForwardTsnFault};
 ghost use Rattle.sctp_chunks.specs.Wire.{ReadsChunk, data_chunk, forward_tsn_chunk};
 ghost use Rattle.sctp_data.specs.ForwardTsn.{forward_tsn_of};
 ghost use Rattle.sctp_data.specs.PayloadData.{data_of};
+ghost use Rattle.sctp_datagram.specs.Framing.{ChunkFault, StartsWith};
 ghost use Rattle.sctp_c.specs.Answered.{payload_type_at};
 ghost use Rattle.sctp_c.specs.Refusal.{IsRefusal};
 ghost use Rattle.sctp_c.specs.Receiving.{kept_with, receiver_code_for, TakesData, TakesNew, RefusesData, TakesForwardTsn, RefusesForwardTsn};
@@ -28,9 +29,9 @@ use std::alloc::Global;
 
 // Reads bytes as a DATA chunk, with its payload type as it came.
 fn data_in(alloc: Global, chunk: &[u8]) -> Result<ChunkPayloadData, Error>
-    ensures found { IfOk result (λ c. ReadsChunk chunk.now (data_chunk (data_of c))) }
+    ensures found { IfOk result (λ c. StartsWith chunk.now (data_chunk (data_of c))) }
     ensures kept { IfOk result (λ c. c ≡ kept_with (payload_type_at chunk.now) (data_of c)) }
-    ensures fault { IfErr result (λ e. OrMemory e (DataFault e chunk.now)) }
+    ensures fault { IfErr result (λ e. OrMemory e (ChunkFault DataFault e chunk.now)) }
 {
     let payload_type = read_u32(data_value(chunk)?, 8);
     let mut data = read_data(alloc, chunk)?;
@@ -65,7 +66,7 @@ pub extern "C" fn sctpr_receiver_data(
         → TakesData chunk.now Repeat receiver.old.value receiver.new.value }
     ensures kept { result ≢ 0 → complete.new ≡ complete.old }
     ensures refused { 16 ≤ result → receiver.new.value ≡ receiver.old.value }
-    ensures reason { 16 ≤ result → IsRefusal (λ e. DataFault e chunk.now) result
+    ensures reason { 16 ≤ result → IsRefusal (λ e. ChunkFault DataFault e chunk.now) result
         ⊎ RefusesData chunk.now result receiver.old.value }
 {
     let data = match data_in(alloc, chunk) {

@@ -7,6 +7,7 @@ ghost use Rattle.sctp_c.specs.Refusal.{IsRefusal};
 ghost use Rattle.sctp_c.specs.Rows.{acked_row, taken_back_row};
 ghost use Rattle.sctp_chunks.specs.Fault.{SackFault};
 ghost use Rattle.sctp_data.specs.SelectiveAck.{sack_of};
+ghost use Rattle.sctp_datagram.specs.Framing.{ChunkFault};
 ghost use Rattle.sctp_sender.specs.Flight.{is_outdated, sack_refusal};
 ghost use Rattle.sctp_c.specs.Sending.{sender_code_for};
 
@@ -168,7 +169,7 @@ pub extern "C" fn sctpr_sender_acked(
     ensures short { result ≡ 17 → (0 < length rows.old) × ((length rows.old < count.new)
         × (count.new ≡ length sender.old.value.own.flight.queue.inflight.chunks)) }
     ensures refused { result ≢ 0 → (sender.new.value ≡ sender.old.value) × (rows.new ≡ rows.old) }
-    ensures reason { 16 ≤ result → result ≢ 17 → IsRefusal (λ e. SackFault e chunk.now) result
+    ensures reason { 16 ≤ result → result ≢ 17 → IsRefusal (λ e. ChunkFault SackFault e chunk.now) result
         ⊎ RefusesSack chunk.now result sender.old.value.own }
     ensures kept { 16 ≤ result → result ≢ 17 → count.new ≡ count.old }
     ensures types { sender.new.value.types ≡ sender.old.value.types }
@@ -243,7 +244,7 @@ pub extern "C" fn sctpr_sender_take_back(
     ensures short { result ≡ 17 → (0 < length rows.old) × ((length rows.old < count.new)
         × (count.new ≡ length sender.old.value.own.flight.queue.inflight.chunks)) }
     ensures refused { result ≢ 0 → (sender.new.value ≡ sender.old.value) × (rows.new ≡ rows.old) }
-    ensures reason { 16 ≤ result → result ≢ 17 → IsRefusal (λ e. SackFault e chunk.now) result
+    ensures reason { 16 ≤ result → result ≢ 17 → IsRefusal (λ e. ChunkFault SackFault e chunk.now) result
         ⊎ RefusesTakeBack chunk.now result sender.old.value.own }
     ensures kept { 16 ≤ result → result ≢ 17 → count.new ≡ count.old }
     ensures types { sender.new.value.types ≡ sender.old.value.types }

@@ -80,7 +80,7 @@ pub const SCTPR_ERR_CHUNK_HEADER_TOO_SMALL: sctpr_code = 46;
 pub const SCTPR_ERR_CHUNK_HEADER_INVALID_LENGTH: sctpr_code = 47;
 /// A chunk's length passes the bytes that are there (RFC 4960 3.2).
 pub const SCTPR_ERR_CHUNK_HEADER_NOT_ENOUGH_SPACE: sctpr_code = 48;
-/// After a chunk's length come one to three bytes, and one of them is not zero (RFC 4960 3.2). Where four or more follow, padding is not looked at.
+/// After a chunk's length come one to three bytes, and one of them is not zero (RFC 4960 3.2). Where four or more follow, padding is not looked at. sctpr_read_any_packet and the readers of DATA, of a SACK and of an INIT ignore padding, and do not answer this.
 pub const SCTPR_ERR_CHUNK_HEADER_PADDING_NON_ZERO: sctpr_code = 49;
 /// Read as an ABORT: the type is not 6 (RFC 4960 3.3.7).
 pub const SCTPR_ERR_CHUNK_TYPE_NOT_ABORT: sctpr_code = 50;
@@ -472,6 +472,7 @@ extern "C" {
     /// The same for a packet with all that RFC 9260 allows, which sctpr_read_packet refuses:
     /// - chunks of unknown types, as I-DATA, AUTH and PAD are here (3.2): one whose type has the highest bit set is skipped; any other is the
     /// last one that is looked at, and the last row
+    /// - padding of any bytes, which is ignored (RFC 9260 3.2)
     /// - parameters and error causes of any type, length and padding. Of an INIT, INIT-ACK, ABORT, ERROR and RE-CONFIG the header is read here.
     /// Walk the parameters of the first two, from byte 20 on, and of a RE-CONFIG, from byte 4 on, by sctpr_read_any_param, and the causes by
     /// sctpr_read_cause: each tells type and place, of what the caller passes over too

@@ -73,7 +73,7 @@ pub enum Error {
     ErrChunkHeaderInvalidLength,
     /// A chunk's length passes the bytes that are there (RFC 4960 3.2).
     ErrChunkHeaderNotEnoughSpace,
-    /// After a chunk's length come one to three bytes, and one of them is not zero (RFC 4960 3.2). Where four or more follow, padding is not looked at.
+    /// After a chunk's length come one to three bytes, and one of them is not zero (RFC 4960 3.2). Where four or more follow, padding is not looked at. sctpr_read_any_packet and the readers of DATA, of a SACK and of an INIT ignore padding, and do not answer this.
     ErrChunkHeaderPaddingNonZero,
     /// Read as an ABORT: the type is not 6 (RFC 4960 3.3.7).
     ErrChunkTypeNotAbort,
@@ -358,7 +358,7 @@ impl Error {
             Error::ErrChunkHeaderTooSmall => "From the chunk on there are under four bytes, which its header takes (RFC 4960 3.2).",
             Error::ErrChunkHeaderInvalidLength => "A chunk's length is under four: it counts the header (RFC 4960 3.2).",
             Error::ErrChunkHeaderNotEnoughSpace => "A chunk's length passes the bytes that are there (RFC 4960 3.2).",
-            Error::ErrChunkHeaderPaddingNonZero => "After a chunk's length come one to three bytes, and one of them is not zero (RFC 4960 3.2). Where four or more follow, padding is not looked at.",
+            Error::ErrChunkHeaderPaddingNonZero => "After a chunk's length come one to three bytes, and one of them is not zero (RFC 4960 3.2). Where four or more follow, padding is not looked at. sctpr_read_any_packet and the readers of DATA, of a SACK and of an INIT ignore padding, and do not answer this.",
             Error::ErrChunkTypeNotAbort => "Read as an ABORT: the type is not 6 (RFC 4960 3.3.7).",
             Error::ErrChunkTypeNotCookieAck => "Read as a COOKIE-ACK: the type is not 11 (RFC 4960 3.3.12).",
             Error::ErrChunkTypeNotCookieEcho => "Read as a COOKIE-ECHO: the type is not 10 (RFC 4960 3.3.11).",

@@ -5,7 +5,6 @@ use Rattle.sctp_datagram.proofs.Alone.{reads_of_cut, cut_reads, fault_of_cut}
 use Rattle.sctp_datagram.proofs.in_place.copied_length.Goals as goal
 
 pub returns-in_err-length-clause-fault : goal.returns-in_err-length-clause-fault
-unfolding KindFault
 returns-in_err-length-clause-fault c =
     let p = err_from_is_err_and c.from_residual.result c.from_residual.ensures.1 in
     rw (p.1, p.2) (inr (inl c.in_err-length.ensures.fault))
@@ -13,12 +12,12 @@ returns-in_err-length-clause-fault c =
 pub returns-in_err-unmarshal-clause-only : goal.returns-in_err-unmarshal-clause-only
 returns-in_err-unmarshal-clause-only c = λ w reads.
     let p = err_from_is_err_and c.from_residual-in_err-unmarshal.result c.from_residual-in_err-unmarshal.ensures.1 in
-    rw (p.1, p.2) (c.in_err-unmarshal.ensures.only w tt (cut_reads c.args.bytes.now _ w c.in_ok-length.ensures.framed (search rules) reads))
+    rw (p.1, p.2) (c.in_err-unmarshal.ensures.only w tt (cut_reads c.args.bytes.now _ w (search rules) reads))
 
 pub returns-in_err-unmarshal-clause-fault : goal.returns-in_err-unmarshal-clause-fault
 returns-in_err-unmarshal-clause-fault c =
     let p = err_from_is_err_and c.from_residual-in_err-unmarshal.result c.from_residual-in_err-unmarshal.ensures.1 in
-    rw (p.1, p.2) (fault_of_cut _ c.args.bytes.now _ c.in_ok-length.ensures.framed (search rules) c.in_err-unmarshal.ensures.fault)
+    rw (p.1, p.2) (fault_of_cut KindFault _ c.args.bytes.now _ c.in_ok-length.ensures.framed (search rules) c.in_err-unmarshal.ensures.fault)
 
 pub returns-clause-reads : goal.returns-clause-reads
 returns-clause-reads c =

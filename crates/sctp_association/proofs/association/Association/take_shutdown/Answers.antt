@@ -1,6 +1,7 @@
 use Rattle.sctp_association.proofs.Telling.{end_then, to_low}
 use Rattle.std.proofs.Common.{drop, refl, rules}
-use Rattle.sctp_chunks.specs.Wire.{ReadsChunk, shutdown_chunk}
+use Rattle.sctp_chunks.specs.Wire.{shutdown_chunk}
+use Rattle.sctp_datagram.specs.Framing.{StartsWith}
 use Rattle.sctp_association.proofs.Arrived.{came_same, came_then, sender_came}
 use Rattle.sctp_association.proofs.Begun.{quiet_shutdown}
 use Rattle.sctp_association.proofs.Known.{keeps_by, knows_shutdown}
@@ -17,12 +18,12 @@ returns-then-not-is_again-clause-came c = came_same _ _ _ refl
 
 pub returns-in_err-_taken-clause-came : goal.returns-in_err-_taken-clause-came
 returns-in_err-_taken-clause-came c =
-    let reads : ReadsChunk (drop c.args.chunk.at c.args.datagram.now) (shutdown_chunk c.in-Some.shutdown.cumulative_tsn_ack) = search rules in
+    let reads : StartsWith (drop c.args.chunk.at c.args.datagram.now) (shutdown_chunk c.in-Some.shutdown.cumulative_tsn_ack) = search rules in
     sender_came _ _ c.requires.own _ reads _ _ _ c.take_shutdown.ensures.hearing
 
 pub returns-clause-came : goal.returns-clause-came
 returns-clause-came c =
-    let reads : ReadsChunk (drop c.args.chunk.at c.args.datagram.now) (shutdown_chunk c.in-Some.shutdown.cumulative_tsn_ack) = search rules in
+    let reads : StartsWith (drop c.args.chunk.at c.args.datagram.now) (shutdown_chunk c.in-Some.shutdown.cumulative_tsn_ack) = search rules in
     came_then _ _ _ _ (sender_came _ _ c.requires.own _ reads _ _ _ c.take_shutdown.ensures.hearing)
     (came_same _ _ _ (quiet_shutdown _ _ _ _ _ _ c.follow.ensures.begun c.shutdown-answer.ensures.takes.answer))
 

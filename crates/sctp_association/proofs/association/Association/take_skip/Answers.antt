@@ -5,7 +5,8 @@ use Rattle.sctp_association.proofs.Sacks.{hears_by}
 use Rattle.sctp_association.specs.Coming.{TakesDataOf}
 use Rattle.sctp_association.specs.Sacks.{TakesSacksOf}
 use Rattle.sctp_association.proofs.Arrived.{came_alike, came_same, came_then, receiver_came}
-use Rattle.sctp_chunks.specs.Wire.{ReadsChunk, forward_tsn_chunk}
+use Rattle.sctp_chunks.specs.Wire.{forward_tsn_chunk}
+use Rattle.sctp_datagram.specs.Framing.{StartsWith}
 use Rattle.sctp_data.specs.ForwardTsn.{forward_tsn_of}
 use Rattle.sctp_association.proofs.association.Association.take_skip.Goals as goal
 
@@ -23,12 +24,12 @@ returns-in_default-inbound-clause-came c = came_same _ _ _ refl
 
 pub returns-in_default-take_skip-clause-came : goal.returns-in_default-take_skip-clause-came
 returns-in_default-take_skip-clause-came c =
-    let reads : ReadsChunk (drop c.args.chunk.at c.args.datagram.now) (forward_tsn_chunk (forward_tsn_of c.in-Some.skip)) = search rules in
+    let reads : StartsWith (drop c.args.chunk.at c.args.datagram.now) (forward_tsn_chunk (forward_tsn_of c.in-Some.skip)) = search rules in
     receiver_came _ _ c.requires.own _ reads _ _ _ _ c.take_skip.new.self c.in-Some-inbound.is refl c.take_skip.ensures.received
 
 pub returns-clause-came : goal.returns-clause-came
 returns-clause-came c =
-    let reads : ReadsChunk (drop c.args.chunk.at c.args.datagram.now) (forward_tsn_chunk (forward_tsn_of c.in-Some.skip)) = search rules in
+    let reads : StartsWith (drop c.args.chunk.at c.args.datagram.now) (forward_tsn_chunk (forward_tsn_of c.in-Some.skip)) = search rules in
     came_then _ _ _ _ (receiver_came _ _ c.requires.own _ reads _ _ _ _ c.take_skip.new.self c.in-Some-inbound.is refl c.take_skip.ensures.received)
     (came_alike _ _ _ c.end_by.ensures.halves)
 

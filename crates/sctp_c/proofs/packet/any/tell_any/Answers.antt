@@ -16,4 +16,4 @@ returns-in-Err-clause-only g c = λ all headed told refused.
     c.of_error.ensures.memory (c.in-Err.ensures.only other.0 headed other.1)
 
 pub returns-in-Err-clause-in_place : goal.returns-in-Err-clause-in_place
-returns-in-Err-clause-in_place g c = λ p all reads. absurd (false≢true (c.in-Err.ensures.in_place p.chunks reads.is_headed all reads.chunks))
+returns-in-Err-clause-in_place g c = λ ws headed all walk. absurd (false≢true (c.in-Err.ensures.in_place ws headed all walk))
