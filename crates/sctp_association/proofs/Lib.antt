@@ -14,6 +14,7 @@ pub mod Kept
 pub mod Running
 pub mod Putting
 pub mod Offering
+pub mod Replying
 pub mod Inits
 pub mod Readings
 pub mod Others

@@ -29,6 +29,7 @@ pub mod Packets
 pub mod Pairs
 pub mod Reached
 pub mod Reads
+pub mod Replying
 pub mod Reports
 pub mod Rooms
 pub mod Runs

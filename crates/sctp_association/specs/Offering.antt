@@ -69,11 +69,6 @@ pub record PutsReply (kind : AloneKind) (old new : Association) : Type 0 where
   pub replies : AllByRecursion (IsReplyOf old.key old.machine kind) chunks
   pub kept : IsUnmoved old new
 
--- the reply that was due leaves in a packet of its own, and is due no more
-pub record LeavesAlone (kind : AloneKind) (old new : Association) : Type 0 where
-  pub packet : IsPacketOf (IsReplyOf old.key old.machine kind) new.draft.bytes
-  pub gone : new.due.alone ≡ None
-
 -- by the reply that is due: where none is, no INIT is
 abbrev pub IsInitDue : (key : List ℕ) → Machine → Option Alone → Init → Type 0
 IsInitDue key m None i = ⊥

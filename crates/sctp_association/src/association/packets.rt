@@ -8,12 +8,14 @@ ghost use Rattle.sctp_association.specs.Filled.{IfNoneAdded, IfNonePut};
 ghost use Rattle.sctp_association.specs.Idle.{HasNoSackDue, IsIdle, MayReply, MaySend, OwesNoControl, OwesNone, WaitsForSacks, in_flight, sack_delay, sends};
 ghost use Rattle.sctp_association.specs.Kept.{IsUnmoved};
 ghost use Rattle.sctp_association.specs.Lasting.{LastsNoLonger};
-ghost use Rattle.sctp_association.specs.Offering.{HasFirst, IsInitWith, IsReplyOf, LeavesAlone, OffersAsDue, PutsReply};
+ghost use Rattle.sctp_association.specs.Offering.{HasFirst, IsInitWith, IsReplyOf, OffersAsDue, PutsReply};
+ghost use Rattle.sctp_association.specs.Replying.{AddsReply, IsReply, LeavesAlone, PutsOne, header_to, one_cause};
 ghost use Rattle.sctp_association.specs.Sending.{IsTimed};
 ghost use Rattle.sctp_association.specs.Still.{IsLater, heartbeat_time};
 ghost use Rattle.sctp_association.specs.Telling.{Tells};
 ghost use Rattle.sctp_association.specs.Packets.{IsNoInit, IsPacketOf, IsWritten, Puts, Transmits};
 ghost use Rattle.sctp_chunks.specs.Init.{init_of};
+ghost use Rattle.sctp_chunks.specs.Wire.{abort_chunk, error_chunk};
 ghost use Rattle.sctp_cookie.specs.Cookie.{sealed};
 ghost use Rattle.sctp_cookie.specs.Hmac.{hmac_sha256};
 ghost use Rattle.sctp_handshake.specs.Tickets.{ticket_bytes};
@@ -59,9 +61,9 @@ impl Association {
         ensures offers { is_sent result ≡ true → OffersAsDue self.old self.new.draft.bytes }
         ensures peer { KeepsPeer self.old self.new }
         ensures left { LastsNoLonger self.old self.new }
-        // The one reply that is due leaves first, in a packet of its own.
+        // The one reply that is due leaves first, in a packet of its own, with exactly its chunks.
         ensures reply { IfSome self.old.due.alone (λ alone. IfOk result
-            (λ sent. (sent ≡ true) × LeavesAlone alone.kind self.old self.new)) }
+            (λ sent. (sent ≡ true) × LeavesAlone alone self.old self.new)) }
         // Where there is no datagram no other reply is due either. In CookieEchoed a COOKIE-ECHO goes alone (RFC 9260 5.1 C).
         ensures owes { result ≡ Ok false → MayReply self.new → OwesNone self.new }
         // Where there is no datagram though DATA may leave: what waits or is to be sent again waits for a SACK, or for T3-rtx.
@@ -118,7 +120,9 @@ impl Association {
     }
 
     // The header of a packet with a verification tag.
-    fn header(&self, tag: u32) -> CommonHeader {
+    fn header(&self, tag: u32) -> CommonHeader
+        ensures { result ≡ header_to self.now.config tag }
+    {
         CommonHeader {
             source_port: self.config.source_port,
             destination_port: self.config.destination_port,
@@ -132,6 +136,7 @@ impl Association {
         ensures written { OnOk result (IsWritten [] [] self.new.draft.bytes) }
         ensures offers { OnOk result (IsPacketOf
             (IsReplyOf self.old.key self.old.machine alone.kind) self.new.draft.bytes) }
+        ensures reply { OnOk result (IsReply alone self.old self.new.draft.bytes) }
         ensures halves { HalvesAlike self.old self.new }
         ensures kept { IsUnmoved self.old self.new }
     {
@@ -146,6 +151,9 @@ impl Association {
     #[tactic(auto, using(crate::proofs::Others::others_one, crate::proofs::Others::others_none, crate::proofs::Offering::reply_others))]
     fn put_reply(&mut self, kind: AloneKind, now: u64) -> Result<(), Fault>
         ensures reply { PutsReply kind self.old self.new }
+        // Into a packet with no chunk exactly its chunks are put.
+        ensures whole { OnOk result (length self.old.draft.bytes ≡ 12
+            → AddsReply kind self.old self.new) }
     {
         match kind {
             AloneKind::Init => {
@@ -236,6 +244,8 @@ impl Association {
     #[inline(never)]
     fn put_error(&mut self, code: u16, info: &[u8]) -> Result<(), Fault>
         ensures others { PutsOthers self.old self.new }
+        ensures put { OnOk result
+            (PutsOne (error_chunk (one_cause code info.now)) self.old.draft self.new.draft) }
         ensures acks { sack_delay self.new ≡ sack_delay self.old }
     {
         let error = ChunkError {
@@ -249,6 +259,8 @@ impl Association {
     #[tactic(auto, using(crate::proofs::Others::others_one, crate::proofs::Others::others_none, crate::proofs::Others::others_then))]
     fn put_abort(&mut self, code: u16, info: &[u8]) -> Result<(), Fault>
         ensures others { PutsOthers self.old self.new }
+        ensures put { OnOk result
+            (PutsOne (abort_chunk (one_cause code info.now)) self.old.draft self.new.draft) }
     {
         let abort = ChunkAbort {
             error_causes: self.causes(code, info)?,
@@ -258,7 +270,9 @@ impl Association {
     }
 
     /// One cause.
-    pub(super) fn causes(&self, code: u16, info: &[u8]) -> Result<Vec<ErrorCause>, Fault> {
+    pub(super) fn causes(&self, code: u16, info: &[u8]) -> Result<Vec<ErrorCause>, Fault>
+        ensures { IfOk result (λ causes. causes.items ≡ one_cause code info.now) }
+    {
         let raw = Bytes::copy_from_slice(self.alloc, info)?;
         let mut causes = Vec::new(self.alloc);
         causes.push(ErrorCause {

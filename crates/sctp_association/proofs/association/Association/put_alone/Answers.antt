@@ -1,5 +1,6 @@
 use Rattle.std.proofs.Common.{[], false}
 use Rattle.sctp_association.proofs.Others.{written}
+use Rattle.sctp_association.proofs.Replying.{replied}
 use Rattle.sctp_association.proofs.association.Association.put_alone.Goals as goal
 use Rattle.sctp_association.specs.Offering.{IsReplyOf}
 use Rattle.sctp_association.specs.Packets.{IsOf}
@@ -50,3 +51,9 @@ returns-clause-kept c =
       failures = kept.failures;
       due = kept.due;
     }
+
+pub returns-clause-reply : goal.returns-clause-reply
+returns-clause-reply c =
+    let whole = c.in_ok-put_reply.ensures.whole c.in_ok-begin.ensures.head in
+    replied c.args.alone c.args.self.now _ c.header-header.result whole.chunks _ _ _ c.begin.ensures.limit whole.are c.header-header.ensures
+    c.in_ok-begin.ensures.begun whole.added c.seal.ensures.sealed

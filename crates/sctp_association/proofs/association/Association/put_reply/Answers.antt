@@ -1,16 +1,56 @@
 use Rattle.std.proofs.Common.{refl}
+use Rattle.sctp_association.proofs.Idle.{on_ok_so}
 use Rattle.sctp_association.proofs.Known.{owes_alike}
 use Rattle.sctp_association.proofs.Offering.{reply_others}
 use Rattle.sctp_association.proofs.Others.{others_after, others_one}
+use Rattle.sctp_association.proofs.Replying.{abort_reply, as_be32, as_missing, complete_reply, no_cookie_reply, no_data_reply, shutting_reply, stale_reply}
 use Rattle.sctp_association.proofs.association.Association.put_reply.Goals as goal
 use Rattle.sctp_chunks.specs.Wire.{shutdown_ack_chunk}
 
-pub returns-in-ShuttingDown : goal.returns-in-ShuttingDown
-returns-in-ShuttingDown c = record {
-  reply = reply_others _ _ _ (
-      others_after _ _ _ c.put_error-in-ShuttingDown.ensures.others (
-      others_one c.put-in-ShuttingDown.result shutdown_ack_chunk _ _ c.put-in-ShuttingDown.ensures.added tt tt (record { sender = refl; receiver = refl })
-      (record { config = refl; key = refl; machine = refl; alone = refl; events = refl; over = refl; failures = refl; due = owes_alike _ })
-      )
-      );
-}
+pub returns-in-ShuttingDown-clause-reply : goal.returns-in-ShuttingDown-clause-reply
+returns-in-ShuttingDown-clause-reply c = reply_others _ _ _ (
+    others_after _ _ _ c.put_error-in-ShuttingDown.ensures.others (
+    others_one c.put-in-ShuttingDown.result shutdown_ack_chunk _ _ c.put-in-ShuttingDown.ensures.added tt tt (record { sender = refl; receiver = refl })
+    (record { config = refl; key = refl; machine = refl; alone = refl; events = refl; over = refl; failures = refl; due = owes_alike _ })
+    )
+    )
+
+-- ## Exactly its chunks
+
+pub returns-in-StaleCookie-clause-whole : goal.returns-in-StaleCookie-clause-whole
+returns-in-StaleCookie-clause-whole c =
+    on_ok_so _ (stale_reply _ _ _ _ _ c.in-StaleCookie.is (as_be32 _ _ c.to_be_bytes.ensures)) c.put_error.ensures.put
+
+pub returns-in-ShuttingDown-clause-whole : goal.returns-in-ShuttingDown-clause-whole
+returns-in-ShuttingDown-clause-whole c =
+    let first = c.put-in-ShuttingDown.ensures in
+    on_ok_so _ (shutting_reply _ _ _ _ (record {
+      is_put = c.put-in-ShuttingDown.result;
+      added = first.added;
+      fits = first.fits;
+      limit = first.limit;
+      least = first.least;
+    }) c.in-ShuttingDown.is first.put) c.put_error-in-ShuttingDown.ensures.put
+
+pub returns-in-ShutdownComplete-clause-whole : goal.returns-in-ShutdownComplete-clause-whole
+returns-in-ShutdownComplete-clause-whole c begun =
+    let put = c.put-in-ShutdownComplete.ensures in
+    complete_reply _ _ _ c.in-ShutdownComplete.is (record {
+      is_put = c.put-in-ShutdownComplete.result;
+      added = put.added;
+      fits = put.fits;
+      limit = put.limit;
+      least = put.least;
+    }) begun
+
+pub returns-in-Abort-clause-whole : goal.returns-in-Abort-clause-whole
+returns-in-Abort-clause-whole c =
+    on_ok_so _ (abort_reply _ _ _ _ c.in-Abort.is) c.put_abort.ensures.put
+
+pub returns-in-NoCookie-clause-whole : goal.returns-in-NoCookie-clause-whole
+returns-in-NoCookie-clause-whole c =
+    on_ok_so _ (no_cookie_reply _ _ _ _ c.in-NoCookie.is as_missing) c.put_abort-in-NoCookie.ensures.put
+
+pub returns-in-NoUserData-clause-whole : goal.returns-in-NoUserData-clause-whole
+returns-in-NoUserData-clause-whole c =
+    on_ok_so _ (no_data_reply _ _ _ _ _ c.in-NoUserData.is (as_be32 _ _ c.to_be_bytes-in-NoUserData.ensures)) c.put_abort-in-NoUserData.ensures.put
