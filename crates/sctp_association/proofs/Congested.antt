@@ -103,27 +103,27 @@ stays_then a b c (inl f) (inl g) =
 stays_then a b c (inr left) (inl g) = inr (left-so b c g left)
 
 -- where the sender was the same before
-pub leaves_from : (t : Transmission) (b c : Outbound) → b.sender ≡ t → StaysOrLeft b c → LeavesWithin t c
-leaves_from t b c is (inl g) = inl (ap (λ (u : Transmission). length (in_flight u)) (g.sender ∙ is))
-leaves_from t b c is (inr left) = inr left
+pub within_from : (t : Transmission) (b c : Outbound) → b.sender ≡ t → StaysOrLeft b c → LeavesWithin t c
+within_from t b c is (inl g) = inl (ap (λ (u : Transmission). length (in_flight u)) (g.sender ∙ is))
+within_from t b c is (inr left) = inr left
 
-pub leaves_same : (t : Transmission) (o : Outbound) → o.sender ≡ t → LeavesWithin t o
-leaves_same t o is = inl (ap (λ (u : Transmission). length (in_flight u)) is)
+pub within_same : (t : Transmission) (o : Outbound) → o.sender ≡ t → LeavesWithin t o
+within_same t o is = inl (ap (λ (u : Transmission). length (in_flight u)) is)
 
 -- where as many were in flight before
-pub leaves_after : (s t : Transmission) (o : Outbound) → length (in_flight t) ≡ length (in_flight s) → LeavesWithin t o → LeavesWithin s o
-leaves_after s t o many (inl same) = inl (same ∙ many)
-leaves_after s t o many (inr left) = inr left
+pub within_after : (s t : Transmission) (o : Outbound) → length (in_flight t) ≡ length (in_flight s) → LeavesWithin t o → LeavesWithin s o
+within_after s t o many (inl same) = inl (same ∙ many)
+within_after s t o many (inr left) = inr left
 
 -- where the sender is the same before
-pub leaves_behind : (s t : Transmission) (o : Outbound) → t ≡ s → LeavesWithin t o → LeavesWithin s o
-leaves_behind s t o is left = subst (λ (u : Transmission). LeavesWithin u o) is left
+pub within_behind : (s t : Transmission) (o : Outbound) → t ≡ s → LeavesWithin t o → LeavesWithin s o
+within_behind s t o is left = subst (λ (u : Transmission). LeavesWithin u o) is left
 
 -- T3-rtx, and whether nothing more leaves, are none of it
-pub leaves_so : (t : Transmission) (o p : Outbound) → p.sender ≡ o.sender → p.peer_window ≡ o.peer_window → p.congestion ≡ o.congestion → LeavesWithin t o
+pub within_so : (t : Transmission) (o p : Outbound) → p.sender ≡ o.sender → p.peer_window ≡ o.peer_window → p.congestion ≡ o.congestion → LeavesWithin t o
     → LeavesWithin t p
-leaves_so t o p sender window control (inl same) = inl (ap (λ (u : Transmission). length (in_flight u)) sender ∙ same)
-leaves_so t o p sender window control (inr left) =
+within_so t o p sender window control (inl same) = inl (ap (λ (u : Transmission). length (in_flight u)) sender ∙ same)
+within_so t o p sender window control (inr left) =
     inr (left-so o p (record { sender = sender; peer_window = window; congestion = control }) left)
 
 -- ## What is sent again
@@ -142,10 +142,10 @@ again_many now room t u none some = again-many now room t u (next_within room t.
 -- ## Behind what is abandoned
 
 pub sends_same : (t : Transmission) (o : Outbound) → o.sender ≡ t → SendsWithin t o
-sends_same t o is = record { mid = t; dropped = none_sent t; left = leaves_same t o is }
+sends_same t o is = record { mid = t; dropped = none_sent t; left = within_same t o is }
 
 pub sends_dropped : (t : Transmission) (o : Outbound) → Sends [] t o.sender → SendsWithin t o
-sends_dropped t o dropped = record { mid = o.sender; dropped = dropped; left = leaves_same o.sender o refl }
+sends_dropped t o dropped = record { mid = o.sender; dropped = dropped; left = within_same o.sender o refl }
 
 pub sends_after : (s t u : Transmission) (o : Outbound) → Sends [] s t → u ≡ t → LeavesWithin u o → SendsWithin s o
 sends_after s t u o dropped is left =

@@ -6,7 +6,7 @@ use Rattle.std.specs.Prelude.{◌^◌, IfOk, IfSome, OnOk, find, if◌then◌els
 use Rattle.std.specs.List.{count_by}
 use Rattle.std.specs.Option.{option_map}
 use Rattle.std.proofs.lemmas.Bool.{false≢true, leb-true, le-leb}
-use Rattle.std.proofs.lemmas.List.Concat.{flat_map-append}
+use Rattle.std.proofs.lemmas.List.Concat.{flat_map-append, flat_map-cons}
 use Rattle.std.proofs.lemmas.List.Sums.{sum_by-cons}
 use Rattle.sctp_association.proofs.Making.{of-some, some-none, told-once}
 use Rattle.sctp_association.specs.Idle.{IsMarkedBehind, WaitsBehind, in_flight}
@@ -212,6 +212,21 @@ draft-length p bytes draft = omega (
 
 body-append : (ws vs : List Wire) → body_of (ws ++ vs) ≡ body_of ws ++ body_of vs
 body-append ws vs = rw flat_map-append refl
+
+-- a packet with a chunk is longer than its header
+pub longer_by_chunk : (before behind : List Wire) (w : Wire) (p : Parts) (bytes : List ℕ) → IsDraft (with_chunks (before ++ w ∷ behind) p) bytes
+    → 12 < length bytes
+longer_by_chunk before behind w p bytes draft = omega (
+  arith,
+  draft-length (with_chunks (before ++ w ∷ behind) p) bytes draft,
+  ap length (body-append p.chunks (before ++ w ∷ behind)),
+  length-append (body_of p.chunks) (body_of (before ++ w ∷ behind)),
+  ap length (body-append before (w ∷ behind)),
+  length-append (body_of before) (body_of (w ∷ behind)),
+  ap length (flat_map-cons padded_encoding w behind),
+  length-append (padded_encoding w) (body_of behind),
+  length_padded_encoding w,
+)
 
 pub added_longer : (ws : List Wire) (p : Parts) (old new : List ℕ) → Adds ws old new → IsDraft p old → (12 ≤ length old) × (length old ≤ length new)
 added_longer ws p old new added draft =

@@ -15,6 +15,7 @@ pub mod Running
 pub mod Putting
 pub mod Offering
 pub mod Replying
+pub mod Leaving
 pub mod Inits
 pub mod Readings
 pub mod Others

@@ -20,6 +20,7 @@ pub mod Hosts
 pub mod Idle
 pub mod Kept
 pub mod Lasting
+pub mod Leaving
 pub mod Links
 pub mod Lives
 pub mod Once

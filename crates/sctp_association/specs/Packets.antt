@@ -39,7 +39,7 @@ pub record IsAcked (sacks : List Sack) (tsn : ℕ) : Type 0 where
   pub cumulative : sack.cumulative_tsn_ack ≡ tsn
 
 -- DATA and FORWARD-TSN are of those that were made, a SACK of those that were reported, and a SHUTDOWN acknowledges as one of these; none is
--- of interleaved messages. What the chunks of one reply say stands in Replying
+-- of interleaved messages. What other chunks say stands in Replying and Leaving
 abbrev pub IsOf : List Made → List Sack → Wire → Type 0
 IsOf ms sacks (data_chunk d) = Contains ms (made.data_chunk d)
 IsOf ms sacks (forward_tsn_chunk f) = Contains ms (made.forward_tsn f)

@@ -509,6 +509,8 @@ impl Inbound {
             (is_due now self.new.delay.due ≡ false)) }
         ensures limits { (self.new.receiver.limits ≡ self.old.receiver.limits)
             × (self.new.streams ≡ self.old.streams) }
+        ensures cumulative { self.new.receiver.cumulative_tsn ≡ self.old.receiver.cumulative_tsn }
+        ensures limit { packet.new.limit ≡ packet.old.limit }
     {
         let is_waiting = has_data && self.delay.at().is_some();
         if !is_waiting && !self.delay.is_due(now) {

@@ -6,6 +6,7 @@ ghost use Rattle.sctp_association.specs.Kept.{IsKept, OwesNoMore, ticket_due, ti
 ghost use Rattle.sctp_association.specs.Failing.{IsGuarded, farewell_to};
 ghost use Rattle.sctp_association.specs.Halves.{HalvesAlike, halves_of};
 ghost use Rattle.sctp_association.specs.Lasting.{LastsNoLonger};
+ghost use Rattle.sctp_association.specs.Leaving.{StaysDue, replies_of};
 ghost use Rattle.sctp_association.specs.Sending.{holds_nothing};
 ghost use Rattle.sctp_association.specs.Telling.{PassesOn, TellsEnd};
 ghost use Rattle.sctp_handshake.specs.declared.answer.Reply.TheVariants.{Init};
@@ -43,6 +44,7 @@ impl Association {
             (halves_of self.old) (halves_of self.new) }
         ensures init { answer.reply ≡ Some Init → answer.told ≡ None → OwesInit self.new }
         ensures over { answer.told ≡ None → self.new.is_over ≡ self.old.is_over }
+        ensures stays { answer.told ≡ None → StaysDue self.old self.new }
     {
         let is_silent = answer.reply.is_none() && answer.told.is_none();
         if !is_silent || self.machine.state() != before {
@@ -61,6 +63,7 @@ impl Association {
             (halves_of self.old) (halves_of self.new) }
         ensures init { answer.reply ≡ Some Init → answer.told ≡ None → OwesInit self.new }
         ensures over { answer.told ≡ None → self.new.is_over ≡ self.old.is_over }
+        ensures stays { answer.told ≡ None → StaysDue self.old self.new }
     {
         let state = self.machine.state();
         if state != before {
@@ -81,6 +84,7 @@ impl Association {
         ensures halves { HalvesAlike self.old self.new }
         ensures sending { self.new.outbound ≡ self.old.outbound }
         ensures over { self.new.is_over ≡ self.old.is_over }
+        ensures replies { replies_of self.new ≡ replies_of self.old }
     {
         match self.machine.state().timer() {
             Some(_) => self.control.restart(now, self.outbound.rto.get()),
@@ -127,6 +131,7 @@ impl Association {
         ensures init { reply ≡ Init → OwesInit self.new }
         ensures owes { OwesNoMore self.old self.new }
         ensures rest { self.new ≡ record self.old { due = self.new.due } }
+        ensures stays { StaysDue self.old self.new }
     {
         match reply {
             Reply::Init => self.owe_alone(0, AloneKind::Init),
@@ -217,6 +222,7 @@ impl Association {
         ensures left { LastsNoLonger self.old self.new }
         ensures writes { accepts_writes self.old.machine.state ≡ false
             → accepts_writes self.new.machine.state ≡ false }
+        ensures stays { StaysDue self.old self.new }
     {
         if self.wants_shutdown && self.machine.state() == State::Established {
             self.wants_shutdown = false;
@@ -237,6 +243,7 @@ impl Association {
         ensures left { LastsNoLonger self.old self.new }
         ensures writes { accepts_writes self.old.machine.state ≡ false
             → accepts_writes self.new.machine.state ≡ false }
+        ensures stays { StaysDue self.old self.new }
     {
         if !self.outbound.is_drained() {
             return;

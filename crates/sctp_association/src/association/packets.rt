@@ -1,6 +1,6 @@
 //! What goes into a datagram (RFC 9260 6.10, 8.5).
 
-ghost use Rattle.std.specs.Prelude.{◌≡◌, ◌≢◌, ◌⊎◌, ◌≤◌, None, Ok, IfOk, IfSome, OnOk, [], map, true, false, length};
+ghost use Rattle.std.specs.Prelude.{◌≡◌, ◌≢◌, ◌⊎◌, ◌≤◌, ◌∷◌, None, Ok, IfOk, IfSome, OnOk, [], map, true, false, length};
 ghost use Rattle.sctp_association.specs.Beginnings.{KeepsPeer};
 ghost use Rattle.sctp_association.specs.Congested.{LeavesWithin, SendsWithin};
 ghost use Rattle.sctp_association.specs.Halves.{HalvesAlike, PutsOthers, is_sent, sides_of};
@@ -8,6 +8,7 @@ ghost use Rattle.sctp_association.specs.Filled.{IfNoneAdded, IfNonePut};
 ghost use Rattle.sctp_association.specs.Idle.{HasNoSackDue, IsIdle, MayReply, MaySend, OwesNoControl, OwesNone, WaitsForSacks, in_flight, sack_delay, sends};
 ghost use Rattle.sctp_association.specs.Kept.{IsUnmoved};
 ghost use Rattle.sctp_association.specs.Lasting.{LastsNoLonger};
+ghost use Rattle.sctp_association.specs.Leaving.{LeavesBy, LeavesInto, replies_of};
 ghost use Rattle.sctp_association.specs.Offering.{HasFirst, IsInitWith, IsReplyOf, OffersAsDue, PutsReply};
 ghost use Rattle.sctp_association.specs.Replying.{AddsReply, IsReply, LeavesAlone, PutsOne, header_to, one_cause};
 ghost use Rattle.sctp_association.specs.Sending.{IsTimed};
@@ -22,6 +23,7 @@ ghost use Rattle.sctp_handshake.specs.Tickets.{ticket_bytes};
 ghost use Rattle.sctp_handshake.specs.declared.state.State.TheVariants.{CookieEchoed};
 ghost use Rattle.sctp_packets.specs.Draft.{IsDraft};
 ghost use Rattle.sctp_packets.specs.Packet.{Parts};
+ghost use Rattle.sctp_params.specs.Param.{heartbeat_info};
 ghost use Rattle.sctp_params.specs.ParamKind.{parameter_of};
 
 use super::Association;
@@ -39,6 +41,7 @@ use sctp_packets::CommonHeader;
 use sctp_params::{
     ParamForwardTsnSupported, ParamHeartbeatInfo, ParamKind, ParamStateCookie, ParamUnknown,
 };
+use std::alloc::Global;
 
 // The type of the parameter Zero Checksum Acceptable (RFC 9653 4.1).
 const ZERO_CHECKSUM_ACCEPTABLE: u16 = 0x8001;
@@ -48,6 +51,17 @@ const DTLS: [u8; 4] = [0, 0, 0, 1];
 
 // What the cause 2 tells of an INIT ACK: one parameter is missing, the State Cookie (RFC 9260 3.3.10.2).
 const NO_COOKIE: [u8; 6] = [0, 0, 0, 1, 0, 7];
+
+// The answer to a HEARTBEAT with this information (RFC 9260 3.3.6).
+fn heartbeat_ack(alloc: Global, info: &Bytes) -> Result<ChunkHeartbeatAck, Fault>
+    ensures { IfOk result (λ ack. map parameter_of ack.params.items ≡ heartbeat_info info.now ∷ []) }
+{
+    let mut params = Vec::new(alloc);
+    params.push(ParamKind::HeartbeatInfo(ParamHeartbeatInfo {
+        heartbeat_information: info.clone()?,
+    }))?;
+    Ok(ChunkHeartbeatAck { params })
+}
 
 impl Association {
     /// Writes the next datagram that is due, of at most `Config::mtu` bytes, and answers whether there is one: `datagram` lends it. Call it
@@ -70,6 +84,9 @@ impl Association {
         ensures idle { result ≡ Ok false → MaySend self.new → IsIdle now self.new }
         // New DATA leaves while nothing is outstanding, or less than cwnd is and the peer's window has room (RFC 9260 6.1 A, B).
         ensures within { SendsWithin self.old.outbound.sender self.new.outbound }
+        // What else is due stays due, or leaves in the datagram: a COOKIE-ECHO with the cookie, a SHUTDOWN with the cumulative TSN, a
+        // HEARTBEAT-ACK with what came. Only one that no packet has room for is dropped.
+        ensures leaves { LeavesBy (is_sent result) self.old self.new }
     {
         if let Some(alone) = self.due.alone {
             self.put_alone(alone, now)?;
@@ -99,6 +116,7 @@ impl Association {
         ensures idle { result ≡ Ok false → sends self.new.machine.state ≡ true
             → IsIdle now self.new }
         ensures within { LeavesWithin self.old.outbound.sender self.new.outbound }
+        ensures leaves { LeavesBy (is_sent result) self.old self.new }
     {
         self.draft.begin(header)?;
         let filled = self.fill(now);
@@ -139,6 +157,7 @@ impl Association {
         ensures reply { OnOk result (IsReply alone self.old self.new.draft.bytes) }
         ensures halves { HalvesAlike self.old self.new }
         ensures kept { IsUnmoved self.old self.new }
+        ensures replies { replies_of self.new ≡ replies_of self.old }
     {
         let header = self.header(alone.tag);
         self.draft.begin(header)?;
@@ -154,6 +173,7 @@ impl Association {
         // Into a packet with no chunk exactly its chunks are put.
         ensures whole { OnOk result (length self.old.draft.bytes ≡ 12
             → AddsReply kind self.old self.new) }
+        ensures replies { replies_of self.new ≡ replies_of self.old }
     {
         match kind {
             AloneKind::Init => {
@@ -247,6 +267,7 @@ impl Association {
         ensures put { OnOk result
             (PutsOne (error_chunk (one_cause code info.now)) self.old.draft self.new.draft) }
         ensures acks { sack_delay self.new ≡ sack_delay self.old }
+        ensures replies { replies_of self.new ≡ replies_of self.old }
     {
         let error = ChunkError {
             error_causes: self.causes(code, info)?,
@@ -261,6 +282,7 @@ impl Association {
         ensures others { PutsOthers self.old self.new }
         ensures put { OnOk result
             (PutsOne (abort_chunk (one_cause code info.now)) self.old.draft self.new.draft) }
+        ensures replies { replies_of self.new ≡ replies_of self.old }
     {
         let abort = ChunkAbort {
             error_causes: self.causes(code, info)?,
@@ -292,6 +314,7 @@ impl Association {
             → IsDraft p self.old.draft.bytes → length self.new.draft.bytes ≤ 12
             → IsIdle now self.new) }
         ensures within { LeavesWithin self.old.outbound.sender self.new.outbound }
+        ensures leaves { LeavesInto self.old self.new }
     {
         self.put_cookies();
         if self.machine.state() == State::CookieEchoed {
@@ -315,6 +338,7 @@ impl Association {
             (OwesNoControl self.new)) }
         ensures acks { sack_delay self.new ≡ sack_delay self.old }
         ensures sender { self.new.outbound.sender ≡ self.old.outbound.sender }
+        ensures leaves { LeavesInto self.old self.new }
     {
         self.put_shutdown();
         self.put_heartbeats(now)?;
@@ -333,6 +357,7 @@ impl Association {
             (WaitsForSacks self.new.draft.limit self.new.outbound.sender
             × IsTimed (in_flight self.new.outbound.sender) self.new.outbound.timer.at)) }
         ensures within { LeavesWithin self.old.outbound.sender self.new.outbound }
+        ensures replies { replies_of self.new ≡ replies_of self.old }
     {
         if !self.machine.state().sends_data() {
             return Ok(());
@@ -358,6 +383,7 @@ impl Association {
         ensures others { PutsOthers self.old self.new }
         ensures owes { IfNoneAdded self.old.draft.bytes self.new.draft.bytes
             (self.new.due.cookie_ack ≡ false) }
+        ensures leaves { LeavesInto self.old self.new }
     {
         self.put_cookie_echo();
         self.put_cookie_ack();
@@ -367,6 +393,7 @@ impl Association {
     #[tactic(auto, using(crate::proofs::Others::others_one, crate::proofs::Others::others_none, crate::proofs::Others::others_then))]
     fn put_cookie_echo(&mut self)
         ensures others { PutsOthers self.old self.new }
+        ensures leaves { LeavesInto self.old self.new }
     {
         if !self.due.cookie_echo {
             return;
@@ -375,10 +402,11 @@ impl Association {
             return;
         };
         let echo = ChunkCookieEcho { cookie };
-        if self.draft.put(&echo) {
+        let is_put = self.draft.put(&echo);
+        self.cookie = Some(echo.cookie);
+        if is_put {
             self.due.cookie_echo = false;
         }
-        self.cookie = Some(echo.cookie);
     }
 
     // Puts the COOKIE-ACK that is due.
@@ -387,6 +415,7 @@ impl Association {
         ensures others { PutsOthers self.old self.new }
         ensures owes { IfNonePut self.old.draft.bytes self.new.draft.bytes
             (self.new.due.cookie_ack ≡ false) }
+        ensures leaves { LeavesInto self.old self.new }
     {
         if self.due.cookie_ack && self.draft.put(&ChunkCookieAck) {
             self.due.cookie_ack = false;
@@ -401,6 +430,7 @@ impl Association {
         ensures idle { OnOk result (IfNonePut self.old.draft.bytes self.new.draft.bytes
             (HasNoSackDue now self.new)) }
         ensures sender { self.new.outbound.sender ≡ self.old.outbound.sender }
+        ensures replies { replies_of self.new ≡ replies_of self.old }
     {
         let has_data = self.outbound.has_data() && self.machine.state().sends_data();
         match &mut self.inbound {
@@ -418,6 +448,7 @@ impl Association {
             × (self.new.due.shutdown_ack ≡ false)) }
         ensures acks { sack_delay self.new ≡ sack_delay self.old }
         ensures sender { self.new.outbound.sender ≡ self.old.outbound.sender }
+        ensures leaves { LeavesInto self.old self.new }
     {
         self.put_shutdown_asked();
         self.put_shutdown_ack();
@@ -432,6 +463,7 @@ impl Association {
             ((self.new.due.shutdown ≡ false) ⊎ (sack_delay self.new ≡ None)) }
         ensures acks { sack_delay self.new ≡ sack_delay self.old }
         ensures sender { self.new.outbound.sender ≡ self.old.outbound.sender }
+        ensures leaves { LeavesInto self.old self.new }
     {
         if !self.due.shutdown {
             return;
@@ -455,6 +487,7 @@ impl Association {
             (self.new.due.shutdown_ack ≡ false) }
         ensures asked { self.new.due.shutdown ≡ self.old.due.shutdown }
         ensures acks { sack_delay self.new ≡ sack_delay self.old }
+        ensures leaves { LeavesInto self.old self.new }
     {
         if self.due.shutdown_ack && self.draft.put(&ChunkShutdownAck) {
             self.due.shutdown_ack = false;
@@ -465,34 +498,36 @@ impl Association {
     #[tactic(auto, using(crate::proofs::Others::others_one, crate::proofs::Others::others_none, crate::proofs::Others::others_then))]
     fn put_heartbeats(&mut self, now: u64) -> Result<(), Fault>
         ensures others { PutsOthers self.old self.new }
-        ensures owes { OnOk result (self.new.due.heartbeat ≡ None) }
+        ensures owes { OnOk result (IfNoneAdded self.old.draft.bytes self.new.draft.bytes
+            (self.new.due.heartbeat ≡ None)) }
         ensures acks { sack_delay self.new ≡ sack_delay self.old }
+        ensures leaves { LeavesInto self.old self.new }
     {
-        if self.due.heartbeat.is_some() {
-            self.put_heartbeat_ack()?;
-        }
+        self.put_heartbeat_ack()?;
         match self.next_heartbeat() {
             Some(at) if at <= now => self.put_heartbeat(now),
             _ => Ok(()),
         }
     }
 
-    // Puts the answer to a HEARTBEAT.
+    // Puts the answer to a HEARTBEAT. It waits for a packet that is empty, where one has no room for it; one that is too long for that is
+    // dropped, since no control chunk is cut (RFC 9260 6.10, 8.3).
     #[tactic(auto, using(crate::proofs::Others::others_one, crate::proofs::Others::others_none, crate::proofs::Others::others_then))]
     #[inline(never)]
     fn put_heartbeat_ack(&mut self) -> Result<(), Fault>
         ensures others { PutsOthers self.old self.new }
-        ensures owes { self.new.due.heartbeat ≡ None }
+        ensures owes { OnOk result (IfNonePut self.old.draft.bytes self.new.draft.bytes
+            (self.new.due.heartbeat ≡ None)) }
         ensures acks { sack_delay self.new ≡ sack_delay self.old }
+        ensures leaves { LeavesInto self.old self.new }
     {
-        let Some(info) = self.due.heartbeat.take() else {
+        let Some(info) = &self.due.heartbeat else {
             return Ok(());
         };
-        let mut params = Vec::new(self.alloc);
-        params.push(ParamKind::HeartbeatInfo(ParamHeartbeatInfo {
-            heartbeat_information: info,
-        }))?;
-        self.draft.put(&ChunkHeartbeatAck { params });
+        let is_put = self.draft.put(&heartbeat_ack(self.alloc, info)?);
+        if is_put || self.draft.is_empty() {
+            self.due.heartbeat = None;
+        }
         Ok(())
     }
 
@@ -504,6 +539,7 @@ impl Association {
         ensures acks { sack_delay self.new ≡ sack_delay self.old }
         ensures once { OnOk result (self.new.draft ≡ self.old.draft
             ⊎ IsLater now (heartbeat_time self.new)) }
+        ensures replies { replies_of self.new ≡ replies_of self.old }
     {
         let Some(heartbeat) = &mut self.heartbeat else {
             return Ok(());
@@ -524,6 +560,7 @@ impl Association {
     fn put_unknown_stream(&mut self) -> Result<(), Fault>
         ensures others { PutsOthers self.old self.new }
         ensures acks { sack_delay self.new ≡ sack_delay self.old }
+        ensures replies { replies_of self.new ≡ replies_of self.old }
     {
         let Some(inbound) = &mut self.inbound else {
             return Ok(());

@@ -6,6 +6,7 @@ ghost use Rattle.sctp_association.specs.Kept.{IsKept};
 ghost use Rattle.sctp_association.specs.Calls.{is_resettable};
 ghost use Rattle.sctp_association.specs.Halves.{HalvesAlike, PutsOthers, halves_of, receiver_of};
 ghost use Rattle.sctp_association.specs.Idle.{sack_delay};
+ghost use Rattle.sctp_association.specs.Leaving.{replies_of};
 ghost use Rattle.sctp_association.specs.Telling.{Tells, TellsEnd};
 ghost use Rattle.sctp_association.specs.declared.fault.Fault.TheVariants.{NoSuchStream, OutOfMemory};
 ghost use Rattle.sctp_association.specs.declared.association.Reason.{Reason};
@@ -97,6 +98,7 @@ impl Association {
     pub(super) fn put_resets(&mut self, now: u64) -> Result<(), Fault>
         ensures others { PutsOthers self.old self.new }
         ensures acks { sack_delay self.new ≡ sack_delay self.old }
+        ensures replies { replies_of self.new ≡ replies_of self.old }
     {
         if self.draft.room() < MOST_BYTES {
             return Ok(());
@@ -114,6 +116,7 @@ impl Association {
     fn next_response(&mut self) -> Option<ParamReconfigResponse>
         ensures others { PutsOthers self.old self.new }
         ensures acks { sack_delay self.new ≡ sack_delay self.old }
+        ensures replies { replies_of self.new ≡ replies_of self.old }
     {
         match &mut self.peer_requests {
             Some(peer) => peer.take_response(),
@@ -134,6 +137,7 @@ impl Association {
         ensures acks { sack_delay self.new ≡ sack_delay self.old }
         ensures once { is_some request ≡ true → self.new.draft ≡ self.old.draft
             ⊎ IsLater now (request_time self.new) }
+        ensures replies { replies_of self.new ≡ replies_of self.old }
     {
         let is_asking = request.is_some();
         let Some(chunk) = reconfig(response, request) else {
@@ -150,6 +154,7 @@ impl Association {
     fn next_request(&mut self, now: u64) -> Result<Option<ParamOutgoingResetRequest>, Fault>
         ensures others { PutsOthers self.old self.new }
         ensures acks { sack_delay self.new ≡ sack_delay self.old }
+        ensures replies { replies_of self.new ≡ replies_of self.old }
     {
         if self.requests.is_idle() {
             return Ok(None);
@@ -162,6 +167,7 @@ impl Association {
     fn next_asked(&mut self, now: u64) -> Result<Option<ParamOutgoingResetRequest>, Fault>
         ensures others { PutsOthers self.old self.new }
         ensures acks { sack_delay self.new ≡ sack_delay self.old }
+        ensures replies { replies_of self.new ≡ replies_of self.old }
     {
         self.begin_request(now)?;
         self.request_due(now)
@@ -172,6 +178,7 @@ impl Association {
     fn begin_request(&mut self, now: u64) -> Result<(), Fault>
         ensures others { PutsOthers self.old self.new }
         ensures acks { sack_delay self.new ≡ sack_delay self.old }
+        ensures replies { replies_of self.new ≡ replies_of self.old }
     {
         let sender = &self.outbound.sender;
         let last_tsn = sender.next_tsn().wrapping_sub(1);
@@ -193,6 +200,7 @@ impl Association {
     fn request_due(&mut self, now: u64) -> Result<Option<ParamOutgoingResetRequest>, Fault>
         ensures others { PutsOthers self.old self.new }
         ensures acks { sack_delay self.new ≡ sack_delay self.old }
+        ensures replies { replies_of self.new ≡ replies_of self.old }
     {
         let Some(request) = self.requests.due(now) else {
             return Ok(None);

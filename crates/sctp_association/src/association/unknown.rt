@@ -3,6 +3,7 @@
 ghost use Rattle.std.specs.Prelude.{◌≡◌, ◌⊎◌, ◌<◌, ◌≤◌, None, Ok, IfOk, IfSome, OnOk, OnErr, length};
 ghost use Rattle.sctp_association.specs.Halves.{PutsOthers};
 ghost use Rattle.sctp_association.specs.Kept.{OwesNoMore};
+ghost use Rattle.sctp_association.specs.Leaving.{replies_of};
 ghost use Rattle.sctp_association.specs.Offering.{IsLonger};
 ghost use Rattle.sctp_association.specs.Reports.{most_reported, reported_after};
 ghost use Rattle.sctp_association.specs.declared.association.Reason.{Reason};
@@ -145,6 +146,7 @@ impl Association {
           draft = self.new.draft;
         } }
         ensures err { OnErr result (self.new ≡ self.old) }
+        ensures replies { replies_of self.new ≡ replies_of self.old }
     {
         if self.due.report.is_none() {
             return Ok(());
@@ -168,6 +170,7 @@ impl Association {
           draft = self.new.draft;
         } }
         ensures err { OnErr result (self.new ≡ self.old) }
+        ensures replies { replies_of self.new ≡ replies_of self.old }
     {
         let Some(report) = &self.due.report else {
             return Ok(());

@@ -1,6 +1,7 @@
-use Rattle.std.proofs.Common.{◌≡◌, arith, false, subst, sym, ◌∙◌}
+use Rattle.sctp_association.proofs.Leaving.{into_kept, into_then}
+use Rattle.std.proofs.Common.{◌≡◌, [], arith, false, subst, sym, ◌∙◌}
 use Rattle.std.specs.Prelude.{IfSome}
-use Rattle.sctp_association.proofs.Congested.{leaves_behind, leaves_same}
+use Rattle.sctp_association.proofs.Congested.{within_behind, within_same}
 use Rattle.sctp_association.proofs.Idle.{added_longer, no_shutdown, on_ok, on_ok_so}
 use Rattle.sctp_association.proofs.Putting.{and_then}
 use Rattle.sctp_path.specs.Timers.{is_due}
@@ -69,20 +70,46 @@ returns-clause-owes c = on_ok c.put_data.result (λ state p draft short.
 -- ## What had room
 
 pub returns-then-is_empty-clause-within : goal.returns-then-is_empty-clause-within
-returns-then-is_empty-clause-within c = leaves_same c.args.self.now.outbound.sender c.put_cookies.new.self.outbound c.put_cookies.ensures.others.halves.sender
+returns-then-is_empty-clause-within c = within_same c.args.self.now.outbound.sender c.put_cookies.new.self.outbound c.put_cookies.ensures.others.halves.sender
 
 pub returns-else-is_empty-clause-within : goal.returns-else-is_empty-clause-within
 returns-else-is_empty-clause-within c =
-    leaves_same c.args.self.now.outbound.sender c.put_report.new.self.outbound (c.put_report.ensures.others.halves.sender ∙ c.put_cookies.ensures.others.halves.sender)
+    within_same c.args.self.now.outbound.sender c.put_report.new.self.outbound (c.put_report.ensures.others.halves.sender ∙ c.put_cookies.ensures.others.halves.sender)
 
 pub returns-in_err-put_sack-clause-within : goal.returns-in_err-put_sack-clause-within
 returns-in_err-put_sack-clause-within c =
-    leaves_same c.args.self.now.outbound.sender c.put_sack.new.self.outbound (c.put_sack.ensures.sender ∙ c.put_cookies.ensures.others.halves.sender)
+    within_same c.args.self.now.outbound.sender c.put_sack.new.self.outbound (c.put_sack.ensures.sender ∙ c.put_cookies.ensures.others.halves.sender)
 
 pub returns-in_err-put_control-clause-within : goal.returns-in_err-put_control-clause-within
 returns-in_err-put_control-clause-within c =
-    leaves_same c.args.self.now.outbound.sender c.put_control.new.self.outbound (c.put_control.ensures.sender ∙ (c.put_sack.ensures.sender ∙ c.put_cookies.ensures.others.halves.sender))
+    within_same c.args.self.now.outbound.sender c.put_control.new.self.outbound (c.put_control.ensures.sender ∙ (c.put_sack.ensures.sender ∙ c.put_cookies.ensures.others.halves.sender))
 
 pub returns-clause-within : goal.returns-clause-within
-returns-clause-within c = leaves_behind c.args.self.now.outbound.sender c.put_control.new.self.outbound.sender c.put_data.new.self.outbound
+returns-clause-within c = within_behind c.args.self.now.outbound.sender c.put_control.new.self.outbound.sender c.put_data.new.self.outbound
     (c.put_control.ensures.sender ∙ (c.put_sack.ensures.sender ∙ c.put_cookies.ensures.others.halves.sender)) c.put_data.ensures.within
+
+-- ## What leaves
+
+pub returns-else-is_empty-clause-leaves : goal.returns-else-is_empty-clause-leaves
+returns-else-is_empty-clause-leaves c = into_kept c.args.self.now c.put_cookies.new.self c.put_report.new.self [] _ c.put_report.ensures.others.added
+    c.put_cookies.ensures.leaves c.put_report.ensures.replies
+
+pub returns-in_err-put_sack-clause-leaves : goal.returns-in_err-put_sack-clause-leaves
+returns-in_err-put_sack-clause-leaves c = into_kept c.args.self.now c.put_cookies.new.self c.put_sack.new.self [] _ c.put_sack.ensures.made.added
+    c.put_cookies.ensures.leaves c.put_sack.ensures.replies
+
+pub returns-in_err-put_control-clause-leaves : goal.returns-in_err-put_control-clause-leaves
+returns-in_err-put_control-clause-leaves c =
+    let acked = into_kept c.args.self.now c.put_cookies.new.self c.put_sack.new.self [] _ c.put_sack.ensures.made.added c.put_cookies.ensures.leaves
+    c.put_sack.ensures.replies in
+    let both = and_then _ _ _ (others_puts _ _ c.put_cookies.ensures.others) c.put_sack.ensures.made in
+    into_then c.args.self.now c.put_sack.new.self c.put_control.new.self _ _ both.added c.put_control.ensures.made.added acked c.put_control.ensures.leaves
+
+pub returns-clause-leaves : goal.returns-clause-leaves
+returns-clause-leaves c =
+    let acked = into_kept c.args.self.now c.put_cookies.new.self c.put_sack.new.self [] _ c.put_sack.ensures.made.added c.put_cookies.ensures.leaves
+    c.put_sack.ensures.replies in
+    let both = and_then _ _ _ (others_puts _ _ c.put_cookies.ensures.others) c.put_sack.ensures.made in
+    let controlled = into_then c.args.self.now c.put_sack.new.self c.put_control.new.self _ _ both.added c.put_control.ensures.made.added acked
+    c.put_control.ensures.leaves in
+    into_kept c.args.self.now c.put_control.new.self c.put_data.new.self [] _ c.put_data.ensures.made.added controlled c.put_data.ensures.replies

@@ -1,8 +1,9 @@
 use Rattle.std.proofs.Common.{ap, refl}
 use Rattle.sctp_association.proofs.Telling.{tells_kept, tells_peer, tells_same, tells_then, to_same, transmits_end, unmoved_end}
 use Rattle.std.proofs.lemmas.Option.{none-some}
-use Rattle.sctp_association.proofs.Congested.{leaves_same, sends_after, sends_dropped, sends_same}
+use Rattle.sctp_association.proofs.Congested.{within_same, sends_after, sends_dropped, sends_same}
 use Rattle.sctp_association.proofs.Known.{keeps_then, knows_same, unmoved_keeps}
+use Rattle.sctp_association.proofs.Leaving.{leaves_later, leaves_same, stays_leave}
 use Rattle.sctp_association.proofs.Lasting.{lasts_same, lasts_then, lasts_unmoved}
 use Rattle.sctp_association.proofs.Offering.{offers_none, offers_reply}
 use Rattle.sctp_association.proofs.Others.{alike_puts, before_then, none_sent_so, sends_puts, sent_alone, unsent, unsent_err}
@@ -138,9 +139,29 @@ returns-in_err-abandon-clause-within c = sends_dropped c.args.self.now.outbound.
 pub returns-in_default-peer-clause-within : goal.returns-in_default-peer-clause-within
 returns-in_default-peer-clause-within c =
     sends_after c.args.self.now.outbound.sender c.abandon.new.self.sender c.settle.new.self.outbound.sender c.settle.new.self.outbound c.abandon.ensures.dropped
-    c.settle.ensures.halves.sender (leaves_same c.settle.new.self.outbound.sender c.settle.new.self.outbound refl)
+    c.settle.ensures.halves.sender (within_same c.settle.new.self.outbound.sender c.settle.new.self.outbound refl)
 
 pub returns-clause-within : goal.returns-clause-within
 returns-clause-within c =
     sends_after c.args.self.now.outbound.sender c.abandon.new.self.sender c.settle.new.self.outbound.sender c.put_packet.new.self.outbound c.abandon.ensures.dropped
     c.settle.ensures.halves.sender c.put_packet.ensures.within
+
+-- ## What is due
+
+pub returns-in_err-put_alone-clause-leaves : goal.returns-in_err-put_alone-clause-leaves
+returns-in_err-put_alone-clause-leaves c = leaves_same _ _ _ _ c.put_alone.ensures.replies
+
+pub returns-in-Some-clause-leaves : goal.returns-in-Some-clause-leaves
+returns-in-Some-clause-leaves c = leaves_same _ _ _ _ c.put_alone.ensures.replies
+
+pub returns-then-self-clause-leaves : goal.returns-then-self-clause-leaves
+returns-then-self-clause-leaves c = leaves_same _ _ _ _ refl
+
+pub returns-in_err-abandon-clause-leaves : goal.returns-in_err-abandon-clause-leaves
+returns-in_err-abandon-clause-leaves c = leaves_same _ _ _ _ refl
+
+pub returns-in_default-peer-clause-leaves : goal.returns-in_default-peer-clause-leaves
+returns-in_default-peer-clause-leaves c = stays_leave _ _ _ _ c.settle.ensures.stays
+
+pub returns-clause-leaves : goal.returns-clause-leaves
+returns-clause-leaves c = leaves_later _ _ _ _ c.settle.ensures.stays c.put_packet.ensures.leaves

@@ -1,4 +1,6 @@
-use Rattle.std.proofs.Common.{[], false}
+use Rattle.sctp_association.proofs.Leaving.{with_limit}
+use Rattle.std.proofs.Common.{[], false, ◌∙◌}
+use Rattle.sctp_association.specs.Leaving.{replies_of}
 use Rattle.sctp_association.proofs.Others.{written}
 use Rattle.sctp_association.proofs.Replying.{replied}
 use Rattle.sctp_association.proofs.association.Association.put_alone.Goals as goal
@@ -57,3 +59,10 @@ returns-clause-reply c =
     let whole = c.in_ok-put_reply.ensures.whole c.in_ok-begin.ensures.head in
     replied c.args.alone c.args.self.now _ c.header-header.result whole.chunks _ _ _ c.begin.ensures.limit whole.are c.header-header.ensures
     c.in_ok-begin.ensures.begun whole.added c.seal.ensures.sealed
+
+pub returns-in_err-put_reply-clause-replies : goal.returns-in_err-put_reply-clause-replies
+returns-in_err-put_reply-clause-replies c = c.put_reply.ensures.replies ∙ with_limit (replies_of c.args.self.now) _ c.begin.ensures.limit
+
+pub returns-clause-replies : goal.returns-clause-replies
+returns-clause-replies c = with_limit (replies_of c.put_reply.new.self) _ c.seal.ensures.limit ∙ c.put_reply.ensures.replies
+    ∙ with_limit (replies_of c.args.self.now) _ c.begin.ensures.limit

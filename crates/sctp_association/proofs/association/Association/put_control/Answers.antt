@@ -1,4 +1,5 @@
-use Rattle.std.proofs.Common.{ap, arith, ◌∙◌}
+use Rattle.sctp_association.proofs.Leaving.{into_kept, into_then}
+use Rattle.std.proofs.Common.{[], ap, arith, ◌∙◌}
 use Rattle.sctp_association.proofs.Idle.{added_longer, no_shutdown, on_ok}
 use Rattle.sctp_association.proofs.Putting.{and_then}
 use Rattle.sctp_association.proofs.Others.{others_puts, others_then}
@@ -40,9 +41,40 @@ returns-clause-owes c = on_ok c.put_resets.result (λ p draft short.
     let behind = others_then _ _ _ (others_then _ _ _ unknown.others told.others) reset.others in
     let all = others_then _ _ _ beaten.others behind in
     let longer = added_longer _ _ _ _ all.added (c.put_shutdown.ensures.made.added.draft p draft) in
+    let shut-draft = c.put_shutdown.ensures.made.added.draft p draft in
+    let further = added_longer _ _ _ _ behind.added (beaten.others.added.draft _ shut-draft) in
     let shut = c.put_shutdown.ensures.owes p draft (omega (arith, short, longer.1)) in
     record {
       shutdown = no_shutdown _ _ _ _ all.kept.due.shutdown (reset.acks ∙ ap sack_delay told.rest ∙ unknown.acks ∙ beaten.acks) shut.0;
       shutdown_ack = all.kept.due.shutdown_ack shut.1;
-      heartbeat = behind.kept.due.heartbeat c.in_ok-put_heartbeats.ensures.owes;
+      heartbeat = behind.kept.due.heartbeat (c.in_ok-put_heartbeats.ensures.owes _ shut-draft (omega (arith, short, further.1)));
     })
+
+-- ## What leaves
+
+pub returns-in_err-put_heartbeats-clause-leaves : goal.returns-in_err-put_heartbeats-clause-leaves
+returns-in_err-put_heartbeats-clause-leaves c = into_then c.args.self.now c.put_shutdown.new.self c.put_heartbeats.new.self _ _
+    c.put_shutdown.ensures.made.added c.put_heartbeats.ensures.others.added c.put_shutdown.ensures.leaves c.put_heartbeats.ensures.leaves
+
+pub returns-in_err-put_unknown_stream-clause-leaves : goal.returns-in_err-put_unknown_stream-clause-leaves
+returns-in_err-put_unknown_stream-clause-leaves c =
+    let beaten = into_then c.args.self.now c.put_shutdown.new.self c.put_heartbeats.new.self _ _ c.put_shutdown.ensures.made.added
+    c.put_heartbeats.ensures.others.added c.put_shutdown.ensures.leaves c.put_heartbeats.ensures.leaves in
+    into_kept c.args.self.now c.put_heartbeats.new.self c.put_unknown_stream.new.self [] _ c.put_unknown_stream.ensures.others.added beaten
+    c.put_unknown_stream.ensures.replies
+
+pub returns-in_err-put_report-clause-leaves : goal.returns-in_err-put_report-clause-leaves
+returns-in_err-put_report-clause-leaves c =
+    let beaten = into_then c.args.self.now c.put_shutdown.new.self c.put_heartbeats.new.self _ _ c.put_shutdown.ensures.made.added
+    c.put_heartbeats.ensures.others.added c.put_shutdown.ensures.leaves c.put_heartbeats.ensures.leaves in
+    let behind = others_then _ _ _ c.put_unknown_stream.ensures.others c.put_report.ensures.others in
+    into_kept c.args.self.now c.put_heartbeats.new.self c.put_report.new.self [] _ behind.added beaten
+    (c.put_report.ensures.replies ∙ c.put_unknown_stream.ensures.replies)
+
+pub returns-clause-leaves : goal.returns-clause-leaves
+returns-clause-leaves c =
+    let beaten = into_then c.args.self.now c.put_shutdown.new.self c.put_heartbeats.new.self _ _ c.put_shutdown.ensures.made.added
+    c.put_heartbeats.ensures.others.added c.put_shutdown.ensures.leaves c.put_heartbeats.ensures.leaves in
+    let behind = others_then _ _ _ (others_then _ _ _ c.put_unknown_stream.ensures.others c.put_report.ensures.others) c.put_resets.ensures.others in
+    into_kept c.args.self.now c.put_heartbeats.new.self c.put_resets.new.self [] _ behind.added beaten
+    (c.put_resets.ensures.replies ∙ c.put_report.ensures.replies ∙ c.put_unknown_stream.ensures.replies)

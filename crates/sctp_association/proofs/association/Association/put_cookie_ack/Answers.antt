@@ -1,3 +1,5 @@
+use Rattle.sctp_association.proofs.Leaving.{stands_put}
+use Rattle.std.proofs.Common.{inl, inr, refl}
 use Rattle.std.proofs.Common.{◌≤◌, ap, length, subst, ◌∙◌}
 use Rattle.sctp_association.proofs.Idle.{cookie_ack_put}
 use Rattle.sctp_association.proofs.association.Association.put_cookie_ack.Goals as goal
@@ -10,3 +12,15 @@ returns-else-self-clause-owes c head short = elim c.else-self.branch [
       (subst (λ (a : Association). length a.draft.bytes ≤ 12) w.self-is short) w.put.ensures.least w.if-put.false w.put.ensures.fits)
   | else-self-via-else-self w ↦ ap (λ (a : Association). a.due.cookie_ack) w.self-is ∙ w.if-self.false
 ]
+
+pub returns-then-put-clause-leaves : goal.returns-then-put-clause-leaves
+returns-then-put-clause-leaves c = record {
+  cookie_echo = λ e. inl e;
+  cookie_ack = λ _. inr (stands_put c.put.result _ _ _ c.put.ensures.added c.if-put.true);
+  shutdown = λ e. inl e;
+  shutdown_ack = λ e. inl e;
+  heartbeat = λ _ e. inl e;
+  cookie = refl;
+  acked = refl;
+  limit = c.put.ensures.limit;
+}

@@ -1,5 +1,5 @@
 use Rattle.std.proofs.Common.{refl, subst, sym}
-use Rattle.sctp_association.proofs.Congested.{leaves_same}
+use Rattle.sctp_association.proofs.Congested.{within_same}
 use Rattle.sctp_association.proofs.Putting.{nothing}
 use Rattle.sctp_association.proofs.association.Association.put_data.Goals as goal
 use Rattle.sctp_association.specs.Congested.{LeavesWithin}
@@ -18,7 +18,7 @@ returns-clause-made c = subst (λ (a : Association). Puts (sides_of c.args.self.
     (c.put.ensures.made (receiver_of c.args.self.now.inbound))
 
 pub returns-then-not-sends_data-clause-within : goal.returns-then-not-sends_data-clause-within
-returns-then-not-sends_data-clause-within c = leaves_same c.args.self.now.outbound.sender c.args.self.now.outbound refl
+returns-then-not-sends_data-clause-within c = within_same c.args.self.now.outbound.sender c.args.self.now.outbound refl
 
 pub returns-clause-within : goal.returns-clause-within
 returns-clause-within c =

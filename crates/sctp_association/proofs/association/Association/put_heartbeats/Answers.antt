@@ -1,13 +1,25 @@
-use Rattle.std.proofs.Common.{subst, sym}
-use Rattle.sctp_association.proofs.Others.{others_same, others_then}
+use Rattle.std.proofs.Common.{[], arith}
+use Rattle.sctp_association.proofs.Idle.{added_longer, on_ok}
+use Rattle.sctp_association.proofs.Leaving.{into_kept}
 use Rattle.sctp_association.proofs.association.Association.put_heartbeats.Goals as goal
-use Rattle.sctp_association.proofs.association.Association.put_heartbeats.Goals.{else-is_some, then-is_some+in_ok-put_heartbeat_ack}
-use Rattle.sctp_association.specs.Halves.{PutsOthers}
 
-pub returns-in-Some-clause-others : goal.returns-in-Some-clause-others
-returns-in-Some-clause-others c =
-    let first : PutsOthers c.args.self.now c.if-is_some.self = elim c.if-is_some.branch [
-      | then-is_some+in_ok-put_heartbeat_ack w ↦ subst (PutsOthers c.args.self.now) (sym w.self-is) w.put_heartbeat_ack.ensures.others
-      | else-is_some w ↦ others_same _ _ w.self-is
-    ] in
-    others_then _ _ _ first c.put_heartbeat.ensures.others
+pub returns-in-Some-clause-leaves : goal.returns-in-Some-clause-leaves
+returns-in-Some-clause-leaves c = into_kept c.args.self.now c.put_heartbeat_ack.new.self c.put_heartbeat.new.self [] _
+    c.put_heartbeat.ensures.others.added c.put_heartbeat_ack.ensures.leaves c.put_heartbeat.ensures.replies
+
+pub returns-in-Some-clause-owes : goal.returns-in-Some-clause-owes
+returns-in-Some-clause-owes c = on_ok c.put_heartbeat.result (λ p draft short.
+    let one = c.put_heartbeat_ack.ensures.others.added in
+    let longer = added_longer _ _ _ _ one draft in
+    let more = added_longer _ _ _ _ c.put_heartbeat.ensures.others.added (one.draft p draft) in
+    c.put_heartbeat.ensures.others.kept.due.heartbeat (c.in_ok-put_heartbeat_ack.ensures.owes longer.0 (omega (arith, short, more.1))))
+
+pub returns-in_default-clause-owes : goal.returns-in_default-clause-owes
+returns-in_default-clause-owes c p draft short =
+    let longer = added_longer _ _ _ _ c.put_heartbeat_ack.ensures.others.added draft in
+    c.in_ok-put_heartbeat_ack.ensures.owes longer.0 short
+
+pub returns-in_default-2-clause-owes : goal.returns-in_default-2-clause-owes
+returns-in_default-2-clause-owes c p draft short =
+    let longer = added_longer _ _ _ _ c.put_heartbeat_ack.ensures.others.added draft in
+    c.in_ok-put_heartbeat_ack.ensures.owes longer.0 short

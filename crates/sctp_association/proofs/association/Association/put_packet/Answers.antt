@@ -1,6 +1,8 @@
-use Rattle.std.proofs.Common.{[], ap, refl, subst, sym, ◌∙◌}
+use Rattle.sctp_association.proofs.Leaving.{by_none, by_sealed, leaves_same, with_limit}
+use Rattle.std.proofs.Common.{[], ap, false, refl, subst, sym, ◌∙◌}
+use Rattle.sctp_association.specs.Leaving.{replies_of}
 use Rattle.std.proofs.lemmas.Bool.{leb-true}
-use Rattle.sctp_association.proofs.Congested.{leaves_same, leaves_so}
+use Rattle.sctp_association.proofs.Congested.{within_same, within_so}
 use Rattle.sctp_association.proofs.Others.{none_sent_so, plain_after, sealed_after, sent_same, unsent, unsent_after, unsent_err}
 use Rattle.sctp_association.proofs.Putting.{nothing}
 use Rattle.sctp_association.proofs.association.Association.put_packet.Goals as goal
@@ -58,8 +60,30 @@ returns-then-is_empty-clause-owes c _ state =
 -- ## What had room
 
 pub returns-in_err-begin-clause-within : goal.returns-in_err-begin-clause-within
-returns-in_err-begin-clause-within c = leaves_same c.args.self.now.outbound.sender c.args.self.now.outbound refl
+returns-in_err-begin-clause-within c = within_same c.args.self.now.outbound.sender c.args.self.now.outbound refl
 
 pub returns-then-is_empty-clause-within : goal.returns-then-is_empty-clause-within
-returns-then-is_empty-clause-within c = leaves_so c.args.self.now.outbound.sender c.fill-filled.new.self.outbound c.pause.new.self (ap (λ (o : Outbound). o.sender) c.pause.ensures)
+returns-then-is_empty-clause-within c = within_so c.args.self.now.outbound.sender c.fill-filled.new.self.outbound c.pause.new.self (ap (λ (o : Outbound). o.sender) c.pause.ensures)
     (ap (λ (o : Outbound). o.peer_window) c.pause.ensures) (ap (λ (o : Outbound). o.congestion) c.pause.ensures) c.fill-filled.ensures.within
+
+-- ## What leaves
+
+pub returns-in_err-begin-clause-leaves : goal.returns-in_err-begin-clause-leaves
+returns-in_err-begin-clause-leaves c = leaves_same _ _ _ _ (with_limit (replies_of c.args.self.now) _ c.begin.ensures.limit)
+
+pub returns-in_err-filled-clause-leaves : goal.returns-in_err-filled-clause-leaves
+returns-in_err-filled-clause-leaves c =
+    let short = leb-true _ 12 (sym c.is_empty.ensures ∙ c.if-is_empty.true) in
+    by_none c.args.header _ _ _ _ _ _ _ c.in_ok-begin.ensures.begun
+    (with_limit (replies_of c.args.self.now) _ c.begin.ensures.limit) c.fill-filled.ensures.leaves refl _ short
+
+pub returns-then-is_empty-clause-leaves : goal.returns-then-is_empty-clause-leaves
+returns-then-is_empty-clause-leaves c =
+    let short = leb-true _ 12 (sym c.is_empty.ensures ∙ c.if-is_empty.true) in
+    by_none c.args.header _ _ _ _ _ _ _ c.in_ok-begin.ensures.begun
+    (with_limit (replies_of c.args.self.now) _ c.begin.ensures.limit) c.fill-filled.ensures.leaves refl false short
+
+pub returns-clause-leaves : goal.returns-clause-leaves
+returns-clause-leaves c = by_sealed c.args.header _ _ _ _ _ _ _ c.in_ok-begin.ensures.begun
+    (with_limit (replies_of c.args.self.now) _ c.begin.ensures.limit) c.fill-filled.ensures.leaves
+    (with_limit (replies_of c.fill-filled.new.self) _ c.seal.ensures.limit) c.args.is_zero c.seal.ensures.sealed

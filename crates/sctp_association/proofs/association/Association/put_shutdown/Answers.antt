@@ -1,3 +1,4 @@
+use Rattle.sctp_association.proofs.Leaving.{into_then}
 use Rattle.sctp_association.proofs.Putting.{and_then}
 use Rattle.std.proofs.Common.{arith, ◌∙◌}
 use Rattle.sctp_association.proofs.Idle.{added_longer, no_shutdown}
@@ -14,3 +15,8 @@ returns-clause-owes c p draft short =
     let first = added_longer _ _ _ _ asked.made.added draft in
     let then = added_longer _ _ _ _ acked.others.added (asked.made.added.draft p draft) in
     (no_shutdown _ _ _ _ (λ e. acked.asked ∙ e) acked.acks (asked.owes first.0 (omega (arith, short, then.1))), acked.owes then.0 short)
+
+pub returns-clause-leaves : goal.returns-clause-leaves
+returns-clause-leaves c = into_then c.args.self.now c.put_shutdown_asked.new.self c.put_shutdown_ack.new.self _ _
+    c.put_shutdown_asked.ensures.made.added c.put_shutdown_ack.ensures.others.added c.put_shutdown_asked.ensures.leaves
+    c.put_shutdown_ack.ensures.leaves

@@ -1,6 +1,6 @@
 use Rattle.std.proofs.Common.{◌-◌, ap, arith, length, refl, subst, ◌∙◌}
 use Rattle.sctp_association.proofs.Counted.{none_same, none_then}
-use Rattle.sctp_association.proofs.Congested.{as_full, leaves_from, leaves_same, stays_then}
+use Rattle.sctp_association.proofs.Congested.{as_full, within_from, within_same, stays_then}
 use Rattle.sctp_association.proofs.Idle.{waits_not}
 use Rattle.sctp_association.proofs.Putting.{from_same, kept, nothing, out_then}
 use Rattle.sctp_association.proofs.outbound.Outbound.put_new.Goals as goal
@@ -81,22 +81,22 @@ returns-then-not-branch-2-clause-idle c head short = absurd (omega (
 ))
 
 pub returns-then-not-begin_new-clause-within : goal.returns-then-not-begin_new-clause-within
-returns-then-not-begin_new-clause-within c = leaves_same c.args.self.now.sender c.begin_new.new.self c.begin_new.ensures.sender
+returns-then-not-begin_new-clause-within c = within_same c.args.self.now.sender c.begin_new.new.self c.begin_new.ensures.sender
 
 pub returns-in_err-put_next-clause-within : goal.returns-in_err-put_next-clause-within
-returns-in_err-put_next-clause-within c = leaves_from _ c.begin_new.new.self c.put_next.new.self c.begin_new.ensures.sender c.put_next.ensures.within
+returns-in_err-put_next-clause-within c = within_from _ c.begin_new.new.self c.put_next.new.self c.begin_new.ensures.sender c.put_next.ensures.within
 
 pub returns-then-not-branch-clause-within : goal.returns-then-not-branch-clause-within
-returns-then-not-branch-clause-within c = leaves_from _ c.begin_new.new.self c.put_next.new.self c.begin_new.ensures.sender c.put_next.ensures.within
+returns-then-not-branch-clause-within c = within_from _ c.begin_new.new.self c.put_next.new.self c.begin_new.ensures.sender c.put_next.ensures.within
 
 pub returns-in_err-put_timely-clause-within : goal.returns-in_err-put_timely-clause-within
-returns-in_err-put_timely-clause-within c = leaves_from _ c.begin_new.new.self _ c.begin_new.ensures.sender
+returns-in_err-put_timely-clause-within c = within_from _ c.begin_new.new.self _ c.begin_new.ensures.sender
     (stays_then _ c.put_next.new.self _ c.put_next.ensures.within (stays_then _ c.loop.self _ c.loop.invariant.4 c.put_timely.ensures.within))
 
 pub returns-after-loop-clause-within : goal.returns-after-loop-clause-within
-returns-after-loop-clause-within c = leaves_from _ c.begin_new.new.self _ c.begin_new.ensures.sender
+returns-after-loop-clause-within c = within_from _ c.begin_new.new.self _ c.begin_new.ensures.sender
     (stays_then _ c.put_next.new.self _ c.put_next.ensures.within c.loop.invariant.4)
 
 pub returns-then-not-branch-2-clause-within : goal.returns-then-not-branch-2-clause-within
-returns-then-not-branch-2-clause-within c = leaves_from _ c.begin_new.new.self _ c.begin_new.ensures.sender
+returns-then-not-branch-2-clause-within c = within_from _ c.begin_new.new.self _ c.begin_new.ensures.sender
     (stays_then _ c.put_next.new.self _ c.put_next.ensures.within (stays_then _ c.loop.self _ c.loop.invariant.4 c.put_timely.ensures.within))

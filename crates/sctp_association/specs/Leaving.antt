@@ -1,0 +1,106 @@
+-- What is due stays due until a packet has its chunk, so that none of it is lost (RFC 9260 5.1, 8.3, 9.2).
+use Rattle.std.specs.Prelude.{◌≡◌, ◌⊎◌, ℕ, ◌+◌, ◌≤◌, Bool, true, List, [], ◌∷◌, ◌++◌, Contains, Option, Some, length}
+use Rattle.std.specs.Option.{option_map}
+use Rattle.sctp_association.specs.declared.association.Association.{Association}
+use Rattle.sctp_association.specs.declared.inbound.Inbound.{Inbound}
+use Rattle.sctp_association.specs.Packets.{Adds, sum_of}
+use Rattle.sctp_chunks.specs.Wire.{HasEncoding, Wire}
+use Rattle.sctp_chunks.specs.Wire.{cookie_ack_chunk, cookie_echo_chunk, heartbeat_ack_chunk, shutdown_ack_chunk, shutdown_chunk}
+use Rattle.sctp_packets.specs.Draft.{IsDraft}
+use Rattle.sctp_packets.specs.Packet.{FitsParts, HavePacketEncoding, Parts, packet_encoding, padded_encoding}
+use Rattle.sctp_params.specs.Param.{heartbeat_info}
+
+-- ## What is due
+
+-- which replies are due beside a packet of one reply, what they say, and how many bytes a packet may have
+pub record Replies : Type 0 where
+  pub cookie_echo : Bool
+  pub cookie_ack : Bool
+  pub shutdown : Bool
+  pub shutdown_ack : Bool
+  pub heartbeat : Option (List ℕ)
+  pub cookie : Option (List ℕ)
+  pub acked : Option ℕ
+  pub limit : ℕ
+
+-- the cumulative TSN, where there is a receiver
+abbrev pub acked_of : Option Inbound → Option ℕ
+acked_of i = option_map (λ i. i.receiver.cumulative_tsn) i
+
+abbrev pub replies_of : Association → Replies
+replies_of a = record {
+  cookie_echo = a.due.cookie_echo;
+  cookie_ack = a.due.cookie_ack;
+  shutdown = a.due.shutdown;
+  shutdown_ack = a.due.shutdown_ack;
+  heartbeat = a.due.heartbeat;
+  cookie = a.cookie;
+  acked = acked_of a.inbound;
+  limit = a.draft.limit;
+}
+
+-- the answer to a HEARTBEAT: its information comes back (8.3)
+abbrev pub heartbeat_ack_of : List ℕ → Wire
+heartbeat_ack_of info = heartbeat_ack_chunk (heartbeat_info info ∷ [])
+
+-- ## What leaves
+
+-- no packet of at most so many bytes has room for it behind a header of 12
+abbrev pub IsTooLong : (limit : ℕ) → Wire → Type 0
+IsTooLong limit w = HasEncoding w → 12 + length (padded_encoding w) ≤ limit → ⊥
+
+-- Each stays due, or its chunk is among these: a COOKIE-ECHO has the cookie, a SHUTDOWN the cumulative TSN, and a HEARTBEAT-ACK what the
+-- HEARTBEAT had. One that is too long for a whole packet is dropped, since no control chunk is cut (6.10).
+pub record Leaves (In TooLong : Wire → Type 0) (old new : Replies) : Type 0 where
+  pub cookie_echo : old.cookie_echo ≡ true → (new.cookie_echo ≡ true)
+      ⊎ ((cookie : List ℕ) × (old.cookie ≡ Some cookie) × In (cookie_echo_chunk cookie))
+  pub cookie_ack : old.cookie_ack ≡ true → (new.cookie_ack ≡ true) ⊎ In cookie_ack_chunk
+  pub shutdown : old.shutdown ≡ true → (new.shutdown ≡ true)
+      ⊎ ((tsn : ℕ) × (old.acked ≡ Some tsn) × In (shutdown_chunk tsn))
+  pub shutdown_ack : old.shutdown_ack ≡ true → (new.shutdown_ack ≡ true) ⊎ In shutdown_ack_chunk
+  pub heartbeat : (info : List ℕ) → old.heartbeat ≡ Some info → (new.heartbeat ≡ Some info)
+      ⊎ (In (heartbeat_ack_of info) ⊎ TooLong (heartbeat_ack_of info))
+  pub cookie : new.cookie ≡ old.cookie
+  pub acked : new.acked ≡ old.acked
+  pub limit : new.limit ≡ old.limit
+
+-- ## Into a packet that is being written
+
+-- the chunk is one of those that were put
+pub record Stands (old new : List ℕ) (w : Wire) : Type 0 where
+  pub before : List Wire
+  pub behind : List Wire
+  pub added : Adds (before ++ w ∷ behind) old new
+
+-- the packet was begun
+abbrev pub IsTooLongIn : (limit : ℕ) → List ℕ → Wire → Type 0
+IsTooLongIn limit old w = (p : Parts) → IsDraft p old → IsTooLong limit w
+
+-- each stays due, or its chunk is put
+abbrev pub LeavesInto : Association → Association → Type 0
+LeavesInto old new = Leaves (Stands old.draft.bytes new.draft.bytes)
+    (IsTooLongIn old.draft.limit old.draft.bytes) (replies_of old) (replies_of new)
+
+-- ## By a datagram
+
+-- the bytes are a packet that has this chunk
+pub record HasChunk (bytes : List ℕ) (w : Wire) : Type 0 where
+  pub packet : Parts
+  pub is_zero : Bool
+  pub encoded : bytes ≡ packet_encoding (sum_of is_zero) packet
+  pub encodings : HavePacketEncoding packet
+  pub fits : FitsParts packet
+  pub own : Contains packet.chunks w
+
+-- there is a datagram, and it has this chunk
+abbrev pub IsSentIn : Bool → List ℕ → Wire → Type 0
+IsSentIn sent bytes w = (sent ≡ true) × HasChunk bytes w
+
+-- each stays due, or leaves in the datagram
+abbrev pub LeavesBy : (sent : Bool) → Association → Association → Type 0
+LeavesBy sent old new = Leaves (IsSentIn sent new.draft.bytes) (IsTooLong old.draft.limit)
+    (replies_of old) (replies_of new)
+
+-- each stays due
+abbrev pub StaysDue : Association → Association → Type 0
+StaysDue old new = Leaves (λ _. ⊥) (λ _. ⊥) (replies_of old) (replies_of new)
