@@ -1,5 +1,5 @@
 -- When the RTO doubles, and what is counted, as timers run out one after another.
-use Rattle.std.proofs.Common.{◌≡◌, ℕ, Bool, true, false, Option, refl, ap, sym, ◌∙◌}
+use Rattle.std.proofs.Common.{◌≡◌, ℕ, Bool, true, false, Option, refl, ap, ◌∙◌}
 use Rattle.std.specs.Prelude.{◌&&◌, ◌||◌, not}
 use Rattle.sctp_association.specs.BackOff.{IsAsIdle, counted_where, counts_once, doubled_where, failures_after, failures_behind, is_awaited, is_unanswered}
 use Rattle.sctp_association.specs.BackOff.{rto_after, rto_behind, t3_fails}

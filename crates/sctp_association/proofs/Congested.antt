@@ -1,5 +1,5 @@
 -- New DATA leaves where it has room.
-use Rattle.std.proofs.Common.{◌≡◌, ◌⊎◌, inl, inr, ℕ, Bool, true, false, List, [], length, Option, Some, None, refl, ap, sym, subst, ◌∙◌, arith, ◌==◌, ◌<◌, ◌≤◌}
+use Rattle.std.proofs.Common.{◌≡◌, inl, inr, ℕ, Bool, true, false, List, [], length, Option, Some, None, refl, ap, sym, subst, ◌∙◌, arith, ◌==◌, ◌≤◌}
 use Rattle.std.proofs.lemmas.Bool.{false≢true, leb-true}
 use Rattle.std.specs.Prelude.{◌&&◌, ◌+◌, ◌||◌, if◌then◌else◌, is_some, max, nat_le, nat_lt}
 use Rattle.sctp_association.proofs.Running.{none_sent}
@@ -7,12 +7,12 @@ use Rattle.sctp_association.specs.Congested.{HadRoom, IsAsFull, LastHadRoom, Lea
 use Rattle.sctp_association.specs.declared.outbound.Outbound.{Outbound}
 use Rattle.sctp_association.specs.Idle.{in_flight}
 use Rattle.sctp_association.specs.Runs.{Sends}
-use Rattle.sctp_association.specs.Sending.{base_of, flight_of, may_send_data, may_send_next}
+use Rattle.sctp_association.specs.Sending.{base_of, flight_of, may_send_next}
 use Rattle.sctp_data.specs.declared.chunk.chunk_payload_data.ChunkPayloadData.{ChunkPayloadData}
 use Rattle.sctp_outbound.proofs.lemmas.outbound_queue.Outbounds.{peeked_all_started}
 use Rattle.sctp_outbound.specs.outbound_queue.OutboundQueue.{Outbound as Queue, all_started, as_sent, sent_of}
 use Rattle.sctp_outbound.specs.Outstanding.{outstanding_of}
-use Rattle.sctp_outbound.specs.payload_queue.PayloadQueue.{Payload, push_chunk}
+use Rattle.sctp_outbound.specs.payload_queue.PayloadQueue.{Payload}
 use Rattle.sctp_outbound.specs.pending_queue.PendingQueue.{next_pending, start_pending}
 use Rattle.sctp_path.specs.Congestion.{Control, burst_limit, may_send}
 use Rattle.sctp_sender.proofs.Sent.{as-noted}

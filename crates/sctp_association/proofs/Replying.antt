@@ -1,5 +1,5 @@
 -- A reply fits into a packet that has no chunk, and so exactly its chunks are put.
-use Rattle.std.proofs.Common.{◌≡◌, ℕ, ◌+◌, ◌≤◌, Bool, true, false, List, [], ◌∷◌, ◌++◌, refl, ap, sym, subst, ◌∙◌, arith, length, length-append}
+use Rattle.std.proofs.Common.{◌≡◌, ℕ, ◌+◌, ◌-◌, ◌≤◌, Bool, true, false, List, [], ◌∷◌, ◌++◌, refl, ap, sym, subst, ◌∙◌, arith, length, length-append}
 use Rattle.std.proofs.lemmas.List.Concat.{flat_map-cons}
 use Rattle.sctp_association.proofs.Putting.{adds_then}
 use Rattle.sctp_association.specs.Packets.{Adds, put_where, sum_of}
@@ -7,7 +7,7 @@ use Rattle.sctp_association.specs.declared.association.Association.{Association}
 use Rattle.sctp_association.specs.declared.due.Alone.{Alone}
 use Rattle.sctp_association.specs.declared.due.AloneKind.{AloneKind}
 use Rattle.sctp_association.specs.declared.due.AloneKind.TheVariants as alone
-use Rattle.sctp_association.specs.Replying.{AddsReply, AreReply, IsPacketWith, IsReply, PutsOne, header_to, missing_cookie, one_cause}
+use Rattle.sctp_association.specs.Replying.{AddsReply, AreReply, IsPacketWith, IsReply, PutsOne, header_to, host_name_causes, missing_cookie, one_cause}
 use Rattle.sctp_chunks.proofs.Causes.{length_cause_encoding}
 use Rattle.sctp_chunks.specs.declared.chunk.error_cause.ErrorCause.{ErrorCause}
 use Rattle.sctp_chunks.specs.ErrorCause.{causes_encoding, cause_encoding}
@@ -75,10 +75,10 @@ error_put n z code info old new put size zeros head room =
 -- ## Replies
 
 module _ (kind : AloneKind) (a b : Association) where
-  reply-is : (k : AloneKind) (ws : List Wire) → kind ≡ k → AreReply a.draft.limit a.key a.machine k ws → Adds ws a.draft.bytes b.draft.bytes
+  reply-is : (k : AloneKind) (ws : List Wire) → kind ≡ k → AreReply a.draft.limit a.key a.machine a.due.unknown_params k ws → Adds ws a.draft.bytes b.draft.bytes
       → AddsReply kind a b
   reply-is k ws is are added =
-      record { chunks = ws; are = subst (λ k. AreReply a.draft.limit a.key a.machine k ws) (sym is) are; added = added }
+      record { chunks = ws; are = subst (λ k. AreReply a.draft.limit a.key a.machine a.due.unknown_params k ws) (sym is) are; added = added }
 
   pub stale_reply : (by : ℕ) (info : List ℕ) → kind ≡ alone.StaleCookie by → info ≡ be32 by → PutsOne (error_chunk (one_cause 3 info)) a.draft b.draft
       → length a.draft.bytes ≡ 12 → AddsReply kind a b
@@ -112,6 +112,14 @@ module _ (kind : AloneKind) (a b : Association) where
       one_put 4 0 shutdown_complete_chunk a.draft b.draft put tt refl refl (omega (arith, begun)) (omega (arith, begun))
       )
 
+  pub host_name_reply : kind ≡ alone.HostName
+      → PutsOne (abort_chunk (host_name_causes (a.draft.limit - length a.draft.bytes) a.due.unknown_params)) a.draft b.draft → length a.draft.bytes ≡ 12
+      → AddsReply kind a b
+  host_name_reply is put begun =
+      let behind = subst (λ n. PutsOne (abort_chunk (host_name_causes (a.draft.limit - n) a.due.unknown_params)) a.draft b.draft) begun put in
+      reply-is alone.HostName (put_where behind.is_put (abort_chunk (host_name_causes (a.draft.limit - 12) a.due.unknown_params))) is
+      (record { is_put = behind.is_put; chunks = refl; fits = λ h room. behind.fits h (omega (arith, begun)) (omega (arith, begun, room)) }) behind.added
+
   -- a SHUTDOWN-ACK, and then an ERROR
   pub shutting_reply : (d : Draft) (first : PutsOne shutdown_ack_chunk a.draft d) → kind ≡ alone.ShuttingDown
       → (first.is_put ≡ true → d.bytes ≡ a.draft.bytes ++ padded_encoding shutdown_ack_chunk) → PutsOne (error_chunk (one_cause 10 [])) d b.draft
@@ -129,12 +137,12 @@ module _ (kind : AloneKind) (a b : Association) where
 
 -- what was put behind a header, sealed
 pub replied : (alone : Alone) (a : Association) (limit : ℕ) (h : CommonHeader) (ws : List Wire) (begun full sealed : List ℕ) → limit ≡ a.draft.limit
-    → AreReply limit a.key a.machine alone.kind ws → h ≡ header_to a.config alone.tag → IsDraft (headed h) begun → Adds ws begun full
+    → AreReply limit a.key a.machine a.due.unknown_params alone.kind ws → h ≡ header_to a.config alone.tag → IsDraft (headed h) begun → Adds ws begun full
     → ((p : Parts) → IsDraft p full → sealed ≡ packet_encoding (sum_of false) p) → IsReply alone a sealed
 replied alone a limit h ws begun full sealed same are is draft added encoded =
     let d = added.draft (headed h) draft in
     record {
       chunks = ws;
-      are = subst (λ l. AreReply l a.key a.machine alone.kind ws) same are;
+      are = subst (λ l. AreReply l a.key a.machine a.due.unknown_params alone.kind ws) same are;
       packet = subst (λ k. IsPacketWith k ws sealed) is (record { encoded = encoded _ d; encodings = d.encodings; fits = d.fits });
     }

@@ -1,5 +1,5 @@
 -- What a packet of one reply says: its header, and exactly its chunks (RFC 9260 3.3.7, 3.3.10, 5.2.4, 5.2.6, 8.4, 9.2).
-use Rattle.std.specs.Prelude.{◌≡◌, ℕ, ◌+◌, ◌≤◌, true, false, Bool, List, [], ◌∷◌, ◌++◌, None, length}
+use Rattle.std.specs.Prelude.{◌≡◌, ℕ, ◌+◌, ◌-◌, ◌*◌, ◌/◌, ◌≤◌, nat_le, if◌then◌else◌, true, false, Bool, List, [], ◌∷◌, ◌++◌, Option, None, Some, length}
 use Rattle.sctp_association.specs.declared.association.Association.{Association}
 use Rattle.sctp_association.specs.declared.config.Config.{Config}
 use Rattle.sctp_association.specs.declared.due.Alone.{Alone}
@@ -49,22 +49,31 @@ abbrev pub AreInit : (limit : ℕ) (key : List ℕ) → Machine → AloneKind �
 AreInit limit key m kind ws =
     (i : Init) × IsInitOf key m kind i × IsOneWithin limit (init_chunk i) ws
 
+-- what is told of a Host Name Address: cause 5 with the parameter, where it is kept, and so many bytes have room for it (3.3.10.5, 5.1.2)
+abbrev pub host_name_causes : (room : ℕ) → Option (List ℕ) → List ErrorCause
+host_name_causes room None = []
+host_name_causes room (Some raw) =
+    if nat_le (length raw) ((room - 8) / 4 * 4) then one_cause 5 raw else []
+
 -- exactly these chunks: those of each kind
-abbrev pub AreReply : (limit : ℕ) (key : List ℕ) → Machine → AloneKind → List Wire → Type 0
-AreReply limit key m alone.Init ws = AreInit limit key m alone.Init ws
-AreReply limit key m (alone.InitAck ticket) ws = AreInit limit key m (alone.InitAck ticket) ws
-AreReply limit key m (alone.StaleCookie by) ws = ws ≡ error_chunk (one_cause 3 (be32 by)) ∷ []
-AreReply limit key m alone.ShuttingDown ws =
+abbrev pub AreReply : (limit : ℕ) (key : List ℕ) → Machine → Option (List ℕ) → AloneKind
+    → List Wire → Type 0
+AreReply limit key m raw alone.Init ws = AreInit limit key m alone.Init ws
+AreReply limit key m raw (alone.InitAck ticket) ws = AreInit limit key m (alone.InitAck ticket) ws
+AreReply limit key m raw (alone.StaleCookie by) ws = ws ≡ error_chunk (one_cause 3 (be32 by)) ∷ []
+AreReply limit key m raw alone.ShuttingDown ws =
     ws ≡ shutdown_ack_chunk ∷ error_chunk (one_cause 10 []) ∷ []
-AreReply limit key m alone.ShutdownComplete ws = ws ≡ shutdown_complete_chunk ∷ []
-AreReply limit key m (alone.Abort code) ws = ws ≡ abort_chunk (one_cause code []) ∷ []
-AreReply limit key m alone.NoCookie ws = ws ≡ abort_chunk (one_cause 2 missing_cookie) ∷ []
-AreReply limit key m (alone.NoUserData tsn) ws = ws ≡ abort_chunk (one_cause 9 (be32 tsn)) ∷ []
+AreReply limit key m raw alone.ShutdownComplete ws = ws ≡ shutdown_complete_chunk ∷ []
+AreReply limit key m raw (alone.Abort code) ws = ws ≡ abort_chunk (one_cause code []) ∷ []
+AreReply limit key m raw alone.NoCookie ws = ws ≡ abort_chunk (one_cause 2 missing_cookie) ∷ []
+AreReply limit key m raw alone.HostName ws =
+    IsOneWithin limit (abort_chunk (host_name_causes (limit - 12) raw)) ws
+AreReply limit key m raw (alone.NoUserData tsn) ws = ws ≡ abort_chunk (one_cause 9 (be32 tsn)) ∷ []
 
 -- the chunks of a reply are put behind those of a packet
 pub record AddsReply (kind : AloneKind) (old new : Association) : Type 0 where
   pub chunks : List Wire
-  pub are : AreReply old.draft.limit old.key old.machine kind chunks
+  pub are : AreReply old.draft.limit old.key old.machine old.due.unknown_params kind chunks
   pub added : Adds chunks old.draft.bytes new.draft.bytes
 
 -- ## Its packet
@@ -86,7 +95,7 @@ pub record IsPacketWith (h : CommonHeader) (ws : List Wire) (bytes : List ℕ) :
 -- the bytes are the packet of the reply, to whom it is for
 pub record IsReply (alone : Alone) (a : Association) (bytes : List ℕ) : Type 0 where
   pub chunks : List Wire
-  pub are : AreReply a.draft.limit a.key a.machine alone.kind chunks
+  pub are : AreReply a.draft.limit a.key a.machine a.due.unknown_params alone.kind chunks
   pub packet : IsPacketWith (header_to a.config alone.tag) chunks bytes
 
 -- the reply that was due leaves in a packet of its own, which says exactly what it is, and is due no more

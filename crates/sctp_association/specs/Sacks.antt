@@ -1,5 +1,5 @@
 -- What becomes of a SACK that comes (RFC 9260 6.2.1).
-use Rattle.std.specs.Prelude.{◌≡◌, ◌⊎◌, ⊤, ℕ, Bool, true, false, List, [], ◌∷◌, drop}
+use Rattle.std.specs.Prelude.{◌≡◌, ◌⊎◌, ⊤, ℕ, true, false, List, [], ◌∷◌, drop}
 use Rattle.sctp_association.specs.Arrivals.{Arrives, AsksToHear, Halves, Hears, HearsBy, acks, without_gaps}
 use Rattle.sctp_association.specs.Coming.{goes_on}
 use Rattle.sctp_association.specs.Halves.{halves_of}

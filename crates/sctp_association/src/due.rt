@@ -28,6 +28,8 @@ pub(crate) enum AloneKind {
     Abort(u16),
     /// An ABORT with the cause 2, about an INIT ACK that has no State Cookie (RFC 9260 3.3.10.2).
     NoCookie,
+    /// An ABORT about a Host Name Address, with the cause 5 and the parameter where it is kept (RFC 9260 5.1.2, 3.3.10.5).
+    HostName,
     /// An ABORT with the cause 9, about the chunk with this TSN (RFC 9260 3.3.10.9).
     NoUserData(u32),
 }
@@ -45,7 +47,10 @@ impl Alone {
             8 => !matches!(self.kind, AloneKind::InitAck(_)),
             _ => matches!(
                 self.kind,
-                AloneKind::Abort(_) | AloneKind::NoCookie | AloneKind::NoUserData(_)
+                AloneKind::Abort(_)
+                    | AloneKind::NoCookie
+                    | AloneKind::HostName
+                    | AloneKind::NoUserData(_)
             ),
         }
     }
@@ -69,7 +74,8 @@ pub(crate) struct Due {
     /// The HEARTBEAT whose information is to be sent back (RFC 9260 8.3).
     pub(crate) heartbeat: Option<Bytes>,
     pub(crate) report: Option<Report>,
-    /// The parameters of the last INIT that its INIT ACK reports, with padding between them (RFC 9260 3.2.2).
+    /// The parameters of the last INIT that its INIT ACK reports, with padding between them (RFC 9260 3.2.2); or the Host Name Address that
+    /// an ABORT reports.
     pub(crate) unknown_params: Option<Bytes>,
     /// The ABORT or SHUTDOWN-COMPLETE by which this side ended the association: it may be lost, and then a packet of the peer comes again.
     pub(crate) farewell: Option<Alone>,

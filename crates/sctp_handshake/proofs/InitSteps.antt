@@ -1,6 +1,6 @@
 -- What is said from a place on, by one parameter more.
 use Rattle.std.proofs.Common.{◌≡◌, ℕ, zero, suc, ◌+◌, ◌-◌, ◌<◌, ◌≤◌, ◌^◌, Bool, true, false, List, [], ◌∷◌, ◌++◌, length, refl, ◌∙◌, ap, arith}
-use Rattle.std.specs.Prelude.{nat_lt, ◌||◌, Ok, Err, Some, None}
+use Rattle.std.specs.Prelude.{nat_lt, ◌==◌, ◌||◌, Ok, Err, Some, None}
 use Rattle.std.specs.Int.{w16, w32, from_be_bytes, to_be_bytes}
 use Rattle.std.proofs.lemmas.Bool.Decides.{nat_tests}
 use Rattle.std.proofs.lemmas.Nat.{from_be_bytes-to_be_bytes_2, from_be_bytes-to_be_bytes_4}
@@ -10,7 +10,7 @@ use Rattle.sctp_handshake.specs.Tickets.{OfferFits}
 use Rattle.sctp_handshake.specs.declared.init_value.InitFault.TheVariants.{BrokenParameter}
 use Rattle.sctp_handshake.specs.declared.init_value.Said.{Said}
 use Rattle.sctp_handshake.specs.ParamTypes.{ends_at, is_told, param_if}
-use Rattle.sctp_handshake.specs.InitValues.{is_param, place, noted, said_from, init_in, numbers_in, told_from, report, number_bytes, init_bytes, extensions_of}
+use Rattle.sctp_handshake.specs.InitValues.{is_param, place, noted, said_from, init_in, numbers_in, host_name_from, told_from, report, number_bytes, init_bytes, extensions_of}
 
 module _ (value : List ℕ) (at : ℕ) (s : Said) where
   -- too few bytes are left
@@ -48,6 +48,35 @@ said_none value at n s e = rw e refl
 
 pub init_of_long : (value : List ℕ) → 16 ≤ length value → init_in value ≡ said_from (length value) value 16 (numbers_in value)
 init_of_long value le = let long : nat_lt (length value) 16 ≡ false = grind (arith, nat_tests) in rw long refl
+
+module _ (value : List ℕ) (at : ℕ) where
+  pub host_broken : (n : ℕ) → is_param value at ≡ false → host_name_from n value at ≡ None
+  host_broken zero broken = refl
+  host_broken (suc n) broken = rw broken refl
+
+  -- the parameter is a Host Name Address
+  pub host_here : (n : ℕ) → 0 < n → is_param value at ≡ true → ((place value at).typ == 11) ≡ true → host_name_from n value at ≡ Some (place value at)
+  host_here zero lt param host = absurd (omega arith)
+  host_here (suc n) lt param host = rw (param, host) refl
+
+  pub host_ended : (n : ℕ) → is_param value at ≡ true → ((place value at).typ == 11) ≡ false → ends_at (place value at).typ ≡ true
+      → host_name_from n value at ≡ None
+  host_ended zero param host ends = refl
+  host_ended (suc n) param host ends = rw (param, ends, host) refl
+
+  host_step : (n : ℕ) → is_param value at ≡ true → ((place value at).typ == 11) ≡ false → ends_at (place value at).typ ≡ false
+      → host_name_from (suc n) value at ≡ host_name_from n value (place value at).next
+  host_step n param host goes = rw (param, goes, host) refl
+
+  pub host_next : (seen : ℕ) → seen < length value → is_param value at ≡ true → ((place value at).typ == 11) ≡ false → ends_at (place value at).typ ≡ false
+      → host_name_from (length value - seen) value at ≡ host_name_from (length value - (seen + 1)) value (place value at).next
+  host_next seen lt param host goes =
+      let e : length value - seen ≡ suc (length value - (seen + 1)) = omega arith in
+      ap (λ n. host_name_from n value at) e ∙ host_step (length value - (seen + 1)) param host goes
+
+-- no parameter more is looked at
+pub host_none : (value : List ℕ) (at n : ℕ) → n ≡ 0 → host_name_from n value at ≡ None
+host_none value at n e = rw e refl
 
 module _ (value : List ℕ) (at : ℕ) where
   pub told_broken : (n : ℕ) → is_param value at ≡ false → told_from n value at ≡ None

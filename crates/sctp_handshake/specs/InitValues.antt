@@ -127,6 +127,20 @@ told_from (suc most) value at =
     else (if ends_at (place value at).typ then None
     else told_from most value (place value at).next))
 
+-- ## Host Name Address (RFC 9260 3.3.2.1.4)
+
+-- the first from a place on, among at most so many parameters that are read
+abbrev pub host_name_from : ℕ → List ℕ → ℕ → Option ParamPlace
+host_name_from zero value at = None
+host_name_from (suc most) value at =
+    if not (is_param value at) then None
+    else (if (place value at).typ == 11 then Some (place value at)
+    else (if ends_at (place value at).typ then None
+    else host_name_from most value (place value at).next))
+
+abbrev pub host_name_of : List ℕ → Option ParamPlace
+host_name_of value = host_name_from (length value) value 16
+
 -- ## What is written
 
 -- the chunk types of Supported Extensions

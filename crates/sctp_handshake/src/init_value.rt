@@ -1,6 +1,7 @@
 //! The value of an INIT and of an INIT ACK, read where it lies and written (RFC 9260 3.3.2, 3.3.3).
 
-ghost use Rattle.std.specs.Prelude.{◌≡◌, ◌+◌, ◌≤◌, ◌++◌, false, IfOk, length, MatchResult, true};
+ghost use Rattle.std.specs.Prelude.{◌≡◌, ◌+◌, ◌≤◌, ◌++◌, false, IfOk, IfSome, length, MatchResult, true};
+ghost use Rattle.sctp_handshake.specs.InitValues as values;
 ghost use Rattle.sctp_handshake.specs.ParamTypes as init;
 
 use crate::offer::Offer;
@@ -19,6 +20,9 @@ pub const MOST_INIT_LENGTH: usize = 34;
 
 /// State Cookie (RFC 9260 3.3.3.1).
 const STATE_COOKIE: u16 = 7;
+
+/// Host Name Address, which no sender may use (RFC 9260 3.3.2.1.4).
+const HOST_NAME_ADDRESS: u16 = 11;
 
 /// Zero Checksum Acceptable (RFC 9653 4.1).
 const ZERO_CHECKSUM: u16 = 0x8001;
@@ -206,6 +210,29 @@ impl Reported {
     }
 }
 
+/// Where the first Host Name Address lies in the value of an INIT or of an INIT ACK, among the parameters that are read (RFC 9260 5.1.2). A walk
+/// costs as much as `Said::read_init`.
+pub fn host_name_in(value: &[u8]) -> Option<ParamPlace>
+    ensures place { result ≡ values.host_name_of value.now }
+    ensures within { IfSome result
+        (λ p. (4 ≤ p.at) × (p.at + p.length ≤ length value.now)) }
+{
+    let mut at = INIT_LENGTH;
+    for _seen in 0..value.len() {
+        let Ok(param) = Said::param(value, at) else {
+            return None;
+        };
+        if param.typ == HOST_NAME_ADDRESS {
+            return Some(param);
+        }
+        if ends_at(param.typ) {
+            return None;
+        }
+        at = param.next;
+    }
+    None
+}
+
 impl Offer {
     ghost use Rattle.sctp_handshake.specs.InitValues.{init_bytes, number_bytes, offer_params};
 
@@ -290,7 +317,7 @@ fn is_known(typ: u16) -> bool
             | STATE_COOKIE
             | 8
             | 9
-            | 11
+            | HOST_NAME_ADDRESS
             | 12
             | ZERO_CHECKSUM
             | SUPPORTED_EXTENSIONS

@@ -1,11 +1,11 @@
 //! INIT, INIT ACK and the cookie (RFC 9260 5).
 
-ghost use Rattle.std.specs.Prelude.{◌≡◌, ◌≢◌, ◌⊎◌, Ok, IfOk, OnErr, None, true, false};
+ghost use Rattle.std.specs.Prelude.{◌≡◌, ◌≢◌, ◌⊎◌, ◌≤◌, Ok, IfOk, OnErr, None, length, true, false};
 ghost use Rattle.sctp_association.specs.Beginnings.{ArrivesAsOffered, BeginsByTicket, IsOwedFor, KeepsPeer, is_standing};
-ghost use Rattle.sctp_association.specs.Kept.{OwesNoMore, OwesTicket};
+ghost use Rattle.sctp_association.specs.Kept.{OwesNoMore, OwesTicket, ticket_in_kind};
 ghost use Rattle.sctp_association.specs.Cookies.{IsAlive, IsSealed, cookie_in};
 ghost use Rattle.sctp_association.specs.Halves.{HalvesAlike, halves_of};
-ghost use Rattle.sctp_association.specs.Reports.{EndsWithoutCookie};
+ghost use Rattle.sctp_association.specs.Reports.{AnswersHostName, EndsBegun, EndsByHostName, value_in};
 ghost use Rattle.sctp_association.specs.Steps.{is_taken};
 ghost use Rattle.sctp_association.specs.Telling.{Tells, TellsEnd};
 ghost use Rattle.sctp_association.specs.declared.association.Reason.{Reason};
@@ -14,7 +14,8 @@ ghost use Rattle.sctp_datagram.specs.Carried.{IsChunkOf};
 ghost use Rattle.sctp_handshake.specs.declared.answer.Reply.TheVariants.{InitAck};
 ghost use Rattle.sctp_handshake.specs.declared.state.State.TheVariants.{Closed, CookieWait};
 ghost use Rattle.sctp_handshake.specs.declared.ticket.Ticket.{Ticket};
-ghost use Rattle.sctp_handshake.specs.InitValues.{init_in};
+ghost use Rattle.sctp_handshake.specs.InitValues.{host_name_of};
+ghost use Rattle.sctp_util.specs.Field.{u32_at};
 
 use super::arrivals::{Step, bytes_of};
 use super::{Association, Reason};
@@ -25,10 +26,13 @@ use bytes::Bytes;
 use sctp_cookie::{HmacSha256, is_stale, open};
 use sctp_datagram::ChunkPlace;
 use sctp_datagram::in_place::init_value;
+use sctp_handshake::init_value::host_name_in;
 use sctp_handshake::{InitFault, Reply, Said, State, Ticket};
+use sctp_util::field::read_u32;
 
 impl Association {
-    /// Takes an INIT (RFC 9260 5.1 B, 5.2.1, 5.2.2): nothing changes but the one reply that is due.
+    /// Takes an INIT (RFC 9260 5.1 B, 5.2.1, 5.2.2): nothing changes but the one reply that is due. To one with a Host Name Address that is
+    /// an ABORT (5.1.2).
     #[inline(never)]
     pub(super) fn take_init(
         &mut self,
@@ -46,6 +50,7 @@ impl Association {
             → OwesTicket self.old ticket ⊎ IsOwedFor datagram.now self.old ticket }
         ensures stops { result ≡ Ok step.Next → ⊥ }
         ensures whole { result ≡ Ok step.Cut → ⊥ }
+        ensures host { result ≡ Ok step.Stop → AnswersHostName (value_in datagram.now chunk) self.new }
     {
         let Ok(value) = init_value(bytes_of(datagram, chunk)) else {
             return Ok(Step::Refused(Reason::NoPacket));
@@ -56,6 +61,11 @@ impl Association {
         let tag = self.fresh_tag(said.offer, now);
         match self.machine.init(said.offer, tag) {
             Some(reply) => {
+                if let Some(host) = host_name_in(value) {
+                    self.due.unknown_params = self.host_name_at(value, host)?;
+                    self.owe_alone(read_u32(value, 0), AloneKind::HostName);
+                    return Ok(Step::Stop);
+                }
                 self.due.unknown_params = self.reported_in(value)?;
                 self.owe_answer(reply, said.offer.tag);
                 Ok(Step::Stop)
@@ -76,7 +86,7 @@ impl Association {
         }
     }
 
-    /// Takes an INIT ACK (RFC 9260 5.1 C, 5.2.3): its cookie is kept, to be echoed.
+    /// Takes an INIT ACK (RFC 9260 5.1 C, 5.2.3): its cookie is kept, to be echoed. By one with a Host Name Address what was begun ends (5.1.2).
     #[inline(never)]
     pub(super) fn take_init_ack(
         &mut self,
@@ -91,13 +101,22 @@ impl Association {
         ensures err { OnErr result (self.new ≡ self.old) }
         ensures whole { result ≡ Ok step.Cut → ⊥ }
         ensures came { ArrivesAsOffered datagram.now self.old self.new }
+        ensures passed { result ≡ Ok step.Next → host_name_of (value_in datagram.now chunk) ≡ None }
+        ensures host { result ≡ Ok step.Stop
+            → EndsByHostName (value_in datagram.now chunk) self.old self.new }
     {
         let Ok(value) = init_value(bytes_of(datagram, chunk)) else {
             return Ok(Step::Refused(Reason::NoPacket));
         };
+        if let Some(host) = host_name_in(value) {
+            let raw = self.host_name_at(value, host)?;
+            return Ok(self.end_begun(value, AloneKind::HostName, raw));
+        }
         let (offer, place) = match Said::read_init_ack(value) {
             Ok(read) => read,
-            Err(InitFault::MissingCookie) => return Ok(self.end_without_cookie(value)),
+            Err(InitFault::MissingCookie) => {
+                return Ok(self.end_begun(value, AloneKind::NoCookie, None));
+            }
             Err(_) => return Ok(Step::Refused(Reason::NoPacket)),
         };
         let end = place.at.saturating_add(place.length);
@@ -127,31 +146,32 @@ impl Association {
         }
     }
 
-    // An INIT ACK has no State Cookie: what was begun ends by an ABORT with its tag (RFC 9260 5.1, 3.3.10.2).
-    fn end_without_cookie(&mut self, value: &[u8]) -> Step
+    // An INIT ACK has no State Cookie, or a Host Name Address: what was begun ends by an ABORT with its tag (RFC 9260 5.1, 5.1.2, 3.3.10.2).
+    fn end_begun(&mut self, value: &[u8], kind: AloneKind, raw: Option<Bytes>) -> Step
+        requires long { 16 ≤ length value.now }
+        requires no_ticket { ticket_in_kind kind ≡ None }
         ensures tells { TellsEnd self.old self.new }
-        ensures ends { result ≡ step.Stop → IfOk (init_in value.now)
-            (λ said. EndsWithoutCookie said.offer.tag self.old self.new) }
+        ensures ends { result ≡ step.Stop
+            → EndsBegun kind raw (u32_at value.now 0) self.old self.new }
         ensures begun { result ≡ step.Stop → self.old.machine.state ≡ CookieWait }
-        ensures taken { self.old.machine.state ≡ CookieWait → IfOk (init_in value.now)
-            (λ said. said.offer.tag ≢ 0 → result ≡ step.Stop) }
+        ensures taken { self.old.machine.state ≡ CookieWait → u32_at value.now 0 ≢ 0
+            → result ≡ step.Stop }
         ensures never { result ≡ step.Next → ⊥ }
         ensures whole { result ≡ step.Cut → ⊥ }
         ensures refused { (r : Reason) → result ≡ step.Refused r → self.new ≡ self.old }
         ensures halves { HalvesAlike self.old self.new }
         ensures peer { KeepsPeer self.old self.new }
     {
-        let Ok(said) = Said::read_init(value) else {
-            return Step::Refused(Reason::NoPacket);
-        };
+        let tag = read_u32(value, 0);
         if self.machine.state() != State::CookieWait {
             return Step::Refused(Reason::Unexpected);
         }
-        if said.offer.tag == 0 {
+        if tag == 0 {
             return Step::Refused(Reason::NoPacket);
         }
         let _answer = self.machine.abort();
-        self.owe_farewell(said.offer.tag, AloneKind::NoCookie);
+        self.due.unknown_params = raw;
+        self.owe_farewell(tag, kind);
         self.end(Ending::Aborted);
         Step::Stop
     }

@@ -1,6 +1,6 @@
 //! What goes into a datagram (RFC 9260 6.10, 8.5).
 
-ghost use Rattle.std.specs.Prelude.{◌≡◌, ◌≢◌, ◌⊎◌, ◌≤◌, ◌∷◌, None, Ok, IfOk, IfSome, OnOk, [], map, true, false, length};
+ghost use Rattle.std.specs.Prelude.{◌≡◌, ◌≢◌, ◌⊎◌, ◌≤◌, ◌-◌, ◌∷◌, None, Ok, IfOk, IfSome, OnOk, [], map, true, false, length};
 ghost use Rattle.sctp_association.specs.Beginnings.{KeepsPeer};
 ghost use Rattle.sctp_association.specs.Congested.{LeavesWithin, SendsWithin};
 ghost use Rattle.sctp_association.specs.Halves.{HalvesAlike, PutsOthers, is_sent, sides_of};
@@ -10,7 +10,7 @@ ghost use Rattle.sctp_association.specs.Kept.{IsUnmoved};
 ghost use Rattle.sctp_association.specs.Lasting.{LastsNoLonger};
 ghost use Rattle.sctp_association.specs.Leaving.{LeavesBy, LeavesInto, replies_of};
 ghost use Rattle.sctp_association.specs.Offering.{HasFirst, IsInitWith, IsReplyOf, OffersAsDue, PutsReply};
-ghost use Rattle.sctp_association.specs.Replying.{AddsReply, IsReply, LeavesAlone, PutsOne, header_to, one_cause};
+ghost use Rattle.sctp_association.specs.Replying.{AddsReply, IsReply, LeavesAlone, PutsOne, header_to, host_name_causes, one_cause};
 ghost use Rattle.sctp_association.specs.Sending.{IsTimed};
 ghost use Rattle.sctp_association.specs.Still.{IsLater, heartbeat_time};
 ghost use Rattle.sctp_association.specs.Telling.{Tells};
@@ -199,6 +199,7 @@ impl Association {
             }
             AloneKind::Abort(cause) => self.put_abort(cause, &[]),
             AloneKind::NoCookie => self.put_abort(2, &NO_COOKIE),
+            AloneKind::HostName => self.put_host_name(),
             AloneKind::NoUserData(tsn) => self.put_abort(9, &tsn.to_be_bytes()),
         }
     }
@@ -289,6 +290,32 @@ impl Association {
         };
         self.draft.put(&abort);
         Ok(())
+    }
+
+    // Puts an ABORT about a Host Name Address (RFC 9260 5.1.2).
+    #[tactic(auto, using(crate::proofs::Others::others_one, crate::proofs::Others::others_none, crate::proofs::Others::others_then))]
+    fn put_host_name(&mut self) -> Result<(), Fault>
+        ensures others { PutsOthers self.old self.new }
+        ensures put { OnOk result (PutsOne (abort_chunk (host_name_causes
+            (self.old.draft.limit - length self.old.draft.bytes) self.old.due.unknown_params))
+            self.old.draft self.new.draft) }
+        ensures replies { replies_of self.new ≡ replies_of self.old }
+    {
+        let error_causes = self.host_name_causes()?;
+        self.draft.put(&ChunkAbort { error_causes });
+        Ok(())
+    }
+
+    // What an ABORT tells of a Host Name Address, where that is kept and has room behind the headers of chunk and cause.
+    fn host_name_causes(&self) -> Result<Vec<ErrorCause>, Fault>
+        ensures { IfOk result (λ causes. causes.items ≡ host_name_causes
+            (self.now.draft.limit - length self.now.draft.bytes) self.now.due.unknown_params) }
+    {
+        let most = self.draft.room().saturating_sub(8) / 4 * 4;
+        match &self.due.unknown_params {
+            Some(raw) if raw.len() <= most => self.causes(5, raw.as_slice()),
+            _ => Ok(Vec::new(self.alloc)),
+        }
     }
 
     /// One cause.

@@ -1,11 +1,11 @@
 //! What the peer sent and this side does not know (RFC 9260 3.2, 3.2.1, 3.2.2).
 
-ghost use Rattle.std.specs.Prelude.{◌≡◌, ◌⊎◌, ◌<◌, ◌≤◌, None, Ok, IfOk, IfSome, OnOk, OnErr, length};
+ghost use Rattle.std.specs.Prelude.{◌≡◌, ◌⊎◌, ◌+◌, ◌<◌, ◌≤◌, None, Ok, IfOk, IfSome, OnOk, OnErr, length};
 ghost use Rattle.sctp_association.specs.Halves.{PutsOthers};
 ghost use Rattle.sctp_association.specs.Kept.{OwesNoMore};
 ghost use Rattle.sctp_association.specs.Leaving.{replies_of};
 ghost use Rattle.sctp_association.specs.Offering.{IsLonger};
-ghost use Rattle.sctp_association.specs.Reports.{most_reported, reported_after};
+ghost use Rattle.sctp_association.specs.Reports.{host_name_told, most_reported, reported_after};
 ghost use Rattle.sctp_association.specs.declared.association.Reason.{Reason};
 ghost use Rattle.sctp_association.specs.declared.association.arrivals.Step.TheVariants as step;
 
@@ -16,7 +16,7 @@ use crate::fault::Fault;
 use bytes::{Bytes, BytesMut};
 use sctp_chunks::ChunkError;
 use sctp_datagram::ChunkPlace;
-use sctp_datagram::params::param_at;
+use sctp_datagram::params::{ParamPlace, param_at};
 use sctp_handshake::Reported;
 use sctp_handshake::init_value::INIT_LENGTH;
 use sctp_params::{ParamKind, ParamUnknown};
@@ -98,6 +98,23 @@ impl Association {
             return Ok(None);
         }
         Ok(Some(raw.freeze()?))
+    }
+
+    /// The Host Name Address of a value, where it fits into a packet; else None (RFC 9260 5.1.2, 3.3.10.5).
+    pub(super) fn host_name_at(
+        &self,
+        value: &[u8],
+        place: ParamPlace,
+    ) -> Result<Option<Bytes>, Fault>
+        requires header { 4 ≤ place.at }
+        requires within { place.at + place.length ≤ length value.now }
+        ensures { IfOk result (λ o. o ≡ host_name_told value.now place self.now.config.mtu) }
+    {
+        if place.length + 4 > self.most_reported() {
+            return Ok(None);
+        }
+        let param = &value[place.at - 4..place.at + place.length];
+        Ok(Some(Bytes::copy_from_slice(self.alloc, param)?))
     }
 
     /// Adds an Unrecognized Parameter to an INIT ACK for each parameter that is reported of the INIT, as many as fit (RFC 9260 3.2.2).

@@ -4,7 +4,7 @@ ghost use Rattle.std.specs.Prelude.{◌≡◌, ◌⊎◌, ◌+◌, ◌-◌, ◌^
 ghost use Rattle.sctp_association.specs.Congested.{LeavesWithin, StaysOrLeft};
 ghost use Rattle.sctp_association.specs.Counts.{CountsNone, IsCountedAlong, IsCountedOn};
 ghost use Rattle.sctp_association.specs.Filled.{IfNonePut};
-ghost use Rattle.sctp_association.specs.Idle.{IsMarkedBehind, SendsNoneAgain, SendsNoneNew, WaitsBehind, WaitsForSacks, in_flight};
+ghost use Rattle.sctp_association.specs.Idle.{SendsNoneAgain, SendsNoneNew, WaitsBehind, WaitsForSacks, in_flight};
 ghost use Rattle.sctp_association.specs.Packets.{PutsOut};
 ghost use Rattle.sctp_association.specs.Sending.{EndsWithin, IsTimed, flight_of, idle_times, is_early, is_front_late, is_later, lowered_times, lowered, may_send_again, may_send_next, sent_at};
 ghost use Rattle.sctp_outbound.specs.pending_queue.PendingQueue.{chunk_count, next_pending};

@@ -1,7 +1,7 @@
 use Rattle.sctp_association.proofs.association.Association.handle_timeout.Goals.{then-time_out-via-then-time_out}
 use Rattle.sctp_association.proofs.association.Association.handle_timeout.Goals.{then-time_out-via-else-time_out+then-has_failed}
 use Rattle.sctp_association.specs.Telling.{TellsEnd}
-use Rattle.std.proofs.Common.{Bool, ap, arith, false, sym, ◌≡◌, ◌∙◌}
+use Rattle.std.proofs.Common.{Bool, ap, false, sym, ◌≡◌, ◌∙◌}
 use Rattle.std.specs.Prelude.{◌&&◌, not}
 use Rattle.sctp_association.proofs.BackOff.{failures_is, rto_is, unanswered_same}
 use Rattle.sctp_association.specs.BackOff.{is_unanswered}

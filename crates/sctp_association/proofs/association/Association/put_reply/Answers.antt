@@ -3,7 +3,7 @@ use Rattle.sctp_association.proofs.Idle.{on_ok_so}
 use Rattle.sctp_association.proofs.Known.{owes_alike}
 use Rattle.sctp_association.proofs.Offering.{reply_others}
 use Rattle.sctp_association.proofs.Others.{others_after, others_one}
-use Rattle.sctp_association.proofs.Replying.{abort_reply, as_be32, as_missing, complete_reply, no_cookie_reply, no_data_reply, shutting_reply, stale_reply}
+use Rattle.sctp_association.proofs.Replying.{abort_reply, as_be32, as_missing, complete_reply, host_name_reply, no_cookie_reply, no_data_reply, shutting_reply, stale_reply}
 use Rattle.sctp_association.proofs.association.Association.put_reply.Goals as goal
 use Rattle.sctp_chunks.specs.Wire.{shutdown_ack_chunk}
 
@@ -54,3 +54,7 @@ returns-in-NoCookie-clause-whole c =
 pub returns-in-NoUserData-clause-whole : goal.returns-in-NoUserData-clause-whole
 returns-in-NoUserData-clause-whole c =
     on_ok_so _ (no_data_reply _ _ _ _ _ c.in-NoUserData.is (as_be32 _ _ c.to_be_bytes-in-NoUserData.ensures)) c.put_abort-in-NoUserData.ensures.put
+
+pub returns-in-HostName-clause-whole : goal.returns-in-HostName-clause-whole
+returns-in-HostName-clause-whole c =
+    on_ok_so _ (host_name_reply _ _ _ c.in-HostName.is) c.put_host_name.ensures.put

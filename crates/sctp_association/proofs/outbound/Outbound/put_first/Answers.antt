@@ -5,7 +5,6 @@ use Rattle.sctp_association.proofs.Making.{again_put, none_again}
 use Rattle.sctp_association.proofs.Putting.{kept, to_same}
 use Rattle.sctp_association.proofs.outbound.Outbound.put_first.Goals as goal
 use Rattle.sctp_association.specs.Idle.{in_flight}
-use Rattle.sctp_sender.specs.Sender.{Transmission}
 
 pub returns-in_err-chunk-clause-made : goal.returns-in_err-chunk-clause-made
 returns-in_err-chunk-clause-made c = kept _ _ _ _ c.in_err-chunk.ensures.err refl

@@ -1,5 +1,5 @@
 use Rattle.std.proofs.Common.{ℕ, Some, ap, arith, inr, length, min, refl, subst, sym, true, ◌∙◌, ◌≡◌, ◌+◌, ◌-◌, ◌^◌}
-use Rattle.sctp_association.proofs.Congested.{as_full, full_same, sent_within}
+use Rattle.sctp_association.proofs.Congested.{full_same, sent_within}
 use Rattle.sctp_association.proofs.Idle.{data_put, fits_so, lent_fits}
 use Rattle.sctp_association.proofs.Making.{lent_put, none_put, sent_there}
 use Rattle.sctp_association.proofs.Putting.{kept, nothing}

@@ -4,7 +4,7 @@ use Rattle.sctp_association.proofs.Known.{keeps_by, knows_abort, owes_none}
 use Rattle.sctp_association.specs.Kept.{ticket_due}
 use Rattle.sctp_association.specs.declared.association.Association.{Association}
 use Rattle.sctp_association.specs.declared.due.Due.{Due}
-use Rattle.sctp_association.proofs.association.Association.end_without_cookie.Goals as goal
+use Rattle.sctp_association.proofs.association.Association.end_begun.Goals as goal
 
 pub returns-clause-peer : goal.returns-clause-peer
 returns-clause-peer c =
@@ -13,7 +13,8 @@ returns-clause-peer c =
     keeps_by _ _ _ (knows_abort _ _ _ c.abort-answer.ensures.takes) (ap (λ (x : Association). x.config) ended ∙ ap (λ (x : Association). x.config) owed)
     (ap (λ (x : Association). x.key) ended ∙ ap (λ (x : Association). x.key) owed)
     (ap (λ (x : Association). x.machine) ended ∙ ap (λ (x : Association). x.machine) owed)
-    (owes_none c.args.self.now c.end.new.self (ap (λ (x : Association). ticket_due x.due.alone) ended ∙ ap (λ (d : Due). ticket_due d.alone) c.owe_farewell.ensures.due))
+    (owes_none c.args.self.now c.end.new.self (ap (λ (x : Association). ticket_due x.due.alone) ended ∙ ap (λ (d : Due). ticket_due d.alone) c.owe_farewell.ensures.due
+    ∙ c.requires.no_ticket))
 
 pub returns-clause-tells : goal.returns-clause-tells
 returns-clause-tells c =
