@@ -93,7 +93,7 @@ module _ (d : List ℕ) where
 
     owes-back : (t : Ticket) → OwesTicket b t ⊎ IsOwedFor d b t → OwesTicket a t ⊎ IsOwedFor d a t
     owes-back t (inl owed) = f.owes t owed
-    owes-back t (inr w) = inr (record { offered = w.offered; own = w.own; is = own-back w.own w.is; tsn = w.tsn })
+    owes-back t (inr w) = inr (record { offered = w.offered; own = w.own; is = own-back w.own w.is; tsn = w.tsn; tag = w.tag })
 
     rule-back : (c : Association) (call : Arrival) → IsBegunBy d b c call → IsBegunBy d a c call
     rule-back c (receives call) r = tt

@@ -1,5 +1,5 @@
 -- An association begins by a COOKIE-ECHO, a COOKIE-ACK or an INIT ACK of a datagram: by whose offer.
-use Rattle.std.proofs.Common.{◌≡◌, ◌⊎◌, ℕ, Bool, true, false, List, Ok, Option, Some, None, drop, refl, ap, sym, subst, ◌∙◌, inl, inr}
+use Rattle.std.proofs.Common.{◌≡◌, ◌⊎◌, ℕ, ◌<◌, Bool, true, false, List, Ok, Option, Some, None, drop, refl, ap, sym, subst, ◌∙◌, inl, inr, arith}
 use Rattle.std.proofs.lemmas.Bool.{false≢true}
 use Rattle.std.proofs.lemmas.Option.{none-some, same_Some}
 use Rattle.sctp_association.proofs.Arriving.{follows_one, follows_same, follows_then}
@@ -333,38 +333,42 @@ ticket-in (Some (InitAck t)) = Some t
 ticket-in _ = None
 
 -- it has the offer of the peer, and the first TSN of the machine
-record IsOfInit (peer : Offer) (m : Machine) (t : Ticket) : Type 0 where
+record IsOfInit (peer : Offer) (tag : ℕ) (m : Machine) (t : Ticket) : Type 0 where
   offer : t.peer ≡ peer
   tsn : t.own.first_tsn ≡ m.own.first_tsn
+  tag-is : (t.own.tag ≡ m.own.tag) ⊎ (t.own.tag ≡ tag)
 
-abbrev IsReplyTo : Offer → Machine → Option Reply → Type 0
-IsReplyTo peer m o = ((t : Ticket) × (ticket-in o ≡ Some t) × IsOfInit peer m t) ⊎ (ticket-in o ≡ None)
+abbrev IsReplyTo : Offer → ℕ → Machine → Option Reply → Type 0
+IsReplyTo peer tag m o = ((t : Ticket) × (ticket-in o ≡ Some t) × IsOfInit peer tag m t) ⊎ (ticket-in o ≡ None)
 
-row-offer : (s : State) (peer : Offer) (tag : ℕ) (m : Machine) → IsReplyTo peer m (init_row s peer tag m)
+row-offer : (s : State) (peer : Offer) (tag : ℕ) (m : Machine) → IsReplyTo peer tag m (init_row s peer tag m)
 row-offer ShutdownAckSent peer tag m = inr refl
-row-offer _ peer tag m = inl (_, refl, record { offer = refl; tsn = refl })
+row-offer CookieWait peer tag m = inl (_, refl, record { offer = refl; tsn = refl; tag-is = inl refl })
+row-offer CookieEchoed peer tag m = inl (_, refl, record { offer = refl; tsn = refl; tag-is = inl refl })
+row-offer _ peer tag m = inl (_, refl, record { offer = refl; tsn = refl; tag-is = inr refl })
 
-checked-offer : (f : Option OfferFault) (peer : Offer) (tag : ℕ) (m : Machine) → IsReplyTo peer m (init_checked f peer tag m)
+checked-offer : (f : Option OfferFault) (peer : Offer) (tag : ℕ) (m : Machine) → IsReplyTo peer tag m (init_checked f peer tag m)
 checked-offer None peer tag m = row-offer m.state peer tag m
 checked-offer (Some NoTag) peer tag m = inr refl
 checked-offer (Some _) peer tag m = inr refl
 
-answers-offer : (peer : Offer) (tag : ℕ) (m : Machine) (t : Ticket) → Some (InitAck t) ≡ init_reply peer tag m → IsOfInit peer m t
+answers-offer : (peer : Offer) (tag : ℕ) (m : Machine) (t : Ticket) → Some (InitAck t) ≡ init_reply peer tag m → IsOfInit peer tag m t
 answers-offer peer tag m t e = elim (checked-offer (offer_fault peer) peer tag m) [
-  | inl found ↦ subst (IsOfInit peer m) (sym (same_Some t found.0 (ap ticket-in e ∙ found.1))) found.2
+  | inl found ↦ subst (IsOfInit peer tag m) (sym (same_Some t found.0 (ap ticket-in e ∙ found.1))) found.2
   | inr none ↦ absurd (none-some t (sym none ∙ sym (ap ticket-in e)))
 ]
 
 module _ (d : List ℕ) (p : ChunkPlace) (own : IsChunkOf d p) (typ : p.typ ≡ 1) (said : Said) (a : Association) where
   -- a ticket that is due was due before, or answers the INIT
-  pub init_answered : init_in (value_at (drop p.at d)) ≡ Ok said → (tag : ℕ) (r : Reply) → Some r ≡ init_reply said.offer tag a.machine
+  pub init_answered : init_in (value_at (drop p.at d)) ≡ Ok said → (tag : ℕ) → 0 < tag → (r : Reply) → Some r ≡ init_reply said.offer tag a.machine
       → (Before : Type 0) (t : Ticket) → Before ⊎ (r ≡ InitAck t) → Before ⊎ IsOwedFor d a t
-  init_answered reads tag r e Before t (inl before) = inl before
-  init_answered reads tag r e Before t (inr is) =
+  init_answered reads tag some r e Before t (inl before) = inl before
+  init_answered reads tag some r e Before t (inr is) =
       let of = answers-offer said.offer tag a.machine t (ap Some (sym is) ∙ e) in
       inr (record {
         offered = record { place = p; own = own; typ = typ; cookie = said.cookie; reads = reads ∙ ap (λ (o : Offer). Ok (record said { offer = o })) (sym of.offer) };
         own = a.machine.own;
         is = inl refl;
         tsn = of.tsn;
+        tag = elim of.tag-is [ inl same ↦ inl same | inr fresh ↦ inr (omega (arith, some, fresh)) ];
       })

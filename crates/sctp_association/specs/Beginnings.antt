@@ -1,5 +1,5 @@
 -- How an association begins (RFC 9260 5.1, 5.2.4).
-use Rattle.std.specs.Prelude.{◌≡◌, ◌⊎◌, ⊤, ℕ, Bool, true, false, List, drop, Option, Some, None, Ok}
+use Rattle.std.specs.Prelude.{◌≡◌, ◌⊎◌, ⊤, ℕ, Bool, true, false, List, drop, Option, Some, None, Ok, ◌<◌}
 use Rattle.sctp_association.specs.Arrivals.{Arrival, Arrives, ArrivesAs, Does, Halves, begins, hears, receives, renews}
 use Rattle.sctp_association.specs.Cookies.{IsSealedAt, cookie_in}
 use Rattle.sctp_association.specs.declared.association.Association.{Association}
@@ -163,12 +163,14 @@ IsOwnEchoed datagram key offer = (ticket : Ticket) × IsEchoed datagram key tick
 abbrev pub IsOwnOffer : (datagram : List ℕ) → Association → Offer → Type 0
 IsOwnOffer datagram a offer = (offer ≡ a.machine.own) ⊎ IsOwnEchoed datagram a.key offer
 
--- the ticket has the offer of an INIT of the datagram, and the first TSN of this side
+-- the ticket has the offer of an INIT of the datagram, and the first TSN of this side; the tag of this side, or another one, which is not 0
+-- (RFC 9260 5.2.1, 5.2.2, 5.3.1)
 pub record IsOwedFor (datagram : List ℕ) (a : Association) (ticket : Ticket) : Type 0 where
   pub offered : OffersInit datagram ticket.peer
   pub own : Offer
   pub is : IsOwnOffer datagram a own
   pub tsn : ticket.own.first_tsn ≡ own.first_tsn
+  pub tag : (ticket.own.tag ≡ own.tag) ⊎ (0 < ticket.own.tag)
 
 -- What the datagram brings, where each half that is new begins so. The peer is the one that was known, or one by whose offer the association may
 -- begin. This side asks no peer that it did not ask before, and offers what it offered, or what a ticket says that is echoed. An INIT ACK that is

@@ -1,6 +1,6 @@
 //! What the state machine is answered and tells.
 
-ghost use Rattle.std.specs.Prelude.{◌≡◌, ◌+◌, ◌≤◌, true, false, None, Some};
+ghost use Rattle.std.specs.Prelude.{◌≡◌, ◌<◌, true, false, None, Some};
 ghost use Rattle.sctp_association.specs.Beginnings.{Begins, BeginsBy, KeepsPeer, OwesInit};
 ghost use Rattle.sctp_association.specs.Kept.{IsKept, OwesNoMore, ticket_due, ticket_in_kind};
 ghost use Rattle.sctp_association.specs.Failing.{IsGuarded, farewell_to};
@@ -281,7 +281,9 @@ impl Association {
     }
 
     /// A tag for one INIT (RFC 9260 5.2.2, 5.3.1): nobody without the key can guess it.
-    pub(super) fn fresh_tag(&self, peer: Offer, now: u64) -> u32 {
+    pub(super) fn fresh_tag(&self, peer: Offer, now: u64) -> u32
+        ensures { 0 < result }
+    {
         let mut message = [0u8; 16];
         message[..8].copy_from_slice(&now.to_be_bytes());
         message[8..12].copy_from_slice(&peer.tag.to_be_bytes());
