@@ -401,7 +401,7 @@ RULES = [
          ["sctp_handshake InitValues.host_name_from", "sctp_association Reports.EndsBegun"], ["c_tests/assoc/host_name.script"]),
         ("an INIT is answered by an INIT ACK, and changes nothing: all is in the cookie", "5.1 B, 5.2.1, 5.2.2", ["sctp_handshake::Machine::init"],
          ["sctp_handshake Beginnings.init_row"], []),
-        ("where an association stands, an INIT ACK has a fresh tag, and else what this side offers", "5.2.2, 5.3.1", ["sctp_handshake::Machine::init"],
+        ("where an association stands, an INIT ACK has a fresh tag, and else what this side offers", "5.2.2, 5.3.1", ["sctp_handshake::Machine::init", "sctp_association::Association::fresh_tag"],
          ["sctp_handshake Beginnings.renewed"], ["c_tests/assoc/cookie_row_a.script"]),
         ("an offer without a tag, streams or a window of 1,500 bytes is refused", "3.3.2, 3.3.3",
          ["sctp_handshake::Offer::fault", "sctp_handshake::Machine::init", "sctp_handshake::Machine::init_ack"],
