@@ -116,8 +116,21 @@ slow-start-gaps : after_sack (record (sack 1 2376 4404) { advances = false }) (f
 unfolding at sack
 slow-start-gaps = refl
 
+-- from 200 packets on by half a packet, from 300 on by a third
+slow-start-whole : after_sack (sack 1 2376 237599) (at 237599 500000 0 None) ≡ at 238787 500000 0 None
+unfolding at sack
+slow-start-whole = refl
+
+slow-start-half : after_sack (sack 1 2376 237600) (at 237600 500000 0 None) ≡ at 238194 500000 0 None
+unfolding at sack
+slow-start-half = refl
+
+slow-start-third : after_sack (sack 1 2376 356400) (at 356400 500000 0 None) ≡ at 356796 500000 0 None
+unfolding at sack
+slow-start-third = refl
+
 -- a window never passes the greatest number
-slow-start-most : after_sack (sack 1 1188 (2 ^ 64 - 1)) (at (2 ^ 64 - 10) (2 ^ 64 - 1) 0 None) ≡ at (2 ^ 64 - 1) (2 ^ 64 - 1) 0 None
+slow-start-most : after_sack (sack 1 1188 (2 ^ 64 - 1)) (at (2 ^ 64 - 1) (2 ^ 64 - 1) 0 None) ≡ at (2 ^ 64 - 1) (2 ^ 64 - 1) 0 None
 unfolding at sack
 slow-start-most = refl
 

@@ -51,10 +51,15 @@ wider by c = record c { window = min (c.window + by) most }
 abbrev pub is_used : ℕ → Control → Bool
 is_used flight c = nat_lt c.window (flight + c.pmdcs)
 
--- slow start (RFC 9260 7.2.1): by what was acknowledged, at most PMDCS, where the cumulative TSN advanced and cwnd was fully used
+-- by how much a SACK widens cwnd in slow start at most: by PMDCS (RFC 9260 7.2.1); from 200 packets on by the Kth part of it, where K is cwnd by
+-- 100 packets (RFC 3742, whose max_ssthresh is 200 packets here), and never by nothing
+abbrev pub slow_step : Control → ℕ
+slow_step c = max 1 (c.pmdcs / max 1 (c.window / (100 * c.pmdcs)))
+
+-- slow start (RFC 9260 7.2.1): by what was acknowledged, at most so much, where the cumulative TSN advanced and cwnd was fully used
 abbrev pub after_slow_start : Acknowledged → Control → Control
 after_slow_start a c =
-    if a.advances && is_used a.flight c then wider (min a.bytes c.pmdcs) c else c
+    if a.advances && is_used a.flight c then wider (min a.bytes (slow_step c)) c else c
 
 -- congestion avoidance (RFC 9260 7.2.2), of partial_bytes_acked with what was acknowledged. Where cwnd bytes were outstanding and it is at
 -- least cwnd, cwnd leaves it and grows by PMDCS (2); where fewer were, it is at most cwnd (1)

@@ -1,7 +1,7 @@
 //! The congestion window (RFC 9260 7.2): how many bytes may be outstanding. All amounts are in bytes.
 
 ghost use Rattle.std.specs.Prelude.{◌≡◌, ◌+◌, ◌<◌, ◌≤◌, IsTrue, is_some};
-ghost use Rattle.sctp_path.specs.Congestion.{pmdcs_of, first, after_sack, after_slow_start, after_avoidance, halved, after_loss, after_timeout, after_idling, with_mtu, may_send, burst_limit, after_resending, after_repeat, after_repeats};
+ghost use Rattle.sctp_path.specs.Congestion.{pmdcs_of, first, after_sack, after_slow_start, slow_step, after_avoidance, halved, after_loss, after_timeout, after_idling, with_mtu, may_send, burst_limit, after_resending, after_repeat, after_repeats};
 
 use sctp_util::util::{sna32lt, sna32lte};
 use std::marker::Model;
@@ -123,11 +123,23 @@ impl Congestion {
     }
 
     fn start_slowly(&mut self, sack: Acknowledged)
-        ensures { self.new ≡ after_slow_start sack self.old }
+        ensures after { self.new ≡ after_slow_start sack self.old }
+        ensures no_less { self.old.window ≤ self.new.window }
+        ensures a_packet_more { self.new.window ≤ self.old.window + self.old.pmdcs }
     {
         if sack.advances && self.window - self.pmdcs < sack.flight {
-            self.window = self.window.saturating_add(sack.bytes.min(self.pmdcs));
+            let step = self.slow_step();
+            self.window = self.window.saturating_add(sack.bytes.min(step));
         }
+    }
+
+    // By how much slow start widens cwnd at most: by a packet, and by less from 200 packets on (RFC 3742).
+    fn slow_step(&self) -> usize
+        ensures value { result ≡ slow_step self.now }
+        ensures a_packet { result ≤ self.now.pmdcs }
+    {
+        let parts = (self.window / (100 * self.pmdcs)).max(1);
+        (self.pmdcs / parts).max(1)
     }
 
     fn avoid(&mut self, sack: Acknowledged)
