@@ -150,7 +150,7 @@ impl Outbound {
         self.congestion.came_twice(&sack.duplicate_tsn);
         self.follow(&released, before, flight, now);
         let has_advanced = self.sender.acked_tsn() != before;
-        self.count_missing(sack, &released, has_advanced);
+        self.count_missing(sack, &released, has_advanced, now);
         self.run_timer(now);
         Ok(SackTaken::Taken)
     }
@@ -230,14 +230,41 @@ impl Outbound {
         }
     }
 
+    // Measures a round trip as Fast Recovery begins, unless this SACK has done so. What is sent again waits in the queue that just overflowed, and T3-rtx
+    // begins again with it (RFC 9260 7.2.4): an RTO of the trip before would expire before its SACK.
+    fn measure_again(&mut self, released: &[Released], now: u64)
+        ensures once { self.old.measured ≡ now → self.new ≡ self.old }
+        ensures rest { self.new ≡ record self.old {
+          rto = self.new.rto;
+          measured = self.new.measured;
+        } }
+    {
+        if self.congestion.is_recovering() || self.measured == now {
+            return;
+        }
+        let Some(since) = sent_once(released) else {
+            return;
+        };
+        self.rto.measured(now.saturating_sub(since));
+        self.measured = now;
+    }
+
     // Counts what is missing before the highest TSN that is acknowledged now; in fast recovery, where the cumulative TSN moved,
     // before the highest that the SACK reports (RFC 9260 7.2.4).
     #[tactic(auto, using(crate::proofs::Arriving::acknowledged_same, crate::proofs::Arriving::acknowledged_count))]
-    fn count_missing(&mut self, sack: &ChunkSelectiveAck, released: &[Released], has_advanced: bool)
+    fn count_missing(
+        &mut self,
+        sack: &ChunkSelectiveAck,
+        released: &[Released],
+        has_advanced: bool,
+        now: u64,
+    )
         ensures hearing { HearsBy IsCount self.old.sender self.new.sender }
         ensures rest { self.new ≡ record self.old {
           sender = self.new.sender;
           congestion = self.new.congestion;
+          rto = self.new.rto;
+          measured = self.new.measured;
           is_fast = self.new.is_fast;
           has_lost = self.new.has_lost;
         } }
@@ -254,6 +281,7 @@ impl Outbound {
             before = sack.cumulative_tsn_ack.wrapping_add(u32::from(block.end));
         }
         if self.sender.add_miss_indications(before) > 0 {
+            self.measure_again(released, now);
             let acked = self.sender.acked_tsn();
             self.congestion
                 .lost(acked, self.sender.next_tsn().wrapping_sub(1));
