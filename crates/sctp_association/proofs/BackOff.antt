@@ -13,17 +13,10 @@ use Rattle.sctp_path.specs.Timers.{is_due, is_passed, one_more}
 use Rattle.sctp_reset.specs.Own.{has_failed}
 use Rattle.sctp_reset.specs.Requests.{Requests}
 
-doubled-by : (t : Bool) (a b : Timeout) → (t ≡ false → b ≡ a) → (t ≡ true → b ≡ after_back_off a) → b ≡ doubled_where t a
-doubled-by true a b waits runs = runs refl
-doubled-by false a b waits runs = waits refl
-
-counted-by : (t : Bool) (a b : Failures) → (t ≡ false → b ≡ a) → (t ≡ true → b ≡ one_more a) → b ≡ counted_where t a
-counted-by true a b waits runs = runs refl
-counted-by false a b waits runs = waits refl
-
-fails-by : (t r : Bool) (f : Failures) → (t ≡ false → r ≡ false) → (t ≡ true → r ≡ is_passed f) → r ≡ t && is_passed f
-fails-by true r f waits runs = runs refl
-fails-by false r f waits runs = waits refl
+-- what comes by a flag, where that is known
+chosen : {X : Type 0} (t : Bool) (f : Bool → X) (x : X) → (t ≡ false → x ≡ f false) → (t ≡ true → x ≡ f true) → x ≡ f t
+chosen true f x waits runs = runs refl
+chosen false f x waits runs = waits refl
 
 -- it is not answered alike where requests, HEARTBEATs and the state are alike
 pub unanswered_same : (now rto : ℕ) (a b : Association) → b.requests ≡ a.requests → b.heartbeat ≡ a.heartbeat
@@ -43,18 +36,19 @@ module _ (now : ℕ) (old : Association) (mid out : Outbound) (r : Bool) (same :
   at-same = ap (λ (o : Outbound). o.timer.at) same
 
   rto-behind : out.rto ≡ rto_behind now old
-  rto-behind = doubled-by (is_due now mid.timer.at) mid.rto out.rto (λ is. ap (λ (o : Outbound). o.rto) (waits is).1) backed
+  rto-behind = chosen (is_due now mid.timer.at) (λ t. doubled_where t mid.rto) out.rto (λ is. ap (λ (o : Outbound). o.rto) (waits is).1) backed
       ∙ (ap (λ (at : Option ℕ). doubled_where (is_due now at) mid.rto) at-same
       ∙ ap (λ (t : Timeout). doubled_where (is_due now old.outbound.timer.at) t) rto)
 
   failures-behind : out.failures ≡ failures_behind now old
   failures-behind =
-      counted-by (is_due now mid.timer.at) mid.failures out.failures (λ is. ap (λ (o : Outbound). o.failures) (waits is).1) (λ is. (counted is).0)
+      chosen (is_due now mid.timer.at) (λ t. counted_where t mid.failures) out.failures (λ is. ap (λ (o : Outbound). o.failures) (waits is).1)
+      (λ is. (counted is).0)
       ∙ (ap (λ (at : Option ℕ). counted_where (is_due now at) mid.failures) at-same
       ∙ ap (λ (o : Outbound). counted_where (is_due now old.outbound.timer.at) o.failures) same)
 
   fails-behind : r ≡ t3_fails now old
-  fails-behind = fails-by (is_due now mid.timer.at) r out.failures (λ is. (waits is).0) (λ is. (counted is).1)
+  fails-behind = chosen (is_due now mid.timer.at) (λ t. t && is_passed out.failures) r (λ is. (waits is).0) (λ is. (counted is).1)
       ∙ (ap (λ (at : Option ℕ). is_due now at && is_passed out.failures) at-same
       ∙ ap (λ (f : Failures). is_due now old.outbound.timer.at && is_passed f) failures-behind)
 

@@ -1,10 +1,9 @@
 -- What begins by what is told, and what does not.
-use Rattle.std.proofs.Common.{◌≡◌, true, Option, Some, None, ap, sym, subst, ◌∙◌}
+use Rattle.std.proofs.Common.{◌≡◌, true, Option, Some, None, ap, refl, sym, subst, ◌∙◌}
+use Rattle.std.specs.Prelude.{◌≢◌}
 use Rattle.sctp_association.specs.Arrivals.{Does, Halves}
 use Rattle.sctp_association.specs.Beginnings.{Begins, BeginsBy, begins_by}
-use Rattle.sctp_association.specs.declared.association.Association.{Association}
 use Rattle.sctp_association.specs.declared.config.Config.{Config}
-use Rattle.sctp_association.specs.Halves.{HalvesAlike, halves_of}
 use Rattle.sctp_handshake.specs.Endings.{on_shutdown, on_shutdown_ack, on_shutdown_asked, on_shutdown_complete, shutdown_ack_row}
 use Rattle.sctp_handshake.specs.Endings.{shutdown_asked_row, shutdown_complete_row, shutdown_row}
 use Rattle.sctp_handshake.specs.Timeouts.{on_packet_arrived, packet_arrived_row}
@@ -36,10 +35,6 @@ shutdown-quiet : (s : State) (m n : Machine) (c : Config) (x y : Halves) → Beg
 shutdown-quiet Closed m n c x y b = b
 shutdown-quiet _ m n c x y b = b
 
-asked-quiet : (s : State) (m n : Machine) (c : Config) (x y : Halves) → BeginsBy (shutdown_asked_row s m).answer.told n c x y → y ≡ x
-asked-quiet CookieWait m n c x y b = b
-asked-quiet _ m n c x y b = b
-
 shutdown-ack-quiet : (s : State) (m n : Machine) (c : Config) (x y : Halves) → BeginsBy (shutdown_ack_row s m).answer.told n c x y → y ≡ x
 shutdown-ack-quiet Closed m n c x y b = b
 shutdown-ack-quiet _ m n c x y b = b
@@ -59,9 +54,6 @@ module _ (m n : Machine) (c : Config) (x y : Halves) (a : Answer) (begun : Begin
   pub quiet_shutdown : a ≡ (on_shutdown m).answer → y ≡ x
   quiet_shutdown e = shutdown-quiet m.state m n c x y (told-as (on_shutdown m).answer e)
 
-  pub quiet_asked : a ≡ (on_shutdown_asked m).answer → y ≡ x
-  quiet_asked e = asked-quiet m.state m n c x y (told-as (on_shutdown_asked m).answer e)
-
   pub quiet_shutdown_ack : a ≡ (on_shutdown_ack m).answer → y ≡ x
   quiet_shutdown_ack e = shutdown-ack-quiet m.state m n c x y (told-as (on_shutdown_ack m).answer e)
 
@@ -71,8 +63,10 @@ module _ (m n : Machine) (c : Config) (x y : Halves) (a : Answer) (begun : Begin
   pub quiet_arrived : a ≡ (on_packet_arrived true m).answer → y ≡ x
   quiet_arrived e = arrived-quiet m.state m n c x y (told-as (on_packet_arrived true m).answer e)
 
-pub halves_alike : (a b : Association) → halves_of b ≡ halves_of a → HalvesAlike a b
-halves_alike a b e = record { sender = ap (λ h. h.sender) e; receiver = ap (λ h. h.receiver) e }
+asked-told : (s : State) (m : Machine) → s ≢ CookieWait → (shutdown_asked_row s m).answer.told ≡ None
+asked-told CookieWait m other = absurd (other refl)
+asked-told _ m other = refl
 
-pub alike_then : (a b c : Association) → HalvesAlike a b → HalvesAlike b c → HalvesAlike a c
-alike_then a b c h k = record { sender = k.sender ∙ h.sender; receiver = k.receiver ∙ h.receiver }
+-- nothing begins or ends by a shutdown that is asked for behind the handshake
+pub asked_told : (m : Machine) (a : Answer) → m.state ≢ CookieWait → a ≡ (on_shutdown_asked m).answer → a.told ≡ None
+asked_told m a other e = ap (λ (k : Answer). k.told) e ∙ asked-told m.state m other

@@ -2,7 +2,7 @@
 use Rattle.std.proofs.Common.{◌≡◌, ℕ, true, false, List, Option, Some, Result, Ok, ap, inl, inr, refl, sym, subst, ◌∙◌}
 use Rattle.std.proofs.lemmas.Bool.{false≢true}
 use Rattle.std.specs.Prelude.{◌⊎◌, Err, IfOk, OnOk}
-use Rattle.sctp_association.specs.Coming.{FollowsData, HasComeOrIsDropped, TakesDataAt}
+use Rattle.sctp_association.specs.Coming.{FollowsData, HasTakenData, TakesDataAt}
 use Rattle.sctp_association.specs.Halves.{receiver_of}
 use Rattle.sctp_association.specs.declared.association.Association.{Association}
 use Rattle.sctp_association.specs.Steps.{is_accepted}
@@ -20,15 +20,19 @@ use Rattle.sctp_receiver.specs.declared.receiver.refusal.ReceiverRefusal.TheVari
 pub if_ok : {T E : Type 0} (P : T → Type 0) (r : Result T E) (x : T) → r ≡ Ok x → IfOk r P → P x
 if_ok P r x e h = subst (λ s. IfOk s P) e h
 
-pub takes_still : (at : ℕ) (d : List ℕ) (a b : Association) → receiver_of b.inbound ≡ receiver_of a.inbound → TakesDataAt at d a → TakesDataAt at d b
-takes_still at d a b e t = record { chunk = t.chunk; reads = t.reads; taken = subst (HasComeOrIsDropped t.chunk) (sym e) t.taken }
+pub takes_still : (at : ℕ) (d : List ℕ) (old a b : Association) → receiver_of b.inbound ≡ receiver_of a.inbound → TakesDataAt at d old a
+    → TakesDataAt at d old b
+takes_still at d old a b e t = subst (HasTakenData at d old.inbound) (sym e) t
 
-pub follows_data : (at : ℕ) (d : List ℕ) (s : Step) (a : Association) → (s ≡ Next → TakesDataAt at d a) → (s ≡ Stop → a.is_over ≡ true)
-    → FollowsData at d s a
-follows_data at d Next a next stop = next refl
-follows_data at d Stop a next stop = stop refl
-follows_data at d Cut a next stop = tt
-follows_data at d (Refused r) a next stop = tt
+pub follows_data : (at : ℕ) (d : List ℕ) (s : Step) (a b : Association) → (s ≡ Next → TakesDataAt at d a b) → (s ≡ Stop → b.is_over ≡ true)
+    → FollowsData at d s a b
+follows_data at d Next a b next stop = next refl
+follows_data at d Stop a b next stop = stop refl
+follows_data at d Cut a b next stop = tt
+follows_data at d (Refused r) a b next stop = tt
+
+pub followed : (at : ℕ) (d : List ℕ) (s : Step) (a b : Association) → s ≡ Next → FollowsData at d s a b → TakesDataAt at d a b
+followed at d s a b next h = subst (λ (k : Step). FollowsData at d k a b) next h
 
 pub refused_for : (reason : Option ReceiverRefusal) (e : ReceiverRefusal) → (e ≡ OutOfMemory → ⊥) → IsRefusedFor reason e → reason ≡ Some e
 refused_for reason e not (inl h) = absurd (not h.0)

@@ -6,7 +6,8 @@ use Rattle.std.specs.Prelude.{◌==◌, ◌&&◌, not, IfOk, Result, Ok}
 use Rattle.sctp_association.proofs.Arriving.{follows_same, follows_then}
 use Rattle.sctp_association.proofs.Coming.{if_ok}
 use Rattle.sctp_association.specs.Arrivals.{Arrives, Does, Halves, IsBrought}
-use Rattle.sctp_association.specs.Coming.{GoesOn, HasTakenData, TakesDataAt, TakesDataOf, TakesEach, TakesEachOf, goes_on}
+use Rattle.sctp_association.specs.Coming.{GoesOn, IsAskedAt, IsAtEnd, IsTakenFrom, TakesDataOf, TakesEach, TakesEachOf, goes_on}
+use Rattle.sctp_association.specs.Entering.{usable_in}
 use Rattle.sctp_association.specs.Halves.{halves_of}
 use Rattle.sctp_association.specs.Once.{has_seen}
 use Rattle.sctp_association.specs.Tags.{is_admitted}
@@ -81,13 +82,6 @@ going_types typ e = elim (or_cases (typ == 0) _ e) [
   ]
 ]
 
--- DATA goes on
-pub no_data : (c : ChunkPlace) → goes_on c.typ ≡ false → c.typ ≡ 0 → ⊥
-no_data c other is = false≢true (sym other ∙ ap goes_on is)
-
-not-going : (typ : ℕ) (X : Type 0) → goes_on typ ≡ false → goes_on typ ≡ true → X
-not-going typ X other is = absurd (false≢true (sym other ∙ is))
-
 -- a chunk that goes on may stand in a packet with the own tag
 pub going_admitted : (c : ChunkPlace) (tag count : ℕ) (m : Machine) → goes_on c.typ ≡ true → tag ≡ m.own.tag → is_admitted c tag count m ≡ true
 going_admitted c tag count m going own = elim (going_types c.typ going) [
@@ -102,144 +96,133 @@ module _ (d : List ℕ) where
   pub arrives_then : (x y z : Halves) → Arrives d x y → Arrives d y z → Arrives d x z
   arrives_then x y z f g = follows_then (IsBrought d) Does x y z f g
 
-  pub each_before : (cs : List ChunkPlace) (x y z : Halves) → Arrives d x y → TakesEach cs d y z → TakesEach cs d x z
-  each_before [] x y z came each = tt
-  each_before (c ∷ cs) x y z came each = (
-    λ is. record {
-      moment = (each.0 is).moment;
-      before = arrives_then x y (each.0 is).moment came (each.0 is).before;
-      taken = (each.0 is).taken;
-      after = (each.0 is).after;
-    },
-    λ going. each_before cs x y z came (each.1 going),
-  )
-
-  -- the first one is taken, and then the others
-  pub each_next : (c : ChunkPlace) (cs : List ChunkPlace) (x y z : Halves) → Arrives d x y → (c.typ ≡ 0 → HasTakenData c.at d y.receiver) → Arrives d y z
-      → TakesEach cs d y z → TakesEach (c ∷ cs) d x z
-  each_next c cs x y z came has on each =
-      (λ is. record { moment = y; before = came; taken = has is; after = on }, λ going. each_before cs x y z came each)
-
-  -- behind another nothing is said
-  pub each_else : (c : ChunkPlace) (cs : List ChunkPlace) (x z : Halves) → goes_on c.typ ≡ false → TakesEach (c ∷ cs) d x z
-  each_else c cs x z not = (λ is. absurd (no_data c not is), λ going. not-going c.typ (TakesEach cs d x z) not going)
+  -- nothing changes
+  pub taken_same : (c : ChunkPlace) (a b : Association) → b ≡ a → (c.typ ≡ 0 → ⊥) → IsTakenFrom c d a b
+  taken_same c a b e not = record {
+    calls = follows_same (IsAskedAt c.at d) Does (halves_of a) (halves_of b) (ap halves_of e);
+    usable = λ s usable. inl (ap (λ (x : Association). usable_in s x.inbound) e ∙ usable);
+    comes = λ is. absurd (not is);
+  }
 
 -- ## What is owed behind some of the chunks
 
 -- DATA is taken still, and where each chunk that is left is taken, each one is; or a chunk came that does not go on
-pub data Owed (tag : ℕ) (d : List ℕ) (left : List ChunkPlace) (a : Association) (all : List ChunkPlace) (old : Halves) : Type 0 where
-  goes : TakesDataOf tag a → ((z : Halves) → Arrives d (halves_of a) z → TakesEach left d (halves_of a) z → TakesEach all d old z)
-      → Owed tag d left a all old
-  ended : ((z : Halves) → Arrives d (halves_of a) z → TakesEach all d old z) → Owed tag d left a all old
+pub data Owed (tag : ℕ) (d : List ℕ) (left : List ChunkPlace) (a : Association) (all : List ChunkPlace) (old : Association) : Type 0 where
+  goes : TakesDataOf tag a → ((z : Association) → TakesEach left d a z → TakesEach all d old z) → Owed tag d left a all old
+  ended : ((z : Association) → Arrives d (halves_of a) (halves_of z) → TakesEach all d old z) → Owed tag d left a all old
 
-pub owed_first : (tag : ℕ) (d : List ℕ) (all : List ChunkPlace) (a : Association) → TakesDataOf tag a → Owed tag d all a all (halves_of a)
-owed_first tag d all a takes = goes takes (λ z came each. each)
+pub owed_first : (tag : ℕ) (d : List ℕ) (all : List ChunkPlace) (a : Association) → TakesDataOf tag a → Owed tag d all a all a
+owed_first tag d all a takes = goes takes (λ z each. each)
+
+stays-there : (d : List ℕ) (x : Halves) → Arrives d x x
+stays-there d x = follows_same (IsBrought d) Does x x refl
 
 -- none is left
-pub owed_none : (tag : ℕ) (d : List ℕ) (left all : List ChunkPlace) (a : Association) (old : Halves) → left ≡ [] → Owed tag d left a all old
-    → TakesEach all d old (halves_of a)
+pub owed_none : (tag : ℕ) (d : List ℕ) (left all : List ChunkPlace) (a old : Association) → left ≡ [] → Owed tag d left a all old → TakesEach all d old a
 owed_none tag d left all a old none (goes takes f) =
-    let P : List ChunkPlace → Type 0 = λ l. TakesEach l d (halves_of a) (halves_of a) in
-    f (halves_of a) (follows_same (IsBrought d) Does (halves_of a) (halves_of a) refl) (subst P (sym none) tt)
-owed_none tag d left all a old none (ended f) = f (halves_of a) (follows_same (IsBrought d) Does (halves_of a) (halves_of a) refl)
+    let P : List ChunkPlace → Type 0 = λ l. TakesEach l d a a in
+    f a (subst P (sym none) (record { halves = refl; usable = λ s. refl }))
+owed_none tag d left all a old none (ended f) = f a (stays-there d (halves_of a))
 
-module _ (tag : ℕ) (d : List ℕ) (c : ChunkPlace) (cs : List ChunkPlace) (a b : Association) (all : List ChunkPlace) (old : Halves) where
+module _ (tag : ℕ) (d : List ℕ) (c : ChunkPlace) (cs : List ChunkPlace) (a b : Association) (all : List ChunkPlace) (old : Association) where
   -- what is no DATA is passed over
   pub owed_passed : (c.typ ≡ 0 → ⊥) → b ≡ a → Owed tag d (c ∷ cs) a all old → Owed tag d cs b all old
   owed_passed not same owed = subst (λ (x : Association). Owed tag d cs x all old) (sym same) (passed owed)
     where
       passed : Owed tag d (c ∷ cs) a all old → Owed tag d cs a all old
-      passed (goes takes f) = goes takes (λ z came each. f z came (λ is. absurd (not is), λ going. each))
+      passed (goes takes f) = goes takes (λ z each. f z (inr (a, (taken_same d c a a refl not, each))))
       passed (ended f) = ended f
 
-  -- a chunk comes that does not go on
-  pub owed_else : goes_on c.typ ≡ false → Arrives d (halves_of a) (halves_of b) → Owed tag d (c ∷ cs) a all old
-      → (z : Halves) → Arrives d (halves_of b) z → TakesEach all d old z
-  owed_else not came (goes takes f) = λ z on. f z (arrives_then d _ _ z came on) (each_else d c cs (halves_of a) z not)
-  owed_else not came (ended f) = λ z on. f z (arrives_then d _ _ z came on)
+  module _ (came : Arrives d (halves_of a) (halves_of b)) where
+    -- a chunk comes that does not go on
+    owed-else : goes_on c.typ ≡ false → Owed tag d (c ∷ cs) a all old → (z : Association) → Arrives d (halves_of b) (halves_of z) → TakesEach all d old z
+    owed-else not (goes takes f) = λ z on. f z (inl (not, arrives_then d _ _ _ came on))
+    owed-else not (ended f) = λ z on. f z (arrives_then d _ _ _ came on)
 
-  -- it is taken
-  pub owed_taken : Arrives d (halves_of a) (halves_of b) → TakesDataOf tag b → (c.typ ≡ 0 → TakesDataAt c.at d b) → Owed tag d (c ∷ cs) a all old
-      → Owed tag d cs b all old
-  owed_taken came takes has (goes t f) =
-      goes takes (λ z on each. f z (arrives_then d _ _ z came on) (each_next d c cs (halves_of a) (halves_of b) z came has on each))
-  owed_taken came takes has (ended f) = ended (λ z on. f z (arrives_then d _ _ z came on))
+    -- it is taken
+    owed-taken : TakesDataOf tag b → IsTakenFrom c d a b → Owed tag d (c ∷ cs) a all old → Owed tag d cs b all old
+    owed-taken takes taken (goes t f) = goes takes (λ z each. f z (inr (b, (taken, each))))
+    owed-taken takes taken (ended f) = ended (λ z on. f z (arrives_then d _ _ _ came on))
 
-  module _ (r : Result Step Fault) (came : Arrives d (halves_of a) (halves_of b))
-      (on : TakesDataOf tag a → goes_on c.typ ≡ true → IfOk r (λ s. GoesOn c tag d s b)) where
-    next-by : (g : Bool) → goes_on c.typ ≡ g → r ≡ Ok Next → Owed tag d (c ∷ cs) a all old → Owed tag d cs b all old
-    next-by false is next owed = ended (owed_else is came owed)
-    next-by true is next (ended f) = ended (λ z more. f z (arrives_then d _ _ z came more))
-    next-by true is next (goes takes f) =
-        let went = if_ok (λ s. GoesOn c tag d s b) r Next next (on takes is) in
-        owed_taken came went.0 went.1 (goes takes f)
+    module _ (r : Result Step Fault) (on : TakesDataOf tag a → goes_on c.typ ≡ true → IfOk r (λ s. GoesOn c tag d s a b)) where
+      next-by : (g : Bool) → goes_on c.typ ≡ g → r ≡ Ok Next → Owed tag d (c ∷ cs) a all old → Owed tag d cs b all old
+      next-by false is next owed = ended (owed-else is owed)
+      next-by true is next (ended f) = ended (λ z more. f z (arrives_then d _ _ _ came more))
+      next-by true is next (goes takes f) =
+          let went = if_ok (λ s. GoesOn c tag d s a b) r Next next (on takes is) in
+          owed-taken went.0 went.1 (goes takes f)
 
-    -- the datagram goes on behind it
-    pub owed_next : r ≡ Ok Next → Owed tag d (c ∷ cs) a all old → Owed tag d cs b all old
-    owed_next next owed = next-by (goes_on c.typ) refl next owed
+      -- the datagram goes on behind it
+      pub owed_next : r ≡ Ok Next → Owed tag d (c ∷ cs) a all old → Owed tag d cs b all old
+      owed_next next owed = next-by (goes_on c.typ) refl next owed
 
-    stop-by : (g : Bool) → goes_on c.typ ≡ g → r ≡ Ok Stop → Owed tag d (c ∷ cs) a all old
-        → (b.is_over ≡ true) ⊎ TakesEach all d old (halves_of b)
-    stop-by false is stop owed = inr (owed_else is came owed (halves_of b) (follows_same (IsBrought d) Does (halves_of b) (halves_of b) refl))
-    stop-by true is stop (ended f) = inr (f (halves_of b) came)
-    stop-by true is stop (goes takes f) = inl (if_ok (λ s. GoesOn c tag d s b) r Stop stop (on takes is))
+      stop-by : (g : Bool) → goes_on c.typ ≡ g → r ≡ Ok Stop → Owed tag d (c ∷ cs) a all old → TakesEachOf all d old b
+      stop-by false is stop owed = inr (owed-else is owed b (stays-there d (halves_of b)))
+      stop-by true is stop (ended f) = inr (f b came)
+      stop-by true is stop (goes takes f) = inl (if_ok (λ s. GoesOn c tag d s a b) r Stop stop (on takes is))
 
-    -- nothing behind it is looked at
-    pub owed_stop : r ≡ Ok Stop → Owed tag d (c ∷ cs) a all old → (b.is_over ≡ true) ⊎ TakesEach all d old (halves_of b)
-    owed_stop stop owed = stop-by (goes_on c.typ) refl stop owed
+      -- nothing behind it is looked at
+      pub owed_stop : r ≡ Ok Stop → Owed tag d (c ∷ cs) a all old → TakesEachOf all d old b
+      owed_stop stop owed = stop-by (goes_on c.typ) refl stop owed
 
-    refused-by : (g : Bool) → goes_on c.typ ≡ g → (TakesDataOf tag a → goes_on c.typ ≡ true → ⊥) → Owed tag d (c ∷ cs) a all old
-        → TakesEach all d old (halves_of b)
-    refused-by false is never owed = owed_else is came owed (halves_of b) (follows_same (IsBrought d) Does (halves_of b) (halves_of b) refl)
-    refused-by true is never (ended f) = f (halves_of b) came
-    refused-by true is never (goes takes f) = absurd (never takes is)
+      refused-by : (g : Bool) → goes_on c.typ ≡ g → (TakesDataOf tag a → goes_on c.typ ≡ true → ⊥) → Owed tag d (c ∷ cs) a all old → TakesEach all d old b
+      refused-by false is never owed = owed-else is owed b (stays-there d (halves_of b))
+      refused-by true is never (ended f) = f b came
+      refused-by true is never (goes takes f) = absurd (never takes is)
 
-    -- it is refused
-    pub owed_refused : (TakesDataOf tag a → goes_on c.typ ≡ true → ⊥) → Owed tag d (c ∷ cs) a all old → TakesEach all d old (halves_of b)
-    owed_refused never owed = refused-by (goes_on c.typ) refl never owed
+      -- it is refused
+      pub owed_refused : (TakesDataOf tag a → goes_on c.typ ≡ true → ⊥) → Owed tag d (c ∷ cs) a all old → TakesEach all d old b
+      owed_refused never owed = refused-by (goes_on c.typ) refl never owed
 
 next-refused : (x : Reason) → Next ≡ Refused x → ⊥
 next-refused x e = cc
 
 -- what is refused and passed over goes on
-pub past_goes : (c : ChunkPlace) (tag : ℕ) (d : List ℕ) (r : Reason) (s : Step) (b : Association) → TakesDataOf tag b
-    → GoesOn c tag d (Refused r) b → (r ≡ Unexpected → s ≡ Next) → GoesOn c tag d s b
-past_goes c tag d r s b takes was past = subst (λ (k : Step). GoesOn c tag d k b) (sym (past was.0)) (takes, λ is. absurd (was.1 is))
+pub past_goes : (c : ChunkPlace) (tag : ℕ) (d : List ℕ) (r : Reason) (s : Step) (a b : Association) → TakesDataOf tag a → b ≡ a
+    → GoesOn c tag d (Refused r) a b → (r ≡ Unexpected → s ≡ Next) → GoesOn c tag d s a b
+past_goes c tag d r s a b takes same was past =
+    subst (λ (k : Step). GoesOn c tag d k a b) (sym (past was.0)) (subst (TakesDataOf tag) (sym same) takes, taken_same d c a b same was.1)
 
-pub past_never : (c : ChunkPlace) (tag : ℕ) (d : List ℕ) (r x : Reason) (s : Step) (b : Association) → GoesOn c tag d (Refused r) b
+pub past_never : (c : ChunkPlace) (tag : ℕ) (d : List ℕ) (r x : Reason) (s : Step) (a b : Association) → GoesOn c tag d (Refused r) a b
     → (r ≡ Unexpected → s ≡ Next) → s ≡ Refused x → ⊥
-past_never c tag d r x s b was past is = next-refused x (sym (past was.0) ∙ is)
+past_never c tag d r x s a b was past is = next-refused x (sym (past was.0) ∙ is)
 
 -- ## The first chunk, and the others
 
 module _ (tag : ℕ) (d : List ℕ) (c : ChunkPlace) (cs : List ChunkPlace) (a b : Association) (r : Result Step Fault)
-    (on : goes_on c.typ ≡ true → IfOk r (λ s. GoesOn c tag d s b)) where
+    (on : goes_on c.typ ≡ true → IfOk r (λ s. GoesOn c tag d s a b)) (came : Arrives d (halves_of a) (halves_of b)) where
   first-stop-by : (g : Bool) → goes_on c.typ ≡ g → r ≡ Ok Stop → TakesEachOf (c ∷ cs) d a b
-  first-stop-by false is stop = inr (each_else d c cs (halves_of a) (halves_of b) is)
-  first-stop-by true is stop = inl (if_ok (λ s. GoesOn c tag d s b) r Stop stop (on is))
+  first-stop-by false is stop = inr (inl (is, came))
+  first-stop-by true is stop = inl (if_ok (λ s. GoesOn c tag d s a b) r Stop stop (on is))
 
   pub first_stop : r ≡ Ok Stop → TakesEachOf (c ∷ cs) d a b
   first_stop stop = first-stop-by (goes_on c.typ) refl stop
 
-  first-next-by : (g : Bool) → goes_on c.typ ≡ g → r ≡ Ok Next → Arrives d (halves_of a) (halves_of b) → (e : Association)
-      → Arrives d (halves_of b) (halves_of e) → (TakesDataOf tag b → TakesEachOf cs d b e) → TakesEachOf (c ∷ cs) d a e
-  first-next-by false is next came e more others = inr (each_else d c cs (halves_of a) (halves_of e) is)
-  first-next-by true is next came e more others =
-      let went = if_ok (λ s. GoesOn c tag d s b) r Next next (on is) in
+  first-next-by : (g : Bool) → goes_on c.typ ≡ g → r ≡ Ok Next → (e : Association) → Arrives d (halves_of b) (halves_of e)
+      → (TakesDataOf tag b → TakesEachOf cs d b e) → TakesEachOf (c ∷ cs) d a e
+  first-next-by false is next e more others = inr (inl (is, arrives_then d _ _ _ came more))
+  first-next-by true is next e more others =
+      let went = if_ok (λ s. GoesOn c tag d s a b) r Next next (on is) in
       elim (others went.0) [
         | inl over ↦ inl over
-        | inr each ↦ inr (each_next d c cs (halves_of a) (halves_of b) (halves_of e) came went.1 more each)
+        | inr each ↦ inr (inr (b, (went.1, each)))
       ]
 
-  pub first_next : r ≡ Ok Next → Arrives d (halves_of a) (halves_of b) → (e : Association) → Arrives d (halves_of b) (halves_of e)
+  pub first_next : r ≡ Ok Next → (e : Association) → Arrives d (halves_of b) (halves_of e)
       → (TakesDataOf tag b → TakesEachOf cs d b e) → TakesEachOf (c ∷ cs) d a e
-  first_next next came e more others = first-next-by (goes_on c.typ) refl next came e more others
+  first_next next e more others = first-next-by (goes_on c.typ) refl next e more others
 
 -- the datagram has ended
-pub each_ended : (cs : List ChunkPlace) (d : List ℕ) (a b e : Association) → e.is_over ≡ b.is_over → halves_of e ≡ halves_of b
-    → TakesEachOf cs d a b → TakesEachOf cs d a e
-each_ended cs d a b e over same (inl is) = inl (over ∙ is)
-each_ended cs d a b e over same (inr each) = inr (subst (λ (h : Halves). TakesEach cs d (halves_of a) h) (sym same) each)
+each-still : (cs : List ChunkPlace) (d : List ℕ) (a b e : Association) → IsAtEnd b e → TakesEach cs d a b → TakesEach cs d a e
+each-still [] d a b e end each = record { halves = end.halves ∙ each.halves; usable = λ s. end.usable s ∙ each.usable s }
+each-still (c ∷ cs) d a b e end (inl came) =
+    inl (came.0, subst (λ (h : Halves). Arrives d (halves_of a) h) (sym end.halves) came.1)
+each-still (c ∷ cs) d a b e end (inr on) = inr (on.0, (on.1.0, each-still cs d on.0 b e end on.1.1))
+
+pub each_ended : (cs : List ChunkPlace) (d : List ℕ) (a b e : Association) → e.is_over ≡ b.is_over → IsAtEnd b e → TakesEachOf cs d a b
+    → TakesEachOf cs d a e
+each_ended cs d a b e over end (inl is) = inl (over ∙ is)
+each_ended cs d a b e over end (inr each) = inr (each-still cs d a b e end each)
 
 -- one chunk fewer is left
 pub one_less : (n all : ℕ) (left rest : List ChunkPlace) (c : ChunkPlace) → left ≡ c ∷ rest → n + length left ≡ all → n + 1 + length rest ≡ all
@@ -252,7 +235,7 @@ first_same x y xs ys e = cc
 pub data_counts : (c : ChunkPlace) (o : Once) → (not (has_seen c.typ o) && not (c.typ == 10)) ≡ false → c.typ ≡ 0 → ⊥
 data_counts c o passed is = false≢true (sym passed ∙ ap (λ (t : ℕ). not (has_seen t o) && not (t == 10)) is)
 
-pub owed_at : (tag : ℕ) (d : List ℕ) (left rest : List ChunkPlace) (a : Association) (all : List ChunkPlace) (old : Halves) → left ≡ rest
+pub owed_at : (tag : ℕ) (d : List ℕ) (left rest : List ChunkPlace) (a : Association) (all : List ChunkPlace) (old : Association) → left ≡ rest
     → Owed tag d left a all old → Owed tag d rest a all old
 owed_at tag d left rest a all old e owed = subst (λ (l : List ChunkPlace). Owed tag d l a all old) e owed
 

@@ -85,14 +85,14 @@ type_of_one d rows t one f = elim (one-row d rows t.passed t.end one t.passes t.
 ]
 
 -- what DATA comes to
-pub only_data : (d : List ℕ) (rows : List ChunkPlace) (key : List ℕ) (m : Machine) (a : Association) → TellsAll place_at d rows → EndsWithFirst d
+pub only_data : (d : List ℕ) (rows : List ChunkPlace) (key : List ℕ) (m : Machine) (a b : Association) → TellsAll place_at d rows → EndsWithFirst d
     → first_type d ≡ 0 → AdmitsFirst d rows key m
-    → ((first : ChunkPlace) → rows ≡ first ∷ [] → first.typ ≡ 0 → (a.is_over ≡ true) ⊎ TakesDataAt first.at d a) → TakesOnlyData d a
-only_data d rows key m a t one typ admits f = elim (one-row d rows t.passed t.end one t.passes t.ended) [
+    → ((first : ChunkPlace) → rows ≡ first ∷ [] → first.typ ≡ 0 → (b.is_over ≡ true) ⊎ TakesDataAt first.at d a b) → TakesOnlyData d a b
+only_data d rows key m a b t one typ admits f = elim (one-row d rows t.passed t.end one t.passes t.ended) [
   | inl e ↦ absurd (none-first admits.first admits.rest (sym e.0 ∙ admits.are))
   | inr e ↦
       let place : e.0 ≡ place_at d 12 = first_place d (e.0 ∷ []) (rw (sym e.1) t) in
-      subst (λ (p : ChunkPlace). (a.is_over ≡ true) ⊎ TakesDataAt p.at d a) place (f e.0 e.1 (e.2 ∙ typ))
+      subst (λ (p : ChunkPlace). (b.is_over ≡ true) ⊎ TakesDataAt p.at d a b) place (f e.0 e.1 (e.2 ∙ typ))
 ]
 
 -- ## Whose datagram it is

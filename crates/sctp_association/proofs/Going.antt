@@ -1,10 +1,10 @@
 -- Chunks that are read whole, and states in which they are taken.
 use Rattle.std.proofs.Common.{◌≡◌, ◌⊎◌, ℕ, ◌≤◌, Bool, true, false, List, drop, Option, Some, None, refl, ap, sym, subst, ◌∙◌, inl, inr, arith}
 use Rattle.std.proofs.lemmas.Bool.{and_from, and_parts, cases_Bool, eqb-true, false≢true, or_cases}
-use Rattle.std.specs.Prelude.{◌==◌, ◌||◌, is_some, suc}
+use Rattle.std.specs.Prelude.{◌==◌, ◌||◌, is_some}
 use Rattle.crc32c.specs.Castagnoli.{crc32c_of}
 use Rattle.sctp_association.proofs.Each.{going_types}
-use Rattle.sctp_association.specs.Coming.{FollowsData, GoesOn, TakesDataOf, goes_on, is_due, zero_checksum_of}
+use Rattle.sctp_association.specs.Coming.{GoesOn, IsTakenFrom, TakesDataOf, goes_on, is_due, zero_checksum_of}
 use Rattle.sctp_association.specs.Halves.{receiver_of}
 use Rattle.sctp_association.specs.declared.association.Association.{Association}
 use Rattle.sctp_association.specs.declared.association.Reason.{Reason}
@@ -156,21 +156,17 @@ drained_told m a e = ap (λ (k : Answer). k.told) e ∙ drained-told m.state m
 
 -- ## What a chunk came to
 
--- of DATA
-pub goes_by_data : (c : ChunkPlace) (tag : ℕ) (d : List ℕ) (s : Step) (a : Association) → ((r : Reason) → s ≡ Refused r → ⊥)
-    → FollowsData c.at d s a → (s ≡ Next → TakesDataOf tag a) → GoesOn c tag d s a
-goes_by_data c tag d Next a never follows takes = (takes refl, λ is. follows)
-goes_by_data c tag d Stop a never follows takes = follows
-goes_by_data c tag d Cut a never follows takes = tt
-goes_by_data c tag d (Refused r) a never follows takes = absurd (never r refl)
-
--- of another one
-pub goes_by : (c : ChunkPlace) (n tag : ℕ) (d : List ℕ) (s : Step) (a : Association) → c.typ ≡ suc n → ((r : Reason) → s ≡ Refused r → r ≡ Unexpected)
-    → (s ≡ Stop → a.is_over ≡ true) → (s ≡ Next → TakesDataOf tag a) → GoesOn c tag d s a
-goes_by c n tag d Next a typ unexpected over takes = (takes refl, λ is. absurd (omega (arith, typ, is)))
-goes_by c n tag d Stop a typ unexpected over takes = over refl
-goes_by c n tag d Cut a typ unexpected over takes = tt
-goes_by c n tag d (Refused r) a typ unexpected over takes = (unexpected r refl, λ is. absurd (omega (arith, typ, is)))
+module _ (c : ChunkPlace) (tag : ℕ) (d : List ℕ) (s : Step) (a b : Association) where
+  pub goes_by : ((r : Reason) → s ≡ Refused r → (r ≡ Unexpected) × (c.typ ≡ 0 → ⊥)) → (s ≡ Stop → b.is_over ≡ true)
+      → (s ≡ Next → TakesDataOf tag b × IsTakenFrom c d a b) → GoesOn c tag d s a b
+  goes_by = by s
+    where
+      by : (s : Step) → ((r : Reason) → s ≡ Refused r → (r ≡ Unexpected) × (c.typ ≡ 0 → ⊥)) → (s ≡ Stop → b.is_over ≡ true)
+          → (s ≡ Next → TakesDataOf tag b × IsTakenFrom c d a b) → GoesOn c tag d s a b
+      by Next never over taken = taken refl
+      by Stop never over taken = over refl
+      by Cut never over taken = tt
+      by (Refused r) never over taken = never r refl
 
 -- ## A valid datagram
 

@@ -1,5 +1,5 @@
 -- What an input leaves of what the machine knows of its peer, and what of an association stays.
-use Rattle.std.proofs.Common.{◌≡◌, Bool, true, false, None, refl, ap, subst, sym, ◌∙◌}
+use Rattle.std.proofs.Common.{◌≡◌, Bool, true, false, Option, None, Some, refl, ap, subst, sym, ◌∙◌}
 use Rattle.std.proofs.lemmas.Bool.{false≢true}
 use Rattle.std.proofs.lemmas.Option.{none-some}
 use Rattle.std.specs.Prelude.{nat_lt, if◌then◌else◌}
@@ -215,8 +215,17 @@ unmoved_keeps a b u = record {
   owes = λ t e. sym (ap ticket_due u.alone) ∙ e;
 }
 
+-- what is due now was due, where nothing is due that was not
+pub was : (x y : Bool) → (x ≡ false → y ≡ false) → y ≡ true → x ≡ true
+was true y f e = refl
+was false y f e = absurd (false≢true (sym (f refl) ∙ e))
+
+pub still_none : {X : Type 0} (x y : Option X) → ((o : X) → y ≡ Some o → x ≡ Some o) → x ≡ None → y ≡ None
+still_none x None f e = refl
+still_none x (Some o) f e = absurd (none-some o (sym e ∙ f o refl))
+
 pub owes_alike : (d : Due) → OwesLess d d
-owes_alike d = record { cookie_ack = λ e. e; shutdown = λ e. e; shutdown_ack = λ e. e; heartbeat = λ e. e }
+owes_alike d = record { cookie_echo = λ e. e; cookie_ack = λ e. e; shutdown = λ e. e; shutdown_ack = λ e. e; heartbeat = λ info e. e }
 
 pub unmoved_same : (a : Association) → IsUnmoved a a
 unmoved_same a = record {
@@ -224,6 +233,7 @@ unmoved_same a = record {
   key = refl;
   machine = refl;
   alone = refl;
+  cookie = refl;
   events = refl;
   over = refl;
   failures = refl;
@@ -232,10 +242,11 @@ unmoved_same a = record {
 
 less_then : {d e f : Due} → OwesLess d e → OwesLess e f → OwesLess d f
 less_then h k = record {
+  cookie_echo = λ e. k.cookie_echo (h.cookie_echo e);
   cookie_ack = λ e. k.cookie_ack (h.cookie_ack e);
   shutdown = λ e. k.shutdown (h.shutdown e);
   shutdown_ack = λ e. k.shutdown_ack (h.shutdown_ack e);
-  heartbeat = λ e. k.heartbeat (h.heartbeat e);
+  heartbeat = λ info e. h.heartbeat info (k.heartbeat info e);
 }
 
 pub unmoved_then : (a b c : Association) → IsUnmoved a b → IsUnmoved b c → IsUnmoved a c
@@ -244,6 +255,7 @@ unmoved_then a b c f g = record {
   key = g.key ∙ f.key;
   machine = g.machine ∙ f.machine;
   alone = g.alone ∙ f.alone;
+  cookie = g.cookie ∙ f.cookie;
   events = g.events ∙ f.events;
   over = g.over ∙ f.over;
   failures = g.failures ∙ f.failures;

@@ -1,15 +1,26 @@
 -- What is due stays due, or leaves.
-use Rattle.std.proofs.Common.{◌≡◌, ◌⊎◌, inl, inr, ℕ, ◌+◌, ◌≤◌, ◌<◌, Bool, true, false, List, [], ◌∷◌, ◌++◌, refl, ap, sym, subst, ◌∙◌, append_assoc}
-use Rattle.std.proofs.Common.{arith, length}
+use Rattle.std.proofs.Common.{◌≡◌, ◌⊎◌, inl, inr, ℕ, ◌+◌, ◌≤◌, ◌<◌, Bool, true, false, List, [], ◌∷◌, ◌++◌, Option, refl, ap, sym, subst, ◌∙◌}
+use Rattle.std.proofs.Common.{append_assoc, arith, length}
 use Rattle.std.proofs.lemmas.Bool.{false≢true}
 use Rattle.std.proofs.lemmas.List.Elements.{Contains-append_right}
 use Rattle.sctp_association.proofs.Idle.{added_longer, longer_by_chunk}
+use Rattle.sctp_association.proofs.Known.{was}
+use Rattle.sctp_association.proofs.Offering.{packet_so}
 use Rattle.sctp_association.proofs.Putting.{adds_none, adds_then}
 use Rattle.sctp_association.specs.declared.association.Association.{Association}
-use Rattle.sctp_association.specs.Leaving.{IsSentIn, IsTooLong, IsTooLongIn, Leaves, LeavesInto, Replies, Stands}
-use Rattle.sctp_association.specs.Leaving.{replies_of}
-use Rattle.sctp_association.specs.Packets.{Adds, put_where, sum_of, with_chunks}
+use Rattle.sctp_association.specs.declared.due.Due.{Due}
+use Rattle.sctp_association.specs.Kept.{IsUnmoved}
+use Rattle.sctp_association.specs.Leaving.{DueBy, IsDueOnce, IsSentIn, IsTooLong, IsTooLongIn, Leaves, LeavesInto, Owed, OwesNothingNew}
+use Rattle.sctp_association.specs.Leaving.{Reaches, Replies, Stands, owed_of, replies_of}
+use Rattle.sctp_association.specs.Packets.{Adds, IsPacketOf, put_where, sum_of, with_chunks}
 use Rattle.sctp_chunks.specs.Wire.{HasEncoding, Wire}
+use Rattle.sctp_chunks.specs.Wire.{cookie_ack_chunk, cookie_echo_chunk, heartbeat_ack_chunk, init_chunk, shutdown_ack_chunk, shutdown_chunk}
+use Rattle.sctp_handshake.specs.Endings.{drained_row, on_drained}
+use Rattle.sctp_handshake.specs.Machines.{Takes}
+use Rattle.sctp_handshake.specs.declared.answer.Answer.{Answer}
+use Rattle.sctp_handshake.specs.declared.machine.Machine.{Machine}
+use Rattle.sctp_handshake.specs.declared.state.State.{State}
+use Rattle.sctp_handshake.specs.declared.state.State.TheVariants.{ShutdownAckSent, ShutdownPending, ShutdownReceived, ShutdownSent}
 use Rattle.sctp_packets.specs.Draft.{Draft, IsDraft, headed}
 use Rattle.sctp_packets.specs.declared.packet.CommonHeader.{CommonHeader}
 use Rattle.sctp_packets.specs.Packet.{Parts, packet_encoding, padded_encoding}
@@ -172,3 +183,98 @@ module _ (h : CommonHeader) (a b c d : Replies) (x y z : List ℕ) (begun : IsDr
           own = Contains-append_right s.before (w ∷ s.behind) w (0, omega arith, refl);
         },
       ))
+
+-- ## What is due once
+
+-- a SHUTDOWN or SHUTDOWN-ACK was due, or came to be
+due-or-reached : (x y z : Owed) (s : State) → z.state ≡ y.state → (P Q : Type 0) → (P → Q ⊎ Reaches s x y) → P ⊎ Reaches s y z → Q ⊎ Reaches s x z
+due-or-reached x y z s same P Q f (inl p) = or-so (λ r. (r.0, same ∙ r.1)) (f p)
+due-or-reached x y z s same P Q f (inr r) = absurd (r.0 (sym same ∙ r.1))
+
+-- before that only what shuts down was made due
+once-before : (x y z : Owed) → OwesNothingNew x y → z.state ≡ y.state → (w : Wire) → IsDueOnce y z w → IsDueOnce x z w
+once-before x y z o s (init_chunk i) h = absurd h
+once-before x y z o s (cookie_echo_chunk k) h = (o.cookie_echo h.0, sym o.cookie ∙ h.1, h.2)
+once-before x y z o s cookie_ack_chunk h = (o.cookie_ack h.0, h.1)
+once-before x y z o s (shutdown_chunk n) h = (due-or-reached x y z ShutdownSent s (y.due.shutdown ≡ true) (x.due.shutdown ≡ true) o.shutdown h.0, h.1)
+once-before x y z o s shutdown_ack_chunk h =
+    (due-or-reached x y z ShutdownAckSent s (y.due.shutdown_ack ≡ true) (x.due.shutdown_ack ≡ true) o.shutdown_ack h.0, h.1)
+once-before x y z o s (heartbeat_ack_chunk ps) h = (h.0, o.heartbeat h.0 h.1, h.2, h.3)
+once-before x y z o s _ h = tt
+
+pub once_after : (x y z : Owed) (bytes : List ℕ) → OwesNothingNew x y → z.state ≡ y.state → IsPacketOf (IsDueOnce y z) bytes
+    → IsPacketOf (IsDueOnce x z) bytes
+once_after x y z bytes o s p = packet_so (IsDueOnce y z) (IsDueOnce x z) (once-before x y z o s) bytes p
+
+-- ## What is due as the shutdown goes on
+
+pub nothing_new : (x y : Owed) → y ≡ x → OwesNothingNew x y
+nothing_new x y is = subst (OwesNothingNew x) (sym is) (record {
+  cookie_echo = λ e. e;
+  cookie_ack = λ e. e;
+  shutdown = λ e. inl e;
+  shutdown_ack = λ e. inl e;
+  heartbeat = λ info e. e;
+  cookie = refl;
+})
+
+-- where nothing moves
+pub new_unmoved : (a b : Association) → IsUnmoved a b → OwesNothingNew (owed_of a) (owed_of b)
+new_unmoved a b u = record {
+  cookie_echo = was a.due.cookie_echo b.due.cookie_echo u.due.cookie_echo;
+  cookie_ack = was a.due.cookie_ack b.due.cookie_ack u.due.cookie_ack;
+  shutdown = λ e. inl (was a.due.shutdown b.due.shutdown u.due.shutdown e);
+  shutdown_ack = λ e. inl (was a.due.shutdown_ack b.due.shutdown_ack u.due.shutdown_ack e);
+  heartbeat = u.due.heartbeat;
+  cookie = u.cookie;
+}
+
+pub new_then : (x y z : Owed) → OwesNothingNew x y → z.state ≡ y.state → OwesNothingNew y z → OwesNothingNew x z
+new_then x y z o s k = record {
+  cookie_echo = λ e. o.cookie_echo (k.cookie_echo e);
+  cookie_ack = λ e. o.cookie_ack (k.cookie_ack e);
+  shutdown = λ e. due-or-reached x y z ShutdownSent s (y.due.shutdown ≡ true) (x.due.shutdown ≡ true) o.shutdown (k.shutdown e);
+  shutdown_ack = λ e. due-or-reached x y z ShutdownAckSent s (y.due.shutdown_ack ≡ true) (x.due.shutdown_ack ≡ true) o.shutdown_ack (k.shutdown_ack e);
+  heartbeat = λ info e. o.heartbeat info (k.heartbeat info e);
+  cookie = k.cookie ∙ o.cookie;
+}
+
+pending≢sent : ShutdownPending ≡ ShutdownSent → ⊥
+pending≢sent e = cc
+
+received≢sent : ShutdownReceived ≡ ShutdownAckSent → ⊥
+received≢sent e = cc
+
+owes-row : (s : State) (m : Machine) (d e : Due) (k : Option (List ℕ)) → m.state ≡ s → DueBy (drained_row s m).answer.reply d e
+    → OwesNothingNew (record { due = d; cookie = k; state = m.state }) (record { due = e; cookie = k; state = (drained_row s m).machine.state })
+owes-row ShutdownPending m d e k is due =
+    let Q : Due → Type 0 = λ e. OwesNothingNew (record { due = d; cookie = k; state = m.state }) (record { due = e; cookie = k; state = ShutdownSent }) in
+    subst Q (sym due) (record {
+      cookie_echo = λ e. e;
+      cookie_ack = λ e. e;
+      shutdown = λ e. inr (λ sent. pending≢sent (sym is ∙ sent), refl);
+      shutdown_ack = λ e. inl e;
+      heartbeat = λ info e. e;
+      cookie = refl;
+    })
+owes-row ShutdownReceived m d e k is due =
+    let Q : Due → Type 0 = λ e. OwesNothingNew (record { due = d; cookie = k; state = m.state }) (record { due = e; cookie = k; state = ShutdownAckSent }) in
+    subst Q (sym due) (record {
+      cookie_echo = λ e. e;
+      cookie_ack = λ e. e;
+      shutdown = λ e. inl e;
+      shutdown_ack = λ e. inr (λ sent. received≢sent (sym is ∙ sent), refl);
+      heartbeat = λ info e. e;
+      cookie = refl;
+    })
+owes-row _ m d e k is due = nothing_new _ _ (ap (λ e. record { due = e; cookie = k; state = m.state }) due)
+
+-- as the machine is told that nothing waits or is in flight
+pub drained_owes : (a b : Association) (n : Machine) (r : Answer) → Takes (on_drained a.machine) n r → DueBy r.reply a.due b.due → b.machine ≡ n
+    → b.cookie ≡ a.cookie → OwesNothingNew (owed_of a) (owed_of b)
+drained_owes a b n r t due machine cookie =
+    let row = owes-row a.machine.state a.machine a.due b.due a.cookie refl (subst (λ (x : Answer). DueBy x.reply a.due b.due) t.answer due) in
+    let state : b.machine.state ≡ (on_drained a.machine).machine.state = ap (λ (m : Machine). m.state) (machine ∙ t.machine) in
+    let Q : State → Type 0 = λ s. OwesNothingNew (owed_of a) (record { due = b.due; cookie = a.cookie; state = s }) in
+    let R : Option (List ℕ) → Type 0 = λ k. OwesNothingNew (owed_of a) (record { due = b.due; cookie = k; state = b.machine.state }) in
+    subst R (sym cookie) (subst Q (sym state) row)

@@ -1,3 +1,4 @@
+pub mod Entering
 pub mod First
 pub mod BackOff
 pub mod Congested

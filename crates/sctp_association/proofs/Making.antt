@@ -6,7 +6,7 @@ use Rattle.std.specs.Option.{option_map}
 use Rattle.sctp_association.proofs.Putting.{adds_none, and_then, kept, puts_made, puts_none, puts_reported, there}
 use Rattle.sctp_association.proofs.Running.{dropped_each, none_sent, reported_once, sent_by, sent_then}
 use Rattle.sctp_association.specs.declared.outbound.Outbound.{Outbound}
-use Rattle.sctp_association.specs.Packets.{Adds, PutsIn, PutsOut, put_where, sides}
+use Rattle.sctp_association.specs.Packets.{Adds, IsNoReply, PutsIn, PutsOut, put_where, sides}
 use Rattle.sctp_association.specs.Runs.{Sends}
 use Rattle.sctp_association.specs.Sending.{may_drop}
 use Rattle.sctp_chunks.specs.Wire.{data_chunk, forward_tsn_chunk, sack_chunk}
@@ -178,7 +178,7 @@ none_dropped now a l same may h = false≢true (sym (ap (λ o. may_drop now o.se
 
 module _ (credit room : ℕ) (c : ChunkSelectiveAck) (r : Reception) (old new : List ℕ) (own : sack_of c ≡ sack_within credit room r) where
   reported : (b : Bool) → Adds (put_where b (sack_chunk (sack_of c))) old new → PutsIn r r old new
-  reported b added = puts_reported (makes_sack credit room) b (sack_chunk (sack_of c)) r r old new (refl, (refl, tt))
+  reported b added = puts_reported IsNoReply (makes_sack credit room) b (sack_chunk (sack_of c)) r r old new (refl, (refl, tt))
       (subst (λ s. Contains (s ∷ []) (sack_of c)) own (there (sack_of c))) tt added
 
   forgotten : (s : Reception) → s ≡ without_duplicates r → PutsIn r s new new

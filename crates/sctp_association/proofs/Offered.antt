@@ -45,6 +45,9 @@ module _ (d : List ℕ) where
   pub offered_alike : (a b : Association) → HalvesAlike a b → KeepsPeer a b → ArrivesAsOffered d a b
   offered_alike a b h k = offered_calls a b (came_alike d a b h) k
 
+  pub offered_halves : (a b : Association) → halves_of b ≡ halves_of a → KeepsPeer a b → ArrivesAsOffered d a b
+  offered_halves a b e k = offered_calls a b (came_same d (halves_of a) (halves_of b) e) k
+
   pub offered_same : (a b : Association) → b ≡ a → ArrivesAsOffered d a b
   offered_same a b e =
       let kept : IsKept a a = record { config = refl; key = refl; machine = refl; owes = λ t e. e } in

@@ -1,17 +1,19 @@
 -- Which INIT and INIT ACK a datagram of this side has.
 use Rattle.std.proofs.Common.{◌≡◌, ℕ, List, [], ◌∷◌, ◌++◌, Bool, Option, Some, None, ap, map, sym, subst, ◌∙◌, append_assoc}
 use Rattle.std.proofs.lemmas.List.{append-nil}
-use Rattle.std.specs.List.{AllByRecursion}
-use Rattle.sctp_association.proofs.Putting.{all_put}
+use Rattle.sctp_association.proofs.Known.{unmoved_then}
+use Rattle.sctp_association.proofs.Others.{alike_then}
+use Rattle.sctp_association.proofs.Putting.{adds_then, all_append, all_put, all_so}
 use Rattle.sctp_association.specs.declared.association.Association.{Association}
 use Rattle.sctp_association.specs.declared.due.Alone.{Alone}
 use Rattle.sctp_association.specs.declared.due.AloneKind.{AloneKind}
 use Rattle.sctp_association.specs.Halves.{HalvesAlike, PutsOthers}
 use Rattle.sctp_association.specs.Kept.{IsUnmoved}
 use Rattle.sctp_association.specs.Offering.{HasFirst, IsInitDue, IsInitOf, IsInitWith, IsLonger, IsOffering, IsReplyOf, OffersAsDue, PutsReply}
-use Rattle.sctp_association.specs.Packets.{Adds, IsNoInit, IsOf, IsPacketOf, put_where}
+use Rattle.sctp_association.specs.Leaving.{IsDueOnce, Owed, owed_of}
+use Rattle.sctp_association.specs.Packets.{Adds, IsOf, IsPacketOf, put_where}
 use Rattle.sctp_chunks.specs.Init.{Init}
-use Rattle.sctp_chunks.specs.Wire.{Wire, init_chunk}
+use Rattle.sctp_chunks.specs.Wire.{Wire, init_chunk, shutdown_ack_chunk}
 use Rattle.sctp_handshake.specs.declared.machine.Machine.{Machine}
 use Rattle.sctp_handshake.specs.declared.offer.Offer.{Offer}
 use Rattle.sctp_params.specs.declared.param.param_kind.ParamKind.{ParamKind}
@@ -20,17 +22,13 @@ use Rattle.sctp_params.specs.ParamKind.{parameter_of}
 
 -- ## Chunk by chunk
 
-all-of : {X : Type 0} (P Q : X → Type 0) → ((x : X) → P x → Q x) → (xs : List X) → AllByRecursion P xs → AllByRecursion Q xs
-all-of P Q f [] h = tt
-all-of P Q f (x ∷ xs) h = (f x h.0, all-of P Q f xs h.1)
+no-reply : (key : List ℕ) (m : Machine) (kind : AloneKind) (x y : Owed) (w : Wire) → IsDueOnce x y w → IsReplyOf key m kind w
+no-reply key m kind x y (init_chunk i) h = absurd h
+no-reply key m kind x y _ h = tt
 
-no-reply : (key : List ℕ) (m : Machine) (kind : AloneKind) (w : Wire) → IsNoInit w → IsReplyOf key m kind w
-no-reply key m kind (init_chunk i) h = absurd h
-no-reply key m kind _ h = tt
-
-no-offering : (a : Association) (w : Wire) → IsNoInit w → IsOffering a w
-no-offering a (init_chunk i) h = absurd h
-no-offering a _ h = tt
+no-offering : (a : Association) (x y : Owed) (w : Wire) → IsDueOnce x y w → IsOffering a w
+no-offering a x y (init_chunk i) h = absurd h
+no-offering a x y _ h = tt
 
 reply-offering : (a : Association) (due : Alone) → a.due.alone ≡ Some due → (w : Wire) → IsReplyOf a.key a.machine due.kind w → IsOffering a w
 reply-offering a due e (init_chunk i) h = subst (λ (o : Option Alone). IsInitDue a.key a.machine o i) (sym e) h
@@ -44,9 +42,25 @@ reply_others kind a b p = record {
   chunks = p.chunks;
   added = p.added;
   own = p.own;
-  replies = all-of IsNoInit (IsReplyOf a.key a.machine kind) (no-reply a.key a.machine kind) p.chunks p.plain;
+  replies = all_so (IsDueOnce (owed_of a) (owed_of b)) (IsReplyOf a.key a.machine kind) (no-reply a.key a.machine kind (owed_of a) (owed_of b))
+      p.chunks p.plain;
   kept = p.kept;
 }
+
+-- a SHUTDOWN-ACK first
+pub reply_shutting : (k : Bool) (kind : AloneKind) (a b c : Association) → Adds (put_where k shutdown_ack_chunk) a.draft.bytes b.draft.bytes
+    → HalvesAlike a b → IsUnmoved a b → PutsOthers b c → PutsReply kind a c
+reply_shutting k kind a b c added h u p =
+    let P : Wire → Type 0 = IsReplyOf a.key a.machine kind in
+    record {
+      halves = alike_then a b c h p.halves;
+      chunks = put_where k shutdown_ack_chunk ++ p.chunks;
+      added = adds_then (put_where k shutdown_ack_chunk) p.chunks a.draft.bytes b.draft.bytes c.draft.bytes added p.added;
+      own = all_append (IsOf [] []) (put_where k shutdown_ack_chunk) p.chunks (all_put (IsOf [] []) k shutdown_ack_chunk tt) p.own;
+      replies = all_append P (put_where k shutdown_ack_chunk) p.chunks (all_put P k shutdown_ack_chunk tt)
+          (all_so (IsDueOnce (owed_of b) (owed_of c)) P (no-reply a.key a.machine kind (owed_of b) (owed_of c)) p.chunks p.plain);
+      kept = unmoved_then a b c u p.kept;
+    }
 
 pub reply_init : (k : Bool) (i : Init) (kind : AloneKind) (a b : Association) → Adds (put_where k (init_chunk i)) a.draft.bytes b.draft.bytes
     → IsInitOf a.key a.machine kind i → HalvesAlike a b → IsUnmoved a b → PutsReply kind a b
@@ -61,22 +75,22 @@ reply_init k i kind a b added of h u = record {
 
 -- ## A datagram
 
-packet-of : (P Q : Wire → Type 0) → ((w : Wire) → P w → Q w) → (bytes : List ℕ) → IsPacketOf P bytes → IsPacketOf Q bytes
-packet-of P Q f bytes p = record {
+pub packet_so : (P Q : Wire → Type 0) → ((w : Wire) → P w → Q w) → (bytes : List ℕ) → IsPacketOf P bytes → IsPacketOf Q bytes
+packet_so P Q f bytes p = record {
   packet = p.packet;
   is_zero = p.is_zero;
   encoded = p.encoded;
   encodings = p.encodings;
   fits = p.fits;
-  own = all-of P Q f p.packet.chunks p.own;
+  own = all_so P Q f p.packet.chunks p.own;
 }
 
 pub offers_reply : (a : Association) (due : Alone) (bytes : List ℕ) → a.due.alone ≡ Some due
     → IsPacketOf (IsReplyOf a.key a.machine due.kind) bytes → OffersAsDue a bytes
-offers_reply a due bytes e p = packet-of (IsReplyOf a.key a.machine due.kind) (IsOffering a) (reply-offering a due e) bytes p
+offers_reply a due bytes e p = packet_so (IsReplyOf a.key a.machine due.kind) (IsOffering a) (reply-offering a due e) bytes p
 
-pub offers_none : (a : Association) (bytes : List ℕ) → IsPacketOf IsNoInit bytes → OffersAsDue a bytes
-offers_none a bytes p = packet-of IsNoInit (IsOffering a) (no-offering a) bytes p
+pub offers_none : (a : Association) (x y : Owed) (bytes : List ℕ) → IsPacketOf (IsDueOnce x y) bytes → OffersAsDue a bytes
+offers_none a x y bytes p = packet_so (IsDueOnce x y) (IsOffering a) (no-offering a x y) bytes p
 
 -- ## The parameters of an INIT
 

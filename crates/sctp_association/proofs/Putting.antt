@@ -1,11 +1,11 @@
 -- Chunks that are put behind others are of what calls answered.
-use Rattle.std.proofs.Common.{◌≡◌, ℕ, List, [], ◌∷◌, ◌++◌, Bool, true, false, refl, sym, subst, append_assoc, arith}
+use Rattle.std.proofs.Common.{◌≡◌, ℕ, List, [], ◌∷◌, ◌++◌, Bool, true, false, Some, refl, sym, subst, append_assoc, arith}
 use Rattle.std.proofs.lemmas.List.{append-nil}
 use Rattle.std.proofs.lemmas.List.Elements.{Contains-append_left, Contains-append_right}
 use Rattle.std.specs.Prelude.{Contains}
 use Rattle.std.specs.List.{AllByRecursion}
 use Rattle.sctp_association.proofs.Running.{none_in, none_sent, reported_in, reported_once, sent_by, sent_then}
-use Rattle.sctp_association.specs.Packets.{Adds, IsNoInit, IsOf, Puts, PutsIn, PutsOut, Sides, put_where, sides, with_chunks}
+use Rattle.sctp_association.specs.Packets.{Adds, IsNoReply, IsOf, Puts, PutsOf, PutsOut, Sides, put_where, sides, with_chunks}
 use Rattle.sctp_association.specs.Runs.{AcksBy, SendsBy, made_by, reported_by}
 use Rattle.sctp_chunks.specs.Wire.{Wire, data_chunk, forward_tsn_chunk, i_forward_tsn_chunk, sack_chunk, shutdown_chunk}
 use Rattle.sctp_chunks.specs.Wire.{abort_chunk, cookie_ack_chunk, cookie_echo_chunk, error_chunk, heartbeat_ack_chunk, heartbeat_chunk, init_chunk}
@@ -62,13 +62,17 @@ pub all_append : {X : Type 0} (P : X → Type 0) (xs ys : List X) → AllByRecur
 all_append P [] ys h k = k
 all_append P (x ∷ xs) ys h k = (h.0, all_append P xs ys h.1 k)
 
+pub all_so : {X : Type 0} (P Q : X → Type 0) → ((x : X) → P x → Q x) → (xs : List X) → AllByRecursion P xs → AllByRecursion Q xs
+all_so P Q f [] h = tt
+all_so P Q f (x ∷ xs) h = (f x h.0, all_so P Q f xs h.1)
+
 pub all_put : (P : Wire → Type 0) (b : Bool) (w : Wire) → P w → AllByRecursion P (put_where b w)
 all_put P true w h = (h, tt)
 all_put P false w h = tt
 
 -- ## Puts
 
-pub nothing : (s : Sides) → Puts s s
+pub nothing : {P : Wire → Type 0} (s : Sides) → PutsOf P s s
 nothing s = record {
   made = [];
   sacks = [];
@@ -80,8 +84,8 @@ nothing s = record {
   plain = tt;
 }
 
-pub and_then : (a b c : Sides) → Puts a b → Puts b c → Puts a c
-and_then a b c p q = record {
+pub and_so : (P Q R : Wire → Type 0) (a b c : Sides) → ((w : Wire) → P w → R w) → ((w : Wire) → Q w → R w) → PutsOf P a b → PutsOf Q b c → PutsOf R a c
+and_so P Q R a b c f g p q = record {
   made = q.made ++ p.made;
   sacks = q.sacks ++ p.sacks;
   chunks = p.chunks ++ q.chunks;
@@ -93,8 +97,11 @@ and_then a b c p q = record {
       (λ s h. Contains-append_right q.sacks p.sacks s h) p.chunks p.own)
       (all_of_more q.made (q.made ++ p.made) q.sacks (q.sacks ++ p.sacks) (λ m h. Contains-append_left q.made p.made m h)
       (λ s h. Contains-append_left q.sacks p.sacks s h) q.chunks q.own);
-  plain = all_append IsNoInit p.chunks q.chunks p.plain q.plain;
+  plain = all_append R p.chunks q.chunks (all_so P R f p.chunks p.plain) (all_so Q R g q.chunks q.plain);
 }
+
+pub and_then : (a b c : Sides) → Puts a b → Puts b c → Puts a c
+and_then a b c p q = and_so IsNoReply IsNoReply IsNoReply a b c (λ w h. h) (λ w h. h) p q
 
 -- where neither half changes, nor the packet
 pub kept : (t u : Transmission) (x y : List ℕ) → u ≡ t → y ≡ x → PutsOut t u x y
@@ -112,7 +119,7 @@ pub out_then : (t u v : Transmission) (x y z : List ℕ) → PutsOut t u x y →
 out_then t u v x y z p q r = and_then (sides t r x) (sides u r y) (sides v r z) (p r) (q r)
 
 -- a chunk that a call of the sender answers
-pub puts_made : (c : SenderCall) (b : Bool) (w : Wire) (t u : Transmission) (old new : List ℕ) → SendsBy c t u → IsOf (made_by c t) [] w → IsNoInit w
+pub puts_made : (c : SenderCall) (b : Bool) (w : Wire) (t u : Transmission) (old new : List ℕ) → SendsBy c t u → IsOf (made_by c t) [] w → IsNoReply w
     → Adds (put_where b w) old new → PutsOut t u old new
 puts_made c b w t u old new m of plain added r = record {
   made = made_by c t;
@@ -122,7 +129,7 @@ puts_made c b w t u old new m of plain added r = record {
   reported = none_in r;
   added = added;
   own = all_put (IsOf (made_by c t) []) b w of;
-  plain = all_put IsNoInit b w plain;
+  plain = all_put IsNoReply b w plain;
 }
 
 -- a call of the sender, of which no chunk is put
@@ -139,9 +146,9 @@ puts_none c t u b m r = record {
 }
 
 -- a chunk that a call of the receiver answers
-pub puts_reported : (c : ReceiverCall) (b : Bool) (w : Wire) (r s : Reception) (old new : List ℕ) → AcksBy c r s → IsOf [] (reported_by c r) w
-    → IsNoInit w → Adds (put_where b w) old new → PutsIn r s old new
-puts_reported c b w r s old new m of plain added t = record {
+pub puts_reported : (P : Wire → Type 0) (c : ReceiverCall) (b : Bool) (w : Wire) (r s : Reception) (old new : List ℕ) → AcksBy c r s
+    → IsOf [] (reported_by c r) w → P w → Adds (put_where b w) old new → (t : Transmission) → PutsOf P (sides t (Some r) old) (sides t (Some s) new)
+puts_reported P c b w r s old new m of plain added t = record {
   made = [];
   sacks = reported_by c r;
   chunks = put_where b w;
@@ -149,14 +156,14 @@ puts_reported c b w r s old new m of plain added t = record {
   reported = reported_once c r s m;
   added = added;
   own = all_put (IsOf [] (reported_by c r)) b w of;
-  plain = all_put IsNoInit b w plain;
+  plain = all_put P b w plain;
 }
 
 pub there : {X : Type 0} (x : X) → Contains (x ∷ []) x
 there x = (0, omega arith, refl)
 
 -- a SHUTDOWN acknowledges what a SACK would
-pub shutdown_put : (n : ℕ) (b : Bool) (r : Reception) (old new : List ℕ) → n ≡ r.cumulative_tsn → Adds (put_where b (shutdown_chunk n)) old new
-    → PutsIn r r old new
-shutdown_put n b r old new e added = puts_reported (makes_sack 0 16) b (shutdown_chunk n) r r old new (refl, (refl, tt))
-    (record { sack = sack_within 0 16 r; own = there (sack_within 0 16 r); cumulative = sym e }) tt added
+pub shutdown_put : (P : Wire → Type 0) (n : ℕ) (b : Bool) (r : Reception) (old new : List ℕ) → n ≡ r.cumulative_tsn → P (shutdown_chunk n)
+    → Adds (put_where b (shutdown_chunk n)) old new → (t : Transmission) → PutsOf P (sides t (Some r) old) (sides t (Some r) new)
+shutdown_put P n b r old new e plain added t = puts_reported P (makes_sack 0 16) b (shutdown_chunk n) r r old new (refl, (refl, tt))
+    (record { sack = sack_within 0 16 r; own = there (sack_within 0 16 r); cumulative = sym e }) plain added t

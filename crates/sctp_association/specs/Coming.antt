@@ -1,14 +1,16 @@
 -- What becomes of DATA that comes (RFC 9260 6.2), and of which packets something is taken.
 use Rattle.std.specs.Prelude.{◌≡◌, ◌⊎◌, ⊤, ℕ, ◌==◌, ◌&&◌, ◌||◌, if◌then◌else◌, Bool, true, false, List, [], ◌∷◌, drop, Option, Some, None, is_some}
 use Rattle.crc32c.specs.Castagnoli.{crc32c_of}
-use Rattle.sctp_association.specs.Arrivals.{Arrives, Halves}
+use Rattle.sctp_association.specs.Arrivals.{Arrival, Arrives, Asks, Does, Follows}
 use Rattle.sctp_association.specs.declared.association.Reason.TheVariants.{Unexpected}
 use Rattle.sctp_association.specs.declared.association.Association.{Association}
 use Rattle.sctp_association.specs.declared.association.arrivals.Step.{Step}
 use Rattle.sctp_association.specs.declared.association.arrivals.Step.TheVariants.{Next, Stop, Cut, Refused}
 use Rattle.sctp_association.specs.declared.config.Config.{Config}
+use Rattle.sctp_association.specs.declared.inbound.Inbound.{Inbound}
+use Rattle.sctp_association.specs.Entering.{IsDropped, IsHandledOn, IsTooLongOn, usable_in}
 use Rattle.sctp_association.specs.Halves.{halves_of, receiver_of}
-use Rattle.sctp_chunks.specs.Wire.{data_chunk}
+use Rattle.sctp_chunks.specs.Wire.{Wire, data_chunk}
 use Rattle.sctp_data.specs.declared.chunk.chunk_payload_data.ChunkPayloadData.{ChunkPayloadData}
 use Rattle.sctp_data.specs.PayloadData.{data_of}
 use Rattle.sctp_datagram.specs.declared.datagram.ChunkPlace.{ChunkPlace}
@@ -18,43 +20,37 @@ use Rattle.sctp_datagram.specs.Fault.{IsAccepted}
 use Rattle.sctp_datagram.specs.Framing.{StartsWith}
 use Rattle.sctp_datagram.specs.Places.{TellsAll, place_at}
 use Rattle.sctp_handshake.specs.States.{takes_data, takes_sacks}
-use Rattle.sctp_receiver.specs.Advice.{advice_for}
-use Rattle.sctp_receiver.specs.declared.advice.Advice.TheVariants.{Drop}
-use Rattle.sctp_receiver.specs.declared.receiver.refusal.ReceiverRefusal.{ReceiverRefusal}
-use Rattle.sctp_receiver.specs.Receiver.{Reception, arrival_refusal, filter_of}
+use Rattle.sctp_receiver.specs.Receiver.{Reception, filter_of}
 use Rattle.sctp_receiver.specs.TsnFilter.{has_come}
 use Rattle.sctp_util.specs.Field.{u16_at, u32_at}
-
--- the receiver refuses the chunk, and it is dropped: the peer sends it again
-pub record IsDropped (c : ChunkPayloadData) (r : Reception) : Type 0 where
-  pub refusal : ReceiverRefusal
-  pub refused : arrival_refusal c r ≡ Some refusal
-  pub advised : advice_for refusal c r ≡ Drop
 
 -- the TSN of the chunk has come, or the receiver refuses it still
 abbrev pub HasComeOrIsDropped : ChunkPayloadData → Option Reception → Type 0
 HasComeOrIsDropped c None = ⊥
 HasComeOrIsDropped c (Some r) = (has_come c.tsn (filter_of r) ≡ true) ⊎ IsDropped c r
 
--- so of the DATA chunk at a place of a datagram
-pub record HasTakenData (at : ℕ) (datagram : List ℕ) (r : Option Reception) : Type 0 where
+-- so of the DATA chunk at a place of a datagram. Where the peer may use its stream its user data entered, or its message is too long
+pub record HasTakenData (at : ℕ) (datagram : List ℕ) (i : Option Inbound) (r : Option Reception)
+    : Type 0 where
   pub chunk : ChunkPayloadData
   pub reads : StartsWith (drop at datagram) (data_chunk (data_of chunk))
   pub taken : HasComeOrIsDropped chunk r
+  pub entered : usable_in chunk.stream_identifier i ≡ true → IsHandledOn chunk (receiver_of i) r
 
-abbrev pub TakesDataAt : (at : ℕ) → List ℕ → Association → Type 0
-TakesDataAt at datagram a = HasTakenData at datagram (receiver_of a.inbound)
+abbrev pub TakesDataAt : (at : ℕ) → List ℕ → (old new : Association) → Type 0
+TakesDataAt at datagram old new =
+    HasTakenData at datagram old.inbound (receiver_of new.inbound)
 
 -- so it is where the datagram goes on, and where it ends there the association is over
-abbrev pub FollowsData : (at : ℕ) → List ℕ → Step → Association → Type 0
-FollowsData at datagram Next a = TakesDataAt at datagram a
-FollowsData at datagram Stop a = a.is_over ≡ true
-FollowsData at datagram Cut a = ⊤
-FollowsData at datagram (Refused r) a = ⊤
+abbrev pub FollowsData : (at : ℕ) → List ℕ → Step → (old new : Association) → Type 0
+FollowsData at datagram Next old new = TakesDataAt at datagram old new
+FollowsData at datagram Stop old new = new.is_over ≡ true
+FollowsData at datagram Cut old new = ⊤
+FollowsData at datagram (Refused r) old new = ⊤
 
 -- of a datagram that has only a DATA chunk
-abbrev pub TakesOnlyData : List ℕ → Association → Type 0
-TakesOnlyData datagram a = (a.is_over ≡ true) ⊎ TakesDataAt 12 datagram a
+abbrev pub TakesOnlyData : List ℕ → (old new : Association) → Type 0
+TakesOnlyData datagram old new = (new.is_over ≡ true) ⊎ TakesDataAt 12 datagram old new
 
 -- ## Each DATA chunk of a datagram
 
@@ -70,34 +66,54 @@ pub record TakesDataOf (tag : ℕ) (a : Association) : Type 0 where
 abbrev pub goes_on : ℕ → Bool
 goes_on typ = (typ == 0) || ((typ == 3) || (typ == 192))
 
--- At a moment while the datagram is taken the DATA chunk at a place has come, or the receiver refuses it, and it is dropped. Calls for chunks of the
--- datagram lead there, and on.
-pub record IsTakenIn (at : ℕ) (datagram : List ℕ) (old new : Halves) : Type 0 where
-  pub moment : Halves
-  pub before : Arrives datagram old moment
-  pub taken : HasTakenData at datagram moment.receiver
-  pub after : Arrives datagram moment new
+-- the chunk at this place of the datagram asks for the call
+pub record IsAskedAt (at : ℕ) (datagram : List ℕ) (a : Arrival) : Type 0 where
+  pub chunk : Wire
+  pub reads : StartsWith (drop at datagram) chunk
+  pub asks : Asks chunk a
 
--- so of each DATA chunk of these, up to the first chunk behind which the datagram does not go on
-abbrev pub TakesEach : List ChunkPlace → List ℕ → (old new : Halves) → Type 0
-TakesEach [] datagram old new = ⊤
+-- it is DATA on this stream, and its message is too long
+pub record IsShutBy (stream at : ℕ) (datagram : List ℕ) (old new : Association) : Type 0 where
+  pub chunk : ChunkPayloadData
+  pub reads : StartsWith (drop at datagram) (data_chunk (data_of chunk))
+  pub on : chunk.stream_identifier ≡ stream
+  pub long : IsTooLongOn chunk (receiver_of old.inbound) (receiver_of new.inbound)
+
+-- the peer may use each stream as before, but for that one
+abbrev pub MayUse : (at : ℕ) → List ℕ → (old new : Association) → Type 0
+MayUse at datagram old new =
+    (s : ℕ) → usable_in s old.inbound ≡ true
+    → (usable_in s new.inbound ≡ true) ⊎ IsShutBy s at datagram old new
+
+-- A chunk is taken: calls for it alone lead on, and DATA that it is has come, or is dropped.
+pub record IsTakenFrom (c : ChunkPlace) (datagram : List ℕ) (old new : Association) : Type 0 where
+  pub calls : Follows (IsAskedAt c.at datagram) Does (halves_of old) (halves_of new)
+  pub usable : MayUse c.at datagram old new
+  pub comes : c.typ ≡ 0 → TakesDataAt c.at datagram old new
+
+-- no call leads on, and the peer may use the same streams
+pub record IsAtEnd (old new : Association) : Type 0 where
+  pub halves : halves_of new ≡ halves_of old
+  pub usable : (s : ℕ) → usable_in s new.inbound ≡ usable_in s old.inbound
+
+-- Chunks are taken so one after another, up to the first one behind which the datagram does not go on. From there on calls for its chunks lead on.
+abbrev pub TakesEach : List ChunkPlace → List ℕ → (old new : Association) → Type 0
+TakesEach [] datagram old new = IsAtEnd old new
 TakesEach (c ∷ cs) datagram old new =
-    (c.typ ≡ 0 → IsTakenIn c.at datagram old new)
-    × (goes_on c.typ ≡ true → TakesEach cs datagram old new)
+    ((goes_on c.typ ≡ false) × Arrives datagram (halves_of old) (halves_of new))
+    ⊎ ((mid : Association) × (IsTakenFrom c datagram old mid × TakesEach cs datagram mid new))
 
 -- so it is, or the association is over
 abbrev pub TakesEachOf : List ChunkPlace → List ℕ → (old new : Association) → Type 0
 TakesEachOf chunks datagram old new =
-    (new.is_over ≡ true) ⊎ TakesEach chunks datagram (halves_of old) (halves_of new)
+    (new.is_over ≡ true) ⊎ TakesEach chunks datagram old new
 
--- A chunk that goes on is taken: then DATA is taken as before, and DATA that it is has come, or is dropped. It is passed over where it is not expected,
--- which DATA never is.
-abbrev pub GoesOn : ChunkPlace → (tag : ℕ) → List ℕ → Step → Association → Type 0
-GoesOn c tag datagram Next a =
-    TakesDataOf tag a × (c.typ ≡ 0 → TakesDataAt c.at datagram a)
-GoesOn c tag datagram Stop a = a.is_over ≡ true
-GoesOn c tag datagram Cut a = ⊤
-GoesOn c tag datagram (Refused r) a = (r ≡ Unexpected) × (c.typ ≡ 0 → ⊥)
+-- A chunk that goes on is taken: then DATA is taken as before. It is passed over where it is not expected, which DATA never is.
+abbrev pub GoesOn : ChunkPlace → (tag : ℕ) → List ℕ → Step → (old new : Association) → Type 0
+GoesOn c tag datagram Next old new = TakesDataOf tag new × IsTakenFrom c datagram old new
+GoesOn c tag datagram Stop old new = new.is_over ≡ true
+GoesOn c tag datagram Cut old new = ⊤
+GoesOn c tag datagram (Refused r) old new = (r ≡ Unexpected) × (c.typ ≡ 0 → ⊥)
 
 -- ## Packets that are not dropped
 

@@ -1,9 +1,9 @@
 -- What has room for new DATA as it leaves: the peer's window, and cwnd (RFC 9260 6.1 A, B, 7.2.3). Amounts are bytes.
-use Rattle.std.specs.Prelude.{◌≡◌, ◌⊎◌, ℕ, ◌+◌, ◌≤◌, true, List, [], length}
+use Rattle.std.specs.Prelude.{◌≡◌, ◌⊎◌, ℕ, ◌+◌, ◌<◌, ◌≤◌, true, List, [], length}
 use Rattle.sctp_association.specs.declared.outbound.Outbound.{Outbound}
 use Rattle.sctp_association.specs.Idle.{in_flight}
 use Rattle.sctp_association.specs.Runs.{Sends}
-use Rattle.sctp_association.specs.Sending.{flight_of}
+use Rattle.sctp_association.specs.Sending.{flight_of, lowered_times}
 use Rattle.sctp_data.specs.declared.chunk.chunk_payload_data.ChunkPayloadData.{ChunkPayloadData}
 use Rattle.sctp_outbound.specs.Outstanding.{outstanding_of}
 use Rattle.sctp_outbound.specs.payload_queue.PayloadQueue.{Payload, push_chunk}
@@ -30,22 +30,48 @@ pub record LastHadRoom (peer_window : ℕ) (c : Control) (f : Flight) : Type 0 w
 abbrev pub LeftWithin : Outbound → Type 0
 LeftWithin o = LastHadRoom o.peer_window o.congestion o.sender.flight
 
--- no chunk left that waited, and the windows are as they were
+-- ## The windows
+
+-- the peer's window and cwnd are as they were; what undoes a loss may differ
+pub record HasWindowsOf (old new : Outbound) : Type 0 where
+  pub peer_window : new.peer_window ≡ old.peer_window
+  pub congestion : new.congestion ≡ record old.congestion { undo = new.congestion.undo }
+
+-- the peer's window is as it was. So is cwnd, unless nothing was in flight: then it fell once for each of so many idle RTOs (7.2.1)
+pub record KeepsWindows (t : Transmission) (old new : Outbound) : Type 0 where
+  pub peer_window : new.peer_window ≡ old.peer_window
+  pub times : ℕ
+  pub congestion : new.congestion
+      ≡ record (lowered_times times old.congestion) { undo = new.congestion.undo }
+  pub idle : 0 < times → in_flight t ≡ []
+
+-- ## What leaves
+
+-- as many chunks are in flight, so none left that waited
+pub record IsAsMany (old new : Outbound) : Type 0 where
+  pub many : length (in_flight new.sender) ≡ length (in_flight old.sender)
+  pub windows : HasWindowsOf old new
+
+-- no chunk left
 pub record IsAsFull (old new : Outbound) : Type 0 where
   pub sender : new.sender ≡ old.sender
-  pub peer_window : new.peer_window ≡ old.peer_window
-  pub congestion : new.congestion ≡ old.congestion
+  pub windows : HasWindowsOf old new
 
--- or the last one that left had room
-abbrev pub StaysOrLeft : (old new : Outbound) → Type 0
-StaysOrLeft old new = IsAsFull old new ⊎ LeftWithin new
+-- no chunk left that waited, or the last one that left had room; and the windows stay
+pub record StaysOrLeft (old new : Outbound) : Type 0 where
+  pub left : (new.sender ≡ old.sender) ⊎ LeftWithin new
+  pub windows : HasWindowsOf old new
 
--- as many chunks are in flight, so none left that waited; or the last one that left had room
-abbrev pub LeavesWithin : Transmission → Outbound → Type 0
-LeavesWithin t o = (length (in_flight o.sender) ≡ length (in_flight t)) ⊎ LeftWithin o
+-- from this sender as many chunks are in flight, or the last one that left had room; and the windows stay
+pub record LeavesFrom (t : Transmission) (old new : Outbound) : Type 0 where
+  pub left : (length (in_flight new.sender) ≡ length (in_flight t)) ⊎ LeftWithin new
+  pub windows : KeepsWindows t old new
+
+abbrev pub LeavesWithin : (old new : Outbound) → Type 0
+LeavesWithin old new = LeavesFrom old.sender old new
 
 -- so it is behind calls that abandon, and make no chunk
-pub record SendsWithin (old : Transmission) (new : Outbound) : Type 0 where
+pub record SendsWithin (old new : Outbound) : Type 0 where
   pub mid : Transmission
-  pub dropped : Sends [] old mid
-  pub left : LeavesWithin mid new
+  pub dropped : Sends [] old.sender mid
+  pub left : LeavesFrom mid old new

@@ -6,8 +6,10 @@ use Rattle.sctp_association.specs.declared.association.Association.{Association}
 use Rattle.sctp_association.specs.declared.fault.Fault.{Fault}
 use Rattle.sctp_association.specs.declared.inbound.Inbound.{Inbound}
 use Rattle.sctp_association.specs.Arrivals.{Halves, halves, new_sender}
+use Rattle.sctp_association.specs.Congested.{HasWindowsOf}
 use Rattle.sctp_association.specs.Kept.{IsUnmoved}
-use Rattle.sctp_association.specs.Packets.{Adds, IsNoInit, IsOf, Sides, sides}
+use Rattle.sctp_association.specs.Leaving.{IsDueOnce, owed_of}
+use Rattle.sctp_association.specs.Packets.{Adds, IsOf, PutsOf, Sides, sides}
 use Rattle.sctp_chunks.specs.Wire.{Wire}
 use Rattle.sctp_path.specs.Congestion.{pmdcs_of}
 use Rattle.sctp_path.specs.Timers.{is_due}
@@ -25,18 +27,23 @@ sides_of a = sides a.outbound.sender (receiver_of a.inbound) a.draft.bytes
 abbrev pub halves_of : Association → Halves
 halves_of a = halves a.outbound.sender (receiver_of a.inbound)
 
--- neither half changes
+-- neither half changes, nor a window of what is sent
 pub record HalvesAlike (old new : Association) : Type 0 where
   pub sender : new.outbound.sender ≡ old.outbound.sender
   pub receiver : receiver_of new.inbound ≡ receiver_of old.inbound
+  pub windows : HasWindowsOf old.outbound new.outbound
 
--- and what was put is neither DATA nor FORWARD-TSN, SACK, SHUTDOWN or INIT. What the association begins by stays
+-- calls of both halves led on. What was put is no INIT, and each reply of it was due, and is due no more
+abbrev pub PutsDue : Association → Association → Type 0
+PutsDue old new = PutsOf (IsDueOnce (owed_of old) (owed_of new)) (sides_of old) (sides_of new)
+
+-- neither half changes, and what was put is neither DATA nor FORWARD-TSN, SACK, SHUTDOWN or INIT. What the association begins by stays
 pub record PutsOthers (old new : Association) : Type 0 where
   pub halves : HalvesAlike old new
   pub chunks : List Wire
   pub added : Adds chunks old.draft.bytes new.draft.bytes
   pub own : AllByRecursion (IsOf [] []) chunks
-  pub plain : AllByRecursion IsNoInit chunks
+  pub plain : AllByRecursion (IsDueOnce (owed_of old) (owed_of new)) chunks
   pub kept : IsUnmoved old new
 
 -- a datagram is there

@@ -1,11 +1,16 @@
 -- What is due stays due until a packet has its chunk, so that none of it is lost (RFC 9260 5.1, 8.3, 9.2).
-use Rattle.std.specs.Prelude.{◌≡◌, ◌⊎◌, ℕ, ◌+◌, ◌≤◌, Bool, true, List, [], ◌∷◌, ◌++◌, Contains, Option, Some, length}
+use Rattle.std.specs.Prelude.{◌≡◌, ◌≢◌, ◌⊎◌, ⊤, ℕ, ◌+◌, ◌≤◌, Bool, true, false, List, [], ◌∷◌, ◌++◌, Contains, Option, None, Some, length}
 use Rattle.std.specs.Option.{option_map}
 use Rattle.sctp_association.specs.declared.association.Association.{Association}
+use Rattle.sctp_association.specs.declared.due.Due.{Due}
 use Rattle.sctp_association.specs.declared.inbound.Inbound.{Inbound}
 use Rattle.sctp_association.specs.Packets.{Adds, sum_of}
 use Rattle.sctp_chunks.specs.Wire.{HasEncoding, Wire}
-use Rattle.sctp_chunks.specs.Wire.{cookie_ack_chunk, cookie_echo_chunk, heartbeat_ack_chunk, shutdown_ack_chunk, shutdown_chunk}
+use Rattle.sctp_chunks.specs.Wire.{cookie_ack_chunk, cookie_echo_chunk, heartbeat_ack_chunk, init_chunk, shutdown_ack_chunk, shutdown_chunk}
+use Rattle.sctp_handshake.specs.declared.answer.Reply.{Reply}
+use Rattle.sctp_handshake.specs.declared.answer.Reply.TheVariants.{Shutdown, ShutdownAck}
+use Rattle.sctp_handshake.specs.declared.state.State.{State}
+use Rattle.sctp_handshake.specs.declared.state.State.TheVariants.{ShutdownAckSent, ShutdownSent}
 use Rattle.sctp_packets.specs.Draft.{IsDraft}
 use Rattle.sctp_packets.specs.Packet.{FitsParts, HavePacketEncoding, Parts, packet_encoding, padded_encoding}
 use Rattle.sctp_params.specs.Param.{heartbeat_info}
@@ -63,6 +68,56 @@ pub record Leaves (In TooLong : Wire → Type 0) (old new : Replies) : Type 0 wh
   pub cookie : new.cookie ≡ old.cookie
   pub acked : new.acked ≡ old.acked
   pub limit : new.limit ≡ old.limit
+
+-- ## What leaves was due, and is due no more
+
+-- what is due, the cookie that a COOKIE-ECHO brings back, and the state
+pub record Owed : Type 0 where
+  pub due : Due
+  pub cookie : Option (List ℕ)
+  pub state : State
+
+abbrev pub owed_of : Association → Owed
+owed_of a = record { due = a.due; cookie = a.cookie; state = a.machine.state }
+
+-- the machine comes to this state
+abbrev pub Reaches : State → (old new : Owed) → Type 0
+Reaches s old new = (old.state ≢ s) × (new.state ≡ s)
+
+-- Such a chunk was due, as it says, and is due no more. A SHUTDOWN or SHUTDOWN-ACK may be due just now, as the shutdown goes on (9.2). No INIT is among
+-- these; of other chunks nothing is said.
+abbrev pub IsDueOnce : (old new : Owed) → Wire → Type 0
+IsDueOnce old new (init_chunk i) = ⊥
+IsDueOnce old new (cookie_echo_chunk cookie) = (old.due.cookie_echo ≡ true)
+    × (old.cookie ≡ Some cookie) × (new.due.cookie_echo ≡ false)
+IsDueOnce old new cookie_ack_chunk =
+    (old.due.cookie_ack ≡ true) × (new.due.cookie_ack ≡ false)
+IsDueOnce old new (shutdown_chunk tsn) =
+    ((old.due.shutdown ≡ true) ⊎ Reaches ShutdownSent old new) × (new.due.shutdown ≡ false)
+IsDueOnce old new shutdown_ack_chunk = ((old.due.shutdown_ack ≡ true)
+    ⊎ Reaches ShutdownAckSent old new) × (new.due.shutdown_ack ≡ false)
+IsDueOnce old new (heartbeat_ack_chunk ps) = (info : List ℕ) × (old.due.heartbeat ≡ Some info)
+    × (ps ≡ heartbeat_info info ∷ []) × (new.due.heartbeat ≡ None)
+IsDueOnce old new _ = ⊤
+
+-- Nothing is due that was not, but a SHUTDOWN or SHUTDOWN-ACK as the shutdown goes on (9.2).
+pub record OwesNothingNew (old new : Owed) : Type 0 where
+  pub cookie_echo : new.due.cookie_echo ≡ true → old.due.cookie_echo ≡ true
+  pub cookie_ack : new.due.cookie_ack ≡ true → old.due.cookie_ack ≡ true
+  pub shutdown : new.due.shutdown ≡ true
+      → (old.due.shutdown ≡ true) ⊎ Reaches ShutdownSent old new
+  pub shutdown_ack : new.due.shutdown_ack ≡ true
+      → (old.due.shutdown_ack ≡ true) ⊎ Reaches ShutdownAckSent old new
+  pub heartbeat : (info : List ℕ) → new.due.heartbeat ≡ Some info
+      → old.due.heartbeat ≡ Some info
+  pub cookie : new.cookie ≡ old.cookie
+
+-- what is due by the reply of an answer, where that shuts down
+abbrev pub DueBy : Option Reply → (old new : Due) → Type 0
+DueBy None old new = new ≡ old
+DueBy (Some Shutdown) old new = new ≡ record old { shutdown = true }
+DueBy (Some ShutdownAck) old new = new ≡ record old { shutdown_ack = true }
+DueBy _ old new = ⊤
 
 -- ## Into a packet that is being written
 

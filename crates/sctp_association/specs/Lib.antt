@@ -10,6 +10,7 @@ pub mod Cookies
 pub mod Counts
 pub mod Delivered
 pub mod Drafts
+pub mod Entering
 pub mod Events
 pub mod Failing
 pub mod Filled

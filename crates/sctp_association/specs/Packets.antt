@@ -3,7 +3,8 @@ use Rattle.std.specs.Prelude.{◌≡◌, ⊤, ℕ, Bool, true, false, List, [], 
 use Rattle.std.specs.List.{AllByRecursion}
 use Rattle.crc32c.specs.Castagnoli.{crc32c_of}
 use Rattle.sctp_association.specs.Runs.{ReportsIn, Sends}
-use Rattle.sctp_chunks.specs.Wire.{Wire, data_chunk, forward_tsn_chunk, i_forward_tsn_chunk, init_chunk, sack_chunk, shutdown_chunk}
+use Rattle.sctp_chunks.specs.Wire.{Wire, cookie_ack_chunk, cookie_echo_chunk, data_chunk, forward_tsn_chunk, heartbeat_ack_chunk, i_forward_tsn_chunk}
+use Rattle.sctp_chunks.specs.Wire.{init_chunk, sack_chunk, shutdown_ack_chunk, shutdown_chunk}
 use Rattle.sctp_data.specs.SelectiveAck.{Sack}
 use Rattle.sctp_delivery.specs.SenderCalls.{Made}
 use Rattle.sctp_delivery.specs.SenderCalls as made
@@ -48,10 +49,15 @@ IsOf ms sacks (shutdown_chunk tsn) = IsAcked sacks tsn
 IsOf ms sacks (i_forward_tsn_chunk f) = ⊥
 IsOf ms sacks _ = ⊤
 
--- no INIT, and no INIT ACK
-abbrev pub IsNoInit : Wire → Type 0
-IsNoInit (init_chunk i) = ⊥
-IsNoInit _ = ⊤
+-- none of those that are put only where they are due: no INIT, INIT ACK, COOKIE-ECHO, COOKIE-ACK, SHUTDOWN, SHUTDOWN-ACK, or HEARTBEAT-ACK
+abbrev pub IsNoReply : Wire → Type 0
+IsNoReply (init_chunk i) = ⊥
+IsNoReply (cookie_echo_chunk cookie) = ⊥
+IsNoReply cookie_ack_chunk = ⊥
+IsNoReply (shutdown_chunk tsn) = ⊥
+IsNoReply shutdown_ack_chunk = ⊥
+IsNoReply (heartbeat_ack_chunk ps) = ⊥
+IsNoReply _ = ⊤
 
 -- the halves of an association, and the packet that it writes
 pub record Sides : Type 0 where
@@ -62,8 +68,8 @@ pub record Sides : Type 0 where
 abbrev pub sides : Transmission → Option Reception → List ℕ → Sides
 sides t r bytes = record { sender = t; receiver = r; bytes = bytes }
 
--- calls of both halves led from old to new, and the chunks that were put meanwhile are of what these calls answered
-pub record Puts (old new : Sides) : Type 0 where
+-- calls of both halves led from old to new, and the chunks that were put meanwhile are such, and of what these calls answered
+pub record PutsOf (P : Wire → Type 0) (old new : Sides) : Type 0 where
   pub made : List Made
   pub sacks : List Sack
   pub chunks : List Wire
@@ -71,7 +77,11 @@ pub record Puts (old new : Sides) : Type 0 where
   pub reported : ReportsIn sacks old.receiver new.receiver
   pub added : Adds chunks old.bytes new.bytes
   pub own : AllByRecursion (IsOf made sacks) chunks
-  pub plain : AllByRecursion IsNoInit chunks
+  pub plain : AllByRecursion P chunks
+
+-- they are no replies
+abbrev pub Puts : Sides → Sides → Type 0
+Puts old new = PutsOf IsNoReply old new
 
 -- the same of the sender, whatever the receiver is
 abbrev pub PutsOut : Transmission → Transmission → List ℕ → List ℕ → Type 0

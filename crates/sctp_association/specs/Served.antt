@@ -5,10 +5,13 @@ use Rattle.sctp_association.specs.StreamSet.{is_in}
 use Rattle.sctp_data.specs.ForwardTsn.{ForwardTsn}
 use Rattle.sctp_receiver.specs.Receiver.{is_open}
 
--- it is to be opened by what comes on it: it was agreed on, is not open, and no message on it was too long
+-- the peer may use it: it is one of those that were agreed on, and no message on it was too long
+abbrev pub is_usable : ℕ → Inbound → Bool
+is_usable stream i = nat_lt stream i.streams && not (is_in stream i.discarded)
+
+-- it is to be opened by what comes on it: the peer may use it, and it is not open
 abbrev pub is_to_open : ℕ → Inbound → Bool
-is_to_open stream i =
-    not (is_open stream i.receiver) && (nat_lt stream i.streams && not (is_in stream i.discarded))
+is_to_open stream i = not (is_open stream i.receiver) && is_usable stream i
 
 -- the stream is open, if it is one of those that were agreed on, and no message on it was too long
 abbrev pub IsServed : ℕ → Inbound → Type 0

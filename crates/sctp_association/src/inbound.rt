@@ -14,7 +14,7 @@ ghost use Rattle.sctp_path.specs.Timers.{is_due};
 ghost use Rattle.sctp_params.specs.declared.param.param_reconfig_response.ReconfigResult.TheVariants.{SuccessPerformed};
 ghost use Rattle.sctp_reassembly.specs.reassembly_queue.ReassemblyQueue.{at_start};
 ghost use Rattle.sctp_receiver.specs.declared.receiver.refusal.ReceiverRefusal.TheVariants.{MessageTooLarge};
-ghost use Rattle.sctp_receiver.specs.Receiver.{arrival_refusal, at_first, is_open, message_on};
+ghost use Rattle.sctp_receiver.specs.Receiver.{arrival_refusal, at_first, is_open, message_on, open_stream};
 ghost use Rattle.sctp_util.specs.Serial.{comes_before};
 
 use crate::draft::Draft;
@@ -75,8 +75,9 @@ pub(crate) struct Inbound {
 
 impl Inbound {
     ghost use Rattle.sctp_association.specs.Coming.{HasComeOrIsDropped};
+    ghost use Rattle.sctp_association.specs.Entering.{Handles, HandlesOpen, HandlesRefused};
     ghost use Rattle.sctp_association.specs.Reads.{IsReadOff};
-    ghost use Rattle.sctp_association.specs.Served.{AreServed, IsServed, is_to_open};
+    ghost use Rattle.sctp_association.specs.Served.{AreServed, IsServed, is_to_open, is_usable};
     ghost use Rattle.sctp_association.specs.Telling.{KeepsEvents, Stays, TellsIn};
     ghost use Rattle.sctp_association.specs.declared.event.Events.{Events};
 
@@ -124,6 +125,8 @@ impl Inbound {
             → is_to_open chunk.now.stream_identifier self.old ≡ true }
         // Its TSN has come, or the receiver refuses it still.
         ensures takes { result ≡ Ok Done → HasComeOrIsDropped chunk.now (Some self.new.receiver) }
+        // Where the peer may use its stream its user data entered, or its message is too long, or it is dropped.
+        ensures handles { result ≡ Ok Done → Handles chunk.now self.old self.new }
         ensures err { OnErr result ((self.new ≡ self.old) × (events.new ≡ events.old)) }
     {
         if chunk.user_data.is_empty() {
@@ -153,6 +156,8 @@ impl Inbound {
         ensures limits { (self.new.receiver.limits ≡ self.old.receiver.limits)
             × (self.new.streams ≡ self.old.streams) }
         ensures takes { result ≡ Ok Done → HasComeOrIsDropped chunk.now (Some self.new.receiver) }
+        ensures handles { is_to_open chunk.now.stream_identifier self.old ≡ true
+            → result ≡ Ok Done → Handles chunk.now self.old self.new }
     {
         self.open_agreed(chunk.stream_identifier, events)?;
         self.take_on(chunk, events, now)
@@ -174,6 +179,7 @@ impl Inbound {
             × (self.new.streams ≡ self.old.streams) }
         ensures whole { result ≡ Ok Wanting → ⊥ }
         ensures takes { result ≡ Ok Done → HasComeOrIsDropped chunk.now (Some self.new.receiver) }
+        ensures handles { result ≡ Ok Done → HandlesOpen chunk.now self.old self.new }
         ensures err { OnErr result ((self.new ≡ self.old) × (events.new ≡ events.old)) }
     {
         let stream = chunk.stream_identifier;
@@ -214,6 +220,7 @@ impl Inbound {
         ensures receiver { self.new.receiver ≡ self.old.receiver }
         ensures limits { (self.new.receiver.limits ≡ self.old.receiver.limits)
             × (self.new.streams ≡ self.old.streams) }
+        ensures usable { (n : ℕ) → is_usable n self.new ≡ is_usable n self.old }
     {
         if let Some(at_once) = self.came {
             self.delay.packet_came(now, at_once);
@@ -261,6 +268,8 @@ impl Inbound {
         ensures shut { is_in stream self.old.discarded ≡ true → self.new ≡ self.old }
         ensures same { (n : ℕ) → is_in n self.new.discarded ≡ is_in n self.old.discarded }
         ensures served { IsOk result → IsServed stream self.new }
+        ensures opens { IsOk result → is_usable stream self.old ≡ true
+            → self.new.receiver ≡ open_stream stream self.old.receiver }
         ensures still { (n : ℕ) → is_open n self.old.receiver ≡ true
             → is_open n self.new.receiver ≡ true }
         ensures place { self.new.receiver.cumulative_tsn ≡ self.old.receiver.cumulative_tsn }
@@ -301,6 +310,8 @@ impl Inbound {
         ensures whole { result ≡ Ok Wanting → ⊥ }
         ensures takes { arrival_refusal chunk.now self.old.receiver ≡ Some refusal
             → result ≡ Ok Done → HasComeOrIsDropped chunk.now (Some self.new.receiver) }
+        ensures handles { arrival_refusal chunk.now self.old.receiver ≡ Some refusal
+            → result ≡ Ok Done → HandlesRefused refusal chunk.now self.old self.new }
         ensures err { OnErr result ((self.new ≡ self.old) × (events.new ≡ events.old)) }
     {
         let stream = chunk.stream_identifier;
@@ -333,6 +344,7 @@ impl Inbound {
         ensures limits { (self.new.receiver.limits ≡ self.old.receiver.limits)
             × (self.new.streams ≡ self.old.streams) }
         ensures place { self.new.receiver.cumulative_tsn ≡ self.old.receiver.cumulative_tsn }
+        ensures same { (n : ℕ) → is_in n self.new.discarded ≡ is_in n self.old.discarded }
         ensures served { IsOk result
             → comes_before self.old.receiver.cumulative_tsn skip.now.new_cumulative_tsn ≡ true
             → AreServed (forward_tsn_of skip.now) self.new }
@@ -365,6 +377,7 @@ impl Inbound {
             → AreServed (forward_tsn_of skip.now) self.new) }
         ensures limits { (self.new.receiver.limits ≡ self.old.receiver.limits)
             × (self.new.streams ≡ self.old.streams) }
+        ensures same { (n : ℕ) → is_in n self.new.discarded ≡ is_in n self.old.discarded }
     {
         let _tsn = skip.new_cumulative_tsn;
         self.open_named(skip, events)?;

@@ -7,6 +7,7 @@ ghost use Rattle.sctp_association.specs.Beginnings.{ArrivesAsOffered, BeginsByDa
 ghost use Rattle.sctp_association.specs.Kept.{IsKept, OwesNoMore, ticket_in_kind};
 ghost use Rattle.sctp_association.specs.Coming.{FollowsData, GoesOn, IsDue, TakesDataAt, TakesDataOf, TakesEachOf, TakesOnlyData, goes_on, is_due};
 ghost use Rattle.sctp_association.specs.Cookies.{IsAlive, IsSealed, cookie_in};
+ghost use Rattle.sctp_association.specs.Entering.{usable_in};
 ghost use Rattle.sctp_association.specs.Halves.{HalvesAlike, halves_of};
 ghost use Rattle.sctp_association.specs.Sacks.{HearsFirstOf, HearsOn, TakesSacksOf};
 ghost use Rattle.sctp_association.specs.Reached.{most_user_data};
@@ -164,12 +165,14 @@ impl Association {
         // A datagram of one chunk is taken in part only if that is DATA, FORWARD-TSN or RE-CONFIG.
         ensures partly { result ≡ Ok Partly → EndsWithFirst datagram.now
             → is_all_or_nothing (first_type datagram.now) ≡ false }
-        // DATA that is accepted as the only chunk has come, or its receiver refuses it still; or the association is over.
+        // DATA that is accepted as the only chunk has come, or its receiver refuses it still; or the association is over. Where the peer
+        // may use its stream, its user data entered the receiver, unless its TSN had come, or its message is too long.
         ensures takes { EndsWithFirst datagram.now → first_type datagram.now ≡ 0
-            → result ≡ Ok Accepted → TakesOnlyData datagram.now self.new }
+            → result ≡ Ok Accepted → TakesOnlyData datagram.now self.old self.new }
         // What is for it is not dropped: a packet that begins with DATA, SACK or FORWARD-TSN, in a state that takes that (RFC 9260 6).
         ensures due { IsDue datagram.now self.old → (r : Reason) → result ≡ Ok (Dropped r) → ⊥ }
-        // Each DATA chunk of it has come, or is refused and dropped, up to a chunk behind which the datagram may end; or the association is over.
+        // Each DATA chunk of it has come so, or is refused and dropped, up to a chunk behind which the datagram may end; or the association is
+        // over.
         ensures each { TakesDataOf (u32_at datagram.now 4) self.old → result ≡ Ok Accepted
             → (chunks : List ChunkPlace) → TellsAll place_at datagram.now chunks
             → TakesEachOf chunks datagram.now self.old self.new }
@@ -252,7 +255,7 @@ impl Association {
             → result ≡ Ok Partly → is_all_or_nothing first.typ ≡ false }
         ensures takes { (first : ChunkPlace) → chunks.entry.left ≡ first ∷ [] → first.typ ≡ 0
             → result ≡ Ok Accepted → (self.new.is_over ≡ true)
-            ⊎ TakesDataAt first.at datagram.now self.new }
+            ⊎ TakesDataAt first.at datagram.now self.old self.new }
         ensures due { (first : ChunkPlace) → (rest : List ChunkPlace)
             → chunks.entry.left ≡ first ∷ rest → is_due first.typ self.old ≡ true
             → u32_at datagram.now 4 ≡ self.old.machine.own.tag
@@ -291,6 +294,7 @@ impl Association {
         ensures halves { HalvesAlike self.old self.new }
         ensures peer { KeepsPeer self.old self.new }
         ensures over { self.new.is_over ≡ self.old.is_over }
+        ensures usable { (s : ℕ) → usable_in s self.new.inbound ≡ usable_in s self.old.inbound }
     {
         self.datagram_ended(now);
         self.settle(now);
@@ -302,6 +306,7 @@ impl Association {
         ensures halves { HalvesAlike self.old self.new }
         ensures kept { IsKept self.old self.new }
         ensures over { self.new.is_over ≡ self.old.is_over }
+        ensures usable { (s : ℕ) → usable_in s self.new.inbound ≡ usable_in s self.old.inbound }
     {
         if let Some(inbound) = &mut self.inbound {
             inbound.datagram_ended(now);
@@ -332,7 +337,7 @@ impl Association {
         ensures err { OnErr result (self.new ≡ self.old) }
         ensures cut { result ≡ Ok step.Cut → is_all_or_nothing chunk.typ ≡ false }
         ensures takes { count < 2 → chunk.typ ≡ 0
-            → IfOk result (λ s. FollowsData chunk.at datagram.now s self.new) }
+            → IfOk result (λ s. FollowsData chunk.at datagram.now s self.old self.new) }
         ensures closed_cut { self.old.machine.state ≡ Closed → result ≡ Ok step.Cut → ⊥ }
         ensures closed_next { self.old.machine.state ≡ Closed → result ≡ Ok step.Next
             → (chunk.typ ≡ 10) × IsAlive now self.old.config.cookie_life
@@ -345,7 +350,7 @@ impl Association {
         ensures due { is_due chunk.typ self.old ≡ true → tag ≡ self.old.machine.own.tag
             → (r : Reason) → result ≡ Ok (step.Refused r) → ⊥ }
         ensures on { TakesDataOf tag self.old → goes_on chunk.typ ≡ true
-            → IfOk result (λ s. GoesOn chunk tag datagram.now s self.new) }
+            → IfOk result (λ s. GoesOn chunk tag datagram.now s self.old self.new) }
         ensures sacks { TakesSacksOf tag self.old → goes_on chunk.typ ≡ true
             → IfOk result (λ s. HearsOn chunk tag datagram.now s self.old self.new) }
     {
@@ -406,7 +411,7 @@ impl Association {
         ensures tells { Tells self.old self.new }
         ensures came { ArrivesAsOffered datagram.now self.old self.new }
         ensures on { TakesDataOf tag self.old → goes_on chunk.typ ≡ true
-            → IfOk result (λ s. GoesOn chunk tag datagram.now s self.new) }
+            → IfOk result (λ s. GoesOn chunk tag datagram.now s self.old self.new) }
         ensures sacks { TakesSacksOf tag self.old → goes_on chunk.typ ≡ true
             → IfOk result (λ s. HearsOn chunk tag datagram.now s self.old self.new) }
         ensures never { TakesDataOf tag self.old → goes_on chunk.typ ≡ true
@@ -466,7 +471,7 @@ impl Association {
         ensures err { OnErr result (self.new ≡ self.old) }
         ensures cut { result ≡ Ok step.Cut → is_all_or_nothing chunk.typ ≡ false }
         ensures takes { chunk.typ ≡ 0
-            → IfOk result (λ s. FollowsData chunk.at datagram.now s self.new) }
+            → IfOk result (λ s. FollowsData chunk.at datagram.now s self.old self.new) }
         ensures closed_cut { self.old.machine.state ≡ Closed → result ≡ Ok step.Cut → ⊥ }
         ensures closed_next { self.old.machine.state ≡ Closed → result ≡ Ok step.Next
             → (chunk.typ ≡ 10) × IsAlive now self.old.config.cookie_life
@@ -479,7 +484,7 @@ impl Association {
         ensures due { is_due chunk.typ self.old ≡ true → tag ≡ self.old.machine.own.tag
             → (r : Reason) → result ≡ Ok (step.Refused r) → ⊥ }
         ensures on { TakesDataOf tag self.old → goes_on chunk.typ ≡ true
-            → IfOk result (λ s. GoesOn chunk tag datagram.now s self.new) }
+            → IfOk result (λ s. GoesOn chunk tag datagram.now s self.old self.new) }
         ensures sacks { TakesSacksOf tag self.old → goes_on chunk.typ ≡ true
             → IfOk result (λ s. HearsOn chunk tag datagram.now s self.old self.new) }
     {
@@ -512,11 +517,11 @@ impl Association {
         ensures peer { KeepsPeer self.old self.new }
         ensures refused { (r : Reason) → result ≡ Ok (step.Refused r) → self.new ≡ self.old }
         ensures err { OnErr result (self.new ≡ self.old) }
-        ensures takes { IfOk result (λ s. FollowsData chunk.at datagram.now s self.new) }
+        ensures takes { IfOk result (λ s. FollowsData chunk.at datagram.now s self.old self.new) }
         ensures due { is_due 0 self.old ≡ true → (r : Reason)
             → result ≡ Ok (step.Refused r) → ⊥ }
         ensures on { (tag : ℕ) → TakesDataOf tag self.old
-            → IfOk result (λ s. GoesOn chunk tag datagram.now s self.new) }
+            → IfOk result (λ s. GoesOn chunk tag datagram.now s self.old self.new) }
         ensures sacks { (tag : ℕ) → TakesSacksOf tag self.old
             → IfOk result (λ s. HearsOn chunk tag datagram.now s self.old self.new) }
     {
@@ -544,6 +549,7 @@ impl Association {
         ensures kept { IsKept self.old self.new }
         ensures halves { HalvesAlike self.old self.new }
         ensures over { self.new.is_over ≡ self.old.is_over }
+        ensures inbound { self.new.inbound ≡ self.old.inbound }
     {
         if answer.reply.is_some() {
             self.run_control(now);
@@ -564,7 +570,7 @@ impl Association {
         ensures due { is_due 192 self.old ≡ true → (r : Reason)
             → result ≡ Ok (step.Refused r) → ⊥ }
         ensures on { (tag : ℕ) → TakesDataOf tag self.old
-            → IfOk result (λ s. GoesOn chunk tag datagram.now s self.new) }
+            → IfOk result (λ s. GoesOn chunk tag datagram.now s self.old self.new) }
         ensures sacks { (tag : ℕ) → TakesSacksOf tag self.old
             → IfOk result (λ s. HearsOn chunk tag datagram.now s self.old self.new) }
     {
@@ -616,7 +622,7 @@ impl Association {
         ensures due { is_due 3 self.old ≡ true → (r : Reason)
             → result ≡ Ok (step.Refused r) → ⊥ }
         ensures on { (tag : ℕ) → TakesDataOf tag self.old
-            → IfOk result (λ s. GoesOn chunk tag datagram.now s self.new) }
+            → IfOk result (λ s. GoesOn chunk tag datagram.now s self.old self.new) }
         ensures sacks { (tag : ℕ) → TakesSacksOf tag self.old
             → IfOk result (λ s. HearsOn chunk tag datagram.now s self.old self.new) }
     {

@@ -6,7 +6,7 @@ ghost use Rattle.sctp_association.specs.Kept.{IsKept, OwesNoMore, ticket_due, ti
 ghost use Rattle.sctp_association.specs.Failing.{IsGuarded, farewell_to};
 ghost use Rattle.sctp_association.specs.Halves.{HalvesAlike, halves_of};
 ghost use Rattle.sctp_association.specs.Lasting.{LastsNoLonger};
-ghost use Rattle.sctp_association.specs.Leaving.{StaysDue, replies_of};
+ghost use Rattle.sctp_association.specs.Leaving.{DueBy, OwesNothingNew, StaysDue, owed_of, replies_of};
 ghost use Rattle.sctp_association.specs.Sending.{holds_nothing};
 ghost use Rattle.sctp_association.specs.Telling.{PassesOn, TellsEnd};
 ghost use Rattle.sctp_handshake.specs.declared.answer.Reply.TheVariants.{Init};
@@ -40,11 +40,14 @@ impl Association {
         ensures kept { IsKept self.old self.new }
         ensures quiet { answer.told ≡ None → HalvesAlike self.old self.new }
         ensures sending { answer.told ≡ None → self.new.outbound ≡ self.old.outbound }
+        ensures inbound { answer.told ≡ None → self.new.inbound ≡ self.old.inbound }
         ensures begun { BeginsBy answer.told self.old.machine self.old.config
             (halves_of self.old) (halves_of self.new) }
         ensures init { answer.reply ≡ Some Init → answer.told ≡ None → OwesInit self.new }
         ensures over { answer.told ≡ None → self.new.is_over ≡ self.old.is_over }
         ensures stays { answer.told ≡ None → StaysDue self.old self.new }
+        ensures due { answer.told ≡ None
+            → DueBy answer.reply self.old.due self.new.due }
     {
         let is_silent = answer.reply.is_none() && answer.told.is_none();
         if !is_silent || self.machine.state() != before {
@@ -59,11 +62,14 @@ impl Association {
         ensures kept { IsKept self.old self.new }
         ensures quiet { answer.told ≡ None → HalvesAlike self.old self.new }
         ensures sending { answer.told ≡ None → self.new.outbound ≡ self.old.outbound }
+        ensures inbound { answer.told ≡ None → self.new.inbound ≡ self.old.inbound }
         ensures begun { BeginsBy answer.told self.old.machine self.old.config
             (halves_of self.old) (halves_of self.new) }
         ensures init { answer.reply ≡ Some Init → answer.told ≡ None → OwesInit self.new }
         ensures over { answer.told ≡ None → self.new.is_over ≡ self.old.is_over }
         ensures stays { answer.told ≡ None → StaysDue self.old self.new }
+        ensures due { answer.told ≡ None
+            → DueBy answer.reply self.old.due self.new.due }
     {
         let state = self.machine.state();
         if state != before {
@@ -83,8 +89,10 @@ impl Association {
         ensures kept { IsKept self.old self.new }
         ensures halves { HalvesAlike self.old self.new }
         ensures sending { self.new.outbound ≡ self.old.outbound }
+        ensures inbound { self.new.inbound ≡ self.old.inbound }
         ensures over { self.new.is_over ≡ self.old.is_over }
         ensures replies { replies_of self.new ≡ replies_of self.old }
+        ensures due { self.new.due ≡ self.old.due }
     {
         match self.machine.state().timer() {
             Some(_) => self.control.restart(now, self.outbound.rto.get()),
@@ -132,6 +140,7 @@ impl Association {
         ensures owes { OwesNoMore self.old self.new }
         ensures rest { self.new ≡ record self.old { due = self.new.due } }
         ensures stays { StaysDue self.old self.new }
+        ensures due { DueBy (Some reply) self.old.due self.new.due }
     {
         match reply {
             Reply::Init => self.owe_alone(0, AloneKind::Init),
@@ -219,10 +228,12 @@ impl Association {
         ensures halves { HalvesAlike self.old self.new }
         ensures peer { KeepsPeer self.old self.new }
         ensures over { self.new.is_over ≡ self.old.is_over }
+        ensures inbound { self.new.inbound ≡ self.old.inbound }
         ensures left { LastsNoLonger self.old self.new }
         ensures writes { accepts_writes self.old.machine.state ≡ false
             → accepts_writes self.new.machine.state ≡ false }
         ensures stays { StaysDue self.old self.new }
+        ensures asks { OwesNothingNew (owed_of self.old) (owed_of self.new) }
     {
         if self.wants_shutdown && self.machine.state() == State::Established {
             self.wants_shutdown = false;
@@ -240,10 +251,12 @@ impl Association {
         ensures halves { HalvesAlike self.old self.new }
         ensures peer { KeepsPeer self.old self.new }
         ensures over { self.new.is_over ≡ self.old.is_over }
+        ensures inbound { self.new.inbound ≡ self.old.inbound }
         ensures left { LastsNoLonger self.old self.new }
         ensures writes { accepts_writes self.old.machine.state ≡ false
             → accepts_writes self.new.machine.state ≡ false }
         ensures stays { StaysDue self.old self.new }
+        ensures asks { OwesNothingNew (owed_of self.old) (owed_of self.new) }
     {
         if !self.outbound.is_drained() {
             return;

@@ -217,7 +217,7 @@ impl Association {
     fn take_error(&mut self, datagram: &Bytes, chunk: ChunkPlace, now: u64) -> Step
         ensures tells { TellsEnd self.old self.new }
         ensures refused { (r : Reason) → result ≡ step.Refused r → self.new ≡ self.old }
-        ensures halves { HalvesAlike self.old self.new }
+        ensures halves { halves_of self.new ≡ halves_of self.old }
         ensures peer { KeepsPeer self.old self.new }
         ensures whole { result ≡ step.Cut → ⊥ }
     {

@@ -50,7 +50,8 @@ impl Association {
             → OwesTicket self.old ticket ⊎ IsOwedFor datagram.now self.old ticket }
         ensures stops { result ≡ Ok step.Next → ⊥ }
         ensures whole { result ≡ Ok step.Cut → ⊥ }
-        ensures host { result ≡ Ok step.Stop → AnswersHostName (value_in datagram.now chunk) self.new }
+        ensures host { result ≡ Ok step.Stop
+            → AnswersHostName (value_in datagram.now chunk) self.new }
     {
         let Ok(value) = init_value(bytes_of(datagram, chunk)) else {
             return Ok(Step::Refused(Reason::NoPacket));

@@ -1,20 +1,20 @@
 //! What goes into a datagram (RFC 9260 6.10, 8.5).
 
-ghost use Rattle.std.specs.Prelude.{◌≡◌, ◌≢◌, ◌⊎◌, ◌≤◌, ◌-◌, ◌∷◌, None, Ok, IfOk, IfSome, OnOk, [], map, true, false, length};
+ghost use Rattle.std.specs.Prelude.{◌≡◌, ◌≢◌, ◌⊎◌, ◌≤◌, ◌-◌, ◌∷◌, None, Ok, Some, IfOk, IfSome, OnErr, OnOk, [], map, true, false, length};
 ghost use Rattle.sctp_association.specs.Beginnings.{KeepsPeer};
-ghost use Rattle.sctp_association.specs.Congested.{LeavesWithin, SendsWithin};
-ghost use Rattle.sctp_association.specs.Halves.{HalvesAlike, PutsOthers, is_sent, sides_of};
+ghost use Rattle.sctp_association.specs.Congested.{IsAsFull, LeavesWithin, SendsWithin};
+ghost use Rattle.sctp_association.specs.Halves.{HalvesAlike, PutsDue, PutsOthers, is_sent, sides_of};
 ghost use Rattle.sctp_association.specs.Filled.{IfNoneAdded, IfNonePut};
 ghost use Rattle.sctp_association.specs.Idle.{HasNoSackDue, IsIdle, MayReply, MaySend, OwesNoControl, OwesNone, WaitsForSacks, in_flight, sack_delay, sends};
 ghost use Rattle.sctp_association.specs.Kept.{IsUnmoved};
 ghost use Rattle.sctp_association.specs.Lasting.{LastsNoLonger};
-ghost use Rattle.sctp_association.specs.Leaving.{LeavesBy, LeavesInto, replies_of};
+ghost use Rattle.sctp_association.specs.Leaving.{IsDueOnce, LeavesBy, LeavesInto, OwesNothingNew, owed_of, replies_of};
 ghost use Rattle.sctp_association.specs.Offering.{HasFirst, IsInitWith, IsReplyOf, OffersAsDue, PutsReply};
 ghost use Rattle.sctp_association.specs.Replying.{AddsReply, IsReply, LeavesAlone, PutsOne, header_to, host_name_causes, one_cause};
 ghost use Rattle.sctp_association.specs.Sending.{IsTimed};
 ghost use Rattle.sctp_association.specs.Still.{IsLater, heartbeat_time};
 ghost use Rattle.sctp_association.specs.Telling.{Tells};
-ghost use Rattle.sctp_association.specs.Packets.{IsNoInit, IsPacketOf, IsWritten, Puts, Transmits};
+ghost use Rattle.sctp_association.specs.Packets.{IsPacketOf, IsWritten, Puts, Transmits};
 ghost use Rattle.sctp_chunks.specs.Init.{init_of};
 ghost use Rattle.sctp_chunks.specs.Wire.{abort_chunk, error_chunk};
 ghost use Rattle.sctp_cookie.specs.Cookie.{sealed};
@@ -54,7 +54,8 @@ const NO_COOKIE: [u8; 6] = [0, 0, 0, 1, 0, 7];
 
 // The answer to a HEARTBEAT with this information (RFC 9260 3.3.6).
 fn heartbeat_ack(alloc: Global, info: &Bytes) -> Result<ChunkHeartbeatAck, Fault>
-    ensures { IfOk result (λ ack. map parameter_of ack.params.items ≡ heartbeat_info info.now ∷ []) }
+    ensures { IfOk result (λ ack.
+        map parameter_of ack.params.items ≡ heartbeat_info info.now ∷ []) }
 {
     let mut params = Vec::new(alloc);
     params.push(ParamKind::HeartbeatInfo(ParamHeartbeatInfo {
@@ -78,15 +79,24 @@ impl Association {
         // The one reply that is due leaves first, in a packet of its own, with exactly its chunks.
         ensures reply { IfSome self.old.due.alone (λ alone. IfOk result
             (λ sent. (sent ≡ true) × LeavesAlone alone self.old self.new)) }
+        // Where memory is refused it stays due.
+        ensures refused { IfSome self.old.due.alone
+            (λ alone. OnErr result (self.new.due.alone ≡ Some alone)) }
         // Where there is no datagram no other reply is due either. In CookieEchoed a COOKIE-ECHO goes alone (RFC 9260 5.1 C).
         ensures owes { result ≡ Ok false → MayReply self.new → OwesNone self.new }
         // Where there is no datagram though DATA may leave: what waits or is to be sent again waits for a SACK, or for T3-rtx.
         ensures idle { result ≡ Ok false → MaySend self.new → IsIdle now self.new }
         // New DATA leaves while nothing is outstanding, or less than cwnd is and the peer's window has room (RFC 9260 6.1 A, B).
-        ensures within { SendsWithin self.old.outbound.sender self.new.outbound }
+        ensures within { SendsWithin self.old.outbound self.new.outbound }
         // What else is due stays due, or leaves in the datagram: a COOKIE-ECHO with the cookie, a SHUTDOWN with the cumulative TSN, a
         // HEARTBEAT-ACK with what came. Only one that no packet has room for is dropped.
         ensures leaves { LeavesBy (is_sent result) self.old self.new }
+        // Nothing else comes to be due, but a SHUTDOWN or SHUTDOWN-ACK where nothing waits or is in flight.
+        ensures asks { OwesNothingNew (owed_of self.old) (owed_of self.new) }
+        // What left is due no more: each COOKIE-ECHO, COOKIE-ACK, SHUTDOWN, SHUTDOWN-ACK and HEARTBEAT-ACK of a packet of what else is due was
+        // due, as it says.
+        ensures once { is_sent result ≡ true → self.old.due.alone ≡ None → IsPacketOf
+            (IsDueOnce (owed_of self.old) (owed_of self.new)) self.new.draft.bytes }
     {
         if let Some(alone) = self.due.alone {
             self.put_alone(alone, now)?;
@@ -109,13 +119,14 @@ impl Association {
     // Writes a packet of what is due, and answers whether it has a chunk.
     fn put_packet(&mut self, header: CommonHeader, is_zero: bool, now: u64) -> Result<bool, Fault>
         ensures made { Transmits (is_sent result) (sides_of self.old) (sides_of self.new) }
-        ensures plain { is_sent result ≡ true → IsPacketOf IsNoInit self.new.draft.bytes }
+        ensures once { is_sent result ≡ true → IsPacketOf
+            (IsDueOnce (owed_of self.old) (owed_of self.new)) self.new.draft.bytes }
         ensures kept { IsUnmoved self.old self.new }
         ensures owes { result ≡ Ok false → self.new.machine.state ≢ CookieEchoed
             → OwesNone self.new }
         ensures idle { result ≡ Ok false → sends self.new.machine.state ≡ true
             → IsIdle now self.new }
-        ensures within { LeavesWithin self.old.outbound.sender self.new.outbound }
+        ensures within { LeavesWithin self.old.outbound self.new.outbound }
         ensures leaves { LeavesBy (is_sent result) self.old self.new }
     {
         self.draft.begin(header)?;
@@ -333,14 +344,14 @@ impl Association {
 
     // Puts what is due into a packet: control chunks first (RFC 9260 6.10).
     fn fill(&mut self, now: u64) -> Result<(), Fault>
-        ensures made { Puts (sides_of self.old) (sides_of self.new) }
+        ensures made { PutsDue self.old self.new }
         ensures kept { IsUnmoved self.old self.new }
         ensures owes { OnOk result (self.new.machine.state ≢ CookieEchoed
             → IfNoneAdded self.old.draft.bytes self.new.draft.bytes (OwesNone self.new)) }
         ensures idle { OnOk result (sends self.new.machine.state ≡ true → (p : Parts)
             → IsDraft p self.old.draft.bytes → length self.new.draft.bytes ≤ 12
             → IsIdle now self.new) }
-        ensures within { LeavesWithin self.old.outbound.sender self.new.outbound }
+        ensures within { LeavesWithin self.old.outbound self.new.outbound }
         ensures leaves { LeavesInto self.old self.new }
     {
         self.put_cookies();
@@ -359,12 +370,12 @@ impl Association {
 
     // Puts what is due beside cookies, SACKs and DATA.
     fn put_control(&mut self, now: u64) -> Result<(), Fault>
-        ensures made { Puts (sides_of self.old) (sides_of self.new) }
+        ensures made { PutsDue self.old self.new }
         ensures kept { IsUnmoved self.old self.new }
         ensures owes { OnOk result (IfNoneAdded self.old.draft.bytes self.new.draft.bytes
             (OwesNoControl self.new)) }
         ensures acks { sack_delay self.new ≡ sack_delay self.old }
-        ensures sender { self.new.outbound.sender ≡ self.old.outbound.sender }
+        ensures full { IsAsFull self.old.outbound self.new.outbound }
         ensures leaves { LeavesInto self.old self.new }
     {
         self.put_shutdown();
@@ -383,7 +394,7 @@ impl Association {
             → IfNonePut self.old.draft.bytes self.new.draft.bytes
             (WaitsForSacks self.new.draft.limit self.new.outbound.sender
             × IsTimed (in_flight self.new.outbound.sender) self.new.outbound.timer.at)) }
-        ensures within { LeavesWithin self.old.outbound.sender self.new.outbound }
+        ensures within { LeavesWithin self.old.outbound self.new.outbound }
         ensures replies { replies_of self.new ≡ replies_of self.old }
     {
         if !self.machine.state().sends_data() {
@@ -456,7 +467,7 @@ impl Association {
         ensures kept { IsUnmoved self.old self.new }
         ensures idle { OnOk result (IfNonePut self.old.draft.bytes self.new.draft.bytes
             (HasNoSackDue now self.new)) }
-        ensures sender { self.new.outbound.sender ≡ self.old.outbound.sender }
+        ensures full { IsAsFull self.old.outbound self.new.outbound }
         ensures replies { replies_of self.new ≡ replies_of self.old }
     {
         let has_data = self.outbound.has_data() && self.machine.state().sends_data();
@@ -468,13 +479,13 @@ impl Association {
 
     // Puts SHUTDOWN or SHUTDOWN-ACK (RFC 9260 9.2).
     fn put_shutdown(&mut self)
-        ensures made { Puts (sides_of self.old) (sides_of self.new) }
+        ensures made { PutsDue self.old self.new }
         ensures kept { IsUnmoved self.old self.new }
         ensures owes { IfNoneAdded self.old.draft.bytes self.new.draft.bytes
             (((self.new.due.shutdown ≡ false) ⊎ (sack_delay self.new ≡ None))
             × (self.new.due.shutdown_ack ≡ false)) }
         ensures acks { sack_delay self.new ≡ sack_delay self.old }
-        ensures sender { self.new.outbound.sender ≡ self.old.outbound.sender }
+        ensures full { IsAsFull self.old.outbound self.new.outbound }
         ensures leaves { LeavesInto self.old self.new }
     {
         self.put_shutdown_asked();
@@ -482,14 +493,14 @@ impl Association {
     }
 
     // Puts the SHUTDOWN that is due: it acknowledges what a SACK would.
-    #[tactic(auto, using(crate::proofs::Others::shutdown_puts, crate::proofs::Others::same_puts))]
+    #[tactic(auto, using(crate::proofs::Others::same_puts))]
     fn put_shutdown_asked(&mut self)
-        ensures made { Puts (sides_of self.old) (sides_of self.new) }
+        ensures made { PutsDue self.old self.new }
         ensures kept { IsUnmoved self.old self.new }
         ensures owes { IfNonePut self.old.draft.bytes self.new.draft.bytes
             ((self.new.due.shutdown ≡ false) ⊎ (sack_delay self.new ≡ None)) }
         ensures acks { sack_delay self.new ≡ sack_delay self.old }
-        ensures sender { self.new.outbound.sender ≡ self.old.outbound.sender }
+        ensures full { IsAsFull self.old.outbound self.new.outbound }
         ensures leaves { LeavesInto self.old self.new }
     {
         if !self.due.shutdown {

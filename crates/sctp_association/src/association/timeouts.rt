@@ -126,7 +126,7 @@ impl Association {
         ensures left { Expires (expires now self.old) self.old self.new }
         ensures halves { MarksByT3 now self.old self.new }
         ensures peer { KeepsPeer self.old self.new }
-        // Where the shutdown goes on: the RTO doubles, and failures are counted, exactly so often; T3-rtx alone lowers cwnd.
+        // Where T5-shutdown-guard does not expire: the RTO doubles, and failures are counted, exactly so often; T3-rtx alone lowers cwnd.
         ensures backs_off { self.old.is_over ≡ false → is_due now self.old.guard.at ≡ false
             → self.new.outbound.rto ≡ rto_after now self.old }
         ensures fails { self.old.is_over ≡ false → is_due now self.old.guard.at ≡ false

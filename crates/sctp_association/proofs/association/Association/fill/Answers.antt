@@ -1,24 +1,33 @@
 use Rattle.sctp_association.proofs.Leaving.{into_kept, into_then}
 use Rattle.std.proofs.Common.{◌≡◌, [], arith, false, subst, sym, ◌∙◌}
 use Rattle.std.specs.Prelude.{IfSome}
-use Rattle.sctp_association.proofs.Congested.{within_behind, within_same}
+use Rattle.sctp_association.proofs.Congested.{full_of, full_then, within_behind, within_full}
 use Rattle.sctp_association.proofs.Idle.{added_longer, no_shutdown, on_ok, on_ok_so}
-use Rattle.sctp_association.proofs.Putting.{and_then}
+use Rattle.sctp_association.proofs.Known.{still_none, unmoved_then}
 use Rattle.sctp_path.specs.Timers.{is_due}
-use Rattle.sctp_association.proofs.Others.{others_puts, others_then}
+use Rattle.sctp_association.proofs.Others.{due_then, others_due, others_puts, others_then, puts_due}
 use Rattle.sctp_association.proofs.association.Association.fill.Goals as goal
 
 pub returns-in_err-put_sack-clause-made : goal.returns-in_err-put_sack-clause-made
-returns-in_err-put_sack-clause-made c = and_then _ _ _ (others_puts _ _ c.put_cookies.ensures.others) c.put_sack.ensures.made
+returns-in_err-put_sack-clause-made c = others_due c.args.self.now c.put_cookies.new.self c.put_sack.new.self c.put_cookies.ensures.others
+    c.put_sack.ensures.made c.put_sack.ensures.kept
 
 pub returns-in_err-put_control-clause-made : goal.returns-in_err-put_control-clause-made
 returns-in_err-put_control-clause-made c =
-    and_then _ _ _ (and_then _ _ _ (others_puts _ _ c.put_cookies.ensures.others) c.put_sack.ensures.made) c.put_control.ensures.made
+    let acked = others_due c.args.self.now c.put_cookies.new.self c.put_sack.new.self c.put_cookies.ensures.others c.put_sack.ensures.made
+    c.put_sack.ensures.kept in
+    due_then c.args.self.now c.put_sack.new.self c.put_control.new.self acked
+    (unmoved_then _ _ _ c.put_cookies.ensures.others.kept c.put_sack.ensures.kept) c.put_control.ensures.made c.put_control.ensures.kept
 
 pub returns-clause-made : goal.returns-clause-made
-returns-clause-made c = and_then _ _ _ (
-    and_then _ _ _ (and_then _ _ _ (others_puts _ _ c.put_cookies.ensures.others) c.put_sack.ensures.made) c.put_control.ensures.made
-    ) c.put_data.ensures.made
+returns-clause-made c =
+    let acked = others_due c.args.self.now c.put_cookies.new.self c.put_sack.new.self c.put_cookies.ensures.others c.put_sack.ensures.made
+    c.put_sack.ensures.kept in
+    let unmoved = unmoved_then _ _ _ c.put_cookies.ensures.others.kept c.put_sack.ensures.kept in
+    let controlled = due_then c.args.self.now c.put_sack.new.self c.put_control.new.self acked unmoved c.put_control.ensures.made
+    c.put_control.ensures.kept in
+    due_then c.args.self.now c.put_control.new.self c.put_data.new.self controlled (unmoved_then _ _ _ unmoved c.put_control.ensures.kept)
+    (puts_due c.put_control.new.self c.put_data.new.self c.put_data.ensures.made) c.put_data.ensures.kept
 
 pub returns-then-is_empty-clause-made : goal.returns-then-is_empty-clause-made
 returns-then-is_empty-clause-made c = others_puts _ _ c.put_cookies.ensures.others
@@ -63,30 +72,36 @@ returns-clause-owes c = on_ok c.put_data.result (λ state p draft short.
       control = record {
         shutdown = no_shutdown _ _ _ _ after.shutdown c.put_data.ensures.acks owed.shutdown;
         shutdown_ack = after.shutdown_ack owed.shutdown_ack;
-        heartbeat = after.heartbeat owed.heartbeat;
+        heartbeat = still_none _ _ after.heartbeat owed.heartbeat;
       };
     })
 
 -- ## What had room
 
 pub returns-then-is_empty-clause-within : goal.returns-then-is_empty-clause-within
-returns-then-is_empty-clause-within c = within_same c.args.self.now.outbound.sender c.put_cookies.new.self.outbound c.put_cookies.ensures.others.halves.sender
+returns-then-is_empty-clause-within c = within_full c.args.self.now.outbound c.put_cookies.new.self.outbound (full_of _ c.put_cookies.new.self c.put_cookies.ensures.others.halves)
 
 pub returns-else-is_empty-clause-within : goal.returns-else-is_empty-clause-within
 returns-else-is_empty-clause-within c =
-    within_same c.args.self.now.outbound.sender c.put_report.new.self.outbound (c.put_report.ensures.others.halves.sender ∙ c.put_cookies.ensures.others.halves.sender)
+    within_full c.args.self.now.outbound c.put_report.new.self.outbound (full_then _ c.put_cookies.new.self.outbound _
+    (full_of _ c.put_cookies.new.self c.put_cookies.ensures.others.halves) (full_of c.put_cookies.new.self _ c.put_report.ensures.others.halves))
 
 pub returns-in_err-put_sack-clause-within : goal.returns-in_err-put_sack-clause-within
 returns-in_err-put_sack-clause-within c =
-    within_same c.args.self.now.outbound.sender c.put_sack.new.self.outbound (c.put_sack.ensures.sender ∙ c.put_cookies.ensures.others.halves.sender)
+    within_full c.args.self.now.outbound c.put_sack.new.self.outbound
+    (full_then _ c.put_cookies.new.self.outbound _ (full_of _ c.put_cookies.new.self c.put_cookies.ensures.others.halves) c.put_sack.ensures.full)
 
 pub returns-in_err-put_control-clause-within : goal.returns-in_err-put_control-clause-within
 returns-in_err-put_control-clause-within c =
-    within_same c.args.self.now.outbound.sender c.put_control.new.self.outbound (c.put_control.ensures.sender ∙ (c.put_sack.ensures.sender ∙ c.put_cookies.ensures.others.halves.sender))
+    within_full c.args.self.now.outbound c.put_control.new.self.outbound (full_then _ c.put_cookies.new.self.outbound _
+    (full_of _ c.put_cookies.new.self c.put_cookies.ensures.others.halves)
+    (full_then _ c.put_sack.new.self.outbound _ c.put_sack.ensures.full c.put_control.ensures.full))
 
 pub returns-clause-within : goal.returns-clause-within
-returns-clause-within c = within_behind c.args.self.now.outbound.sender c.put_control.new.self.outbound.sender c.put_data.new.self.outbound
-    (c.put_control.ensures.sender ∙ (c.put_sack.ensures.sender ∙ c.put_cookies.ensures.others.halves.sender)) c.put_data.ensures.within
+returns-clause-within c = within_behind c.args.self.now.outbound c.put_control.new.self.outbound c.put_data.new.self.outbound (
+    full_then _ c.put_cookies.new.self.outbound _ (full_of _ c.put_cookies.new.self c.put_cookies.ensures.others.halves)
+    (full_then _ c.put_sack.new.self.outbound _ c.put_sack.ensures.full c.put_control.ensures.full)
+    ) c.put_data.ensures.within
 
 -- ## What leaves
 
@@ -102,14 +117,16 @@ pub returns-in_err-put_control-clause-leaves : goal.returns-in_err-put_control-c
 returns-in_err-put_control-clause-leaves c =
     let acked = into_kept c.args.self.now c.put_cookies.new.self c.put_sack.new.self [] _ c.put_sack.ensures.made.added c.put_cookies.ensures.leaves
     c.put_sack.ensures.replies in
-    let both = and_then _ _ _ (others_puts _ _ c.put_cookies.ensures.others) c.put_sack.ensures.made in
+    let both = others_due c.args.self.now c.put_cookies.new.self c.put_sack.new.self c.put_cookies.ensures.others c.put_sack.ensures.made
+    c.put_sack.ensures.kept in
     into_then c.args.self.now c.put_sack.new.self c.put_control.new.self _ _ both.added c.put_control.ensures.made.added acked c.put_control.ensures.leaves
 
 pub returns-clause-leaves : goal.returns-clause-leaves
 returns-clause-leaves c =
     let acked = into_kept c.args.self.now c.put_cookies.new.self c.put_sack.new.self [] _ c.put_sack.ensures.made.added c.put_cookies.ensures.leaves
     c.put_sack.ensures.replies in
-    let both = and_then _ _ _ (others_puts _ _ c.put_cookies.ensures.others) c.put_sack.ensures.made in
+    let both = others_due c.args.self.now c.put_cookies.new.self c.put_sack.new.self c.put_cookies.ensures.others c.put_sack.ensures.made
+    c.put_sack.ensures.kept in
     let controlled = into_then c.args.self.now c.put_sack.new.self c.put_control.new.self _ _ both.added c.put_control.ensures.made.added acked
     c.put_control.ensures.leaves in
     into_kept c.args.self.now c.put_control.new.self c.put_data.new.self [] _ c.put_data.ensures.made.added controlled c.put_data.ensures.replies

@@ -84,7 +84,7 @@ returns-then-self-2-clause-takes c one typ is = inl (ap (λ (a : Association). a
 pub returns-clause-takes : goal.returns-clause-takes
 returns-clause-takes c one typ is =
     let all : TellsAll place_at c.args.datagram.now c.in-Ok.chunks.left = search rules in
-    only_data _ _ _ _ c.take_chunks.new.self all one typ (if_ok _ _ _ is c.take_chunks.ensures.accepted refl) (λ first are t. c.take_chunks.ensures.takes first are t is)
+    only_data _ _ _ _ c.args.self.now c.take_chunks.new.self all one typ (if_ok _ _ _ is c.take_chunks.ensures.accepted refl) (λ first are t. c.take_chunks.ensures.takes first are t is)
 
 -- ## What is due, and each DATA chunk
 

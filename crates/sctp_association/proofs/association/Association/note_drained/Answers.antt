@@ -1,5 +1,6 @@
 use Rattle.sctp_association.proofs.Known.{keeps_by, knows_drained}
 use Rattle.sctp_association.proofs.Going.{drained_told}
+use Rattle.sctp_association.proofs.Leaving.{drained_owes}
 use Rattle.sctp_association.proofs.association.Association.note_drained.Goals as goal
 
 pub returns-clause-peer : goal.returns-clause-peer
@@ -12,3 +13,12 @@ returns-clause-tells c = c.follow.ensures.tells.end
 
 pub returns-clause-over : goal.returns-clause-over
 returns-clause-over c = c.follow.ensures.over (drained_told _ _ c.drained-answer.ensures.answer)
+
+pub returns-clause-inbound : goal.returns-clause-inbound
+returns-clause-inbound c = c.follow.ensures.inbound (drained_told _ _ c.drained-answer.ensures.answer)
+
+pub returns-clause-asks : goal.returns-clause-asks
+returns-clause-asks c =
+    let told = drained_told _ _ c.drained-answer.ensures.answer in
+    drained_owes c.args.self.now c.follow.new.self _ _ c.drained-answer.ensures (c.follow.ensures.due told) c.follow.ensures.kept.machine
+    (c.follow.ensures.stays told).cookie

@@ -1,16 +1,18 @@
-use Rattle.std.proofs.Common.{ap, refl}
+use Rattle.std.proofs.Common.{ap, refl, sym, ◌∙◌}
 use Rattle.sctp_association.proofs.Telling.{tells_kept, tells_peer, tells_same, tells_then, to_same, transmits_end, unmoved_end}
 use Rattle.std.proofs.lemmas.Option.{none-some}
-use Rattle.sctp_association.proofs.Congested.{within_same, sends_after, sends_dropped, sends_same}
+use Rattle.sctp_association.proofs.Congested.{as_full, dropped_windows, full_of, sends_after, sends_alike, sends_same}
 use Rattle.sctp_association.proofs.Known.{keeps_then, knows_same, unmoved_keeps}
-use Rattle.sctp_association.proofs.Leaving.{leaves_later, leaves_same, stays_leave}
+use Rattle.sctp_association.proofs.Leaving.{leaves_later, leaves_same, new_then, new_unmoved, once_after, stays_leave}
 use Rattle.sctp_association.proofs.Lasting.{lasts_same, lasts_then, lasts_unmoved}
 use Rattle.sctp_association.proofs.Offering.{offers_none, offers_reply}
 use Rattle.sctp_association.proofs.Others.{alike_puts, before_then, none_sent_so, sends_puts, sent_alone, unsent, unsent_err}
 use Rattle.sctp_association.proofs.Putting.{and_then, nothing}
 use Rattle.sctp_association.proofs.association.Association.poll_transmit.Goals as goal
 use Rattle.sctp_association.specs.Halves.{receiver_of, sides_of}
+use Rattle.sctp_association.specs.Leaving.{owed_of}
 use Rattle.sctp_association.specs.declared.outbound.Outbound.{Outbound}
+use Rattle.sctp_handshake.specs.declared.machine.Machine.{Machine}
 
 pub returns-in_err-put_alone-clause-made : goal.returns-in_err-put_alone-clause-made
 returns-in_err-put_alone-clause-made c =
@@ -51,7 +53,8 @@ pub returns-in_err-abandon-clause-offers : goal.returns-in_err-abandon-clause-of
 returns-in_err-abandon-clause-offers c = unsent_err _ c.from_residual-in_err-abandon.ensures.0
 
 pub returns-clause-offers : goal.returns-clause-offers
-returns-clause-offers c sent = offers_none c.args.self.now _ (c.put_packet.ensures.plain sent)
+returns-clause-offers c sent =
+    offers_none c.args.self.now (owed_of c.settle.new.self) (owed_of c.put_packet.new.self) _ (c.put_packet.ensures.once sent)
 
 -- ## What stays
 
@@ -125,26 +128,28 @@ returns-clause-left c = lasts_then c.args.self.now c.settle.new.self _ (
 -- ## What had room
 
 pub returns-in_err-put_alone-clause-within : goal.returns-in_err-put_alone-clause-within
-returns-in_err-put_alone-clause-within c = sends_same c.args.self.now.outbound.sender c.put_alone.new.self.outbound c.put_alone.ensures.halves.sender
+returns-in_err-put_alone-clause-within c =
+    sends_same c.args.self.now.outbound c.put_alone.new.self.outbound (full_of _ c.put_alone.new.self c.put_alone.ensures.halves)
 
 pub returns-in-Some-clause-within : goal.returns-in-Some-clause-within
-returns-in-Some-clause-within c = sends_same c.args.self.now.outbound.sender c.put_alone.new.self.outbound c.put_alone.ensures.halves.sender
+returns-in-Some-clause-within c =
+    sends_same c.args.self.now.outbound c.put_alone.new.self.outbound (full_of _ c.put_alone.new.self c.put_alone.ensures.halves)
 
 pub returns-then-self-clause-within : goal.returns-then-self-clause-within
-returns-then-self-clause-within c = sends_same c.args.self.now.outbound.sender c.args.self.now.outbound refl
+returns-then-self-clause-within c = sends_same c.args.self.now.outbound c.args.self.now.outbound (as_full _ _ refl)
 
 pub returns-in_err-abandon-clause-within : goal.returns-in_err-abandon-clause-within
-returns-in_err-abandon-clause-within c = sends_dropped c.args.self.now.outbound.sender c.abandon.new.self c.abandon.ensures.dropped
+returns-in_err-abandon-clause-within c = sends_alike c.args.self.now.outbound c.abandon.new.self c.abandon.new.self c.abandon.ensures.dropped
+    (dropped_windows _ c.abandon.new.self _ _ c.abandon.ensures.rest) (as_full _ _ refl)
 
 pub returns-in_default-peer-clause-within : goal.returns-in_default-peer-clause-within
-returns-in_default-peer-clause-within c =
-    sends_after c.args.self.now.outbound.sender c.abandon.new.self.sender c.settle.new.self.outbound.sender c.settle.new.self.outbound c.abandon.ensures.dropped
-    c.settle.ensures.halves.sender (within_same c.settle.new.self.outbound.sender c.settle.new.self.outbound refl)
+returns-in_default-peer-clause-within c = sends_alike c.args.self.now.outbound c.abandon.new.self c.settle.new.self.outbound c.abandon.ensures.dropped
+    (dropped_windows _ c.abandon.new.self _ _ c.abandon.ensures.rest) (full_of _ c.settle.new.self c.settle.ensures.halves)
 
 pub returns-clause-within : goal.returns-clause-within
 returns-clause-within c =
-    sends_after c.args.self.now.outbound.sender c.abandon.new.self.sender c.settle.new.self.outbound.sender c.put_packet.new.self.outbound c.abandon.ensures.dropped
-    c.settle.ensures.halves.sender c.put_packet.ensures.within
+    sends_after c.args.self.now.outbound c.abandon.new.self c.settle.new.self.outbound c.put_packet.new.self.outbound c.abandon.ensures.dropped
+    (dropped_windows _ c.abandon.new.self _ _ c.abandon.ensures.rest) (full_of _ c.settle.new.self c.settle.ensures.halves) c.put_packet.ensures.within
 
 -- ## What is due
 
@@ -165,3 +170,39 @@ returns-in_default-peer-clause-leaves c = stays_leave _ _ _ _ c.settle.ensures.s
 
 pub returns-clause-leaves : goal.returns-clause-leaves
 returns-clause-leaves c = leaves_later _ _ _ _ c.settle.ensures.stays c.put_packet.ensures.leaves
+
+-- ## What leaves once
+
+pub returns-in_err-put_alone-clause-once : goal.returns-in_err-put_alone-clause-once
+returns-in_err-put_alone-clause-once c = unsent_err _ c.from_residual.ensures.0
+
+pub returns-in-Some-clause-once : goal.returns-in-Some-clause-once
+returns-in-Some-clause-once c _ none = absurd (none-some c.in-Some.alone (sym none ∙ c.in-Some.is))
+
+pub returns-in_err-abandon-clause-once : goal.returns-in_err-abandon-clause-once
+returns-in_err-abandon-clause-once c = unsent_err _ c.from_residual-in_err-abandon.ensures.0
+
+pub returns-clause-once : goal.returns-clause-once
+returns-clause-once c sent _ = once_after (owed_of c.args.self.now) (owed_of c.settle.new.self) (owed_of c.put_packet.new.self) _ c.settle.ensures.asks
+    (ap (λ (m : Machine). m.state) c.put_packet.ensures.kept.machine) (c.put_packet.ensures.once sent)
+
+pub returns-in_err-put_alone-clause-asks : goal.returns-in_err-put_alone-clause-asks
+returns-in_err-put_alone-clause-asks c = new_unmoved _ _ c.put_alone.ensures.kept
+
+pub returns-in-Some-clause-asks : goal.returns-in-Some-clause-asks
+returns-in-Some-clause-asks c =
+    let put = new_unmoved c.args.self.now c.put_alone.new.self c.put_alone.ensures.kept in
+    record {
+      cookie_echo = put.cookie_echo;
+      cookie_ack = put.cookie_ack;
+      shutdown = put.shutdown;
+      shutdown_ack = put.shutdown_ack;
+      heartbeat = put.heartbeat;
+      cookie = put.cookie;
+    }
+
+pub returns-clause-asks : goal.returns-clause-asks
+returns-clause-asks c =
+    let put = c.put_packet.ensures in
+    new_then (owed_of c.args.self.now) (owed_of c.settle.new.self) (owed_of c.put_packet.new.self) c.settle.ensures.asks
+    (ap (λ (m : Machine). m.state) put.kept.machine) (new_unmoved c.settle.new.self c.put_packet.new.self put.kept)

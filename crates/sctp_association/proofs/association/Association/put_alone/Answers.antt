@@ -8,13 +8,18 @@ use Rattle.sctp_association.specs.Offering.{IsReplyOf}
 use Rattle.sctp_association.specs.Packets.{IsOf}
 
 pub returns-in_err-put_reply-clause-halves : goal.returns-in_err-put_reply-clause-halves
-returns-in_err-put_reply-clause-halves c = record {
+returns-in_err-put_reply-clause-halves c = let h = c.put_reply.ensures.reply.halves.windows in record {
   sender = c.put_reply.ensures.reply.halves.sender;
   receiver = c.put_reply.ensures.reply.halves.receiver;
+  windows = record { peer_window = h.peer_window; congestion = h.congestion };
 }
 
 pub returns-clause-halves : goal.returns-clause-halves
-returns-clause-halves c = record { sender = c.put_reply.ensures.reply.halves.sender; receiver = c.put_reply.ensures.reply.halves.receiver }
+returns-clause-halves c = let h = c.put_reply.ensures.reply.halves.windows in record {
+  sender = c.put_reply.ensures.reply.halves.sender;
+  receiver = c.put_reply.ensures.reply.halves.receiver;
+  windows = record { peer_window = h.peer_window; congestion = h.congestion };
+}
 
 pub returns-clause-written : goal.returns-clause-written
 returns-clause-written c =
@@ -34,6 +39,7 @@ returns-in_err-put_reply-clause-kept c =
       key = kept.key;
       machine = kept.machine;
       alone = kept.alone;
+      cookie = kept.cookie;
       events = kept.events;
       over = kept.over;
       failures = kept.failures;
@@ -48,6 +54,7 @@ returns-clause-kept c =
       key = kept.key;
       machine = kept.machine;
       alone = kept.alone;
+      cookie = kept.cookie;
       events = kept.events;
       over = kept.over;
       failures = kept.failures;

@@ -1,5 +1,6 @@
 use Rattle.std.proofs.Common.{inl, inr, refl, sym, ◌∙◌}
 use Rattle.sctp_association.proofs.Leaving.{stands_put}
+use Rattle.sctp_association.proofs.Others.{others_one}
 use Rattle.sctp_association.proofs.association.Association.put_cookie_echo.Goals as goal
 
 pub returns-then-is_put-clause-leaves : goal.returns-then-is_put-clause-leaves
@@ -17,3 +18,20 @@ returns-then-is_put-clause-leaves c = record {
   acked = refl;
   limit = c.put-is_put.ensures.limit;
 }
+
+pub returns-then-is_put-clause-others : goal.returns-then-is_put-clause-others
+returns-then-is_put-clause-others c =
+    let own = sym c.in-Some.is ∙ c.take.ensures.value in
+    others_one c.put-is_put.result _ c.args.self.now _ c.put-is_put.ensures.added tt
+    (c.if-not-self.false, sym c.take.ensures.value ∙ c.in-Some.is, refl) (record { sender = refl; receiver = refl; windows = record { peer_window = refl; congestion = refl } })
+    (record {
+      config = refl;
+      key = refl;
+      machine = refl;
+      alone = refl;
+      cookie = own;
+      events = refl;
+      over = refl;
+      failures = refl;
+      due = record { cookie_echo = λ e. refl; cookie_ack = λ e. e; shutdown = λ e. e; shutdown_ack = λ e. e; heartbeat = λ info e. e };
+    })

@@ -18,8 +18,8 @@ returns-clause-made c = subst (λ (a : Association). Puts (sides_of c.args.self.
     (c.put.ensures.made (receiver_of c.args.self.now.inbound))
 
 pub returns-then-not-sends_data-clause-within : goal.returns-then-not-sends_data-clause-within
-returns-then-not-sends_data-clause-within c = within_same c.args.self.now.outbound.sender c.args.self.now.outbound refl
+returns-then-not-sends_data-clause-within c = within_same c.args.self.now.outbound c.args.self.now.outbound refl
 
 pub returns-clause-within : goal.returns-clause-within
 returns-clause-within c =
-    subst (λ (a : Association). LeavesWithin c.args.self.now.outbound.sender a.outbound) (sym c.note_use.ensures) c.put.ensures.within
+    subst (λ (a : Association). LeavesWithin c.args.self.now.outbound a.outbound) (sym c.note_use.ensures) c.put.ensures.within

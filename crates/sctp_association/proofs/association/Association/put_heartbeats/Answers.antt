@@ -1,5 +1,6 @@
 use Rattle.std.proofs.Common.{[], arith}
 use Rattle.sctp_association.proofs.Idle.{added_longer, on_ok}
+use Rattle.sctp_association.proofs.Known.{still_none}
 use Rattle.sctp_association.proofs.Leaving.{into_kept}
 use Rattle.sctp_association.proofs.association.Association.put_heartbeats.Goals as goal
 
@@ -12,7 +13,7 @@ returns-in-Some-clause-owes c = on_ok c.put_heartbeat.result (λ p draft short.
     let one = c.put_heartbeat_ack.ensures.others.added in
     let longer = added_longer _ _ _ _ one draft in
     let more = added_longer _ _ _ _ c.put_heartbeat.ensures.others.added (one.draft p draft) in
-    c.put_heartbeat.ensures.others.kept.due.heartbeat (c.in_ok-put_heartbeat_ack.ensures.owes longer.0 (omega (arith, short, more.1))))
+    still_none _ _ c.put_heartbeat.ensures.others.kept.due.heartbeat (c.in_ok-put_heartbeat_ack.ensures.owes longer.0 (omega (arith, short, more.1))))
 
 pub returns-in_default-clause-owes : goal.returns-in_default-clause-owes
 returns-in_default-clause-owes c p draft short =

@@ -2,7 +2,7 @@ use Rattle.sctp_association.proofs.Leaving.{by_none, by_sealed, leaves_same, wit
 use Rattle.std.proofs.Common.{[], ap, false, refl, subst, sym, ◌∙◌}
 use Rattle.sctp_association.specs.Leaving.{replies_of}
 use Rattle.std.proofs.lemmas.Bool.{leb-true}
-use Rattle.sctp_association.proofs.Congested.{within_same, within_so}
+use Rattle.sctp_association.proofs.Congested.{paused, within_same, within_then}
 use Rattle.sctp_association.proofs.Others.{none_sent_so, plain_after, sealed_after, sent_same, unsent, unsent_after, unsent_err}
 use Rattle.sctp_association.proofs.Putting.{nothing}
 use Rattle.sctp_association.proofs.association.Association.put_packet.Goals as goal
@@ -24,14 +24,14 @@ returns-then-is_empty-clause-made c = sent_same _ _ _ _ _ _ (ap (λ o. o.sender)
 pub returns-clause-made : goal.returns-clause-made
 returns-clause-made c = sealed_after _ _ _ _ _ _ _ c.fill-filled.ensures.made c.args.header c.args.is_zero _ c.in_ok-begin.ensures.begun c.seal.ensures.sealed
 
-pub returns-in_err-begin-clause-plain : goal.returns-in_err-begin-clause-plain
-returns-in_err-begin-clause-plain c = unsent_err _ c.from_residual.ensures.0
+pub returns-in_err-begin-clause-once : goal.returns-in_err-begin-clause-once
+returns-in_err-begin-clause-once c = unsent_err _ c.from_residual.ensures.0
 
-pub returns-in_err-filled-clause-plain : goal.returns-in_err-filled-clause-plain
-returns-in_err-filled-clause-plain c = unsent_err _ c.from_residual-in_err-filled.ensures.0
+pub returns-in_err-filled-clause-once : goal.returns-in_err-filled-clause-once
+returns-in_err-filled-clause-once c = unsent_err _ c.from_residual-in_err-filled.ensures.0
 
-pub returns-clause-plain : goal.returns-clause-plain
-returns-clause-plain c _ =
+pub returns-clause-once : goal.returns-clause-once
+returns-clause-once c _ =
     plain_after _ _ _ _ [] _ _ c.fill-filled.ensures.made c.args.header c.args.is_zero _ c.in_ok-begin.ensures.begun c.seal.ensures.sealed
 
 -- ## Where nothing was put
@@ -60,11 +60,11 @@ returns-then-is_empty-clause-owes c _ state =
 -- ## What had room
 
 pub returns-in_err-begin-clause-within : goal.returns-in_err-begin-clause-within
-returns-in_err-begin-clause-within c = within_same c.args.self.now.outbound.sender c.args.self.now.outbound refl
+returns-in_err-begin-clause-within c = within_same c.args.self.now.outbound c.args.self.now.outbound refl
 
 pub returns-then-is_empty-clause-within : goal.returns-then-is_empty-clause-within
-returns-then-is_empty-clause-within c = within_so c.args.self.now.outbound.sender c.fill-filled.new.self.outbound c.pause.new.self (ap (λ (o : Outbound). o.sender) c.pause.ensures)
-    (ap (λ (o : Outbound). o.peer_window) c.pause.ensures) (ap (λ (o : Outbound). o.congestion) c.pause.ensures) c.fill-filled.ensures.within
+returns-then-is_empty-clause-within c = within_then c.args.self.now.outbound.sender c.args.self.now.outbound c.fill-filled.new.self.outbound c.pause.new.self
+    c.fill-filled.ensures.within (paused c.fill-filled.new.self.outbound c.pause.new.self _ c.pause.ensures)
 
 -- ## What leaves
 

@@ -1,19 +1,15 @@
 use Rattle.std.proofs.Common.{refl}
 use Rattle.sctp_association.proofs.Idle.{on_ok_so}
 use Rattle.sctp_association.proofs.Known.{owes_alike}
-use Rattle.sctp_association.proofs.Offering.{reply_others}
-use Rattle.sctp_association.proofs.Others.{others_after, others_one}
+use Rattle.sctp_association.proofs.Offering.{reply_shutting}
 use Rattle.sctp_association.proofs.Replying.{abort_reply, as_be32, as_missing, complete_reply, host_name_reply, no_cookie_reply, no_data_reply, shutting_reply, stale_reply}
 use Rattle.sctp_association.proofs.association.Association.put_reply.Goals as goal
-use Rattle.sctp_chunks.specs.Wire.{shutdown_ack_chunk}
 
 pub returns-in-ShuttingDown-clause-reply : goal.returns-in-ShuttingDown-clause-reply
-returns-in-ShuttingDown-clause-reply c = reply_others _ _ _ (
-    others_after _ _ _ c.put_error-in-ShuttingDown.ensures.others (
-    others_one c.put-in-ShuttingDown.result shutdown_ack_chunk _ _ c.put-in-ShuttingDown.ensures.added tt tt (record { sender = refl; receiver = refl })
-    (record { config = refl; key = refl; machine = refl; alone = refl; events = refl; over = refl; failures = refl; due = owes_alike _ })
-    )
-    )
+returns-in-ShuttingDown-clause-reply c =
+    reply_shutting c.put-in-ShuttingDown.result _ c.args.self.now _ _ c.put-in-ShuttingDown.ensures.added (record { sender = refl; receiver = refl; windows = record { peer_window = refl; congestion = refl } })
+    (record { config = refl; key = refl; machine = refl; alone = refl; cookie = refl; events = refl; over = refl; failures = refl; due = owes_alike _ })
+    c.put_error-in-ShuttingDown.ensures.others
 
 -- ## Exactly its chunks
 

@@ -1,12 +1,13 @@
+use Rattle.sctp_association.proofs.Congested.{full_others}
 use Rattle.sctp_association.proofs.Leaving.{into_then}
-use Rattle.sctp_association.proofs.Putting.{and_then}
 use Rattle.std.proofs.Common.{arith, ◌∙◌}
 use Rattle.sctp_association.proofs.Idle.{added_longer, no_shutdown}
-use Rattle.sctp_association.proofs.Others.{others_puts}
+use Rattle.sctp_association.proofs.Others.{due_others}
 use Rattle.sctp_association.proofs.association.Association.put_shutdown.Goals as goal
 
 pub returns-clause-made : goal.returns-clause-made
-returns-clause-made c = and_then _ _ _ c.put_shutdown_asked.ensures.made (others_puts _ _ c.put_shutdown_ack.ensures.others)
+returns-clause-made c = due_others c.args.self.now c.put_shutdown_asked.new.self c.put_shutdown_ack.new.self c.put_shutdown_asked.ensures.made
+    c.put_shutdown_asked.ensures.kept c.put_shutdown_ack.ensures.others
 
 pub returns-clause-owes : goal.returns-clause-owes
 returns-clause-owes c p draft short =
@@ -20,3 +21,8 @@ pub returns-clause-leaves : goal.returns-clause-leaves
 returns-clause-leaves c = into_then c.args.self.now c.put_shutdown_asked.new.self c.put_shutdown_ack.new.self _ _
     c.put_shutdown_asked.ensures.made.added c.put_shutdown_ack.ensures.others.added c.put_shutdown_asked.ensures.leaves
     c.put_shutdown_ack.ensures.leaves
+
+pub returns-clause-full : goal.returns-clause-full
+returns-clause-full c =
+    full_others c.args.self.now.outbound c.put_shutdown_asked.new.self c.put_shutdown_ack.new.self c.put_shutdown_asked.ensures.full
+    c.put_shutdown_ack.ensures.others

@@ -1,4 +1,5 @@
 use Rattle.sctp_association.proofs.Leaving.{stands_put}
+use Rattle.sctp_association.proofs.Others.{others_one}
 use Rattle.std.proofs.Common.{inl, inr, refl}
 use Rattle.std.proofs.Common.{◌≤◌, ap, length, subst, ◌∙◌}
 use Rattle.sctp_association.proofs.Idle.{shutdown_ack_put}
@@ -24,3 +25,18 @@ returns-then-put-clause-leaves c = record {
   acked = refl;
   limit = c.put.ensures.limit;
 }
+
+pub returns-then-put-clause-others : goal.returns-then-put-clause-others
+returns-then-put-clause-others c =
+    others_one c.put.result _ c.args.self.now _ c.put.ensures.added tt (inl c.if-self.true, refl) (record { sender = refl; receiver = refl; windows = record { peer_window = refl; congestion = refl } })
+    (record {
+      config = refl;
+      key = refl;
+      machine = refl;
+      alone = refl;
+      cookie = refl;
+      events = refl;
+      over = refl;
+      failures = refl;
+      due = record { cookie_echo = λ e. e; cookie_ack = λ e. e; shutdown = λ e. e; shutdown_ack = λ e. refl; heartbeat = λ info e. e };
+    })

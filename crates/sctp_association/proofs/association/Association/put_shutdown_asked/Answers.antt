@@ -8,7 +8,8 @@ use Rattle.sctp_association.proofs.association.Association.put_shutdown_asked.Go
 
 pub returns-then-put-clause-made : goal.returns-then-put-clause-made
 returns-then-put-clause-made c =
-    shutdown_side c.cumulative_tsn.result true _ _ c.in-Some.inbound _ _ c.in-Some.is c.cumulative_tsn.ensures c.if-put.ensures.added
+    shutdown_side c.cumulative_tsn.result true _ _ c.in-Some.inbound _ _ c.in-Some.is c.cumulative_tsn.ensures (inl c.if-not-self.false, refl)
+    c.if-put.ensures.added
 
 pub returns-else-put-clause-owes : goal.returns-else-put-clause-owes
 returns-else-put-clause-owes c head short = absurd

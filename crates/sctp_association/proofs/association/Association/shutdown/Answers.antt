@@ -1,12 +1,18 @@
+use Rattle.std.proofs.Common.{rules}
 use Rattle.sctp_association.proofs.Telling.{tells_peer, tells_then}
-use Rattle.sctp_association.proofs.Begun.{alike_then, halves_alike, quiet_asked}
+use Rattle.sctp_association.proofs.Begun.{asked_told}
+use Rattle.sctp_association.proofs.Others.{alike_then}
+use Rattle.sctp_association.specs.Halves.{HalvesAlike}
 use Rattle.sctp_association.proofs.Known.{keeps_by, keeps_then, knows_asked}
 use Rattle.sctp_association.proofs.association.Association.shutdown.Goals as goal
 
 pub returns-clause-halves : goal.returns-clause-halves
 returns-clause-halves c =
-    let quiet = quiet_asked c.args.self.now.machine _ _ _ _ _ c.follow.ensures.begun c.shutdown_asked-answer.ensures.answer in
-    alike_then _ c.follow.new.self _ (halves_alike _ _ quiet) c.settle.ensures.halves
+    let quiet = asked_told c.args.self.now.machine _ (λ e. absurd (search rules)) c.shutdown_asked-answer.ensures.answer in
+    let first = c.follow.ensures.quiet quiet in
+    let begun : HalvesAlike c.args.self.now c.follow.new.self =
+    record { sender = first.sender; receiver = first.receiver; windows = record { peer_window = first.windows.peer_window; congestion = first.windows.congestion } } in
+    alike_then _ c.follow.new.self _ begun c.settle.ensures.halves
 
 pub returns-clause-peer : goal.returns-clause-peer
 returns-clause-peer c =

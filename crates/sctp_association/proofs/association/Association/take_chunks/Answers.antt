@@ -123,8 +123,8 @@ returns-clause-takes c first are typ is =
     let alone : c.left-count.result < 2 = omega (arith, c.left-count.ensures, ap length are) in
     let came = if_ok _ _ _ next (c.take_first.ensures.takes alone (ap (λ (p : ChunkPlace). p.typ) same.0 ∙ typ)) in
     let idle = (c.take_others-is_whole.ensures.none same.1).1 in
-    inr (subst (λ (p : ChunkPlace). TakesDataAt p.at c.args.datagram.now c.end_datagram-2.new.self) same.0
-    (takes_still _ _ c.take_first.new.self c.end_datagram-2.new.self (c.end_datagram-2.ensures.halves.receiver ∙ ap (λ (a : Association). receiver_of a.inbound) idle) came))
+    inr (subst (λ (p : ChunkPlace). TakesDataAt p.at c.args.datagram.now c.args.self.now c.end_datagram-2.new.self) same.0
+    (takes_still _ _ c.args.self.now c.take_first.new.self c.end_datagram-2.new.self (c.end_datagram-2.ensures.halves.receiver ∙ ap (λ (a : Association). receiver_of a.inbound) idle) came))
 
 -- ## What is due, and each DATA chunk
 
@@ -144,7 +144,7 @@ returns-in-Stop-clause-each c takes is =
     let of : TakesDataOf c.header-tag.result.verification_tag c.args.self.now = subst (λ (n : ℕ). TakesDataOf n c.args.self.now) (sym tag) takes in
     subst (λ (l : List ChunkPlace). TakesEachOf l c.args.datagram.now c.args.self.now c.take_first.new.self) (sym c.in-Some.ensures.place)
     (first_stop _ c.args.datagram.now c.in-Some.first c.next.new.self.left c.args.self.now c.take_first.new.self c.take_first.result
-    (c.take_first.ensures.on of) stop)
+    (c.take_first.ensures.on of) (arrives_of _ _ _ _ c.take_first.ensures.came.arrives) stop)
 
 pub returns-clause-each : goal.returns-clause-each
 returns-clause-each c takes is =
@@ -157,9 +157,12 @@ returns-clause-each c takes is =
     c.take_others-is_whole.ensures.each (subst (λ (n : ℕ). TakesDataOf n c.take_first.new.self) tag t) c.if-not-is_whole.false in
     subst (λ (l : List ChunkPlace). TakesEachOf l c.args.datagram.now c.args.self.now c.end_datagram-2.new.self) (sym c.in-Some.ensures.place) (
     each_ended (c.in-Some.first ∷ c.next.new.self.left) c.args.datagram.now c.args.self.now c.take_others-is_whole.new.self c.end_datagram-2.new.self
-    ended.over (alike_halves c.take_others-is_whole.new.self c.end_datagram-2.new.self ended.halves) (
+    ended.over (record {
+      halves = alike_halves c.take_others-is_whole.new.self c.end_datagram-2.new.self ended.halves;
+      usable = ended.usable;
+    }) (
     first_next _ c.args.datagram.now c.in-Some.first c.next.new.self.left c.args.self.now c.take_first.new.self c.take_first.result
-    (c.take_first.ensures.on of) next (arrives_of _ _ _ _ c.take_first.ensures.came.arrives) c.take_others-is_whole.new.self
+    (c.take_first.ensures.on of) (arrives_of _ _ _ _ c.take_first.ensures.came.arrives) next c.take_others-is_whole.new.self
     (arrives_of _ _ _ _ c.take_others-is_whole.ensures.came.arrives) others
     )
     )

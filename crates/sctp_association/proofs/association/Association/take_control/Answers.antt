@@ -2,7 +2,7 @@ use Rattle.sctp_association.proofs.Telling.{tells_due, tells_peer, tells_still}
 use Rattle.sctp_association.proofs.Arrived.{came_alike, came_same}
 use Rattle.sctp_association.proofs.Begun.{quiet_complete, quiet_shutdown_ack}
 use Rattle.sctp_association.proofs.Known.{keeps_by, knows_complete, knows_shutdown_ack}
-use Rattle.sctp_association.proofs.Offered.{offered_alike, offered_calls, offered_kept, offered_less}
+use Rattle.sctp_association.proofs.Offered.{offered_alike, offered_halves, offered_calls, offered_kept, offered_less}
 use Rattle.sctp_association.proofs.association.Association.take_control.Goals as goal
 
 pub returns-in-4-clause-came : goal.returns-in-4-clause-came
@@ -24,7 +24,7 @@ returns-in-8-clause-came c =
     (keeps_by _ _ _ (knows_shutdown_ack _ _ _ c.shutdown_ack-answer.ensures.takes) kept.config kept.key kept.machine kept.owes)
 
 pub returns-in-9-clause-came : goal.returns-in-9-clause-came
-returns-in-9-clause-came c = offered_alike _ _ _ c.take_error.ensures.halves c.take_error.ensures.peer
+returns-in-9-clause-came c = offered_halves _ _ _ c.take_error.ensures.halves c.take_error.ensures.peer
 
 pub returns-in-11-clause-came : goal.returns-in-11-clause-came
 returns-in-11-clause-came c = c.take_cookie_ack.ensures.came

@@ -1,14 +1,18 @@
 use Rattle.sctp_association.proofs.Telling.{end_then, to_in}
-use Rattle.std.proofs.Common.{arith, Ok, Some, ap, refl, subst, sym, ◌∙◌}
+use Rattle.std.proofs.Common.{arith, Ok, Some, ap, refl, subst, sym, ◌≡◌, ◌∙◌}
 use Rattle.sctp_association.proofs.Arrived.{came_alike, came_same, came_then, receiver_came}
-use Rattle.sctp_association.proofs.Coming.{done_unless, follows_data}
-use Rattle.sctp_association.specs.Arrivals.{Halves}
+use Rattle.sctp_association.proofs.Coming.{done_unless, followed, follows_data}
+use Rattle.sctp_association.specs.Arrivals.{Halves, halves}
 use Rattle.sctp_association.specs.Coming.{HasComeOrIsDropped, TakesDataOf}
 use Rattle.sctp_association.proofs.Begun.{quiet_arrived}
+use Rattle.sctp_association.specs.Halves.{receiver_of}
+use Rattle.sctp_association.proofs.Entering.{calls_of_receiver, calls_then, entered_in, may_use_data}
+use Rattle.sctp_association.specs.declared.association.Association.{Association}
+use Rattle.sctp_association.specs.declared.inbound.Followed.TheVariants.{Done}
 use Rattle.sctp_association.proofs.First.{on_err}
 use Rattle.sctp_association.proofs.Kept.{same_inbound, same_machine}
 use Rattle.sctp_association.proofs.Known.{keeps_by, keeps_then, knows_arrived}
-use Rattle.sctp_association.proofs.Going.{arrived_state, arrived_told, goes_by_data, served_alike, takes_on}
+use Rattle.sctp_association.proofs.Going.{arrived_state, arrived_told, goes_by, served_alike, takes_on}
 use Rattle.sctp_association.proofs.Sacks.{hears_by, sacks_on}
 use Rattle.sctp_association.specs.Sacks.{TakesSacksOf}
 use Rattle.sctp_handshake.specs.declared.machine.Machine.{Machine}
@@ -64,11 +68,14 @@ returns-clause-takes c =
     let still = c.end_by.ensures.halves.receiver
     ∙ ap (λ (h : Halves). h.receiver) (quiet_arrived _ _ _ _ _ _ c.follow.ensures.begun c.packet_arrived-answer.ensures.answer)
     ∙ c.run_again.ensures.halves.receiver in
-    follows_data _ _ _ _ (λ next. record {
+    follows_data _ _ _ c.args.self.now _ (λ next.
+    let done : c.take_data.result ≡ Ok Done =
+    c.in_ok-followed.was ∙ ap Ok (done_unless _ _ (c.end_by.ensures.next next) c.in_default-followed.not-Wanting (λ e. e)) in
+    record {
       chunk = chunk;
       reads = c.in_ok-data.ensures.found;
-      taken = subst (HasComeOrIsDropped chunk) (sym still) (
-          done_unless _ _ (c.end_by.ensures.next next) c.in_default-followed.not-Wanting (λ e. c.take_data.ensures.takes (c.in_ok-followed.was ∙ ap Ok e)));
+      taken = subst (HasComeOrIsDropped chunk) (sym still) (c.take_data.ensures.takes done);
+      entered = entered_in chunk c.args.self.now.inbound _ _ c.take_data.new.self c.in-Some.is still (c.take_data.ensures.handles done);
     }) c.end_by.ensures.over
 
 pub returns-in_err-followed-clause-tells : goal.returns-in_err-followed-clause-tells
@@ -89,14 +96,29 @@ returns-clause-on c tag takes =
     let old = c.args.self.now in
     let quiet = arrived_told old.machine _ _ c.packet_arrived-answer.ensures in
     let kept = c.follow.ensures.kept.machine ∙ c.run_again.ensures.kept.machine in
-    let there : TakesDataOf tag c.follow.new.self =
+    let goes : TakesDataOf tag c.follow.new.self =
     takes_on tag old c.follow.new.self takes (c.follow.ensures.over quiet ∙ c.run_again.ensures.over)
     (ap (λ (m : Machine). m.state) kept ∙ arrived_state old.machine _ _ c.packet_arrived-answer.ensures)
     (ap (λ (m : Machine). m.own) kept ∙ (knows_arrived old.machine _ _ c.packet_arrived-answer.ensures).own)
     (served_alike (Some c.take_data.new.self) c.follow.new.self.inbound ((c.follow.ensures.quiet quiet).receiver ∙ c.run_again.ensures.halves.receiver) refl) in
-    goes_by_data c.args.chunk tag c.args.datagram.now c.end_by.result c.end_by.new.self c.end_by.ensures.never (returns-clause-takes c) (
-    λ next. subst (TakesDataOf tag) (sym (c.end_by.ensures.on next)) there
-    )
+    goes_by c.args.chunk tag c.args.datagram.now c.end_by.result old c.end_by.new.self (λ r e. absurd (c.end_by.ensures.never r e)) c.end_by.ensures.over
+    (λ next.
+    let done : c.take_data.result ≡ Ok Done =
+    c.in_ok-followed.was ∙ ap Ok (done_unless _ _ (c.end_by.ensures.next next) c.in_default-followed.not-Wanting (λ e. e)) in
+    let there : c.end_by.new.self.inbound ≡ Some c.take_data.new.self =
+    ap (λ (a : Association). a.inbound) (c.end_by.ensures.on next) ∙ c.follow.ensures.inbound quiet ∙ c.run_again.ensures.inbound in
+    let sender : c.end_by.new.self.outbound.sender ≡ old.outbound.sender =
+    ap (λ (a : Association). a.outbound.sender) (c.end_by.ensures.on next) ∙ (c.follow.ensures.quiet quiet).sender ∙ c.run_again.ensures.halves.sender in (
+      subst (TakesDataOf tag) (sym (c.end_by.ensures.on next)) goes,
+      record {
+        calls = calls_then _ _ _ _ _ (calls_of_receiver c.args.chunk.at c.args.datagram.now _ c.in_ok-data.ensures.found old.outbound.sender old.inbound _ _
+            c.take_data.new.self c.in-Some.is there c.take_data.ensures.received)
+            (ap (λ t. halves t (receiver_of c.end_by.new.self.inbound)) sender);
+        usable = may_use_data c.args.chunk.at c.args.datagram.now old c.end_by.new.self _ c.take_data.new.self c.in-Some.is there c.in_ok-data.data
+            c.in_ok-data.ensures.found (c.take_data.ensures.handles done);
+        comes = λ is. followed _ _ _ old _ next (returns-clause-takes c);
+      },
+    ))
 
 -- ## So are SACKs
 

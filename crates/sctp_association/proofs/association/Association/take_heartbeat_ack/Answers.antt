@@ -5,7 +5,7 @@ use Rattle.sctp_association.specs.Halves.{HalvesAlike}
 use Rattle.std.proofs.Common.{refl, subst, sym}
 use Rattle.sctp_association.specs.declared.association.Association.{Association}
 use Rattle.sctp_association.proofs.Known.{kept_then}
-use Rattle.sctp_association.proofs.Begun.{alike_then}
+use Rattle.sctp_association.proofs.Others.{alike_then}
 use Rattle.sctp_association.proofs.Telling.{end_then, to_same}
 use Rattle.sctp_association.proofs.association.Association.take_heartbeat_ack.Goals as goal
 
@@ -17,6 +17,6 @@ loop-param-preserved c =
       | in-HeartbeatInfo+in-Some-first_chunk w ↦ subst P (sym w.self-is)
           (w.heartbeat_answered.ensures.halves, w.heartbeat_answered.ensures.kept, w.heartbeat_answered.ensures.tells)
       | in_default-param w ↦ subst P (sym w.self-is)
-          (record { sender = refl; receiver = refl }, record { config = refl; key = refl; machine = refl; owes = λ t e. e }, to_same)
+          (record { sender = refl; receiver = refl; windows = record { peer_window = refl; congestion = refl } }, record { config = refl; key = refl; machine = refl; owes = λ t e. e }, to_same)
     ] in
     (tt, tt, alike_then _ _ _ on.2 step.0, kept_then _ _ _ on.3 step.1, end_then on.4 step.2)

@@ -2,7 +2,7 @@ use Rattle.std.proofs.Common.{Ok, rules, subst, sym, ◌≡◌}
 use Rattle.sctp_association.proofs.Coming.{if_ok}
 use Rattle.sctp_association.proofs.Each.{past_goes, past_never, step_same}
 use Rattle.sctp_association.proofs.Sacks.{past_hears, past_hears_never}
-use Rattle.sctp_association.specs.Coming.{GoesOn, TakesDataOf}
+use Rattle.sctp_association.specs.Coming.{GoesOn}
 use Rattle.sctp_association.specs.Sacks.{HearsOn, TakesSacksOf}
 use Rattle.sctp_association.specs.declared.association.arrivals.Step.TheVariants.{Refused}
 use Rattle.sctp_association.proofs.association.Association.take_other.Goals as goal
@@ -12,17 +12,17 @@ use Rattle.sctp_association.proofs.association.Association.take_other.Goals as g
 pub returns-in-Refused-clause-on : goal.returns-in-Refused-clause-on
 returns-in-Refused-clause-on c takes going =
     let is : c.take_chunk.result ≡ Ok (Refused c.in-Refused.reason) = search rules in
-    let was : GoesOn c.args.chunk c.args.tag c.args.datagram.now (Refused c.in-Refused.reason) c.take_chunk.new.self =
-    if_ok (λ s. GoesOn c.args.chunk c.args.tag c.args.datagram.now s c.take_chunk.new.self) _ _ is (c.take_chunk.ensures.on takes going) in
-    past_goes c.args.chunk c.args.tag c.args.datagram.now c.in-Refused.reason c.past.result c.take_chunk.new.self
-    (subst (TakesDataOf c.args.tag) (sym (c.take_chunk.ensures.refused c.in-Refused.reason is)) takes) was c.past.ensures.unexpected
+    let was : GoesOn c.args.chunk c.args.tag c.args.datagram.now (Refused c.in-Refused.reason) c.args.self.now c.take_chunk.new.self =
+    if_ok (λ s. GoesOn c.args.chunk c.args.tag c.args.datagram.now s c.args.self.now c.take_chunk.new.self) _ _ is (c.take_chunk.ensures.on takes going) in
+    past_goes c.args.chunk c.args.tag c.args.datagram.now c.in-Refused.reason c.past.result c.args.self.now c.take_chunk.new.self takes
+    (c.take_chunk.ensures.refused c.in-Refused.reason is) was c.past.ensures.unexpected
 
 pub returns-in-Refused-clause-never : goal.returns-in-Refused-clause-never
 returns-in-Refused-clause-never c takes going x e =
     let is : c.take_chunk.result ≡ Ok (Refused c.in-Refused.reason) = search rules in
-    let was : GoesOn c.args.chunk c.args.tag c.args.datagram.now (Refused c.in-Refused.reason) c.take_chunk.new.self =
-    if_ok (λ s. GoesOn c.args.chunk c.args.tag c.args.datagram.now s c.take_chunk.new.self) _ _ is (c.take_chunk.ensures.on takes going) in
-    past_never c.args.chunk c.args.tag c.args.datagram.now c.in-Refused.reason x c.past.result c.take_chunk.new.self was c.past.ensures.unexpected
+    let was : GoesOn c.args.chunk c.args.tag c.args.datagram.now (Refused c.in-Refused.reason) c.args.self.now c.take_chunk.new.self =
+    if_ok (λ s. GoesOn c.args.chunk c.args.tag c.args.datagram.now s c.args.self.now c.take_chunk.new.self) _ _ is (c.take_chunk.ensures.on takes going) in
+    past_never c.args.chunk c.args.tag c.args.datagram.now c.in-Refused.reason x c.past.result c.args.self.now c.take_chunk.new.self was c.past.ensures.unexpected
     (step_same _ _ e)
 
 pub returns-in-Refused-clause-sacks : goal.returns-in-Refused-clause-sacks

@@ -31,7 +31,7 @@ loop-preserved-then-not-counts c = record {
   came = c.loop.invariant.came;
   tells = c.loop.invariant.tells;
   each = λ takes. owed_passed c.header-tag.result.verification_tag c.args.datagram.now c.in-Some.chunk c.next.new.self.left c.loop.self c.loop.self
-      c.args.chunks.left (halves_of c.args.self.now) (data_counts c.in-Some.chunk c.loop.once (sym c.if-not-counts.ensures.value)) refl (
+      c.args.chunks.left c.args.self.now (data_counts c.in-Some.chunk c.loop.once (sym c.if-not-counts.ensures.value)) refl (
       owed_at _ _ _ _ _ _ _ c.in-Some.ensures.place (c.loop.invariant.each takes)
       );
   sacks = λ other takes. sack_noted _ _ _ _ _ _ (seen c.in-Some.chunk.typ c.loop.once) _ c.if-not-counts.ensures.noted (
@@ -49,7 +49,7 @@ loop-preserved c = record {
   came = offered_then _ _ _ c.loop.invariant.came _ c.take_other.ensures.came;
   tells = tells_then _ _ _ c.loop.invariant.tells c.take_other.ensures.tells;
   each = λ takes. owed_next c.header-tag.result.verification_tag c.args.datagram.now c.in-Some.chunk c.next.new.self.left c.loop.self c.take_other.new.self
-      c.args.chunks.left (halves_of c.args.self.now) c.take_other.result (arrives_of _ _ _ _ c.take_other.ensures.came.arrives) c.take_other.ensures.on
+      c.args.chunks.left c.args.self.now (arrives_of _ _ _ _ c.take_other.ensures.came.arrives) c.take_other.result c.take_other.ensures.on
       (search rules) (owed_at _ _ _ _ _ _ _ c.in-Some.ensures.place (c.loop.invariant.each takes));
   sacks = λ other takes. sack_noted _ _ _ _ _ _ (seen c.in-Some.chunk.typ c.loop.once) _ c.if-not-counts.ensures.noted (
       sack_next c.header-tag.result.verification_tag c.args.datagram.now c.in-Some.chunk c.next.new.self.left c.loop.self c.take_other.new.self
@@ -83,7 +83,7 @@ returns-in-Ok-Cut-2 c = record {
 pub returns-after-loop : goal.returns-after-loop
 returns-after-loop c = record {
   each = λ takes is. inr (owed_none c.header-tag.result.verification_tag c.args.datagram.now c.loop.chunks.left c.args.chunks.left c.loop.self
-      (halves_of c.args.self.now) (none_left _ _ _ _ c.loop.invariant.count c.left-end.ensures c.loop-test.false)
+      c.args.self.now (none_left _ _ _ _ c.loop.invariant.count c.left-end.ensures c.loop-test.false)
       (c.loop.invariant.each (tagged _ _ _ (c.header-tag.ensures.verification_tag ∙ ap (λ l. u32_at l 4) c.requires.whole) takes)));
   sacks = λ other takes is. inr (sack_none c.header-tag.result.verification_tag c.args.datagram.now c.loop.chunks.left c.args.chunks.left c.loop.self
       (halves_of c.args.self.now) c.loop.once (none_left _ _ _ _ c.loop.invariant.count c.left-end.ensures c.loop-test.false)
@@ -96,7 +96,7 @@ returns-after-loop c = record {
 pub returns-in_default : goal.returns-in_default
 returns-in_default c = record {
   each = λ takes is. inr (owed_none c.header-tag.result.verification_tag c.args.datagram.now c.loop.chunks.left c.args.chunks.left c.loop.self
-      (halves_of c.args.self.now) (search rules)
+      c.args.self.now (search rules)
       (c.loop.invariant.each (tagged _ _ _ (c.header-tag.ensures.verification_tag ∙ ap (λ l. u32_at l 4) c.requires.whole) takes)));
   sacks = λ other takes is. inr (sack_none c.header-tag.result.verification_tag c.args.datagram.now c.loop.chunks.left c.args.chunks.left c.loop.self
       (halves_of c.args.self.now) c.loop.once (search rules)
@@ -109,7 +109,7 @@ returns-in_default c = record {
 pub returns-in-Ok-Stop : goal.returns-in-Ok-Stop
 returns-in-Ok-Stop c = record {
   each = λ takes is. owed_stop c.header-tag.result.verification_tag c.args.datagram.now c.in-Some.chunk c.next.new.self.left c.loop.self c.take_other.new.self
-      c.args.chunks.left (halves_of c.args.self.now) c.take_other.result (arrives_of _ _ _ _ c.take_other.ensures.came.arrives) c.take_other.ensures.on
+      c.args.chunks.left c.args.self.now (arrives_of _ _ _ _ c.take_other.ensures.came.arrives) c.take_other.result c.take_other.ensures.on
       (search rules) (owed_at _ _ _ _ _ _ _ c.in-Some.ensures.place (c.loop.invariant.each (tagged _ _ _ (c.header-tag.ensures.verification_tag ∙ ap (λ l. u32_at l 4) c.requires.whole) takes)));
   sacks = λ other takes is. sack_stop c.header-tag.result.verification_tag c.args.datagram.now c.in-Some.chunk c.next.new.self.left c.loop.self
       c.take_other.new.self c.args.chunks.left (halves_of c.args.self.now) c.loop.once c.take_other.result
@@ -124,7 +124,7 @@ returns-in-Ok-Stop c = record {
 pub returns-in-Ok-Refused : goal.returns-in-Ok-Refused
 returns-in-Ok-Refused c = record {
   each = λ takes is. inr (owed_refused c.header-tag.result.verification_tag c.args.datagram.now c.in-Some.chunk c.next.new.self.left c.loop.self c.take_other.new.self
-      c.args.chunks.left (halves_of c.args.self.now) c.take_other.result (arrives_of _ _ _ _ c.take_other.ensures.came.arrives) c.take_other.ensures.on
+      c.args.chunks.left c.args.self.now (arrives_of _ _ _ _ c.take_other.ensures.came.arrives) c.take_other.result c.take_other.ensures.on
       (λ t going. c.take_other.ensures.never t going c.in-Ok-Refused.field-0-0 (c.in-Ok-Refused.is ∙ ap Ok c.in-Ok-Refused.field-0-is)) (owed_at _ _ _ _ _ _ _ c.in-Some.ensures.place (c.loop.invariant.each (tagged _ _ _ (c.header-tag.ensures.verification_tag ∙ ap (λ l. u32_at l 4) c.requires.whole) takes))));
   sacks = λ other takes is. inr (sack_refused c.header-tag.result.verification_tag c.args.datagram.now c.in-Some.chunk c.next.new.self.left c.loop.self
       c.take_other.new.self c.args.chunks.left (halves_of c.args.self.now) c.loop.once c.take_other.result

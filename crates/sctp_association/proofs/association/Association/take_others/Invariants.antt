@@ -17,7 +17,7 @@ invariant-loop l = record {
   own : AllByRecursion (IsChunkOf l.datagram) l.chunks.left;
   came : ArrivesAsOffered l.datagram l.initial.self l.self;
   tells : Tells l.initial.self l.self;
-  each : TakesDataOf l.tag l.initial.self → Owed l.tag l.datagram l.chunks.left l.self l.initial.chunks.left (halves_of l.initial.self);
+  each : TakesDataOf l.tag l.initial.self → Owed l.tag l.datagram l.chunks.left l.self l.initial.chunks.left l.initial.self;
   sacks : (l.first ≡ 3 → ⊥) → TakesSacksOf l.tag l.initial.self
       → OwedSack l.tag l.datagram l.chunks.left l.self l.initial.chunks.left (halves_of l.initial.self) l.once;
   count : l.counter + length l.chunks.left ≡ length l.initial.chunks.left;

@@ -1,5 +1,6 @@
 use Rattle.sctp_association.proofs.Telling.{end_then, to_low, to_same}
-use Rattle.std.proofs.Common.{refl, rules}
+use Rattle.std.proofs.Common.{arith, refl, rules}
+use Rattle.sctp_association.proofs.Entering.{calls_of_sack, may_use_by}
 use Rattle.sctp_association.proofs.Arrived.{came_alike, came_same, came_then, sack_came}
 use Rattle.sctp_association.proofs.Going.{sack_read}
 use Rattle.sctp_association.proofs.Sacks.{hears_in}
@@ -22,6 +23,16 @@ returns-in-Err-clause-on c tag takes = absurd (
 pub returns-in-Err-clause-sacks : goal.returns-in-Err-clause-sacks
 returns-in-Err-clause-sacks c tag takes = absurd (
     sack_read _ _ c.requires.place c.requires.typ _ c.bytes_of.ensures _ c.in_ok-unless_memory-in-Err.ensures c.in-Err.ensures.fault)
+
+pub returns-in-Taken-clause-on : goal.returns-in-Taken-clause-on
+returns-in-Taken-clause-on c tag takes = (
+  record { going = takes.going; state = takes.state; served = takes.served; own = takes.own },
+  record {
+    calls = calls_of_sack c.args.chunk.at c.args.datagram.now _ _ c.bytes_of.ensures c.in-Ok.ensures.found _ _ _ c.take_sack.ensures.hearing;
+    usable = may_use_by c.args.chunk.at c.args.datagram.now c.args.self.now _ refl;
+    comes = λ is. absurd (omega (arith, c.requires.typ, is));
+  },
+)
 
 pub returns-in-Taken-clause-sacks : goal.returns-in-Taken-clause-sacks
 returns-in-Taken-clause-sacks c tag takes = (

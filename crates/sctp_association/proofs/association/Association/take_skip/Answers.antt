@@ -1,8 +1,12 @@
 use Rattle.sctp_association.proofs.Telling.{end_then, to_in}
-use Rattle.std.proofs.Common.{arith, drop, refl, rules, Ok, ap, subst, sym}
+use Rattle.std.proofs.Common.{arith, drop, refl, rules, Ok, Some, ap, subst, sym, ◌≡◌}
+use Rattle.sctp_association.specs.Arrivals.{halves}
+use Rattle.sctp_association.specs.Halves.{receiver_of}
 use Rattle.sctp_association.proofs.Going.{forward_read, goes_by}
 use Rattle.sctp_association.proofs.Sacks.{hears_by}
 use Rattle.sctp_association.specs.Coming.{TakesDataOf}
+use Rattle.sctp_association.proofs.Entering.{calls_of_receiver, calls_then, may_use_skip}
+use Rattle.sctp_association.specs.declared.association.Association.{Association}
 use Rattle.sctp_association.specs.Sacks.{TakesSacksOf}
 use Rattle.sctp_association.proofs.Arrived.{came_alike, came_same, came_then, receiver_came}
 use Rattle.sctp_chunks.specs.Wire.{forward_tsn_chunk}
@@ -57,9 +61,22 @@ returns-in_default-clause-on c tag takes =
 
 pub returns-clause-on : goal.returns-clause-on
 returns-clause-on c tag takes =
-    goes_by c.args.chunk 191 tag c.args.datagram.now c.end_by.result c.end_by.new.self c.requires.typ (λ r e. absurd (c.end_by.ensures.never r e))
-    c.end_by.ensures.over (λ next.
-    subst (TakesDataOf tag) (sym (c.end_by.ensures.on next)) (record { going = takes.going; state = takes.state; served = refl; own = takes.own }))
+    let old = c.args.self.now in
+    let reads : StartsWith (drop c.args.chunk.at c.args.datagram.now) (forward_tsn_chunk (forward_tsn_of c.in-Some.skip)) = search rules in
+    let no-data : c.args.chunk.typ ≡ 0 → ⊥ = λ is. absurd (omega (arith, c.requires.typ, is)) in
+    goes_by c.args.chunk tag c.args.datagram.now c.end_by.result old c.end_by.new.self (λ r e. absurd (c.end_by.ensures.never r e)) c.end_by.ensures.over
+    (λ next.
+    let there : c.end_by.new.self.inbound ≡ Some c.take_skip.new.self = ap (λ (a : Association). a.inbound) (c.end_by.ensures.on next) in (
+      subst (TakesDataOf tag) (sym (c.end_by.ensures.on next)) (record { going = takes.going; state = takes.state; served = refl; own = takes.own }),
+      record {
+        calls = calls_then _ _ _ _ _ (calls_of_receiver c.args.chunk.at c.args.datagram.now _ reads old.outbound.sender old.inbound _ _
+            c.take_skip.new.self c.in-Some-inbound.is there c.take_skip.ensures.received)
+            (ap (λ (a : Association). halves a.outbound.sender (receiver_of c.end_by.new.self.inbound)) (c.end_by.ensures.on next));
+        usable = may_use_skip c.args.chunk.at c.args.datagram.now old c.end_by.new.self _ c.take_skip.new.self c.in-Some-inbound.is there
+            c.take_skip.ensures.limits.1 c.take_skip.ensures.same;
+        comes = λ is. absurd (no-data is);
+      },
+    ))
 
 pub returns-in_default-clause-sacks : goal.returns-in_default-clause-sacks
 returns-in_default-clause-sacks c tag takes =

@@ -1,4 +1,7 @@
+use Rattle.std.proofs.Common.{refl, subst, sym, ℕ, ◌<◌, ◌∙◌}
+use Rattle.sctp_association.proofs.Entering.{handles_opened, to_use, usable_parts}
 use Rattle.sctp_association.proofs.Noting.{tells_after}
+use Rattle.sctp_data.specs.declared.chunk.chunk_payload_data.ChunkPayloadData.{ChunkPayloadData}
 use Rattle.sctp_association.proofs.Arriving.{opened_asked, received_then}
 use Rattle.sctp_association.proofs.inbound.Inbound.open_and_take.Goals as goal
 
@@ -10,3 +13,12 @@ returns-clause-received c = received_then _ _ _ _ (opened_asked c.args.chunk.now
 
 pub returns-clause-tells : goal.returns-clause-tells
 returns-clause-tells c = tells_after _ _ _ _ _ _ c.open_agreed.ensures.tells c.take_on.ensures.tells
+
+pub returns-clause-handles : goal.returns-clause-handles
+returns-clause-handles c to is =
+    let chunk : ChunkPayloadData = c.args.chunk.now in
+    let parts = usable_parts chunk.stream_identifier c.args.self.now (to_use chunk.stream_identifier c.args.self.now to) in
+    let opened = c.in_ok-open_agreed.ensures in
+    handles_opened chunk c.args.self.now c.open_agreed.new.self _ to (opened.opens refl)
+    (opened.served refl (subst (λ (n : ℕ). chunk.stream_identifier < n) (sym opened.limits.1) parts.0) (opened.same chunk.stream_identifier ∙ parts.1))
+    opened.limits.1 opened.same (c.take_on.ensures.handles is)

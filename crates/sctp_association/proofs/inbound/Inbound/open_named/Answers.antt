@@ -13,7 +13,7 @@ pub returns-then-not-sna32lt-clause-received : goal.returns-then-not-sna32lt-cla
 returns-then-not-sna32lt-clause-received c = received_same _ _ _ refl
 
 pub loop-named-init : goal.loop-named-init
-loop-named-init c = record { tells = tells_same _ _; received = received_same _ _ _ refl; limits = refl; streams = refl; place = refl; served = All-nil _ }
+loop-named-init c = record { tells = tells_same _ _; received = received_same _ _ _ refl; limits = refl; streams = refl; same = λ n. refl; place = refl; served = All-nil _ }
 
 pub returns-in_err-open-clause-received : goal.returns-in_err-open-clause-received
 returns-in_err-open-clause-received c =
@@ -33,6 +33,9 @@ returns-in_err-open-clause-limits c =
 pub returns-in_err-open-clause-place : goal.returns-in_err-open-clause-place
 returns-in_err-open-clause-place c = c.in_err-open.ensures.place ∙ c.loop-named.invariant.place
 
+pub returns-in_err-open-clause-same : goal.returns-in_err-open-clause-same
+returns-in_err-open-clause-same c = λ n. c.in_err-open.ensures.same n ∙ c.loop-named.invariant.same n
+
 pub loop-named-preserved : goal.loop-named-preserved
 loop-named-preserved c =
     let xs = c.deref-named-items.result.now in
@@ -46,6 +49,7 @@ loop-named-preserved c =
       received = received_then _ _ _ _ i.received (named_opened f _ (named_at f xs at _ c.deref-named-items.ensures.value lt) _ _ e.received);
       limits = e.limits.0 ∙ i.limits;
       streams = e.limits.1 ∙ i.streams;
+      same = λ n. e.same n ∙ i.same n;
       place = e.place ∙ i.place;
       served = All-more (λ n. IsServed n.identifier c.open.new.self) xs at _ lt
           (All-weaker (λ n. IsServed n.identifier c.loop-named.self) (λ n. IsServed n.identifier c.open.new.self)
@@ -61,6 +65,9 @@ returns-clause-limits c = (c.loop-named.invariant.limits, c.loop-named.invariant
 
 pub returns-clause-place : goal.returns-clause-place
 returns-clause-place c = c.loop-named.invariant.place
+
+pub returns-clause-same : goal.returns-clause-same
+returns-clause-same c = c.loop-named.invariant.same
 
 pub returns-clause-served : goal.returns-clause-served
 returns-clause-served c =

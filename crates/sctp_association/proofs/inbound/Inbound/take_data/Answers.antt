@@ -1,5 +1,7 @@
 use Rattle.sctp_association.proofs.Noting.{tells_same}
-use Rattle.std.proofs.Common.{refl}
+use Rattle.std.proofs.Common.{refl, rules, false, ◌≡◌}
+use Rattle.sctp_association.proofs.Entering.{handles_open}
+use Rattle.sctp_association.specs.Served.{is_to_open}
 use Rattle.sctp_association.proofs.Arriving.{received_same}
 use Rattle.sctp_association.proofs.inbound.Inbound.take_data.Goals as goal
 
@@ -8,3 +10,8 @@ returns-then-is_empty-clause-received c = received_same _ _ _ refl
 
 pub returns-then-is_empty-clause-tells : goal.returns-then-is_empty-clause-tells
 returns-then-is_empty-clause-tells c = tells_same _ _
+
+pub returns-then-not-is_to_open-clause-handles : goal.returns-then-not-is_to_open-clause-handles
+returns-then-not-is_to_open-clause-handles c is =
+    let shut : is_to_open c.args.chunk.now.stream_identifier c.args.self.now ≡ false = search rules in
+    handles_open c.args.chunk.now c.args.self.now c.take_on.new.self shut (c.take_on.ensures.handles is)

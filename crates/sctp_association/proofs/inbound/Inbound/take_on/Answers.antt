@@ -10,6 +10,8 @@ use Rattle.sctp_association.proofs.Arriving.{received_data, received_same, recei
 use Rattle.sctp_association.proofs.inbound.Inbound.take_on.Goals as goal
 use Rattle.std.specs.Prelude.{IsOk}
 use Rattle.sctp_association.proofs.Coming.{refused_for}
+use Rattle.sctp_association.proofs.Entering.{handled_entered, handled_refused}
+use Rattle.sctp_data.specs.declared.chunk.chunk_payload_data.ChunkPayloadData.{ChunkPayloadData}
 use Rattle.sctp_association.specs.declared.inbound.Inbound.{Inbound}
 use Rattle.sctp_receiver.specs.Receiver.{arrival_refusal, filter_of}
 use Rattle.sctp_receiver.specs.TsnFilter.{has_come}
@@ -65,6 +67,36 @@ pub returns-in_default-clause-takes : goal.returns-in_default-clause-takes
 returns-in_default-clause-takes c is =
     let why = ap (arrival_refusal c.args.chunk.now) c.in-Err.ensures.err ∙ refused_for _ _ c.in_default.not-OutOfMemory c.in-Err.ensures.refused in
     c.follow.ensures.takes why is
+
+pub returns-then-is_readable-clause-handles : goal.returns-then-is_readable-clause-handles
+returns-then-is_readable-clause-handles c is =
+    let fits : c.args.chunk.now.tsn < 2 ^ 32 = search rules in
+    let note = c.note_data.ensures in
+    handled_entered c.args.chunk.now c.args.self.now _ _ _ _ fits c.in-Ok-New.is c.data.ensures (ap (λ (i : Inbound). i.receiver) note)
+    (ap (λ (i : Inbound). i.streams) note) (ap (λ (i : Inbound). i.discarded) note)
+
+pub returns-else-complete-clause-handles : goal.returns-else-complete-clause-handles
+returns-else-complete-clause-handles c is =
+    let fits : c.args.chunk.now.tsn < 2 ^ 32 = search rules in
+    let note = c.note_data.ensures in
+    handled_entered c.args.chunk.now c.args.self.now _ _ _ _ fits c.in-Ok-New.is c.data.ensures (ap (λ (i : Inbound). i.receiver) note)
+    (ap (λ (i : Inbound). i.streams) note) (ap (λ (i : Inbound). i.discarded) note)
+
+pub returns-in-Ok-Repeat-clause-handles : goal.returns-in-Ok-Repeat-clause-handles
+returns-in-Ok-Repeat-clause-handles c is =
+    let fits : c.args.chunk.now.tsn < 2 ^ 32 = search rules in
+    let note = c.note_data-in-Ok-Repeat.ensures in
+    handled_entered c.args.chunk.now c.args.self.now _ _ _ _ fits c.in-Ok-Repeat.is c.data.ensures (ap (λ (i : Inbound). i.receiver) note)
+    (ap (λ (i : Inbound). i.streams) note) (ap (λ (i : Inbound). i.discarded) note)
+
+pub returns-in_default-clause-handles : goal.returns-in_default-clause-handles
+returns-in_default-clause-handles c is =
+    let i : Inbound = c.args.self.now in
+    let chunk : ChunkPayloadData = c.args.chunk.now in
+    let refused = refused_for _ _ c.in_default.not-OutOfMemory c.in-Err.ensures.refused in
+    let why = ap (arrival_refusal chunk) c.in-Err.ensures.err ∙ refused in
+    let handled = c.follow.ensures.handles why is in
+    handled_refused _ chunk i _ _ refused c.in-Err.ensures.err handled.0 handled.1
 
 pub returns-then-is_readable-clause-tells : goal.returns-then-is_readable-clause-tells
 returns-then-is_readable-clause-tells c =

@@ -28,6 +28,7 @@ returns-in-Abort c =
       received = received_then _ _ _ _ (named_asked _ _ _ c.in_ok-open_named.ensures.received) (received_skip _ _ _ _ fits c.forward_tsn.ensures);
       named = λ ahead. skipped_served _ c.open_named.new.self _ _ _ _ c.forward_tsn.ensures refl refl (c.in_ok-open_named.ensures.served refl ahead);
       limits = search rules;
+      same = c.in_ok-open_named.ensures.same;
     }
 
 pub returns-clause-received : goal.returns-clause-received
@@ -39,6 +40,13 @@ returns-clause-received c =
       | in-Ok-Stale w ↦ rw w.self-is led
       | in-Err+in_default w ↦ rw w.self-is led
     ]
+
+pub returns-clause-same : goal.returns-clause-same
+returns-clause-same c = elim c.match-forward_tsn.branch [
+  | in-Ok-Skipped w ↦ rw w.self-is c.in_ok-open_named.ensures.same
+  | in-Ok-Stale w ↦ rw w.self-is c.in_ok-open_named.ensures.same
+  | in-Err+in_default w ↦ rw w.self-is c.in_ok-open_named.ensures.same
+]
 
 pub returns-clause-named : goal.returns-clause-named
 returns-clause-named c = λ ahead.

@@ -1,5 +1,5 @@
 use Rattle.std.proofs.Common.{ap, inl, length, ◌∙◌}
-use Rattle.sctp_association.proofs.Congested.{within_after, within_same}
+use Rattle.sctp_association.proofs.Congested.{skipped, within_after, within_again, within_behind, within_full}
 use Rattle.sctp_association.proofs.Putting.{out_then}
 use Rattle.sctp_association.proofs.outbound.Outbound.put_all.Goals as goal
 use Rattle.sctp_association.specs.declared.outbound.Outbound.{Outbound}
@@ -13,12 +13,14 @@ returns-clause-made c =
     out_then _ _ _ _ _ _ (out_then _ _ _ _ _ _ c.put_skip.ensures.made c.put_lost.ensures.made) c.put_new.ensures.made
 
 pub returns-in_err-put_skip-clause-within : goal.returns-in_err-put_skip-clause-within
-returns-in_err-put_skip-clause-within c = within_same c.args.self.now.sender c.put_skip.new.self (ap (λ (o : Outbound). o.sender) c.put_skip.ensures.rest)
+returns-in_err-put_skip-clause-within c = within_full c.args.self.now c.put_skip.new.self (skipped c.args.self.now _ _ c.put_skip.ensures.rest)
 
 pub returns-in_err-put_lost-clause-within : goal.returns-in_err-put_lost-clause-within
 returns-in_err-put_lost-clause-within c =
-    inl (c.put_lost.ensures.many ∙ ap (λ (o : Outbound). length (in_flight o.sender)) c.put_skip.ensures.rest)
+    within_behind c.args.self.now c.put_skip.new.self c.put_lost.new.self (skipped c.args.self.now _ _ c.put_skip.ensures.rest)
+    (within_again c.put_skip.new.self c.put_lost.new.self c.put_lost.ensures.many)
 
 pub returns-clause-within : goal.returns-clause-within
-returns-clause-within c = within_after c.args.self.now.sender c.put_lost.new.self.sender c.put_new.new.self
-    (c.put_lost.ensures.many ∙ ap (λ (o : Outbound). length (in_flight o.sender)) c.put_skip.ensures.rest) c.put_new.ensures.within
+returns-clause-within c =
+    within_behind c.args.self.now c.put_skip.new.self c.put_new.new.self (skipped c.args.self.now _ _ c.put_skip.ensures.rest)
+    (within_after c.put_skip.new.self c.put_lost.new.self c.put_new.new.self c.put_lost.ensures.many c.put_new.ensures.within)

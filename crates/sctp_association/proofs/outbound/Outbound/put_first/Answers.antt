@@ -1,9 +1,10 @@
 use Rattle.std.proofs.Common.{ap, length, refl, sym, ◌∙◌}
-use Rattle.sctp_association.proofs.Congested.{again_many}
+use Rattle.sctp_association.proofs.Congested.{again_many, resent_control}
 use Rattle.sctp_association.proofs.Idle.{data_put, resent_fits}
 use Rattle.sctp_association.proofs.Making.{again_put, none_again}
 use Rattle.sctp_association.proofs.Putting.{kept, to_same}
 use Rattle.sctp_association.proofs.outbound.Outbound.put_first.Goals as goal
+use Rattle.sctp_association.specs.declared.outbound.Outbound.{Outbound}
 use Rattle.sctp_association.specs.Idle.{in_flight}
 
 pub returns-in_err-chunk-clause-made : goal.returns-in_err-chunk-clause-made
@@ -25,9 +26,17 @@ returns-clause-put c head _ = data_put c.in-Some.chunk c.room.result _ _ _ c.put
     c.room.ensures.value c.room.ensures.most c.put.ensures.fits c.put.ensures.put head
 
 pub returns-in_default-clause-many : goal.returns-in_default-clause-many
-returns-in_default-clause-many c =
-    again_many c.args.now c.room.result _ _ c.in_ok-chunk.ensures.none c.in_ok-chunk.ensures.ok
+returns-in_default-clause-many c = record {
+  many = again_many c.args.now c.room.result c.args.self.now.sender c.resend_next.new.self c.in_ok-chunk.ensures.none c.in_ok-chunk.ensures.ok;
+  windows = record { peer_window = refl; congestion = refl };
+}
 
 pub returns-clause-many : goal.returns-clause-many
-returns-clause-many c = ap (λ o. length (in_flight o.sender)) c.stop_where_first.ensures.rest
-    ∙ again_many c.args.now c.room.result c.args.self.now.sender c.resend_next.new.self c.in_ok-chunk.ensures.none c.in_ok-chunk.ensures.ok
+returns-clause-many c = record {
+  many = ap (λ (o : Outbound). length (in_flight o.sender)) c.stop_where_first.ensures.rest
+      ∙ again_many c.args.now c.room.result c.args.self.now.sender c.resend_next.new.self c.in_ok-chunk.ensures.none c.in_ok-chunk.ensures.ok;
+  windows = record {
+    peer_window = ap (λ (o : Outbound). o.peer_window) c.stop_where_first.ensures.rest;
+    congestion = resent_control c.args.self.now.congestion _ _ c.sent_again.ensures (ap (λ (o : Outbound). o.congestion) c.stop_where_first.ensures.rest);
+  };
+}

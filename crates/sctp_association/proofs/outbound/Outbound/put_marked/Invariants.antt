@@ -1,6 +1,6 @@
 use Rattle.std.proofs.Common.{◌≡◌, ◌≤◌, length}
+use Rattle.sctp_association.specs.Congested.{IsAsMany}
 use Rattle.sctp_association.specs.Counts.{IsCountedOn}
-use Rattle.sctp_association.specs.Idle.{in_flight}
 use Rattle.sctp_association.specs.Packets.{PutsOut}
 use Rattle.sctp_association.proofs.outbound.Outbound.put_marked.Given as goal
 
@@ -9,4 +9,4 @@ abbrev pub invariant-loop : goal.invariant-loop
 invariant-loop l = (l.packet.limit ≡ l.initial.packet.limit) × IsCountedOn l.initial.self l.self
     × PutsOut l.initial.self.sender l.self.sender l.initial.packet.bytes l.packet.bytes
     × (length l.initial.packet.bytes ≤ length l.packet.bytes)
-    × (length (in_flight l.self.sender) ≡ length (in_flight l.initial.self.sender))
+    × IsAsMany l.initial.self l.self

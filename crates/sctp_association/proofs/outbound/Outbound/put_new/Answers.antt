@@ -1,11 +1,11 @@
 use Rattle.std.proofs.Common.{◌-◌, ap, arith, length, refl, subst, ◌∙◌}
 use Rattle.sctp_association.proofs.Counted.{none_same, none_then}
-use Rattle.sctp_association.proofs.Congested.{as_full, within_from, within_same, stays_then}
+use Rattle.sctp_association.proofs.Congested.{full_same, within_from, within_many, stays_then}
 use Rattle.sctp_association.proofs.Idle.{waits_not}
 use Rattle.sctp_association.proofs.Putting.{from_same, kept, nothing, out_then}
 use Rattle.sctp_association.proofs.outbound.Outbound.put_new.Goals as goal
 use Rattle.sctp_association.specs.declared.outbound.Outbound.{Outbound}
-use Rattle.sctp_association.specs.Idle.{WaitsBehind}
+use Rattle.sctp_association.specs.Idle.{WaitsBehind, in_flight}
 use Rattle.sctp_sender.specs.Sender.{Transmission}
 
 pub returns-then-not-begin_new-clause-made : goal.returns-then-not-begin_new-clause-made
@@ -33,7 +33,7 @@ returns-then-not-branch-clause-idle c head short =
     }
 
 pub loop-init : goal.loop-init
-loop-init c = (refl, none_same _, (λ r. nothing _), omega arith, as_full _)
+loop-init c = (refl, none_same _, (λ r. nothing _), omega arith, full_same _ _ refl)
 
 pub loop-preserved : goal.loop-preserved
 loop-preserved c = (
@@ -81,22 +81,25 @@ returns-then-not-branch-2-clause-idle c head short = absurd (omega (
 ))
 
 pub returns-then-not-begin_new-clause-within : goal.returns-then-not-begin_new-clause-within
-returns-then-not-begin_new-clause-within c = within_same c.args.self.now.sender c.begin_new.new.self c.begin_new.ensures.sender
+returns-then-not-begin_new-clause-within c = within_many c.args.self.now.sender c.args.self.now c.begin_new.new.self
+    (ap (λ (u : Transmission). length (in_flight u)) c.begin_new.ensures.sender) c.begin_new.ensures.windows
 
 pub returns-in_err-put_next-clause-within : goal.returns-in_err-put_next-clause-within
-returns-in_err-put_next-clause-within c = within_from _ c.begin_new.new.self c.put_next.new.self c.begin_new.ensures.sender c.put_next.ensures.within
+returns-in_err-put_next-clause-within c = within_from c.args.self.now c.begin_new.new.self c.put_next.new.self c.begin_new.ensures.sender
+    c.begin_new.ensures.windows c.put_next.ensures.within
 
 pub returns-then-not-branch-clause-within : goal.returns-then-not-branch-clause-within
-returns-then-not-branch-clause-within c = within_from _ c.begin_new.new.self c.put_next.new.self c.begin_new.ensures.sender c.put_next.ensures.within
+returns-then-not-branch-clause-within c = within_from c.args.self.now c.begin_new.new.self c.put_next.new.self c.begin_new.ensures.sender
+    c.begin_new.ensures.windows c.put_next.ensures.within
 
 pub returns-in_err-put_timely-clause-within : goal.returns-in_err-put_timely-clause-within
-returns-in_err-put_timely-clause-within c = within_from _ c.begin_new.new.self _ c.begin_new.ensures.sender
+returns-in_err-put_timely-clause-within c = within_from c.args.self.now c.begin_new.new.self _ c.begin_new.ensures.sender c.begin_new.ensures.windows
     (stays_then _ c.put_next.new.self _ c.put_next.ensures.within (stays_then _ c.loop.self _ c.loop.invariant.4 c.put_timely.ensures.within))
 
 pub returns-after-loop-clause-within : goal.returns-after-loop-clause-within
-returns-after-loop-clause-within c = within_from _ c.begin_new.new.self _ c.begin_new.ensures.sender
+returns-after-loop-clause-within c = within_from c.args.self.now c.begin_new.new.self _ c.begin_new.ensures.sender c.begin_new.ensures.windows
     (stays_then _ c.put_next.new.self _ c.put_next.ensures.within c.loop.invariant.4)
 
 pub returns-then-not-branch-2-clause-within : goal.returns-then-not-branch-2-clause-within
-returns-then-not-branch-2-clause-within c = within_from _ c.begin_new.new.self _ c.begin_new.ensures.sender
+returns-then-not-branch-2-clause-within c = within_from c.args.self.now c.begin_new.new.self _ c.begin_new.ensures.sender c.begin_new.ensures.windows
     (stays_then _ c.put_next.new.self _ c.put_next.ensures.within (stays_then _ c.loop.self _ c.loop.invariant.4 c.put_timely.ensures.within))

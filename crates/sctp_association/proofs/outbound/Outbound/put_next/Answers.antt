@@ -75,8 +75,11 @@ returns-in-Some-get-clause-within c =
     let t : Transmission = c.args.self.now.sender in
     let e : next_pending t.flight.queue.pending ≡ Some c.in-Some.chunk.now =
     sym (c.in-Some.ensures.value ∙ ap (λ (o : Queue). next_pending o.pending) c.outbound.ensures) in
-    inr (sent_within c.args.now c.args.self.now.peer_window c.args.self.now.most_in_flight c.args.self.now.burst c.args.self.now.congestion t
-    c.send_next_tsn.new.sender c.in-Some.chunk.now e (
-    subst (λ (n : ℕ). may_send_next n c.args.self.now.most_in_flight c.args.self.now.peer_window c.args.self.now.burst c.args.self.now.congestion
-    (in_flight t) ≡ true) c.len-bytes.ensures.value (sym c.may_send.ensures.value ∙ c.if-not-may_send.false)
-    ) c.in-Ok.ensures.ok)
+    record {
+      windows = record { peer_window = refl; congestion = refl };
+      left = inr (sent_within c.args.now c.args.self.now.peer_window c.args.self.now.most_in_flight c.args.self.now.burst c.args.self.now.congestion t
+          c.send_next_tsn.new.sender c.in-Some.chunk.now e (
+          subst (λ (n : ℕ). may_send_next n c.args.self.now.most_in_flight c.args.self.now.peer_window c.args.self.now.burst c.args.self.now.congestion
+          (in_flight t) ≡ true) c.len-bytes.ensures.value (sym c.may_send.ensures.value ∙ c.if-not-may_send.false)
+          ) c.in-Ok.ensures.ok);
+    }
