@@ -1,5 +1,5 @@
 -- What is counted, and what becomes of T3-rtx, as a packet is filled.
-use Rattle.std.proofs.Common.{◌≡◌, ◌≤◌, ◌⊎◌, inl, inr, Option, None, ℕ, refl, ap, ◌∙◌, arith}
+use Rattle.std.proofs.Common.{◌≡◌, ◌⊎◌, inl, inr, Option, None, ℕ, refl, ap, ◌∙◌, arith}
 use Rattle.sctp_association.specs.Counts.{CountsNone, IsCountedAlong, IsCountedOn}
 use Rattle.sctp_association.specs.declared.outbound.Outbound.{Outbound}
 use Rattle.sctp_path.specs.declared.timer.Timer.{Timer}

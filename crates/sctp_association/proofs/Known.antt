@@ -5,8 +5,11 @@ use Rattle.std.proofs.lemmas.Option.{none-some}
 use Rattle.std.specs.Prelude.{nat_lt, if◌then◌else◌}
 use Rattle.sctp_association.specs.Beginnings.{KeepsPeer, KnowsNoMore, is_asking, is_standing}
 use Rattle.sctp_association.specs.Kept.{IsKept, IsUnmoved, OwesLess, OwesNoMore, ticket_due}
+use Rattle.sctp_association.specs.Lasting.{StaysWithin}
 use Rattle.sctp_association.specs.declared.association.Association.{Association}
+use Rattle.sctp_association.specs.declared.config.Config.{Config}
 use Rattle.sctp_association.specs.declared.due.Due.{Due}
+use Rattle.sctp_association.specs.declared.outbound.Outbound.{Outbound}
 use Rattle.sctp_handshake.specs.Answers.{silent}
 use Rattle.sctp_handshake.specs.Cookies.{begun_again, on_stale_cookie, stale_cookie_row}
 use Rattle.sctp_handshake.specs.Endings.{abort_row, drained_row, on_abort, on_drained, on_shutdown, on_shutdown_ack, on_shutdown_asked}
@@ -20,6 +23,8 @@ use Rattle.sctp_handshake.specs.declared.machine.Machine.{Machine}
 use Rattle.sctp_handshake.specs.declared.state.State.{State}
 use Rattle.sctp_handshake.specs.declared.state.State.TheVariants.{Closed, CookieEchoed, CookieWait, Established, ShutdownPending, ShutdownReceived}
 use Rattle.sctp_handshake.specs.declared.state.State.TheVariants.{ShutdownAckSent, ShutdownSent}
+use Rattle.sctp_path.specs.Rto.{Timeout}
+use Rattle.sctp_path.specs.declared.failures.Failures.{Failures}
 
 -- ## The machine
 
@@ -30,6 +35,7 @@ knows_same m n e = record {
   peer = λ o is. sym (ap (λ (k : Machine). k.peer) e) ∙ is;
   own = ap (λ (k : Machine). k.own) e;
   restarted = ap (λ (k : Machine). k.has_restarted) e;
+  limits = ap (λ (k : Machine). k.limits) e;
 }
 
 pub knows_then : (m n k : Machine) → KnowsNoMore m n → KnowsNoMore n k → KnowsNoMore m k
@@ -39,6 +45,7 @@ knows_then m n k f g = record {
   peer = λ o e. f.peer o (g.peer o e);
   own = g.own ∙ f.own;
   restarted = g.restarted ∙ f.restarted;
+  limits = g.limits ∙ f.limits;
 }
 
 knows-closed : (m : Machine) → KnowsNoMore m (closed m)
@@ -48,6 +55,7 @@ knows-closed m = record {
   peer = λ o e. absurd (none-some o e);
   own = refl;
   restarted = refl;
+  limits = refl;
 }
 
 -- where an association stands
@@ -58,12 +66,13 @@ knows-into s m is stands = record {
   peer = λ o e. e;
   own = refl;
   restarted = refl;
+  limits = refl;
 }
 
 -- ## Inputs
 
 arrived-knows : (s : State) (m : Machine) → KnowsNoMore m (packet_arrived_row s true m).machine
-arrived-knows ShutdownSent m = record { asking = λ e. e; standing = λ e. e; peer = λ o e. e; own = refl; restarted = refl }
+arrived-knows ShutdownSent m = record { asking = λ e. e; standing = λ e. e; peer = λ o e. e; own = refl; restarted = refl; limits = refl }
 arrived-knows _ m = knows_same m m refl
 
 abort-knows : (s : State) (m : Machine) → KnowsNoMore m (abort_row s m).machine
@@ -103,6 +112,7 @@ retried-knows true m is = record {
   peer = λ o e. absurd (none-some o e);
   own = refl;
   restarted = refl;
+  limits = refl;
 }
 retried-knows false m is = knows-closed m
 
@@ -112,7 +122,7 @@ stale-knows _ m is = knows_same m m refl
 
 -- the timer of the state ran out
 again-knows : (b : Bool) (r : Reply) (m : Machine) → KnowsNoMore m (if b then sent_again r m else failed m).machine
-again-knows true r m = record { asking = λ e. e; standing = λ e. e; peer = λ o e. e; own = refl; restarted = refl }
+again-knows true r m = record { asking = λ e. e; standing = λ e. e; peer = λ o e. e; own = refl; restarted = refl; limits = refl }
 again-knows false r m = knows-closed m
 
 timed-knows : (s : State) (m : Machine) → KnowsNoMore m (timed_out_row s m).machine
@@ -157,6 +167,22 @@ module _ (m n : Machine) (a : Answer) where
 pub knows_abort_of : {m n : Machine} {a : Answer} → (a ≡ silent → n ≡ m) → Takes (on_abort m) n a → KnowsNoMore m n
 knows_abort_of {m} {n} {a} dropped t = knows_abort m n a t
 
+-- ## The limits of what is sent
+
+-- the limits and the config are the same
+pub within_by : (a b : Association) → b.config ≡ a.config → b.outbound.failures.most ≡ a.outbound.failures.most
+    → b.outbound.rto.limits ≡ a.outbound.rto.limits → StaysWithin a b
+within_by a b config most limits = (
+  λ e. most ∙ e ∙ ap (λ (c : Config). c.max_retrans) (sym config),
+  λ e. limits ∙ e ∙ ap (λ (c : Config). c.rto) (sym config),
+)
+
+pub within_same : (a b : Association) → b.config ≡ a.config → b.outbound ≡ a.outbound → StaysWithin a b
+within_same a b config same = within_by a b config (ap (λ (o : Outbound). o.failures.most) same) (ap (λ (o : Outbound). o.rto.limits) same)
+
+pub within_then : (a b c : Association) → StaysWithin a b → StaysWithin b c → StaysWithin a c
+within_then a b c f g = (λ e. g.0 (f.0 e), λ e. g.1 (f.1 e))
+
 -- ## The association
 
 pub kept_then : (a b c : Association) → IsKept a b → IsKept b c → IsKept a c
@@ -165,14 +191,31 @@ kept_then a b c f g = record {
   key = g.key ∙ f.key;
   machine = g.machine ∙ f.machine;
   owes = λ t e. f.owes t (g.owes t e);
+  sending = within_then a b c f.sending g.sending;
 }
 
 -- so of one that has the same
-pub kept_by : {a b c : Association} → IsKept a b → c.config ≡ b.config → c.key ≡ b.key → c.machine ≡ b.machine → OwesNoMore b c → IsKept a c
-kept_by k f g h o = record { config = f ∙ k.config; key = g ∙ k.key; machine = h ∙ k.machine; owes = λ t e. k.owes t (o t e) }
+pub kept_by : {a b c : Association} → IsKept a b → c.config ≡ b.config → c.key ≡ b.key → c.machine ≡ b.machine → OwesNoMore b c → StaysWithin b c → IsKept a c
+kept_by k f g h o w = record {
+  config = f ∙ k.config;
+  key = g ∙ k.key;
+  machine = h ∙ k.machine;
+  owes = λ t e. k.owes t (o t e);
+  sending = (λ e. w.0 (k.sending.0 e), λ e. w.1 (k.sending.1 e));
+}
+
+-- nothing changed
+pub kept_same : (a : Association) → IsKept a a
+kept_same a = record { config = refl; key = refl; machine = refl; owes = λ t e. e; sending = (λ e. e, λ e. e) }
 
 pub keeps_kept : (a b : Association) → IsKept a b → KeepsPeer a b
-keeps_kept a b k = record { config = k.config; key = k.key; machine = knows_same a.machine b.machine k.machine; owes = k.owes }
+keeps_kept a b k = record {
+  config = k.config;
+  key = k.key;
+  machine = knows_same a.machine b.machine k.machine;
+  owes = k.owes;
+  sending = k.sending;
+}
 
 pub keeps_then : (a b c : Association) → KeepsPeer a b → KeepsPeer b c → KeepsPeer a c
 keeps_then a b c f g = record {
@@ -180,21 +223,23 @@ keeps_then a b c f g = record {
   key = g.key ∙ f.key;
   machine = knows_then a.machine b.machine c.machine f.machine g.machine;
   owes = λ t e. f.owes t (g.owes t e);
+  sending = within_then a b c f.sending g.sending;
 }
 
 -- an input that leaves the machine so, and then what stays
 pub keeps_by : (a b : Association) (n : Machine) → KnowsNoMore a.machine n → b.config ≡ a.config → b.key ≡ a.key → b.machine ≡ n → OwesNoMore a b
-    → KeepsPeer a b
-keeps_by a b n k c e is o = record { config = c; key = e; machine = subst (KnowsNoMore a.machine) (sym is) k; owes = o }
+    → StaysWithin a b → KeepsPeer a b
+keeps_by a b n k c e is o w = record { config = c; key = e; machine = subst (KnowsNoMore a.machine) (sym is) k; owes = o; sending = w }
 
 -- the same, of a machine that was the association's
 pub keeps_as : (a b : Association) (m n : Machine) → KnowsNoMore m n → m ≡ a.machine → b.config ≡ a.config → b.key ≡ a.key → b.machine ≡ n → OwesNoMore a b
-    → KeepsPeer a b
-keeps_as a b m n k own c e is o = record {
+    → StaysWithin a b → KeepsPeer a b
+keeps_as a b m n k own c e is o w = record {
   config = c;
   key = e;
   machine = subst (λ (x : Machine). KnowsNoMore x b.machine) own (subst (KnowsNoMore m) (sym is) k);
   owes = o;
+  sending = w;
 }
 
 -- ## The INIT ACK that is due
@@ -207,12 +252,16 @@ pub owes_none : (a b : Association) → ticket_due b.due.alone ≡ None → Owes
 owes_none a b none t owed = absurd (none-some t (sym none ∙ owed))
 
 -- where nothing has moved
+pub unmoved_within : (a b : Association) → IsUnmoved a b → StaysWithin a b
+unmoved_within a b u = within_by a b u.config (ap (λ (f : Failures). f.most) u.failures) (ap (λ (t : Timeout). t.limits) u.rto)
+
 pub unmoved_keeps : (a b : Association) → IsUnmoved a b → KeepsPeer a b
 unmoved_keeps a b u = record {
   config = u.config;
   key = u.key;
   machine = knows_same a.machine b.machine u.machine;
   owes = λ t e. sym (ap ticket_due u.alone) ∙ e;
+  sending = unmoved_within a b u;
 }
 
 -- what is due now was due, where nothing is due that was not
@@ -225,7 +274,14 @@ still_none x None f e = refl
 still_none x (Some o) f e = absurd (none-some o (sym e ∙ f o refl))
 
 pub owes_alike : (d : Due) → OwesLess d d
-owes_alike d = record { cookie_echo = λ e. e; cookie_ack = λ e. e; shutdown = λ e. e; shutdown_ack = λ e. e; heartbeat = λ info e. e }
+owes_alike d = record {
+  cookie_echo = λ e. e;
+  cookie_ack = λ e. e;
+  shutdown = λ e. e;
+  shutdown_ack = λ e. e;
+  heartbeat = λ info e. e;
+  report = λ r e. e;
+}
 
 pub unmoved_same : (a : Association) → IsUnmoved a a
 unmoved_same a = record {
@@ -237,7 +293,11 @@ unmoved_same a = record {
   events = refl;
   over = refl;
   failures = refl;
+  rto = refl;
+  usable = λ s. refl;
   due = owes_alike a.due;
+  sack = λ e. e;
+  unknown = λ s e. e;
 }
 
 less_then : {d e f : Due} → OwesLess d e → OwesLess e f → OwesLess d f
@@ -247,6 +307,7 @@ less_then h k = record {
   shutdown = λ e. k.shutdown (h.shutdown e);
   shutdown_ack = λ e. k.shutdown_ack (h.shutdown_ack e);
   heartbeat = λ info e. h.heartbeat info (k.heartbeat info e);
+  report = λ r e. h.report r (k.report r e);
 }
 
 pub unmoved_then : (a b c : Association) → IsUnmoved a b → IsUnmoved b c → IsUnmoved a c
@@ -259,5 +320,9 @@ unmoved_then a b c f g = record {
   events = g.events ∙ f.events;
   over = g.over ∙ f.over;
   failures = g.failures ∙ f.failures;
+  rto = g.rto ∙ f.rto;
+  usable = λ s. g.usable s ∙ f.usable s;
   due = less_then f.due g.due;
+  sack = λ e. g.sack (f.sack e);
+  unknown = λ s e. f.unknown s (g.unknown s e);
 }

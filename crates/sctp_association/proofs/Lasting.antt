@@ -1,11 +1,11 @@
 -- How long an association lasts that hears nothing of its peer.
-use Rattle.std.proofs.Common.{◌≡◌, ◌≢◌, ◌⊎◌, inl, inr, ◌≤◌, ◌<◌, ℕ, suc, ◌+◌, ◌-◌, ◌^◌, Bool, true, false, List, [], ◌∷◌, refl, ap, sym, subst, ◌∙◌, arith}
+use Rattle.std.proofs.Common.{◌≡◌, ◌≢◌, ◌⊎◌, inl, inr, ◌≤◌, ◌<◌, ℕ, suc, ◌+◌, ◌-◌, ◌^◌, Bool, true, false, [], ◌∷◌, refl, ap, sym, subst, ◌∙◌, arith}
 use Rattle.std.proofs.lemmas.Bool.{false≢true}
 use Rattle.std.proofs.lemmas.Bool.Decides.{nat_tests}
 use Rattle.std.specs.Prelude.{◌&&◌, ◌||◌, if◌then◌else◌, is_some, max, nat_lt, not}
 use Rattle.sctp_association.specs.Kept.{IsUnmoved}
-use Rattle.sctp_association.specs.Lasting.{EachEnds, EachExpiryCounts, EachQuietCallLasts, Expires, FewAreLeft, LastsAlong, LastsNoLonger}
-use Rattle.sctp_association.specs.Lasting.{control_left, expires, expires_control, expiries, expiries_left, left_in, t3_left}
+use Rattle.sctp_association.specs.Lasting.{EachEnds, EachExpiryCounts, EachLaterCallLasts, EachQuietCallLasts, Expires, FewAreLeft, LastsNoLonger}
+use Rattle.sctp_association.specs.Lasting.{control_left, expires, expires_control, expiries_left, left_in, t3_left}
 use Rattle.sctp_association.specs.declared.association.Association.{Association}
 use Rattle.sctp_handshake.specs.Endings.{drained_row, on_drained, on_shutdown_asked, shutdown_asked_row}
 use Rattle.sctp_handshake.specs.Machines.{Takes, failed}
@@ -264,6 +264,12 @@ module _ (now : ℕ) (a m b : Association) (g : Failures) (going : a.is_over ≡
 
 pub each-quiet : EachQuietCallLasts
 each-quiet a b over machine same = record { lasts = lasts_same a b over machine same; fewer = λ is low. absurd (false≢true is) }
+
+pub each-later : EachLaterCallLasts
+each-later e a b c step rest = record {
+  lasts = lasts_then a b c step.lasts rest;
+  fewer = λ is low. let less = step.fewer is low in let left = rest.left in omega (arith, less, left);
+}
 
 pub each-counts : EachExpiryCounts
 each-counts [] a b low run = omega (arith, ap expiries_left run)

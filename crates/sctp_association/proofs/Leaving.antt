@@ -6,21 +6,29 @@ use Rattle.std.proofs.lemmas.List.Elements.{Contains-append_right}
 use Rattle.sctp_association.proofs.Idle.{added_longer, longer_by_chunk}
 use Rattle.sctp_association.proofs.Known.{was}
 use Rattle.sctp_association.proofs.Offering.{packet_so}
+use Rattle.sctp_association.proofs.Others.{at_most_same, params_before}
 use Rattle.sctp_association.proofs.Putting.{adds_none, adds_then}
 use Rattle.sctp_association.specs.declared.association.Association.{Association}
 use Rattle.sctp_association.specs.declared.due.Due.{Due}
 use Rattle.sctp_association.specs.Kept.{IsUnmoved}
-use Rattle.sctp_association.specs.Leaving.{DueBy, IsDueOnce, IsSentIn, IsTooLong, IsTooLongIn, Leaves, LeavesInto, Owed, OwesNothingNew}
-use Rattle.sctp_association.specs.Leaving.{Reaches, Replies, Stands, owed_of, replies_of}
+use Rattle.sctp_association.specs.Kept.{sack_waits, unknown_in}
+use Rattle.sctp_association.specs.Leaving.{AsksNoMore, DueBy, IsDueOnce, IsReplyOnce, IsSentIn, IsTooLong, IsTooLongIn, Leaves, LeavesInto, Owed}
+use Rattle.sctp_association.specs.Leaving.{OwesNothingNew, Reaches, Replies, Stands, beats, owed_at, owed_of, replies_of, requests_due, responses_due}
 use Rattle.sctp_association.specs.Packets.{Adds, IsPacketOf, put_where, sum_of, with_chunks}
 use Rattle.sctp_chunks.specs.Wire.{HasEncoding, Wire}
-use Rattle.sctp_chunks.specs.Wire.{cookie_ack_chunk, cookie_echo_chunk, heartbeat_ack_chunk, init_chunk, shutdown_ack_chunk, shutdown_chunk}
-use Rattle.sctp_handshake.specs.Endings.{drained_row, on_drained}
+use Rattle.sctp_association.specs.Still.{heartbeat_in}
+use Rattle.sctp_association.specs.declared.inbound.Inbound.{Inbound}
+use Rattle.sctp_association.specs.declared.outbound.Outbound.{Outbound}
+use Rattle.sctp_chunks.specs.Wire.{cookie_ack_chunk, cookie_echo_chunk, error_chunk, heartbeat_ack_chunk, heartbeat_chunk, init_chunk}
+use Rattle.sctp_chunks.specs.Wire.{reconfig_chunk, sack_chunk, shutdown_ack_chunk, shutdown_chunk}
+use Rattle.sctp_handshake.specs.Endings.{drained_row, on_drained, on_shutdown_asked, shutdown_asked_row}
 use Rattle.sctp_handshake.specs.Machines.{Takes}
 use Rattle.sctp_handshake.specs.declared.answer.Answer.{Answer}
 use Rattle.sctp_handshake.specs.declared.machine.Machine.{Machine}
 use Rattle.sctp_handshake.specs.declared.state.State.{State}
-use Rattle.sctp_handshake.specs.declared.state.State.TheVariants.{ShutdownAckSent, ShutdownPending, ShutdownReceived, ShutdownSent}
+use Rattle.sctp_handshake.specs.declared.state.State.TheVariants.{CookieWait, Established, ShutdownAckSent, ShutdownPending, ShutdownReceived, ShutdownSent}
+use Rattle.sctp_path.specs.declared.heartbeat.Heartbeat.{Heartbeat}
+use Rattle.sctp_path.specs.Timers.{is_due}
 use Rattle.sctp_packets.specs.Draft.{Draft, IsDraft, headed}
 use Rattle.sctp_packets.specs.declared.packet.CommonHeader.{CommonHeader}
 use Rattle.sctp_packets.specs.Packet.{Parts, packet_encoding, padded_encoding}
@@ -192,7 +200,7 @@ due-or-reached x y z s same P Q f (inl p) = or-so (λ r. (r.0, same ∙ r.1)) (f
 due-or-reached x y z s same P Q f (inr r) = absurd (r.0 (sym same ∙ r.1))
 
 -- before that only what shuts down was made due
-once-before : (x y z : Owed) → OwesNothingNew x y → z.state ≡ y.state → (w : Wire) → IsDueOnce y z w → IsDueOnce x z w
+once-before : (x y z : Owed) → OwesNothingNew x y → z.state ≡ y.state → (w : Wire) → IsReplyOnce y z w → IsReplyOnce x z w
 once-before x y z o s (init_chunk i) h = absurd h
 once-before x y z o s (cookie_echo_chunk k) h = (o.cookie_echo h.0, sym o.cookie ∙ h.1, h.2)
 once-before x y z o s cookie_ack_chunk h = (o.cookie_ack h.0, h.1)
@@ -200,11 +208,23 @@ once-before x y z o s (shutdown_chunk n) h = (due-or-reached x y z ShutdownSent 
 once-before x y z o s shutdown_ack_chunk h =
     (due-or-reached x y z ShutdownAckSent s (y.due.shutdown_ack ≡ true) (x.due.shutdown_ack ≡ true) o.shutdown_ack h.0, h.1)
 once-before x y z o s (heartbeat_ack_chunk ps) h = (h.0, o.heartbeat h.0 h.1, h.2, h.3)
+once-before x y z o s (sack_chunk k) h = (was x.sack y.sack o.sack h.0, h.1)
+once-before x y z o s (error_chunk cs) h = both-so (λ r. (r.0, o.report r.0 r.1, r.2, r.3)) (λ u. (u.0, o.unknown u.0 u.1, u.2, u.3)) h
+once-before x y z o s (heartbeat_chunk ps) h = absurd h
+once-before x y z o s (reconfig_chunk r) h = absurd h
 once-before x y z o s _ h = tt
 
-pub once_after : (x y z : Owed) (bytes : List ℕ) → OwesNothingNew x y → z.state ≡ y.state → IsPacketOf (IsDueOnce y z) bytes
-    → IsPacketOf (IsDueOnce x z) bytes
-once_after x y z bytes o s p = packet_so (IsDueOnce y z) (IsDueOnce x z) (once-before x y z o s) bytes p
+due-before : (now : ℕ) (a b c : Association) → OwesNothingNew (owed_of a) (owed_of b) → AsksNoMore now a b → c.machine.state ≡ b.machine.state → (w : Wire)
+    → IsDueOnce (owed_at now b) (owed_at now c) w → IsDueOnce (owed_at now a) (owed_at now c) w
+due-before now a b c o m s (heartbeat_chunk ps) h = (was (beats now a) (beats now b) m.beat h.0, h.1)
+due-before now a b c o m s (reconfig_chunk r) h = (params_before now a b c m r.param_a h.0, params_before now a b c m r.param_b h.1)
+due-before now a b c o m s w h = once-before (owed_of a) (owed_of b) (owed_of c) o s w h
+
+pub once_after : (now : ℕ) (a b c : Association) (bytes : List ℕ) → OwesNothingNew (owed_of a) (owed_of b) → AsksNoMore now a b
+    → c.machine.state ≡ b.machine.state → IsPacketOf (IsDueOnce (owed_at now b) (owed_at now c)) bytes
+    → IsPacketOf (IsDueOnce (owed_at now a) (owed_at now c)) bytes
+once_after now a b c bytes o m s p = packet_so (IsDueOnce (owed_at now b) (owed_at now c)) (IsDueOnce (owed_at now a) (owed_at now c))
+    (due-before now a b c o m s) bytes p
 
 -- ## What is due as the shutdown goes on
 
@@ -215,6 +235,9 @@ nothing_new x y is = subst (OwesNothingNew x) (sym is) (record {
   shutdown = λ e. inl e;
   shutdown_ack = λ e. inl e;
   heartbeat = λ info e. e;
+  report = λ r e. e;
+  sack = λ e. e;
+  unknown = λ s e. e;
   cookie = refl;
 })
 
@@ -226,6 +249,9 @@ new_unmoved a b u = record {
   shutdown = λ e. inl (was a.due.shutdown b.due.shutdown u.due.shutdown e);
   shutdown_ack = λ e. inl (was a.due.shutdown_ack b.due.shutdown_ack u.due.shutdown_ack e);
   heartbeat = u.due.heartbeat;
+  report = u.due.report;
+  sack = u.sack;
+  unknown = u.unknown;
   cookie = u.cookie;
 }
 
@@ -236,8 +262,15 @@ new_then x y z o s k = record {
   shutdown = λ e. due-or-reached x y z ShutdownSent s (y.due.shutdown ≡ true) (x.due.shutdown ≡ true) o.shutdown (k.shutdown e);
   shutdown_ack = λ e. due-or-reached x y z ShutdownAckSent s (y.due.shutdown_ack ≡ true) (x.due.shutdown_ack ≡ true) o.shutdown_ack (k.shutdown_ack e);
   heartbeat = λ info e. o.heartbeat info (k.heartbeat info e);
+  report = λ r e. o.report r (k.report r e);
+  sack = λ e. k.sack (o.sack e);
+  unknown = λ n e. o.unknown n (k.unknown n e);
   cookie = k.cookie ∙ o.cookie;
 }
+
+-- what is due, by its parts
+abbrev owed-in : Due → Option (List ℕ) → State → Option Inbound → Owed
+owed-in d k s i = record { due = d; cookie = k; state = s; sack = sack_waits i; unknown = unknown_in i }
 
 pending≢sent : ShutdownPending ≡ ShutdownSent → ⊥
 pending≢sent e = cc
@@ -245,36 +278,87 @@ pending≢sent e = cc
 received≢sent : ShutdownReceived ≡ ShutdownAckSent → ⊥
 received≢sent e = cc
 
-owes-row : (s : State) (m : Machine) (d e : Due) (k : Option (List ℕ)) → m.state ≡ s → DueBy (drained_row s m).answer.reply d e
-    → OwesNothingNew (record { due = d; cookie = k; state = m.state }) (record { due = e; cookie = k; state = (drained_row s m).machine.state })
-owes-row ShutdownPending m d e k is due =
-    let Q : Due → Type 0 = λ e. OwesNothingNew (record { due = d; cookie = k; state = m.state }) (record { due = e; cookie = k; state = ShutdownSent }) in
+owes-row : (s : State) (m : Machine) (d e : Due) (k : Option (List ℕ)) (i : Option Inbound) → m.state ≡ s → DueBy (drained_row s m).answer.reply d e
+    → OwesNothingNew (owed-in d k m.state i) (owed-in e k (drained_row s m).machine.state i)
+owes-row ShutdownPending m d e k i is due =
+    let Q : Due → Type 0 = λ e. OwesNothingNew (owed-in d k m.state i) (owed-in e k ShutdownSent i) in
     subst Q (sym due) (record {
       cookie_echo = λ e. e;
       cookie_ack = λ e. e;
       shutdown = λ e. inr (λ sent. pending≢sent (sym is ∙ sent), refl);
       shutdown_ack = λ e. inl e;
       heartbeat = λ info e. e;
+      report = λ r e. e;
+      sack = λ e. e;
+      unknown = λ s e. e;
       cookie = refl;
     })
-owes-row ShutdownReceived m d e k is due =
-    let Q : Due → Type 0 = λ e. OwesNothingNew (record { due = d; cookie = k; state = m.state }) (record { due = e; cookie = k; state = ShutdownAckSent }) in
+owes-row ShutdownReceived m d e k i is due =
+    let Q : Due → Type 0 = λ e. OwesNothingNew (owed-in d k m.state i) (owed-in e k ShutdownAckSent i) in
     subst Q (sym due) (record {
       cookie_echo = λ e. e;
       cookie_ack = λ e. e;
       shutdown = λ e. inl e;
       shutdown_ack = λ e. inr (λ sent. received≢sent (sym is ∙ sent), refl);
       heartbeat = λ info e. e;
+      report = λ r e. e;
+      sack = λ e. e;
+      unknown = λ s e. e;
       cookie = refl;
     })
-owes-row _ m d e k is due = nothing_new _ _ (ap (λ e. record { due = e; cookie = k; state = m.state }) due)
+owes-row _ m d e k i is due = nothing_new _ _ (ap (λ e. owed-in e k m.state i) due)
 
 -- as the machine is told that nothing waits or is in flight
 pub drained_owes : (a b : Association) (n : Machine) (r : Answer) → Takes (on_drained a.machine) n r → DueBy r.reply a.due b.due → b.machine ≡ n
-    → b.cookie ≡ a.cookie → OwesNothingNew (owed_of a) (owed_of b)
-drained_owes a b n r t due machine cookie =
-    let row = owes-row a.machine.state a.machine a.due b.due a.cookie refl (subst (λ (x : Answer). DueBy x.reply a.due b.due) t.answer due) in
+    → b.cookie ≡ a.cookie → b.inbound ≡ a.inbound → OwesNothingNew (owed_of a) (owed_of b)
+drained_owes a b n r t due machine cookie inbound =
+    let row = owes-row a.machine.state a.machine a.due b.due a.cookie a.inbound refl
+    (subst (λ (x : Answer). DueBy x.reply a.due b.due) t.answer due) in
     let state : b.machine.state ≡ (on_drained a.machine).machine.state = ap (λ (m : Machine). m.state) (machine ∙ t.machine) in
-    let Q : State → Type 0 = λ s. OwesNothingNew (owed_of a) (record { due = b.due; cookie = a.cookie; state = s }) in
-    let R : Option (List ℕ) → Type 0 = λ k. OwesNothingNew (owed_of a) (record { due = b.due; cookie = k; state = b.machine.state }) in
-    subst R (sym cookie) (subst Q (sym state) row)
+    let Q : State → Type 0 = λ s. OwesNothingNew (owed_of a) (owed-in b.due a.cookie s a.inbound) in
+    let R : Option (List ℕ) → Type 0 = λ k. OwesNothingNew (owed_of a) (owed-in b.due k b.machine.state a.inbound) in
+    let I : Option Inbound → Type 0 = λ i. OwesNothingNew (owed_of a) (owed-in b.due b.cookie b.machine.state i) in
+    subst I (sym inbound) (subst R (sym cookie) (subst Q (sym state) row))
+
+-- ## HEARTBEATs as the shutdown goes on: only in Established one is due
+
+abbrev Beats : ℕ → State → ℕ → Option Heartbeat → Type 0
+Beats now s rto h = is_due now (heartbeat_in s rto h) ≡ false
+
+drained-row : (now : ℕ) (s : State) (m : Machine) (rto : ℕ) (h : Option Heartbeat) → m.state ≡ s → Beats now s rto h
+    → Beats now (drained_row s m).machine.state rto h
+drained-row now ShutdownPending m rto h is e = refl
+drained-row now ShutdownReceived m rto h is e = refl
+drained-row now _ m rto h is e = subst (λ s. Beats now s rto h) (sym is) e
+
+asked-row : (now : ℕ) (s : State) (m : Machine) (rto : ℕ) (h : Option Heartbeat) → m.state ≡ s → Beats now s rto h
+    → Beats now (shutdown_asked_row s m).machine.state rto h
+asked-row now CookieWait m rto h is e = refl
+asked-row now Established m rto h is e = refl
+asked-row now _ m rto h is e = subst (λ s. Beats now s rto h) (sym is) e
+
+module _ (now : ℕ) (a b : Association) (s : State) (state : b.machine.state ≡ s) (outbound : b.outbound ≡ a.outbound) (heart : b.heartbeat ≡ a.heartbeat) where
+  beats-in : Beats now s a.outbound.rto.rto a.heartbeat → beats now b ≡ false
+  beats-in e =
+      let one = subst (λ s. Beats now s a.outbound.rto.rto a.heartbeat) (sym state) e in
+      let two = subst (λ (o : Outbound). Beats now b.machine.state o.rto.rto a.heartbeat) (sym outbound) one in
+      subst (Beats now b.machine.state b.outbound.rto.rto) (sym heart) two
+
+module _ (now : ℕ) (a b : Association) (n : Machine) (r : Answer) (is : b.machine ≡ n) (outbound : b.outbound ≡ a.outbound) (heart : b.heartbeat ≡ a.heartbeat)
+    (requests : b.requests ≡ a.requests) (peer : b.peer_requests ≡ a.peer_requests) where
+  asks-so : (beats now a ≡ false → beats now b ≡ false) → AsksNoMore now a b
+  asks-so f = record {
+    beat = f;
+    request = λ e. ap (requests_due now) requests ∙ e;
+    responses = at_most_same (ap responses_due peer);
+  }
+
+  pub drained_beats : Takes (on_drained a.machine) n r → AsksNoMore now a b
+  drained_beats t = asks-so (λ e.
+      beats-in now a b (on_drained a.machine).machine.state (ap (λ (m : Machine). m.state) (is ∙ t.machine)) outbound heart
+      (drained-row now a.machine.state a.machine a.outbound.rto.rto a.heartbeat refl e))
+
+  pub asked_beats : Takes (on_shutdown_asked a.machine) n r → AsksNoMore now a b
+  asked_beats t = asks-so (λ e.
+      beats-in now a b (on_shutdown_asked a.machine).machine.state (ap (λ (m : Machine). m.state) (is ∙ t.machine)) outbound heart
+      (asked-row now a.machine.state a.machine a.outbound.rto.rto a.heartbeat refl e))

@@ -20,6 +20,8 @@ pub mod Leaving
 pub mod Inits
 pub mod Readings
 pub mod Others
+pub mod Owing
+pub mod Resetting
 pub mod Making
 pub mod Sessions
 pub mod Delivered
@@ -35,6 +37,8 @@ pub mod Coming
 pub mod Each
 pub mod Going
 pub mod Sacks
+pub mod Paths
+pub mod Moving
 pub mod Cut
 pub mod Named
 pub mod Fronts
@@ -57,4 +61,6 @@ pub mod PairOrder
 pub mod Telling
 pub mod Told
 pub mod Lasting
+pub mod Limited
+pub mod Silence
 pub mod Pairs

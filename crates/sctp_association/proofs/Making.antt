@@ -3,13 +3,13 @@ use Rattle.std.proofs.Common.{◌≡◌, ◌≢◌, ℕ, List, [], ◌∷◌, Bo
 use Rattle.std.specs.Prelude.{Contains, IfSome, find, if◌then◌else◌, is_some}
 use Rattle.std.proofs.lemmas.Bool.{false≢true}
 use Rattle.std.specs.Option.{option_map}
-use Rattle.sctp_association.proofs.Putting.{adds_none, and_then, kept, puts_made, puts_none, puts_reported, there}
-use Rattle.sctp_association.proofs.Running.{dropped_each, none_sent, reported_once, sent_by, sent_then}
+use Rattle.sctp_association.proofs.Putting.{adds_none, and_so, kept, puts_made, puts_none, puts_reported, there}
+use Rattle.sctp_association.proofs.Running.{dropped_each, none_in, none_sent, reported_once, sent_by, sent_then}
 use Rattle.sctp_association.specs.declared.outbound.Outbound.{Outbound}
-use Rattle.sctp_association.specs.Packets.{Adds, IsNoReply, PutsIn, PutsOut, put_where, sides}
+use Rattle.sctp_association.specs.Packets.{Adds, IsSackOnce, PutsIn, PutsOut, put_where, sides}
 use Rattle.sctp_association.specs.Runs.{Sends}
 use Rattle.sctp_association.specs.Sending.{may_drop}
-use Rattle.sctp_chunks.specs.Wire.{data_chunk, forward_tsn_chunk, sack_chunk}
+use Rattle.sctp_chunks.specs.Wire.{Wire, data_chunk, forward_tsn_chunk, sack_chunk}
 use Rattle.sctp_data.specs.declared.chunk.chunk_forward_tsn.ChunkForwardTsn.{ChunkForwardTsn}
 use Rattle.sctp_data.specs.declared.chunk.chunk_payload_data.ChunkPayloadData.{ChunkPayloadData}
 use Rattle.sctp_data.specs.declared.chunk.chunk_selective_ack.ChunkSelectiveAck.{ChunkSelectiveAck}
@@ -23,6 +23,7 @@ use Rattle.sctp_delivery.specs.SenderCalls as made
 use Rattle.sctp_outbound.proofs.lemmas.outbound_queue.Outbounds.{peeked_all_started}
 use Rattle.sctp_outbound.specs.outbound_queue.OutboundQueue.{all_started}
 use Rattle.sctp_outbound.specs.pending_queue.PendingQueue.{next_pending}
+use Rattle.sctp_path.specs.Timers.{is_due}
 use Rattle.sctp_receiver.specs.Receiver.{Reception, sack_within, without_duplicates}
 use Rattle.sctp_sender.specs.Abandonment.{Name, can_skip_to, is_end, named_up_to}
 use Rattle.sctp_sender.specs.declared.sender.Dropped.{Dropped}
@@ -177,12 +178,12 @@ none_dropped now a l same may h = false≢true (sym (ap (λ o. may_drop now o.se
 -- ## The receiver
 
 module _ (credit room : ℕ) (c : ChunkSelectiveAck) (r : Reception) (old new : List ℕ) (own : sack_of c ≡ sack_within credit room r) where
-  reported : (b : Bool) → Adds (put_where b (sack_chunk (sack_of c))) old new → PutsIn r r old new
-  reported b added = puts_reported IsNoReply (makes_sack credit room) b (sack_chunk (sack_of c)) r r old new (refl, (refl, tt))
-      (subst (λ s. Contains (s ∷ []) (sack_of c)) own (there (sack_of c))) tt added
+  reported : (P : Wire → Type 0) → P (sack_chunk (sack_of c)) → Adds (put_where true (sack_chunk (sack_of c))) old new → PutsIn P r r old new
+  reported P is added = puts_reported P (makes_sack credit room) true (sack_chunk (sack_of c)) r r old new (refl, (refl, tt))
+      (subst (λ s. Contains (s ∷ []) (sack_of c)) own (there (sack_of c))) is added
 
-  forgotten : (s : Reception) → s ≡ without_duplicates r → PutsIn r s new new
-  forgotten s e t = record {
+  forgotten : (P : Wire → Type 0) (s : Reception) → s ≡ without_duplicates r → PutsIn P r s new new
+  forgotten P s e t = record {
     made = [];
     sacks = [];
     chunks = [];
@@ -193,8 +194,26 @@ module _ (credit room : ℕ) (c : ChunkSelectiveAck) (r : Reception) (old new : 
     plain = tt;
   }
 
-  pub sack_put : (s : Reception) → s ≡ without_duplicates r → Adds (put_where true (sack_chunk (sack_of c))) old new → PutsIn r s old new
-  sack_put s e added t = and_then (sides t (Some r) old) (sides t (Some r) new) (sides t (Some s) new) (reported true added t) (forgotten s e t)
+  pub sack_put : (s : Reception) (waits none : Bool) → s ≡ without_duplicates r → waits ≡ true → none ≡ false
+      → Adds (put_where true (sack_chunk (sack_of c))) old new → PutsIn (IsSackOnce waits none) r s old new
+  sack_put s waits none e was is added t =
+      let P : Wire → Type 0 = IsSackOnce waits none in
+      and_so P P P (sides t (Some r) old) (sides t (Some r) new) (sides t (Some s) new) (λ w h. h) (λ w h. h) (reported P (was, is) added t) (forgotten P s e t)
 
-  pub sack_kept : Adds (put_where false (sack_chunk (sack_of c))) old new → PutsIn r r old new
-  sack_kept added = reported false added
+-- what is due waits
+pub due_waits : (now : ℕ) (o : Option ℕ) → is_due now o ≡ true → is_some o ≡ true
+due_waits now None h = h
+due_waits now (Some at) h = refl
+
+-- none is put
+pub sack_kept : (P : Wire → Type 0) (r : Reception) (w : Wire) (old new : List ℕ) → Adds (put_where false w) old new → PutsIn P r r old new
+sack_kept P r w old new added t = record {
+  made = [];
+  sacks = [];
+  chunks = [];
+  sent = none_sent t;
+  reported = none_in (Some r);
+  added = added;
+  own = tt;
+  plain = tt;
+}

@@ -2,12 +2,13 @@
 use Rattle.std.proofs.Common.{◌≡◌, ◌⊎◌, ℕ, List, true, refl, ap, subst, sym, ◌∙◌, inl, inr}
 use Rattle.sctp_association.proofs.Arrived.{came_alike, came_same}
 use Rattle.sctp_association.proofs.Arriving.{follows_of, follows_then}
-use Rattle.sctp_association.proofs.Known.{keeps_kept}
+use Rattle.sctp_association.proofs.Known.{keeps_kept, kept_same, within_same, within_then}
 use Rattle.sctp_association.specs.Arrivals.{Arrival, CallsArrive, Does, IsBroughtAs, IsOfHalf, begins, hears, receives, renews}
 use Rattle.sctp_association.specs.Beginnings.{ArrivesAsOffered, IsBegunBy, IsEchoed, IsOffered, IsOwedFor, IsOwnEchoed, IsOwnOffer, KeepsPeer, begins_by}
 use Rattle.sctp_association.specs.Beginnings.{by_init_ack, by_kept, is_asking}
 use Rattle.sctp_association.specs.Kept.{IsKept, OwesNoMore, OwesTicket}
 use Rattle.sctp_association.specs.Beginnings.{by_ticket, renews_by}
+use Rattle.sctp_association.specs.Lasting.{KeepsLimits}
 use Rattle.sctp_association.specs.declared.association.Association.{Association}
 use Rattle.sctp_association.specs.declared.config.Config.{Config}
 use Rattle.sctp_association.specs.declared.due.Due.{Due}
@@ -37,6 +38,8 @@ module _ (d : List ℕ) where
     peer = λ o e. inl (k.machine.peer o e);
     own = inl k.machine.own;
     owes = λ t e. inl (k.owes t e);
+    machine = k.machine.limits;
+    sending = k.sending;
   }
 
   pub offered_kept : (a b : Association) → CallsArrive d (halves_of a) (halves_of b) → IsKept a b → ArrivesAsOffered d a b
@@ -50,8 +53,7 @@ module _ (d : List ℕ) where
 
   pub offered_same : (a b : Association) → b ≡ a → ArrivesAsOffered d a b
   offered_same a b e =
-      let kept : IsKept a a = record { config = refl; key = refl; machine = refl; owes = λ t e. e } in
-      subst (λ (x : Association). ArrivesAsOffered d a x) (sym e) (offered_kept a a (came_same d (halves_of a) (halves_of a) refl) kept)
+      subst (λ (x : Association). ArrivesAsOffered d a x) (sym e) (offered_kept a a (came_same d (halves_of a) (halves_of a) refl) (kept_same a))
 
   -- a packet of one reply is due, and nothing else changes
   pub offered_due : (a b : Association) (due : Due) → b ≡ record a { due = due }
@@ -68,6 +70,8 @@ module _ (d : List ℕ) where
     peer = λ o is. inl (sym (ap (λ (x : Association). x.machine.peer) e) ∙ is);
     own = inl (ap (λ (x : Association). x.machine.own) e);
     owes = owes;
+    machine = ap (λ (x : Association). x.machine.limits) e;
+    sending = within_same a b (ap (λ (x : Association). x.config) e) (ap (λ (x : Association). x.outbound) e);
   }
 
   -- the same, where no INIT ACK is due that was not due before
@@ -138,4 +142,12 @@ module _ (d : List ℕ) where
       peer = λ o e. elim (g.peer o e) [ inl known ↦ f.peer o known | inr offered ↦ inr (offer-back o offered) ];
       own = own-back c.machine.own g.own;
       owes = λ t e. owes-back t (g.owes t e);
+      machine = g.machine ∙ f.machine;
+      sending = within_then a b c f.sending g.sending;
     }
+
+-- ## The limits
+
+-- what comes leaves them
+pub limits_of_offered : {d : List ℕ} {a b : Association} → ArrivesAsOffered d a b → KeepsLimits a b
+limits_of_offered f = record { config = f.config; machine = f.machine; sending = f.sending }

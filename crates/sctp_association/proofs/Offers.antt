@@ -7,6 +7,7 @@ use Rattle.sctp_association.specs.Arrivals.{Arrival, Does, Follows, Halves, HasT
 use Rattle.sctp_association.specs.Beginnings.{AnswersInit, ArrivesAsOffered, Begins, BeginsAnew, BeginsBy, IsBegunBy, IsEchoed, IsOffered}
 use Rattle.sctp_association.specs.Beginnings.{IsOwedFor, IsOwnEchoed, begins_by, by_init_ack, by_kept, by_ticket, is_asking, is_standing, renews_by}
 use Rattle.sctp_association.specs.Kept.{OwesNoMore}
+use Rattle.sctp_association.specs.Lasting.{StaysWithin}
 use Rattle.sctp_association.specs.declared.association.Association.{Association}
 use Rattle.sctp_association.specs.declared.config.Config.{Config}
 use Rattle.sctp_association.specs.declared.inbound.Inbound.{Inbound}
@@ -38,12 +39,13 @@ use Rattle.sctp_handshake.specs.declared.ticket.Ticket.{Ticket}
 
 -- ## What a step tells and leaves
 
--- the association has this machine then, and what it begins by stays
+-- the association has this machine then; what it begins by stays, and so do the limits of what it sends
 pub record IsLeft (a : Association) (n : Machine) (b : Association) : Type 0 where
   pub config : b.config ≡ a.config
   pub key : b.key ≡ a.key
   pub machine : b.machine ≡ n
   pub owes : OwesNoMore a b
+  pub sending : StaysWithin a b
 
 abbrev is-new : Option Told → Bool
 is-new (Some Restarted) = true
@@ -66,6 +68,7 @@ record Tells (Offered : Offer → Type 0) (Own : Offer → Type 0) (m : Machine)
   new : s.answer.told ≡ Some Connected → is_standing m.state ≡ false
   restarted : m.has_restarted ≡ true → s.machine.has_restarted ≡ true
   noted : s.answer.told ≡ Some Restarted → s.machine.has_restarted ≡ true
+  limits : s.machine.limits ≡ m.limits
 
 module _ (d : List ℕ) (a b : Association) (Offered Own : Offer → Type 0) (offers : (o : Offer) → Offered o → IsOffered d a o)
     (s : Step) (t : Tells Offered Own a.machine s) (n : Machine) (answer : Answer) (takes : Takes s n answer) where
@@ -132,6 +135,8 @@ module _ (d : List ℕ) (a b : Association) (Offered Own : Offer → Type 0) (of
             | inr echoed ↦ inr (subst (λ (o : Offer). IsOwnEchoed d a.key o) (sym own) (echoes s.machine.own echoed))
           ];
           owes = λ k e. inl (kept.owes k e);
+          machine = ap (λ (k : Machine). k.limits) is ∙ t.limits;
+          sending = kept.sending;
         }
 
     begun-so : (typ : ℕ) → HasType d typ → (typ ≡ 10) ⊎ (typ ≡ 11)
@@ -161,6 +166,7 @@ module _ (t : Ticket) (m : Machine) where
     new = λ e. absurd (none-some Connected (sym none ∙ e));
     restarted = λ e. ap (λ (k : Machine). k.has_restarted) is ∙ e;
     noted = λ e. absurd (none-some Restarted (sym none ∙ e));
+    limits = ap (λ (k : Machine). k.limits) is;
   }
 
   cookie-begins : (is_standing m.state ≡ false) → OfTicket (cookies.begins t m)
@@ -174,6 +180,7 @@ module _ (t : Ticket) (m : Machine) where
     new = λ _. new;
     restarted = λ e. e;
     noted = λ e. absurd (false≢true (ap is-new e));
+    limits = refl;
   }
 
   cookie-restarts : OfTicket (cookies.restarts t m)
@@ -187,6 +194,7 @@ module _ (t : Ticket) (m : Machine) where
     new = λ e. absurd (false≢true (sym (ap is-new e)));
     restarted = λ _. refl;
     noted = λ _. refl;
+    limits = refl;
   }
 
   cookie-renews : (s : State) → m.state ≡ s → OfTicket (renewal_row s t m)
@@ -208,6 +216,7 @@ module _ (t : Ticket) (m : Machine) where
     new = λ _. ap is_standing is;
     restarted = λ e. e;
     noted = λ e. absurd (false≢true (ap is-new e));
+    limits = refl;
   }
   cookie-repeats _ is = cookie-same _ refl refl
 
@@ -252,6 +261,7 @@ module _ (d : List ℕ) (p : ChunkPlace) (own : IsChunkOf d p) (a b : Associatio
     new = λ _. ap is_standing is;
     restarted = λ e. e;
     noted = λ e. absurd (false≢true (ap is-new e));
+    limits = refl;
   }
   ack-tells _ m is = record {
     asking = λ e. e;
@@ -263,6 +273,7 @@ module _ (d : List ℕ) (p : ChunkPlace) (own : IsChunkOf d p) (a b : Associatio
     new = λ e. absurd (none-some Connected e);
     restarted = λ e. e;
     noted = λ e. absurd (none-some Restarted e);
+    limits = refl;
   }
 
   pub ack_offered : p.typ ≡ 11 → Takes (on_cookie_ack a.machine) n answer → (is_standing a.machine.state ≡ false → a.inbound ≡ None)
@@ -282,6 +293,7 @@ record Hears (offer : Offer) (m : Machine) (s : Step) : Type 0 where
   quiet : (n : Machine) (c : Config) (x y : Halves) → BeginsBy s.answer.told n c x y → y ≡ x
   own : s.machine.own ≡ m.own
   restarted : s.machine.has_restarted ≡ m.has_restarted
+  limits : s.machine.limits ≡ m.limits
 
 init-ack-checked : (f : Option OfferFault) (offer : Offer) (m : Machine) → m.state ≡ CookieWait → Hears offer m (init_ack_checked f offer m)
 init-ack-checked None offer m is = record {
@@ -290,19 +302,28 @@ init-ack-checked None offer m is = record {
   quiet = λ n c x y b. b;
   own = refl;
   restarted = refl;
+  limits = refl;
 }
-init-ack-checked (Some SmallWindow) offer m is = record { asking = λ e. e; peer = λ o e. inl e; quiet = λ n c x y b. b; own = refl; restarted = refl }
+init-ack-checked (Some SmallWindow) offer m is = record {
+  asking = λ e. e;
+  peer = λ o e. inl e;
+  quiet = λ n c x y b. b;
+  own = refl;
+  restarted = refl;
+  limits = refl;
+}
 init-ack-checked (Some _) offer m is = record {
   asking = λ e. absurd (false≢true e);
   peer = λ o e. absurd (none-some o e);
   quiet = λ n c x y b. b;
   own = refl;
   restarted = refl;
+  limits = refl;
 }
 
 init-ack-hears : (s : State) (offer : Offer) (m : Machine) → m.state ≡ s → Hears offer m (init_ack_row s offer m)
 init-ack-hears CookieWait offer m is = init-ack-checked (offer_fault offer) offer m is
-init-ack-hears _ offer m is = record { asking = λ e. e; peer = λ o e. inl e; quiet = λ n c x y b. b; own = refl; restarted = refl }
+init-ack-hears _ offer m is = record { asking = λ e. e; peer = λ o e. inl e; quiet = λ n c x y b. b; own = refl; restarted = refl; limits = refl }
 
 module _ (d : List ℕ) (a b : Association) (n : Machine) (answer : Answer) (offer : Offer) where
   pub init_ack_offered : AnswersInit d offer → Takes (on_init_ack offer a.machine) n answer → BeginsBy answer.told n a.config (halves_of a) (halves_of b)
@@ -318,6 +339,8 @@ module _ (d : List ℕ) (a b : Association) (n : Machine) (answer : Answer) (off
         key = left.key;
         own = inl (ap (λ (j : Machine). j.own) is ∙ h.own);
         owes = λ t e. inl (left.owes t e);
+        machine = ap (λ (j : Machine). j.limits) is ∙ h.limits;
+        sending = left.sending;
         asking = λ e. h.asking (subst (λ (j : Machine). is_asking j.state ≡ true) is e);
         peer = λ o e. elim (h.peer o (sym (ap (λ (j : Machine). j.peer) is) ∙ e)) [
           | inl old ↦ inl old

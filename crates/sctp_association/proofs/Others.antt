@@ -1,23 +1,26 @@
 -- Chunks that neither half answers, and the datagram in the end.
-use Rattle.std.proofs.Common.{◌≡◌, ◌⊎◌, inl, inr, ℕ, List, [], ◌++◌, Bool, true, false, Option, Some, Result, Ok, Err, refl, ap, sym, subst, ◌∙◌}
+use Rattle.std.proofs.Common.{◌≡◌, ◌⊎◌, inl, inr, ℕ, List, [], ◌++◌, Bool, true, false, Option, None, Some, Result, Ok, Err, arith, refl, ap, sym, subst, ◌∙◌}
 use Rattle.std.proofs.lemmas.Bool.{false≢true}
 use Rattle.std.proofs.lemmas.List.Elements.{Contains-append_left}
 use Rattle.std.specs.List.{AllByRecursion}
+use Rattle.std.specs.Prelude.{IfSome, ◌≤◌, is_some}
 use Rattle.std.specs.Result.{IsErr}
 use Rattle.sctp_association.proofs.Congested.{windows_same, windows_then}
 use Rattle.sctp_association.proofs.Known.{still_none, unmoved_same, unmoved_then, was}
-use Rattle.sctp_association.proofs.Putting.{shutdown_put, adds_none, adds_then, all_append, all_of_more, all_put, all_so, and_so, nothing}
+use Rattle.sctp_association.proofs.Putting.{shutdown_put, adds_none, adds_then, all_append, all_of_more, all_put, all_so, and_so, nothing, puts_so}
 use Rattle.sctp_association.proofs.Running.{none_in, none_sent, reported_in, sent_then}
 use Rattle.sctp_association.specs.declared.association.Association.{Association}
 use Rattle.sctp_association.specs.declared.inbound.Inbound.{Inbound}
-use Rattle.sctp_association.specs.Halves.{HalvesAlike, PutsDue, PutsOthers, is_sent, receiver_of, sides_of}
-use Rattle.sctp_association.specs.Kept.{IsUnmoved}
+use Rattle.sctp_association.specs.Halves.{HalvesAlike, IsAsTimed, PutsDue, PutsOnce, PutsOthers, is_sent, receiver_of, sides_of}
+use Rattle.sctp_association.specs.Kept.{IsUnmoved, sack_waits, unknown_in}
 use Rattle.sctp_association.specs.declared.fault.Fault.{Fault}
-use Rattle.sctp_association.specs.Leaving.{IsDueOnce, Owed, Reaches, owed_of}
-use Rattle.sctp_association.specs.Packets.{Adds, IsNoReply, IsOf, IsPacketOf, IsWritten, Puts, PutsIn, PutsOf, Sides, Transmits, put_where, sides}
+use Rattle.sctp_association.specs.Leaving.{AsksNoMore, IsDueOnce, IsParamOnce, IsReplyOnce, OwedAt, OwesNoMoreAt, Reaches, beats, owed_at}
+use Rattle.sctp_association.specs.Leaving.{owed_of, requests_due, responses_due}
+use Rattle.sctp_association.specs.Packets.{Adds, IsNoReply, IsOf, IsPacketOf, IsSackOnce, IsWritten, Puts, PutsIn, PutsOf, Sides, Transmits, put_where, sides}
 use Rattle.sctp_association.specs.Packets.{sum_of, with_chunks}
 use Rattle.sctp_association.specs.Runs.{ReportsIn, Sends}
-use Rattle.sctp_chunks.specs.Wire.{Wire, cookie_ack_chunk, cookie_echo_chunk, heartbeat_ack_chunk, init_chunk, shutdown_ack_chunk, shutdown_chunk}
+use Rattle.sctp_chunks.specs.Wire.{Wire, cookie_ack_chunk, cookie_echo_chunk, error_chunk, heartbeat_ack_chunk, heartbeat_chunk, init_chunk}
+use Rattle.sctp_chunks.specs.Wire.{reconfig_chunk, sack_chunk, shutdown_ack_chunk, shutdown_chunk}
 use Rattle.sctp_data.specs.SelectiveAck.{Sack}
 use Rattle.sctp_delivery.specs.SenderCalls.{Made}
 use Rattle.sctp_handshake.specs.declared.machine.Machine.{Machine}
@@ -26,6 +29,8 @@ use Rattle.sctp_handshake.specs.declared.state.State.TheVariants.{ShutdownAckSen
 use Rattle.sctp_packets.specs.declared.packet.CommonHeader.{CommonHeader}
 use Rattle.sctp_packets.specs.Draft.{IsDraft, headed}
 use Rattle.sctp_packets.specs.Packet.{Parts, packet_encoding}
+use Rattle.sctp_params.specs.Param.{Parameter, outgoing_reset_request, reconfig_response}
+use Rattle.sctp_path.specs.Timers.{is_due}
 use Rattle.sctp_receiver.specs.Receiver.{Reception}
 use Rattle.sctp_sender.specs.Sender.{Transmission}
 
@@ -39,21 +44,51 @@ alike_then a b c h k = record {
 pub alike_same : (a : Association) → HalvesAlike a a
 alike_same a = record { sender = refl; receiver = refl; windows = windows_same a.outbound }
 
-pub others_none : (a b : Association) → HalvesAlike a b → IsUnmoved a b → b.draft.bytes ≡ a.draft.bytes → PutsOthers a b
-others_none a b h u e = record {
+-- the same is due at the same moment
+pub timed_same : (a : Association) → IsAsTimed a a
+timed_same a = record { heartbeat = refl; requests = refl; peer = refl }
+
+pub timed_then : (a b c : Association) → IsAsTimed a b → IsAsTimed b c → IsAsTimed a c
+timed_then a b c t s = record { heartbeat = s.heartbeat ∙ t.heartbeat; requests = s.requests ∙ t.requests; peer = s.peer ∙ t.peer }
+
+pub others_none : (a b : Association) → HalvesAlike a b → IsUnmoved a b → IsAsTimed a b → b.draft.bytes ≡ a.draft.bytes → PutsOthers a b
+others_none a b h u t e = record {
   halves = h;
   chunks = [];
   added = subst (λ x. Adds [] a.draft.bytes x) (sym e) (adds_none a.draft.bytes);
   own = tt;
   plain = tt;
   kept = u;
+  timed = t;
 }
 
 -- nothing is put, and nothing changes
 pub others_same : (a b : Association) → b ≡ a → PutsOthers a b
-others_same a b is = subst (PutsOthers a) (sym is) (others_none a a (alike_same a) (unmoved_same a) refl)
+others_same a b is = subst (PutsOthers a) (sym is) (others_none a a (alike_same a) (unmoved_same a) (timed_same a) refl)
 
 -- ## What is due once
+
+-- of a parameter of a RE-CONFIG
+module _ (now : ℕ) (a b c : Association) where
+  param-before : AsksNoMore now a b → (p : Parameter) → IsParamOnce (owed_at now b) (owed_at now c) p → IsParamOnce (owed_at now a) (owed_at now c) p
+  param-before m (outgoing_reset_request r) h = (was (requests_due now a.requests) (requests_due now b.requests) m.request h.0, h.1)
+  param-before m (reconfig_response r) h = omega (arith, h, m.responses)
+  param-before m _ h = absurd h
+
+  pub params_before : AsksNoMore now a b → (o : Option Parameter) → IfSome o (IsParamOnce (owed_at now b) (owed_at now c))
+      → IfSome o (IsParamOnce (owed_at now a) (owed_at now c))
+  params_before m None h = tt
+  params_before m (Some p) h = param-before m p h
+
+  param-behind : AsksNoMore now b c → (p : Parameter) → IsParamOnce (owed_at now a) (owed_at now b) p → IsParamOnce (owed_at now a) (owed_at now c) p
+  param-behind m (outgoing_reset_request r) h = (h.0, m.request h.1)
+  param-behind m (reconfig_response r) h = omega (arith, h, m.responses)
+  param-behind m _ h = absurd h
+
+  pub params_behind : AsksNoMore now b c → (o : Option Parameter) → IfSome o (IsParamOnce (owed_at now a) (owed_at now b))
+      → IfSome o (IsParamOnce (owed_at now a) (owed_at now c))
+  params_behind m None h = tt
+  params_behind m (Some p) h = param-behind m p h
 
 or-both : {P Q R S : Type 0} → (P → R) → (Q → S) → P ⊎ Q → R ⊎ S
 or-both f g (inl p) = inl (f p)
@@ -67,7 +102,7 @@ module _ (a b c : Association) where
   reached-behind u s h = (h.0, ap (λ (m : Machine). m.state) u.machine ∙ h.1)
 
   -- what was due behind a step that makes nothing due was due before
-  once-before : IsUnmoved a b → (w : Wire) → IsDueOnce (owed_of b) (owed_of c) w → IsDueOnce (owed_of a) (owed_of c) w
+  once-before : IsUnmoved a b → (w : Wire) → IsReplyOnce (owed_of b) (owed_of c) w → IsReplyOnce (owed_of a) (owed_of c) w
   once-before u (init_chunk i) h = absurd h
   once-before u (cookie_echo_chunk k) h = (was a.due.cookie_echo b.due.cookie_echo u.due.cookie_echo h.0, sym u.cookie ∙ h.1, h.2)
   once-before u cookie_ack_chunk h = (was a.due.cookie_ack b.due.cookie_ack u.due.cookie_ack h.0, h.1)
@@ -75,26 +110,82 @@ module _ (a b c : Association) where
   once-before u shutdown_ack_chunk h =
       (or-both (was a.due.shutdown_ack b.due.shutdown_ack u.due.shutdown_ack) (reached-before u ShutdownAckSent) h.0, h.1)
   once-before u (heartbeat_ack_chunk ps) h = (h.0, u.due.heartbeat h.0 h.1, h.2, h.3)
+  once-before u (sack_chunk s) h = (was (sack_waits a.inbound) (sack_waits b.inbound) u.sack h.0, h.1)
+  once-before u (error_chunk cs) h = or-both (λ r. (r.0, u.due.report r.0 r.1, r.2, r.3)) (λ s. (s.0, u.unknown s.0 s.1, s.2, s.3)) h
+  once-before u (heartbeat_chunk ps) h = absurd h
+  once-before u (reconfig_chunk r) h = absurd h
   once-before u _ h = tt
 
   -- and what is due no more is so behind one
-  once-behind : IsUnmoved b c → (w : Wire) → IsDueOnce (owed_of a) (owed_of b) w → IsDueOnce (owed_of a) (owed_of c) w
+  once-behind : IsUnmoved b c → (w : Wire) → IsReplyOnce (owed_of a) (owed_of b) w → IsReplyOnce (owed_of a) (owed_of c) w
   once-behind u (init_chunk i) h = absurd h
   once-behind u (cookie_echo_chunk k) h = (h.0, h.1, u.due.cookie_echo h.2)
   once-behind u cookie_ack_chunk h = (h.0, u.due.cookie_ack h.1)
   once-behind u (shutdown_chunk n) h = (or-both (λ e. e) (reached-behind u ShutdownSent) h.0, u.due.shutdown h.1)
   once-behind u shutdown_ack_chunk h = (or-both (λ e. e) (reached-behind u ShutdownAckSent) h.0, u.due.shutdown_ack h.1)
   once-behind u (heartbeat_ack_chunk ps) h = (h.0, h.1, h.2, still_none b.due.heartbeat c.due.heartbeat u.due.heartbeat h.3)
+  once-behind u (sack_chunk s) h = (h.0, u.sack h.1)
+  once-behind u (error_chunk cs) h = or-both (λ r. (r.0, r.1, r.2, still_none b.due.report c.due.report u.due.report r.3))
+      (λ s. (s.0, s.1, s.2, still_none (unknown_in b.inbound) (unknown_in c.inbound) u.unknown s.3)) h
+  once-behind u (heartbeat_chunk ps) h = absurd h
+  once-behind u (reconfig_chunk r) h = absurd h
   once-behind u _ h = tt
 
-no-reply-once : (x y : Owed) (w : Wire) → IsNoReply w → IsDueOnce x y w
-no-reply-once x y (init_chunk i) h = absurd h
-no-reply-once x y (cookie_echo_chunk k) h = absurd h
-no-reply-once x y cookie_ack_chunk h = absurd h
-no-reply-once x y (shutdown_chunk n) h = absurd h
-no-reply-once x y shutdown_ack_chunk h = absurd h
-no-reply-once x y (heartbeat_ack_chunk ps) h = absurd h
-no-reply-once x y _ h = tt
+  -- the same, of a HEARTBEAT and a RE-CONFIG too
+  due-before : (now : ℕ) → IsUnmoved a b → AsksNoMore now a b → (w : Wire) → IsDueOnce (owed_at now b) (owed_at now c) w
+      → IsDueOnce (owed_at now a) (owed_at now c) w
+  due-before now u m (heartbeat_chunk ps) h = (was (beats now a) (beats now b) m.beat h.0, h.1)
+  due-before now u m (reconfig_chunk r) h = (params_before now a b c m r.param_a h.0, params_before now a b c m r.param_b h.1)
+  due-before now u m w h = once-before u w h
+
+  due-behind : (now : ℕ) → IsUnmoved b c → AsksNoMore now b c → (w : Wire) → IsDueOnce (owed_at now a) (owed_at now b) w
+      → IsDueOnce (owed_at now a) (owed_at now c) w
+  due-behind now u m (heartbeat_chunk ps) h = (h.0, m.beat h.1)
+  due-behind now u m (reconfig_chunk r) h = (params_behind now a b c m r.param_a h.0, params_behind now a b c m r.param_b h.1)
+  due-behind now u m w h = once-behind u w h
+
+no-reply-once : (now : ℕ) (a b : Association) (w : Wire) → IsNoReply w → IsDueOnce (owed_at now a) (owed_at now b) w
+no-reply-once now a b (init_chunk i) h = absurd h
+no-reply-once now a b (cookie_echo_chunk k) h = absurd h
+no-reply-once now a b cookie_ack_chunk h = absurd h
+no-reply-once now a b (shutdown_chunk n) h = absurd h
+no-reply-once now a b shutdown_ack_chunk h = absurd h
+no-reply-once now a b (heartbeat_ack_chunk ps) h = absurd h
+no-reply-once now a b (sack_chunk s) h = absurd h
+no-reply-once now a b (heartbeat_chunk ps) h = absurd h
+no-reply-once now a b (error_chunk cs) h = absurd h
+no-reply-once now a b (reconfig_chunk r) h = absurd h
+no-reply-once now a b _ h = tt
+
+once-due : (now : ℕ) (a b : Association) (w : Wire) → IsReplyOnce (owed_of a) (owed_of b) w → IsDueOnce (owed_at now a) (owed_at now b) w
+once-due now a b (heartbeat_chunk ps) h = absurd h
+once-due now a b (reconfig_chunk r) h = absurd h
+once-due now a b w h = h
+
+pub at_most_same : {m n : ℕ} → m ≡ n → m ≤ n
+at_most_same e = omega (arith, e)
+
+-- where the moment stays none is due that was not
+pub beats_same : (now : ℕ) (a b : Association) → IsAsTimed a b → AsksNoMore now a b
+beats_same now a b t = record {
+  beat = λ e. ap (is_due now) t.heartbeat ∙ e;
+  request = λ e. ap (requests_due now) t.requests ∙ e;
+  responses = at_most_same (ap responses_due t.peer);
+}
+
+pub at_then : (x y z : OwedAt) → OwesNoMoreAt x y → OwesNoMoreAt y z → OwesNoMoreAt x z
+at_then x y z m n = record {
+  beat = λ e. n.beat (m.beat e);
+  request = λ e. n.request (m.request e);
+  responses = omega (arith, m.responses, n.responses);
+}
+
+pub beats_then : (now : ℕ) (a b c : Association) → AsksNoMore now a b → AsksNoMore now b c → AsksNoMore now a c
+beats_then now a b c m n = record {
+  beat = λ e. n.beat (m.beat e);
+  request = λ e. n.request (m.request e);
+  responses = omega (arith, m.responses, n.responses);
+}
 
 pub others_then : (a b c : Association) → PutsOthers a b → PutsOthers b c → PutsOthers a c
 others_then a b c p q = record {
@@ -102,35 +193,37 @@ others_then a b c p q = record {
   chunks = p.chunks ++ q.chunks;
   added = adds_then p.chunks q.chunks a.draft.bytes b.draft.bytes c.draft.bytes p.added q.added;
   own = all_append (IsOf [] []) p.chunks q.chunks p.own q.own;
-  plain = all_append (IsDueOnce (owed_of a) (owed_of c)) p.chunks q.chunks
-      (all_so (IsDueOnce (owed_of a) (owed_of b)) (IsDueOnce (owed_of a) (owed_of c)) (once-behind a b c q.kept) p.chunks p.plain)
-      (all_so (IsDueOnce (owed_of b) (owed_of c)) (IsDueOnce (owed_of a) (owed_of c)) (once-before a b c p.kept) q.chunks q.plain);
+  plain = all_append (IsReplyOnce (owed_of a) (owed_of c)) p.chunks q.chunks
+      (all_so (IsReplyOnce (owed_of a) (owed_of b)) (IsReplyOnce (owed_of a) (owed_of c)) (once-behind a b c q.kept) p.chunks p.plain)
+      (all_so (IsReplyOnce (owed_of b) (owed_of c)) (IsReplyOnce (owed_of a) (owed_of c)) (once-before a b c p.kept) q.chunks q.plain);
   kept = unmoved_then a b c p.kept q.kept;
+  timed = timed_then a b c p.timed q.timed;
 }
 
 -- a chunk is put, where it fits
 pub others_one : (k : Bool) (w : Wire) (a b : Association) → Adds (put_where k w) a.draft.bytes b.draft.bytes → IsOf [] [] w
-    → IsDueOnce (owed_of a) (owed_of b) w → HalvesAlike a b → IsUnmoved a b → PutsOthers a b
-others_one k w a b added of plain h u = record {
+    → IsReplyOnce (owed_of a) (owed_of b) w → HalvesAlike a b → IsUnmoved a b → IsAsTimed a b → PutsOthers a b
+others_one k w a b added of plain h u t = record {
   halves = h;
   chunks = put_where k w;
   added = added;
   own = all_put (IsOf [] []) k w of;
-  plain = all_put (IsDueOnce (owed_of a) (owed_of b)) k w plain;
+  plain = all_put (IsReplyOnce (owed_of a) (owed_of b)) k w plain;
   kept = u;
+  timed = t;
 }
 
 module _ (a b : Association) where
   -- what leads on from a side that is the same
-  put_alike : (P : Wire → Type 0) (x y : List ℕ) → HalvesAlike a b
+  pub put_alike : (P : Wire → Type 0) (x y : List ℕ) → HalvesAlike a b
       → PutsOf P (sides a.outbound.sender (receiver_of a.inbound) x) (sides a.outbound.sender (receiver_of a.inbound) y)
       → PutsOf P (sides a.outbound.sender (receiver_of a.inbound) x) (sides b.outbound.sender (receiver_of b.inbound) y)
   put_alike P x y h p =
       let s = subst (λ t. PutsOf P (sides a.outbound.sender (receiver_of a.inbound) x) (sides t (receiver_of a.inbound) y)) (sym h.sender) p in
       subst (λ r. PutsOf P (sides a.outbound.sender (receiver_of a.inbound) x) (sides b.outbound.sender r y)) (sym h.receiver) s
 
-  pub others_puts : PutsOthers a b → PutsDue a b
-  others_puts p = put_alike (IsDueOnce (owed_of a) (owed_of b)) a.draft.bytes b.draft.bytes p.halves (record {
+  pub others_puts : PutsOthers a b → PutsOnce a b
+  others_puts p = put_alike (IsReplyOnce (owed_of a) (owed_of b)) a.draft.bytes b.draft.bytes p.halves (record {
     made = [];
     sacks = [];
     chunks = p.chunks;
@@ -147,27 +240,46 @@ module _ (a b : Association) where
   alike_puts {P} h x = put_alike P x x h (nothing (sides a.outbound.sender (receiver_of a.inbound) x))
 
   -- what is no reply
-  pub puts_due : Puts (sides_of a) (sides_of b) → PutsDue a b
-  puts_due p = record {
-    made = p.made;
-    sacks = p.sacks;
-    chunks = p.chunks;
-    sent = p.sent;
-    reported = p.reported;
-    added = p.added;
-    own = p.own;
-    plain = all_so IsNoReply (IsDueOnce (owed_of a) (owed_of b)) (no-reply-once (owed_of a) (owed_of b)) p.chunks p.plain;
-  }
+  pub puts_due : (now : ℕ) → Puts (sides_of a) (sides_of b) → PutsDue now a b
+  puts_due now p = puts_so IsNoReply (IsDueOnce (owed_at now a) (owed_at now b)) (no-reply-once now a b) (sides_of a) (sides_of b) p
 
-pub due_then : (a b c : Association) → PutsDue a b → IsUnmoved a b → PutsDue b c → IsUnmoved b c → PutsDue a c
-due_then a b c p u q v = and_so (IsDueOnce (owed_of a) (owed_of b)) (IsDueOnce (owed_of b) (owed_of c)) (IsDueOnce (owed_of a) (owed_of c))
+  pub once_puts : (now : ℕ) → PutsOnce a b → PutsDue now a b
+  once_puts now p = puts_so (IsReplyOnce (owed_of a) (owed_of b)) (IsDueOnce (owed_at now a) (owed_at now b)) (once-due now a b) (sides_of a) (sides_of b) p
+
+-- steps that make nothing due
+pub due_then : (now : ℕ) (a b c : Association) → PutsDue now a b → IsUnmoved a b → AsksNoMore now a b → PutsDue now b c → IsUnmoved b c
+    → AsksNoMore now b c → PutsDue now a c
+due_then now a b c p u m q v n = and_so (IsDueOnce (owed_at now a) (owed_at now b)) (IsDueOnce (owed_at now b) (owed_at now c))
+    (IsDueOnce (owed_at now a) (owed_at now c)) (sides_of a) (sides_of b) (sides_of c)
+    (due-behind a b c now v n) (due-before a b c now u m) p q
+
+pub due_others : (now : ℕ) (a b c : Association) → PutsDue now a b → IsUnmoved a b → AsksNoMore now a b → PutsOthers b c → PutsDue now a c
+due_others now a b c p u m q = due_then now a b c p u m (once_puts b c now (others_puts b c q)) q.kept (beats_same now b c q.timed)
+
+-- no HEARTBEAT is among them
+pub once_then : (a b c : Association) → PutsOnce a b → IsUnmoved a b → PutsOnce b c → IsUnmoved b c → PutsOnce a c
+once_then a b c p u q v = and_so (IsReplyOnce (owed_of a) (owed_of b)) (IsReplyOnce (owed_of b) (owed_of c)) (IsReplyOnce (owed_of a) (owed_of c))
     (sides_of a) (sides_of b) (sides_of c) (once-behind a b c v) (once-before a b c u) p q
 
-pub others_due : (a b c : Association) → PutsOthers a b → Puts (sides_of b) (sides_of c) → IsUnmoved b c → PutsDue a c
-others_due a b c p q v = due_then a b c (others_puts a b p) p.kept (puts_due b c q) v
+pub once_others : (a b c : Association) → PutsOnce a b → IsUnmoved a b → PutsOthers b c → PutsOnce a c
+once_others a b c p u q = once_then a b c p u (others_puts b c q) q.kept
 
-pub due_others : (a b c : Association) → PutsDue a b → IsUnmoved a b → PutsOthers b c → PutsDue a c
-due_others a b c p u q = due_then a b c p u (others_puts b c q) q.kept
+pub others_once : (a b c : Association) → PutsOthers a b → PutsOnce b c → IsUnmoved b c → PutsOnce a c
+others_once a b c p q v = once_then a b c (others_puts a b p) p.kept q v
+
+-- a chunk is put that neither half answers
+pub puts_one : {P : Wire → Type 0} (k : Bool) (w : Wire) (t : Transmission) (r : Option Reception) (x y : List ℕ) → Adds (put_where k w) x y
+    → IsOf [] [] w → P w → PutsOf P (sides t r x) (sides t r y)
+puts_one {P} k w t r x y added of plain = record {
+  made = [];
+  sacks = [];
+  chunks = put_where k w;
+  sent = none_sent t;
+  reported = none_in r;
+  added = added;
+  own = all_put (IsOf [] []) k w of;
+  plain = all_put P k w plain;
+}
 
 module _ {P : Wire → Type 0} where
   pub same_puts : (a b : Association) → b.draft.bytes ≡ a.draft.bytes → HalvesAlike a b → PutsOf P (sides_of a) (sides_of b)
@@ -186,11 +298,20 @@ pub shutdown_side : {P : Wire → Type 0} (n : ℕ) (k : Bool) (t : Transmission
     → PutsOf P (sides t (receiver_of o) x) (sides t (receiver_of o) y)
 shutdown_side {P} n k t o i x y e own plain added = in_side P t o o i i x y e e (shutdown_put P n k i.receiver x y own plain added)
 
-pub sack_puts : (a b : Association) (i j : Inbound) → PutsIn i.receiver j.receiver a.draft.bytes b.draft.bytes → a.inbound ≡ Some i → b.inbound ≡ Some j
-    → b.outbound.sender ≡ a.outbound.sender → Puts (sides_of a) (sides_of b)
-sack_puts a b i j h e f same =
-    subst (λ t. Puts (sides_of a) (sides t (receiver_of b.inbound) b.draft.bytes)) (sym same)
-    (in_side IsNoReply a.outbound.sender a.inbound b.inbound i j a.draft.bytes b.draft.bytes e f h)
+-- a SACK that waited, where there is a receiver
+sack-so : (P : Wire → Type 0) (some none : Bool) → ((s : Sack) → some ≡ true → none ≡ false → P (sack_chunk s)) → (w : Wire) → IsSackOnce some none w → P w
+sack-so P some none f (sack_chunk s) h = f s h.0 h.1
+sack-so P some none f _ h = absurd h
+
+pub sack_side : {P : Wire → Type 0} (t u : Transmission) (o : Option Inbound) (i j : Inbound) (x y : List ℕ)
+    → ((s : Sack) → is_some i.delay.due ≡ true → is_some j.delay.due ≡ false → P (sack_chunk s))
+    → PutsIn (IsSackOnce (is_some i.delay.due) (is_some j.delay.due)) i.receiver j.receiver x y → o ≡ Some i → u ≡ t
+    → PutsOf P (sides t (receiver_of o) x) (sides u (Some j.receiver) y)
+sack_side {P} t u o i j x y f h is same =
+    let Q : Wire → Type 0 = IsSackOnce (is_some i.delay.due) (is_some j.delay.due) in
+    let one = subst (λ k. PutsOf Q (sides t (receiver_of k) x) (sides t (Some j.receiver) y)) (sym is) (h t) in
+    let two = subst (λ v. PutsOf Q (sides t (receiver_of o) x) (sides v (Some j.receiver) y)) (sym same) one in
+    puts_so Q P (sack-so P (is_some i.delay.due) (is_some j.delay.due) f) (sides t (receiver_of o) x) (sides u (Some j.receiver) y) two
 
 -- what the sender puts
 pub sends_puts : (ms : List Made) (t u : Transmission) (r : Option Reception) (x : List ℕ) → Sends ms t u → Puts (sides t r x) (sides u r x)

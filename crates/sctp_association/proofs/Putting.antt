@@ -100,6 +100,19 @@ and_so P Q R a b c f g p q = record {
   plain = all_append R p.chunks q.chunks (all_so P R f p.chunks p.plain) (all_so Q R g q.chunks q.plain);
 }
 
+-- what is said of the chunks may be less
+pub puts_so : (P Q : Wire → Type 0) → ((w : Wire) → P w → Q w) → (a b : Sides) → PutsOf P a b → PutsOf Q a b
+puts_so P Q f a b p = record {
+  made = p.made;
+  sacks = p.sacks;
+  chunks = p.chunks;
+  sent = p.sent;
+  reported = p.reported;
+  added = p.added;
+  own = p.own;
+  plain = all_so P Q f p.chunks p.plain;
+}
+
 pub and_then : (a b c : Sides) → Puts a b → Puts b c → Puts a c
 and_then a b c p q = and_so IsNoReply IsNoReply IsNoReply a b c (λ w h. h) (λ w h. h) p q
 

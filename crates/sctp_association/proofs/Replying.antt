@@ -7,7 +7,8 @@ use Rattle.sctp_association.specs.declared.association.Association.{Association}
 use Rattle.sctp_association.specs.declared.due.Alone.{Alone}
 use Rattle.sctp_association.specs.declared.due.AloneKind.{AloneKind}
 use Rattle.sctp_association.specs.declared.due.AloneKind.TheVariants as alone
-use Rattle.sctp_association.specs.Replying.{AddsReply, AreReply, IsPacketWith, IsReply, PutsOne, header_to, host_name_causes, missing_cookie, one_cause}
+use Rattle.sctp_association.specs.Replying.{AddsReply, AreReply, IsPacketWith, IsReply, PutsOne, header_to, host_name_causes, missing_cookie}
+use Rattle.sctp_association.specs.Reports.{one_cause}
 use Rattle.sctp_chunks.proofs.Causes.{length_cause_encoding}
 use Rattle.sctp_chunks.specs.declared.chunk.error_cause.ErrorCause.{ErrorCause}
 use Rattle.sctp_chunks.specs.ErrorCause.{causes_encoding, cause_encoding}

@@ -154,15 +154,15 @@ pub data OwedSack (tag : ℕ) (d : List ℕ) (left : List ChunkPlace) (a : Assoc
       → OwedSack tag d left a all old o
   ended : ((z : Halves) → Arrives d (halves_of a) z → HearsFirst all d old z) → OwedSack tag d left a all old o
 
-behind-other : (first : ℕ) (o : Once) → o ≡ seen first none_seen → (first ≡ 3 → ⊥) → o.sack ≡ false
-behind-other first o is other = elim (cases_Bool (first == 3)) [
+pub behind_other : (first : ℕ) (o : Once) → o ≡ seen first none_seen → (first ≡ 3 → ⊥) → o.sack ≡ false
+behind_other first o is other = elim (cases_Bool (first == 3)) [
   | inl sack ↦ absurd (other (eqb-true first 3 sack))
   | inr yet ↦ ap (λ (k : Once). k.sack) is ∙ yet
 ]
 
 pub owed_sack : (tag : ℕ) (d : List ℕ) (all : List ChunkPlace) (a : Association) (first : ℕ) (o : Once) → o ≡ seen first none_seen → (first ≡ 3 → ⊥)
     → TakesSacksOf tag a → OwedSack tag d all a all (halves_of a) o
-owed_sack tag d all a first o is other takes = goes takes (behind-other first o is other) (λ z came hears. hears)
+owed_sack tag d all a first o is other takes = goes takes (behind_other first o is other) (λ z came hears. hears)
 
 still : (d : List ℕ) (a : Association) → Arrives d (halves_of a) (halves_of a)
 still d a = arrives_same d (halves_of a) (halves_of a) refl
@@ -176,12 +176,12 @@ sack_none tag d left all a old o none (goes takes yet f) =
 sack_none tag d left all a old o none (ended f) = f (halves_of a) (still d a)
 
 -- a SACK is passed over only since one came
-sack-counts : (c : ChunkPlace) (o : Once) → o.sack ≡ false → (not (has_seen c.typ o) && not (c.typ == 10)) ≡ false → c.typ ≡ 3 → ⊥
-sack-counts c o yet passed is =
+pub sack_counts : (c : ChunkPlace) (o : Once) → o.sack ≡ false → (not (has_seen c.typ o) && not (c.typ == 10)) ≡ false → c.typ ≡ 3 → ⊥
+sack_counts c o yet passed is =
     false≢true (sym passed ∙ ap (λ (t : ℕ). not (has_seen t o) && not (t == 10)) is ∙ ap (λ (b : Bool). not b && true) yet)
 
-still-unseen : (c : ChunkPlace) (o : Once) → o.sack ≡ false → (c.typ ≡ 3 → ⊥) → (seen c.typ o).sack ≡ false
-still-unseen c o yet other = elim (cases_Bool (c.typ == 3)) [
+pub still_unseen : (c : ChunkPlace) (o : Once) → o.sack ≡ false → (c.typ ≡ 3 → ⊥) → (seen c.typ o).sack ≡ false
+still_unseen c o yet other = elim (cases_Bool (c.typ == 3)) [
   | inl sack ↦ absurd (other (eqb-true c.typ 3 sack))
   | inr is ↦ rw yet is
 ]
@@ -190,8 +190,8 @@ module _ (tag : ℕ) (d : List ℕ) (c : ChunkPlace) (cs : List ChunkPlace) (a :
   -- it is passed over
   pub sack_passed : (not (has_seen c.typ o) && not (c.typ == 10)) ≡ false → OwedSack tag d (c ∷ cs) a all old o → OwedSack tag d cs a all old (seen c.typ o)
   sack_passed passed (goes takes yet f) =
-      let other = sack-counts c o yet passed in
-      goes takes (still-unseen c o yet other) (λ z came hears. f z came (λ is. absurd (other is), λ going not. hears))
+      let other = sack_counts c o yet passed in
+      goes takes (still_unseen c o yet other) (λ z came hears. f z came (λ is. absurd (other is), λ going not. hears))
   sack_passed passed (ended f) = ended f
 
 module _ (tag : ℕ) (d : List ℕ) (c : ChunkPlace) (cs : List ChunkPlace) (a b : Association) (all : List ChunkPlace) (old : Halves) (o : Once)
@@ -208,7 +208,7 @@ module _ (tag : ℕ) (d : List ℕ) (c : ChunkPlace) (cs : List ChunkPlace) (a b
   taken-by true is went yet f =
       ended (λ z more. f z (arrives_then d _ _ z came more) (hears-sack d c cs _ _ z (eqb-true c.typ 3 is) went.1 more))
   taken-by false is went yet f =
-      goes went.0 (still-unseen c o yet (eqb-false c.typ 3 is)) (λ z more hears.
+      goes went.0 (still_unseen c o yet (eqb-false c.typ 3 is)) (λ z more hears.
       f z (arrives_then d _ _ z came more) (hears-next d c cs _ _ z (eqb-false c.typ 3 is) came hears))
 
   next-by : (g : Bool) → goes_on c.typ ≡ g → r ≡ Ok Next → OwedSack tag d (c ∷ cs) a all old o → OwedSack tag d cs b all old (seen c.typ o)

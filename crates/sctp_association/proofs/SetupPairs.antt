@@ -1,7 +1,8 @@
 -- A caller of two associations that are set up with each other: they stay so.
-use Rattle.std.proofs.Common.{◌≡◌, ℕ, ◌+◌, Bool, true, false, List, [], ◌∷◌, map, Option, Some, None, arith, refl, sym, subst, ◌∙◌}
+use Rattle.std.proofs.Common.{◌≡◌, ℕ, ◌+◌, Bool, true, false, List, [], ◌∷◌, map, Option, Some, None, ap, arith, refl, sym, subst, ◌∙◌}
 use Rattle.std.proofs.lemmas.Bool.{false≢true}
 use Rattle.std.specs.Prelude.{Contains, if◌then◌else◌, suc}
+use Rattle.sctp_association.proofs.Known.{within_same}
 use Rattle.sctp_association.specs.Beginnings.{ArrivesAsOffered, IsEchoed, KeepsPeer, KnowsNoMore}
 use Rattle.sctp_association.specs.declared.association.Association.{Association}
 use Rattle.sctp_association.specs.declared.due.Due.{Due}
@@ -42,12 +43,14 @@ quiet_stays keeps acts a b l m quiet k same leads forth back z set =
     (keeps forth back stays acts (party a l) (party b m) z set refl k quiet (leads z.log.sent) same).next
 
 -- what `write` leaves of that
-pub rest_keeps : (a b : Association) (o : Outbound) (e : Events) → b ≡ record a { outbound = o; events = e } → KeepsPeer a b
-rest_keeps a b o e is = subst (KeepsPeer a) (sym is) (record {
+pub rest_keeps : (a b : Association) (o : Outbound) (e : Events) → b ≡ record a { outbound = o; events = e }
+    → o ≡ record a.outbound { sender = o.sender } → KeepsPeer a b
+rest_keeps a b o e is same = subst (KeepsPeer a) (sym is) (record {
   config = refl;
   key = refl;
-  machine = record { asking = λ e. e; standing = λ e. e; peer = λ o e. e; own = refl; restarted = refl };
+  machine = record { asking = λ e. e; standing = λ e. e; peer = λ o e. e; own = refl; restarted = refl; limits = refl };
   owes = λ t e. e;
+  sending = (λ x. ap (λ (p : Outbound). p.failures.most) same ∙ x, λ x. ap (λ (p : Outbound). p.rto.limits) same ∙ x);
 })
 
 -- what `read` leaves of what an association begins by
@@ -55,8 +58,16 @@ pub beside_keeps : (a b : Association) → IsSameBeside a b → KeepsPeer a b
 beside_keeps a b s = record {
   config = s.config;
   key = s.key;
-  machine = subst (λ m. KnowsNoMore a.machine m) (sym s.machine) (record { asking = λ e. e; standing = λ e. e; peer = λ o e. e; own = refl; restarted = refl });
+  machine = subst (λ m. KnowsNoMore a.machine m) (sym s.machine) (record {
+    asking = λ e. e;
+    standing = λ e. e;
+    peer = λ o e. e;
+    own = refl;
+    restarted = refl;
+    limits = refl;
+  });
   owes = λ t e. subst (λ (d : Due). ticket_due d.alone ≡ Some t) s.due e;
+  sending = within_same a b s.config s.outbound;
 }
 
 -- `poll_transmit`

@@ -8,6 +8,7 @@ use Rattle.sctp_association.specs.declared.due.Alone.{Alone}
 use Rattle.sctp_association.specs.declared.due.AloneKind.TheVariants.{Init}
 use Rattle.sctp_association.specs.Halves.{fragment_size, halves_of}
 use Rattle.sctp_association.specs.Kept.{OwesNoMore, OwesTicket, ticket_due}
+use Rattle.sctp_association.specs.Lasting.{StaysWithin}
 use Rattle.sctp_association.specs.Reached.{limits_of}
 use Rattle.sctp_chunks.specs.Framing.{value_at}
 use Rattle.sctp_datagram.specs.Carried.{IsChunkOf}
@@ -175,6 +176,7 @@ pub record IsOwedFor (datagram : List ℕ) (a : Association) (ticket : Ticket) :
 -- What the datagram brings, where each half that is new begins so. The peer is the one that was known, or one by whose offer the association may
 -- begin. This side asks no peer that it did not ask before, and offers what it offered, or what a ticket says that is echoed. An INIT ACK that is
 -- due was due before, or its ticket has the offer of an INIT of the datagram, and the first TSN of this side. That the peer has begun again stays noted.
+-- The limits of the machine stay, and those of what is sent, also where the sender begins anew.
 pub record ArrivesAsOffered (datagram : List ℕ) (old new : Association) : Type 0 where
   pub arrives : ArrivesAs (IsBegunBy datagram old new) datagram (halves_of old) (halves_of new)
   pub restarted : old.machine.has_restarted ≡ true → new.machine.has_restarted ≡ true
@@ -186,23 +188,27 @@ pub record ArrivesAsOffered (datagram : List ℕ) (old new : Association) : Type
   pub own : IsOwnOffer datagram old new.machine.own
   pub owes : (ticket : Ticket) → OwesTicket new ticket
       → OwesTicket old ticket ⊎ IsOwedFor datagram old ticket
+  pub machine : new.machine.limits ≡ old.machine.limits
+  pub sending : StaysWithin old new
 
 -- ## What stays
 
--- of a peer nothing new is known, and this side offers the same; no association stands that did not before
+-- of a peer nothing new is known, and this side offers the same, by the same limits; no association stands that did not before
 pub record KnowsNoMore (old new : Machine) : Type 0 where
   pub asking : is_asking new.state ≡ true → is_asking old.state ≡ true
   pub standing : is_standing new.state ≡ true → is_standing old.state ≡ true
   pub peer : (offer : Offer) → new.peer ≡ Some offer → old.peer ≡ Some offer
   pub own : new.own ≡ old.own
   pub restarted : new.has_restarted ≡ old.has_restarted
+  pub limits : new.limits ≡ old.limits
 
--- the peer is the one that was known, or is forgotten
+-- the peer is the one that was known, or is forgotten; the limits of what is sent stay
 pub record KeepsPeer (old new : Association) : Type 0 where
   pub config : new.config ≡ old.config
   pub key : new.key ≡ old.key
   pub machine : KnowsNoMore old.machine new.machine
   pub owes : OwesNoMore old new
+  pub sending : StaysWithin old new
 
 -- ## Calls that no datagram brings
 
@@ -214,11 +220,12 @@ pub record IsMadeOf (c : Config) (k : List ℕ) (tsn : ℕ) (new : Association) 
   pub peer : new.machine.peer ≡ None
   pub owes : ticket_due new.due.alone ≡ None
 
--- `connect`: this side asks, and what an association begins by stays
+-- `connect`: this side asks; what an association begins by stays, and so do the limits of what it sends
 pub record BeginsToAsk (old new : Association) : Type 0 where
   pub config : new.config ≡ old.config
   pub key : new.key ≡ old.key
   pub machine : new.machine ≡ into CookieWait old.machine
+  pub sending : StaysWithin old new
 
 -- `set_mtu`: no more changes of what an association begins by than how many bytes a packet has
 pub record IsKeptButMtu (old new : Association) : Type 0 where
@@ -226,6 +233,7 @@ pub record IsKeptButMtu (old new : Association) : Type 0 where
   pub key : new.key ≡ old.key
   pub machine : new.machine ≡ old.machine
   pub due : new.due ≡ old.due
+  pub sending : StaysWithin old new
 
 -- ## From the state Closed
 

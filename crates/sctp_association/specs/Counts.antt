@@ -26,6 +26,11 @@ pub record IsCountedAlike (old new : Outbound) : Type 0 where
   pub resent : new.resent ≡ old.resent
   pub timeouts : new.timeouts ≡ old.timeouts
 
+-- the limit of failures is the same, and the bounds of the RTO
+abbrev pub HasLimitsOf : (old new : Outbound) → Type 0
+HasLimitsOf old new =
+    (new.failures.most ≡ old.failures.most) × (new.rto.limits ≡ old.rto.limits)
+
 -- so of what is sent new: no failure is counted or forgotten either, and T3-rtx and the RTO stay
 pub record CountsNone (old new : Outbound) : Type 0 where
   pub resent : new.resent ≡ old.resent

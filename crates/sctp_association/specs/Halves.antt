@@ -8,8 +8,9 @@ use Rattle.sctp_association.specs.declared.inbound.Inbound.{Inbound}
 use Rattle.sctp_association.specs.Arrivals.{Halves, halves, new_sender}
 use Rattle.sctp_association.specs.Congested.{HasWindowsOf}
 use Rattle.sctp_association.specs.Kept.{IsUnmoved}
-use Rattle.sctp_association.specs.Leaving.{IsDueOnce, owed_of}
+use Rattle.sctp_association.specs.Leaving.{IsDueOnce, IsReplyOnce, owed_at, owed_of}
 use Rattle.sctp_association.specs.Packets.{Adds, IsOf, PutsOf, Sides, sides}
+use Rattle.sctp_association.specs.Still.{heartbeat_time}
 use Rattle.sctp_chunks.specs.Wire.{Wire}
 use Rattle.sctp_path.specs.Congestion.{pmdcs_of}
 use Rattle.sctp_path.specs.Timers.{is_due}
@@ -34,17 +35,30 @@ pub record HalvesAlike (old new : Association) : Type 0 where
   pub windows : HasWindowsOf old.outbound new.outbound
 
 -- calls of both halves led on. What was put is no INIT, and each reply of it was due, and is due no more
-abbrev pub PutsDue : Association → Association → Type 0
-PutsDue old new = PutsOf (IsDueOnce (owed_of old) (owed_of new)) (sides_of old) (sides_of new)
+abbrev pub PutsDue : ℕ → Association → Association → Type 0
+PutsDue now old new =
+    PutsOf (IsDueOnce (owed_at now old) (owed_at now new)) (sides_of old) (sides_of new)
 
--- neither half changes, and what was put is neither DATA nor FORWARD-TSN, SACK, SHUTDOWN or INIT. What the association begins by stays
+-- no HEARTBEAT among them
+abbrev pub PutsOnce : Association → Association → Type 0
+PutsOnce old new = PutsOf (IsReplyOnce (owed_of old) (owed_of new)) (sides_of old) (sides_of new)
+
+-- the same is due at the same moment, and the same of resets
+pub record IsAsTimed (old new : Association) : Type 0 where
+  pub heartbeat : heartbeat_time new ≡ heartbeat_time old
+  pub requests : new.requests ≡ old.requests
+  pub peer : new.peer_requests ≡ old.peer_requests
+
+-- neither half changes, and what was put is neither DATA nor FORWARD-TSN, SACK, SHUTDOWN, HEARTBEAT, RE-CONFIG or
+-- INIT. What the association begins by stays
 pub record PutsOthers (old new : Association) : Type 0 where
   pub halves : HalvesAlike old new
   pub chunks : List Wire
   pub added : Adds chunks old.draft.bytes new.draft.bytes
   pub own : AllByRecursion (IsOf [] []) chunks
-  pub plain : AllByRecursion (IsDueOnce (owed_of old) (owed_of new)) chunks
+  pub plain : AllByRecursion (IsReplyOnce (owed_of old) (owed_of new)) chunks
   pub kept : IsUnmoved old new
+  pub timed : IsAsTimed old new
 
 -- a datagram is there
 abbrev pub is_sent : Result Bool Fault → Bool

@@ -1,10 +1,14 @@
 -- What of an association stays: what it begins by, and the INIT ACK that is due (RFC 9260 5.1).
-use Rattle.std.specs.Prelude.{◌≡◌, ℕ, false, List, Option, Some, None}
+use Rattle.std.specs.Prelude.{◌≡◌, ℕ, Bool, false, List, Option, Some, None, is_some}
 use Rattle.sctp_association.specs.declared.association.Association.{Association}
 use Rattle.sctp_association.specs.declared.due.Alone.{Alone}
 use Rattle.sctp_association.specs.declared.due.AloneKind.{AloneKind}
 use Rattle.sctp_association.specs.declared.due.AloneKind.TheVariants.{InitAck}
 use Rattle.sctp_association.specs.declared.due.Due.{Due}
+use Rattle.sctp_association.specs.Entering.{usable_in}
+use Rattle.sctp_association.specs.Lasting.{StaysWithin}
+use Rattle.sctp_association.specs.declared.due.Report.{Report}
+use Rattle.sctp_association.specs.declared.inbound.Inbound.{Inbound}
 use Rattle.sctp_handshake.specs.declared.ticket.Ticket.{Ticket}
 
 -- ## The INIT ACK that is due
@@ -28,12 +32,23 @@ OwesNoMore old new = (ticket : Ticket) → OwesTicket new ticket → OwesTicket 
 
 -- ## What stays
 
--- the machine, and what an association begins by
+-- the machine, what an association begins by, and the limits of what it sends
 pub record IsKept (old new : Association) : Type 0 where
   pub config : new.config ≡ old.config
   pub key : new.key ≡ old.key
   pub machine : new.machine ≡ old.machine
   pub owes : OwesNoMore old new
+  pub sending : StaysWithin old new
+
+-- DATA came that no SACK told of: one waits, or is due at once (6.2)
+abbrev pub sack_waits : Option Inbound → Bool
+sack_waits None = false
+sack_waits (Some i) = is_some i.delay.due
+
+-- the stream that an ERROR is to tell of, since DATA came on it, and there is none such (6.5)
+abbrev pub unknown_in : Option Inbound → Option ℕ
+unknown_in None = None
+unknown_in (Some i) = i.unknown_stream
 
 -- of these replies none is due that was not
 pub record OwesLess (old new : Due) : Type 0 where
@@ -42,9 +57,10 @@ pub record OwesLess (old new : Due) : Type 0 where
   pub shutdown : old.shutdown ≡ false → new.shutdown ≡ false
   pub shutdown_ack : old.shutdown_ack ≡ false → new.shutdown_ack ≡ false
   pub heartbeat : (info : List ℕ) → new.heartbeat ≡ Some info → old.heartbeat ≡ Some info
+  pub report : (r : Report) → new.report ≡ Some r → old.report ≡ Some r
 
--- and the same reply is due, and the same cookie is kept. What waits to be told stays, the association is over if it was, and no failure is counted or
--- forgotten
+-- and the same reply is due, and the same cookie is kept. No SACK waits, and no stream is to be told of, that was not before. What waits to be told
+-- stays, the association is over if it was, no failure is counted or forgotten, and the RTO stays. The peer may use the same streams
 pub record IsUnmoved (old new : Association) : Type 0 where
   pub config : new.config ≡ old.config
   pub key : new.key ≡ old.key
@@ -54,4 +70,8 @@ pub record IsUnmoved (old new : Association) : Type 0 where
   pub events : new.events ≡ old.events
   pub over : new.is_over ≡ old.is_over
   pub failures : new.outbound.failures ≡ old.outbound.failures
+  pub rto : new.outbound.rto ≡ old.outbound.rto
+  pub usable : (s : ℕ) → usable_in s new.inbound ≡ usable_in s old.inbound
   pub due : OwesLess old.due new.due
+  pub sack : sack_waits old.inbound ≡ false → sack_waits new.inbound ≡ false
+  pub unknown : (s : ℕ) → unknown_in new.inbound ≡ Some s → unknown_in old.inbound ≡ Some s

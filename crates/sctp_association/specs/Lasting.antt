@@ -1,4 +1,5 @@
 -- How long an association lasts that hears nothing of its peer: each expiry of T3-rtx, and of the timer of the state, leaves fewer (RFC 9260 4, 8.1, 9.2).
+-- And the limits that it goes by.
 use Rattle.std.specs.Prelude.{◌≡◌, ℕ, suc, ◌+◌, ◌-◌, ◌^◌, ◌<◌, ◌≤◌, max, Bool, true, false, not, ◌&&◌, ◌||◌, if◌then◌else◌, List, [], ◌∷◌, is_some}
 use Rattle.sctp_association.specs.declared.association.Association.{Association}
 use Rattle.sctp_association.specs.declared.config.Config.{Config}
@@ -46,13 +47,17 @@ expires_control now a = is_some (timer a.machine.state) && is_due now a.control.
 abbrev pub expires : (now : ℕ) → Association → Bool
 expires now a = not a.is_over && (is_due now a.outbound.timer.at || expires_control now a)
 
+-- Max.Init.Retransmits and Association.Max.Retrans of a config
+abbrev pub limits_by : Config → Limits
+limits_by c = record {
+  max_init_retransmits = c.max_init_retrans;
+  association_max_retrans = c.max_retrans;
+}
+
 -- A new association counts up to the limits of its `Config`; its RTO is RTO.Initial, and cwnd the first window of its MTU (6.3.1 C1, 7.2.1)
 pub record BeginsWithin (c : Config) (a : Association) : Type 0 where
   pub failures : a.outbound.failures ≡ record { count = 0; most = c.max_retrans }
-  pub limits : a.machine.limits ≡ record {
-    max_init_retransmits = c.max_init_retrans;
-    association_max_retrans = c.max_retrans;
-  }
+  pub limits : a.machine.limits ≡ limits_by c
   pub rto : a.outbound.rto ≡ first_rto c.rto
   pub congestion : a.outbound.congestion ≡ first_control c.mtu 0
 
@@ -68,6 +73,22 @@ pub record Expires (is_expiry : Bool) (old new : Association) : Type 0 where
   pub lasts : LastsNoLonger old new
   pub fewer : is_expiry ≡ true → old.outbound.failures.most < 2 ^ 32 - 1
       → expiries_left new < expiries_left old
+
+-- ## The limits of the Config
+
+-- The sending half counts failures up to Association.Max.Retrans of the config, and its RTO stays between RTO.Min and RTO.Max of it (8.1, 6.3.1): if it did,
+-- it still does. One that begins anew does so by the config
+abbrev pub StaysWithin : (old new : Association) → Type 0
+StaysWithin old new =
+    (old.outbound.failures.most ≡ old.config.max_retrans
+    → new.outbound.failures.most ≡ new.config.max_retrans)
+    × (old.outbound.rto.limits ≡ old.config.rto → new.outbound.rto.limits ≡ new.config.rto)
+
+-- so of the config itself, and of the limits of its handshake and its shutdown
+pub record KeepsLimits (old new : Association) : Type 0 where
+  pub config : new.config ≡ old.config
+  pub machine : new.machine.limits ≡ old.machine.limits
+  pub sending : StaysWithin old new
 
 -- ## The law
 
@@ -87,6 +108,11 @@ abbrev pub EachQuietCallLasts : Type 0
 EachQuietCallLasts =
     (a b : Association) → b.is_over ≡ a.is_over → b.machine ≡ a.machine
     → b.outbound.failures ≡ a.outbound.failures → Expires false a b
+
+-- a call that leaves no more expiries, behind another one
+abbrev pub EachLaterCallLasts : Type 0
+EachLaterCallLasts =
+    (e : Bool) (a b c : Association) → Expires e a b → LastsNoLonger b c → Expires e a c
 
 -- along calls that bring nothing of the peer: with each expiry fewer are left
 abbrev pub EachExpiryCounts : Type 0

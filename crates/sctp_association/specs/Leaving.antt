@@ -1,19 +1,33 @@
--- What is due stays due until a packet has its chunk, so that none of it is lost (RFC 9260 5.1, 8.3, 9.2).
-use Rattle.std.specs.Prelude.{◌≡◌, ◌≢◌, ◌⊎◌, ⊤, ℕ, ◌+◌, ◌≤◌, Bool, true, false, List, [], ◌∷◌, ◌++◌, Contains, Option, None, Some, length}
+-- What is due stays due until a packet has its chunk, so that none of it is lost (RFC 9260 5.1, 8.3, 9.2). What leaves was due, and is due no more.
+use Rattle.std.specs.Prelude.{◌≡◌, ◌≢◌, ◌⊎◌, ⊤, ℕ, ◌+◌, ◌<◌, ◌≤◌, Bool, true, false, not, List, [], ◌∷◌, ◌++◌, Contains, Option, None, Some, length}
+use Rattle.std.specs.Prelude.{IfSome, is_some}
 use Rattle.std.specs.Option.{option_map}
 use Rattle.sctp_association.specs.declared.association.Association.{Association}
 use Rattle.sctp_association.specs.declared.due.Due.{Due}
+use Rattle.sctp_association.specs.declared.due.Report.{Report}
 use Rattle.sctp_association.specs.declared.inbound.Inbound.{Inbound}
-use Rattle.sctp_association.specs.Packets.{Adds, sum_of}
+use Rattle.sctp_association.specs.Kept.{sack_waits, unknown_in}
+use Rattle.sctp_association.specs.Packets.{Adds, put_where, sum_of}
+use Rattle.sctp_association.specs.Reports.{one_cause}
+use Rattle.sctp_association.specs.Still.{comes, heartbeat_time}
+use Rattle.sctp_chunks.specs.Reconfig.{Reconfig}
 use Rattle.sctp_chunks.specs.Wire.{HasEncoding, Wire}
-use Rattle.sctp_chunks.specs.Wire.{cookie_ack_chunk, cookie_echo_chunk, heartbeat_ack_chunk, init_chunk, shutdown_ack_chunk, shutdown_chunk}
+use Rattle.sctp_chunks.specs.Wire.{cookie_ack_chunk, cookie_echo_chunk, error_chunk, heartbeat_ack_chunk, heartbeat_chunk, init_chunk}
+use Rattle.sctp_chunks.specs.Wire.{reconfig_chunk}
+use Rattle.sctp_chunks.specs.Wire.{sack_chunk, shutdown_ack_chunk, shutdown_chunk}
+use Rattle.sctp_chunks.specs.declared.chunk.error_cause.ErrorCause.{ErrorCause}
 use Rattle.sctp_handshake.specs.declared.answer.Reply.{Reply}
 use Rattle.sctp_handshake.specs.declared.answer.Reply.TheVariants.{Shutdown, ShutdownAck}
 use Rattle.sctp_handshake.specs.declared.state.State.{State}
 use Rattle.sctp_handshake.specs.declared.state.State.TheVariants.{ShutdownAckSent, ShutdownSent}
-use Rattle.sctp_packets.specs.Draft.{IsDraft}
+use Rattle.sctp_packets.specs.Draft.{Draft, IsDraft}
 use Rattle.sctp_packets.specs.Packet.{FitsParts, HavePacketEncoding, Parts, packet_encoding, padded_encoding}
-use Rattle.sctp_params.specs.Param.{heartbeat_info}
+use Rattle.sctp_params.specs.Param.{Parameter, heartbeat_info, outgoing_reset_request, reconfig_response}
+use Rattle.sctp_path.specs.Timers.{is_due}
+use Rattle.sctp_reset.specs.Own.{is_none_of}
+use Rattle.sctp_util.specs.Field.{be16}
+use Rattle.sctp_reset.specs.Requests.{Request, Requests}
+use Rattle.sctp_reset.specs.declared.peer_requests.PeerRequests.{PeerRequests}
 
 -- ## What is due
 
@@ -71,34 +85,133 @@ pub record Leaves (In TooLong : Wire → Type 0) (old new : Replies) : Type 0 wh
 
 -- ## What leaves was due, and is due no more
 
--- what is due, the cookie that a COOKIE-ECHO brings back, and the state
+-- what is due, the cookie that a COOKIE-ECHO brings back, the state, whether a SACK waits, and of which stream an ERROR is to tell
 pub record Owed : Type 0 where
   pub due : Due
   pub cookie : Option (List ℕ)
   pub state : State
+  pub sack : Bool
+  pub unknown : Option ℕ
 
 abbrev pub owed_of : Association → Owed
-owed_of a = record { due = a.due; cookie = a.cookie; state = a.machine.state }
+owed_of a = record {
+  due = a.due;
+  cookie = a.cookie;
+  state = a.machine.state;
+  sack = sack_waits a.inbound;
+  unknown = unknown_in a.inbound;
+}
 
 -- the machine comes to this state
 abbrev pub Reaches : State → (old new : Owed) → Type 0
 Reaches s old new = (old.state ≢ s) × (new.state ≡ s)
 
--- Such a chunk was due, as it says, and is due no more. A SHUTDOWN or SHUTDOWN-ACK may be due just now, as the shutdown goes on (9.2). No INIT is among
--- these; of other chunks nothing is said.
-abbrev pub IsDueOnce : (old new : Owed) → Wire → Type 0
-IsDueOnce old new (init_chunk i) = ⊥
-IsDueOnce old new (cookie_echo_chunk cookie) = (old.due.cookie_echo ≡ true)
+-- the report was due, with this cause (3.2, 3.3.10.6, 3.3.10.8)
+abbrev pub TellsReport : (old new : Owed) → List ErrorCause → Type 0
+TellsReport old new causes = (r : Report) × (old.due.report ≡ Some r)
+    × (causes ≡ one_cause r.code r.raw) × (new.due.report ≡ None)
+
+-- DATA had come on a stream that there is not: cause 1 tells its number, and two bytes 0 behind it (6.5, 3.3.10.1)
+abbrev pub TellsStream : (old new : Owed) → List ErrorCause → Type 0
+TellsStream old new causes = (stream : ℕ) × (old.unknown ≡ Some stream)
+    × (causes ≡ one_cause 1 (be16 stream ++ 0 ∷ 0 ∷ [])) × (new.unknown ≡ None)
+
+-- Such a chunk was due, as it says, and is due no more. A SHUTDOWN or SHUTDOWN-ACK may be due just now, as the shutdown goes on (9.2). No INIT,
+-- HEARTBEAT or RE-CONFIG is among these; of other chunks nothing is said.
+abbrev pub IsReplyOnce : (old new : Owed) → Wire → Type 0
+IsReplyOnce old new (init_chunk i) = ⊥
+IsReplyOnce old new (heartbeat_chunk ps) = ⊥
+IsReplyOnce old new (reconfig_chunk r) = ⊥
+IsReplyOnce old new (cookie_echo_chunk cookie) = (old.due.cookie_echo ≡ true)
     × (old.cookie ≡ Some cookie) × (new.due.cookie_echo ≡ false)
-IsDueOnce old new cookie_ack_chunk =
+IsReplyOnce old new cookie_ack_chunk =
     (old.due.cookie_ack ≡ true) × (new.due.cookie_ack ≡ false)
-IsDueOnce old new (shutdown_chunk tsn) =
+IsReplyOnce old new (shutdown_chunk tsn) =
     ((old.due.shutdown ≡ true) ⊎ Reaches ShutdownSent old new) × (new.due.shutdown ≡ false)
-IsDueOnce old new shutdown_ack_chunk = ((old.due.shutdown_ack ≡ true)
+IsReplyOnce old new shutdown_ack_chunk = ((old.due.shutdown_ack ≡ true)
     ⊎ Reaches ShutdownAckSent old new) × (new.due.shutdown_ack ≡ false)
-IsDueOnce old new (heartbeat_ack_chunk ps) = (info : List ℕ) × (old.due.heartbeat ≡ Some info)
+IsReplyOnce old new (heartbeat_ack_chunk ps) = (info : List ℕ) × (old.due.heartbeat ≡ Some info)
     × (ps ≡ heartbeat_info info ∷ []) × (new.due.heartbeat ≡ None)
-IsDueOnce old new _ = ⊤
+IsReplyOnce old new (sack_chunk s) = (old.sack ≡ true) × (new.sack ≡ false)
+IsReplyOnce old new (error_chunk causes) =
+    TellsReport old new causes ⊎ TellsStream old new causes
+IsReplyOnce old new _ = ⊤
+
+-- a HEARTBEAT is due (8.3)
+abbrev pub beats : ℕ → Association → Bool
+beats now a = is_due now (heartbeat_time a)
+
+abbrev pub request_in : ℕ → (waiting : List ℕ) → Option Request → Bool
+request_in now waiting None = not (is_none_of waiting)
+request_in now waiting (Some r) = is_due now (comes r.at)
+
+-- a request to reset streams is due: streams wait for one, or the moment of the one under way has come (RFC 6525 5.1.1)
+abbrev pub requests_due : ℕ → Requests → Bool
+requests_due now o = request_in now o.waiting o.under_way
+
+abbrev pub one_where : Bool → ℕ
+one_where true = 1
+one_where false = 0
+
+-- how many responses to requests of the peer are due (RFC 6525 5.2.1)
+abbrev pub responses_due : Option PeerRequests → ℕ
+responses_due None = 0
+responses_due (Some p) = one_where (is_some p.older) + one_where (is_some p.newer)
+
+-- what is due at a moment, and whether a HEARTBEAT and a request are, and how many responses
+pub record OwedAt : Type 0 where
+  pub owed : Owed
+  pub beat : Bool
+  pub request : Bool
+  pub responses : ℕ
+
+abbrev pub owed_at : ℕ → Association → OwedAt
+owed_at now a = record {
+  owed = owed_of a;
+  beat = beats now a;
+  request = requests_due now a.requests;
+  responses = responses_due a.peer_requests;
+}
+
+-- neither a HEARTBEAT nor a request is due that was not, and no response more
+pub record OwesNoMoreAt (old new : OwedAt) : Type 0 where
+  pub beat : old.beat ≡ false → new.beat ≡ false
+  pub request : old.request ≡ false → new.request ≡ false
+  pub responses : new.responses ≤ old.responses
+
+-- at a moment
+abbrev pub AsksNoMore : ℕ → Association → Association → Type 0
+AsksNoMore now old new = OwesNoMoreAt (owed_at now old) (owed_at now new)
+
+-- of a RE-CONFIG a request was due, and is not, and a response was: fewer are
+abbrev pub IsParamOnce : (old new : OwedAt) → Parameter → Type 0
+IsParamOnce old new (outgoing_reset_request r) = (old.request ≡ true) × (new.request ≡ false)
+IsParamOnce old new (reconfig_response r) = new.responses < old.responses
+IsParamOnce old new _ = ⊥
+
+-- a response is among them only where there is one, and so a request
+abbrev pub IsParamOf : (responds asks : Bool) → Parameter → Type 0
+IsParamOf responds asks (outgoing_reset_request r) = asks ≡ true
+IsParamOf responds asks (reconfig_response r) = responds ≡ true
+IsParamOf responds asks _ = ⊥
+
+pub record IsReconfigOf (responds asks : Bool) (r : Reconfig) : Type 0 where
+  pub first : IfSome r.param_a (IsParamOf responds asks)
+  pub second : IfSome r.param_b (IsParamOf responds asks)
+
+-- a RE-CONFIG of these is put, where it fits, or nothing
+pub record PutsReconfig (responds asks : Bool) (old new : Draft) : Type 0 where
+  pub is_put : Bool
+  pub chunk : Reconfig
+  pub own : IsReconfigOf responds asks chunk
+  pub added : Adds (put_where is_put (reconfig_chunk chunk)) old.bytes new.bytes
+
+-- The same of a HEARTBEAT too: its moment had come, and the next one is later. So of the parameters of a RE-CONFIG.
+abbrev pub IsDueOnce : (old new : OwedAt) → Wire → Type 0
+IsDueOnce old new (heartbeat_chunk ps) = (old.beat ≡ true) × (new.beat ≡ false)
+IsDueOnce old new (reconfig_chunk r) =
+    IfSome r.param_a (IsParamOnce old new) × IfSome r.param_b (IsParamOnce old new)
+IsDueOnce old new w = IsReplyOnce old.owed new.owed w
 
 -- Nothing is due that was not, but a SHUTDOWN or SHUTDOWN-ACK as the shutdown goes on (9.2).
 pub record OwesNothingNew (old new : Owed) : Type 0 where
@@ -110,6 +223,9 @@ pub record OwesNothingNew (old new : Owed) : Type 0 where
       → (old.due.shutdown_ack ≡ true) ⊎ Reaches ShutdownAckSent old new
   pub heartbeat : (info : List ℕ) → new.due.heartbeat ≡ Some info
       → old.due.heartbeat ≡ Some info
+  pub report : (r : Report) → new.due.report ≡ Some r → old.due.report ≡ Some r
+  pub sack : old.sack ≡ false → new.sack ≡ false
+  pub unknown : (s : ℕ) → new.unknown ≡ Some s → old.unknown ≡ Some s
   pub cookie : new.cookie ≡ old.cookie
 
 -- what is due by the reply of an answer, where that shuts down

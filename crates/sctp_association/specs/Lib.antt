@@ -22,6 +22,7 @@ pub mod Idle
 pub mod Kept
 pub mod Lasting
 pub mod Leaving
+pub mod Limited
 pub mod Links
 pub mod Lives
 pub mod Once
@@ -29,6 +30,7 @@ pub mod Offering
 pub mod OneLife
 pub mod Packets
 pub mod Pairs
+pub mod Paths
 pub mod Reached
 pub mod Reads
 pub mod Replying
@@ -40,6 +42,7 @@ pub mod Sending
 pub mod Served
 pub mod Sessions
 pub mod Setups
+pub mod Silence
 pub mod Sized
 pub mod Steps
 pub mod Still

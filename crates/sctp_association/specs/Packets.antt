@@ -3,8 +3,8 @@ use Rattle.std.specs.Prelude.{◌≡◌, ⊤, ℕ, Bool, true, false, List, [], 
 use Rattle.std.specs.List.{AllByRecursion}
 use Rattle.crc32c.specs.Castagnoli.{crc32c_of}
 use Rattle.sctp_association.specs.Runs.{ReportsIn, Sends}
-use Rattle.sctp_chunks.specs.Wire.{Wire, cookie_ack_chunk, cookie_echo_chunk, data_chunk, forward_tsn_chunk, heartbeat_ack_chunk, i_forward_tsn_chunk}
-use Rattle.sctp_chunks.specs.Wire.{init_chunk, sack_chunk, shutdown_ack_chunk, shutdown_chunk}
+use Rattle.sctp_chunks.specs.Wire.{Wire, cookie_ack_chunk, cookie_echo_chunk, data_chunk, error_chunk, forward_tsn_chunk, heartbeat_ack_chunk}
+use Rattle.sctp_chunks.specs.Wire.{heartbeat_chunk, i_forward_tsn_chunk, init_chunk, reconfig_chunk, sack_chunk, shutdown_ack_chunk, shutdown_chunk}
 use Rattle.sctp_data.specs.SelectiveAck.{Sack}
 use Rattle.sctp_delivery.specs.SenderCalls.{Made}
 use Rattle.sctp_delivery.specs.SenderCalls as made
@@ -49,7 +49,8 @@ IsOf ms sacks (shutdown_chunk tsn) = IsAcked sacks tsn
 IsOf ms sacks (i_forward_tsn_chunk f) = ⊥
 IsOf ms sacks _ = ⊤
 
--- none of those that are put only where they are due: no INIT, INIT ACK, COOKIE-ECHO, COOKIE-ACK, SHUTDOWN, SHUTDOWN-ACK, or HEARTBEAT-ACK
+-- none of those that are put only where they are due: no INIT, INIT ACK, COOKIE-ECHO, COOKIE-ACK, SHUTDOWN, SHUTDOWN-ACK, HEARTBEAT-ACK, SACK,
+-- HEARTBEAT, ERROR or RE-CONFIG
 abbrev pub IsNoReply : Wire → Type 0
 IsNoReply (init_chunk i) = ⊥
 IsNoReply (cookie_echo_chunk cookie) = ⊥
@@ -57,7 +58,16 @@ IsNoReply cookie_ack_chunk = ⊥
 IsNoReply (shutdown_chunk tsn) = ⊥
 IsNoReply shutdown_ack_chunk = ⊥
 IsNoReply (heartbeat_ack_chunk ps) = ⊥
+IsNoReply (sack_chunk s) = ⊥
+IsNoReply (heartbeat_chunk ps) = ⊥
+IsNoReply (error_chunk cs) = ⊥
+IsNoReply (reconfig_chunk r) = ⊥
 IsNoReply _ = ⊤
+
+-- a SACK, where one waited before, and none waits after
+abbrev pub IsSackOnce : (old new : Bool) → Wire → Type 0
+IsSackOnce old new (sack_chunk s) = (old ≡ true) × (new ≡ false)
+IsSackOnce old new _ = ⊥
 
 -- the halves of an association, and the packet that it writes
 pub record Sides : Type 0 where
@@ -87,10 +97,10 @@ Puts old new = PutsOf IsNoReply old new
 abbrev pub PutsOut : Transmission → Transmission → List ℕ → List ℕ → Type 0
 PutsOut t u old new = (r : Option Reception) → Puts (sides t r old) (sides u r new)
 
--- and of the receiver
-abbrev pub PutsIn : Reception → Reception → List ℕ → List ℕ → Type 0
-PutsIn r s old new =
-    (t : Transmission) → Puts (sides t (Some r) old) (sides t (Some s) new)
+-- and of the receiver: they are such
+abbrev pub PutsIn : (Wire → Type 0) → Reception → Reception → List ℕ → List ℕ → Type 0
+PutsIn P r s old new =
+    (t : Transmission) → PutsOf P (sides t (Some r) old) (sides t (Some s) new)
 
 -- ## A datagram
 

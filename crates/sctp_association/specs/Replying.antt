@@ -7,6 +7,7 @@ use Rattle.sctp_association.specs.declared.due.AloneKind.{AloneKind}
 use Rattle.sctp_association.specs.declared.due.AloneKind.TheVariants as alone
 use Rattle.sctp_association.specs.Offering.{IsInitOf}
 use Rattle.sctp_association.specs.Packets.{Adds, put_where, sum_of, with_chunks}
+use Rattle.sctp_association.specs.Reports.{one_cause}
 use Rattle.sctp_chunks.specs.declared.chunk.error_cause.ErrorCause.{ErrorCause}
 use Rattle.sctp_chunks.specs.Init.{Init}
 use Rattle.sctp_chunks.specs.Wire.{HasEncoding, Wire}
@@ -18,10 +19,6 @@ use Rattle.sctp_packets.specs.declared.packet.CommonHeader.{CommonHeader}
 use Rattle.sctp_util.specs.Field.{be16, be32}
 
 -- ## One chunk
-
--- one cause: a code, and what is said of it (3.3.10)
-abbrev pub one_cause : ℕ → List ℕ → List ErrorCause
-one_cause code info = record { code = record { 0 = code }; raw = info } ∷ []
 
 -- one parameter is missing, the State Cookie (3.3.10.2)
 abbrev pub missing_cookie : List ℕ

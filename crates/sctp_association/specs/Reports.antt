@@ -1,18 +1,23 @@
 -- What this side tells a peer of what it does not know, and why it ends what it began.
 use Rattle.std.specs.Prelude.{◌≡◌, ℕ, ◌+◌, ◌-◌, ◌*◌, ◌/◌, ◌==◌, Bool, true, ◌&&◌, ◌||◌, min, nat_lt, if◌then◌else◌, List, take, drop, slice_range}
-use Rattle.std.specs.Prelude.{Option, Some, None, is_none, is_some}
+use Rattle.std.specs.Prelude.{[], ◌∷◌, Option, Some, None, is_none, is_some}
 use Rattle.sctp_association.specs.declared.association.Association.{Association}
 use Rattle.sctp_association.specs.declared.due.Alone.{Alone}
 use Rattle.sctp_association.specs.declared.due.AloneKind.{AloneKind}
 use Rattle.sctp_association.specs.declared.due.AloneKind.TheVariants.{HostName}
 use Rattle.sctp_association.specs.declared.due.Report.{Report}
 use Rattle.sctp_association.specs.declared.event.Ending.TheVariants.{Aborted}
+use Rattle.sctp_chunks.specs.declared.chunk.error_cause.ErrorCause.{ErrorCause}
 use Rattle.sctp_chunks.specs.Framing.{value_at}
 use Rattle.sctp_datagram.specs.declared.datagram.ChunkPlace.{ChunkPlace}
 use Rattle.sctp_datagram.specs.declared.params.ParamPlace.{ParamPlace}
 use Rattle.sctp_handshake.specs.InitValues.{host_name_of}
 use Rattle.sctp_util.specs.Field.{u32_at}
 use Rattle.sctp_handshake.specs.Machines.{closed}
+
+-- one cause: a code, and what is said of it (3.3.10)
+abbrev pub one_cause : ℕ → List ℕ → List ErrorCause
+one_cause code info = record { code = record { 0 = code }; raw = info } ∷ []
 
 -- as much as fits into a packet, behind the headers of packet, chunk and cause, in whole words
 abbrev pub most_reported : ℕ → ℕ

@@ -11,8 +11,9 @@ mod stats;
 mod timeouts;
 mod unknown;
 
-ghost use Rattle.std.specs.Prelude.{◌≡◌, ◌⊎◌, IfSome, None, Some, ◌≢◌, ◌≤◌, ◌+◌, ◌*◌, option_map, true, false, IfErr, IfOk, IsOk, OnErr, OnOk};
+ghost use Rattle.std.specs.Prelude.{◌≡◌, ◌⊎◌, ℕ, IfSome, None, Some, ◌≢◌, ◌≤◌, ◌+◌, ◌*◌, option_map, true, false, IfErr, IfOk, IsOk, OnErr, OnOk};
 ghost use Rattle.std.proofs.Props.{props};
+ghost use Rattle.sctp_association.specs.Entering.{usable_in};
 ghost use Rattle.sctp_association.specs.Events.{IsTold, KeepsOthers, NoneWaits};
 ghost use Rattle.sctp_association.specs.declared.fault.Fault.TheVariants.{BadConfig, WrongState};
 ghost use Rattle.sctp_association.specs.Reached.{limits_of, most_user_data};
@@ -195,6 +196,8 @@ impl Association {
         ensures begins { OnOk result (BeginsToAsk self.old self.new) }
         ensures left { LastsNoLonger self.old self.new }
         ensures refused { IfErr result (λ e. e ≡ WrongState) }
+        // The receiving half stays: so the peer may use the same streams.
+        ensures inbound { self.new.inbound ≡ self.old.inbound }
         ensures halves { HalvesAlike self.old self.new }
         ensures err { OnErr result (self.new ≡ self.old) }
     {
@@ -259,6 +262,8 @@ impl Association {
         ensures message { IfOk result (λ message. message
             ≡ option_map at_start (message_in stream self.old.inbound)) }
         ensures taken { AreReadOff now stream self.old.inbound self.new.inbound }
+        // The peer may use the same streams.
+        ensures usable { (s : ℕ) → usable_in s self.new.inbound ≡ usable_in s self.old.inbound }
         ensures rest { IsSameBeside self.old self.new }
         ensures accepted { IsOk result }
     {
@@ -304,6 +309,8 @@ impl Association {
             ⊎ (accepts_writes self.new.machine.state ≡ false)) }
         ensures left { LastsNoLonger self.old self.new }
         ensures refused { IfErr result (λ e. e ≡ WrongState) }
+        // The receiving half stays: so the peer may use the same streams.
+        ensures inbound { self.new.inbound ≡ self.old.inbound }
         ensures halves { HalvesAlike self.old self.new }
         ensures peer { KeepsPeer self.old self.new }
         ensures err { OnErr result (self.new ≡ self.old) }
@@ -335,6 +342,8 @@ impl Association {
             ≡ farewell_to (Abort 12) self.old.machine.peer) }
         ensures left { LastsNoLonger self.old self.new }
         ensures refused { IfErr result (λ e. e ≡ WrongState) }
+        // The receiving half stays: so the peer may use the same streams.
+        ensures inbound { self.new.inbound ≡ self.old.inbound }
         ensures halves { HalvesAlike self.old self.new }
         ensures peer { KeepsPeer self.old self.new }
         ensures err { OnErr result (self.new ≡ self.old) }

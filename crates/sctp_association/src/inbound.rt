@@ -3,7 +3,7 @@
 ghost use Rattle.std.specs.Prelude.{◌≡◌, ◌==◌, ◌<◌, ◌≤◌, ℕ, Ok, IfOk, IsOk, OnErr, OnOk, Some, length, option_map, is_some, true, false};
 ghost use Rattle.sctp_association.specs.Arrivals.{AsksFor, IsOpening, IsOpeningNamed, IsReset, Received};
 ghost use Rattle.sctp_association.specs.Filled.{IfNonePut};
-ghost use Rattle.sctp_association.specs.Packets.{PutsIn};
+ghost use Rattle.sctp_association.specs.Packets.{IsSackOnce, PutsIn};
 ghost use Rattle.sctp_association.specs.Reached.{IsLimited, most_user_data};
 ghost use Rattle.sctp_association.specs.StreamSet.{is_in};
 ghost use Rattle.sctp_association.specs.declared.inbound.Followed.TheVariants.{Done, Wanting};
@@ -514,14 +514,19 @@ impl Inbound {
         now: u64,
     ) -> Result<(), Fault>
         ensures streams { self.new.receiver.streams ≡ self.old.receiver.streams }
-        ensures made { PutsIn self.old.receiver self.new.receiver packet.old.bytes
-            packet.new.bytes }
+        ensures made { PutsIn (IsSackOnce (is_some self.old.delay.due)
+            (is_some self.new.delay.due)) self.old.receiver self.new.receiver
+            packet.old.bytes packet.new.bytes }
+        ensures waits { is_some self.old.delay.due ≡ false
+            → is_some self.new.delay.due ≡ false }
+        ensures unknown { self.new.unknown_stream ≡ self.old.unknown_stream }
         ensures grows { length packet.old.bytes ≤ length packet.new.bytes }
         // Where nothing was put, none is due.
         ensures idle { OnOk result (IfNonePut packet.old.bytes packet.new.bytes
             (is_due now self.new.delay.due ≡ false)) }
         ensures limits { (self.new.receiver.limits ≡ self.old.receiver.limits)
             × (self.new.streams ≡ self.old.streams) }
+        ensures usable { (n : ℕ) → is_usable n self.new ≡ is_usable n self.old }
         ensures cumulative { self.new.receiver.cumulative_tsn ≡ self.old.receiver.cumulative_tsn }
         ensures limit { packet.new.limit ≡ packet.old.limit }
     {

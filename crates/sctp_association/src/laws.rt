@@ -4,7 +4,8 @@ ghost use Rattle.sctp_association.specs.Delivered.{EachBringsOnly, EachCarriesOn
 ghost use Rattle.sctp_association.specs.Held.{CostsLittle, HoldsFewChunks, KeepsFewTsns, NotesFewDuplicates, OfEach, OpensFewStreams};
 ghost use Rattle.sctp_association.specs.HostCalls.{EachAskActs, EachBegins, EachDatagramActs, EachOtherIsQuiet, EachPollActs, EachReadActs, EachSizeActs, EachTimeoutActs};
 ghost use Rattle.sctp_association.specs.Hosts.{EachDelivers, EachIsCut};
-ghost use Rattle.sctp_association.specs.Lasting.{EachEnds, EachExpiryCounts, EachQuietCallLasts, FewAreLeft};
+ghost use Rattle.sctp_association.specs.Lasting.{EachEnds, EachExpiryCounts, EachLaterCallLasts, EachQuietCallLasts, FewAreLeft};
+ghost use Rattle.sctp_association.specs.Limited.{EachBeginsLimited, EachDeedKeepsLimits, EachQuietKeepsLimits, FewAreLeftBy};
 ghost use Rattle.sctp_association.specs.Links.{EachLinkDelivers, EachLinkGoesOn, EachLinkIsCut, EachLinkTurns, EachTwoBegin};
 ghost use Rattle.sctp_association.specs.Lives.{EachBeginningCame, EachDeedIsKnown, EachLifeBegins, EachOfferIsRead, EachUnforgedCame};
 ghost use Rattle.sctp_association.specs.OneLife.{EachDatagramBrings, EachDeliversAny, EachLinkDeliversAny, EachOneLifeBegins, EachOneLifeGoesOn, EachOneLifeTurns, EachOfferedIsBrought, EachPlainIsOneLife};
@@ -137,7 +138,17 @@ pub fn each_chunk_fits_a_packet()
 /// Association.Max.Retrans, and once more that or Max.Init.Retransmits.
 pub fn an_unanswered_association_ends()
     ensures quiet { EachQuietCallLasts }
+    ensures between { EachLaterCallLasts }
     ensures counted { EachExpiryCounts }
     ensures ends { EachEnds }
     ensures few { FewAreLeft }
+{}
+
+/// From `new` on, whatever calls an association has and whatever datagrams come, it goes by the limits of its `Config`: Association.Max.Retrans,
+/// Max.Init.Retransmits, RTO.Min and RTO.Max. So does one that begins anew. And `an_unanswered_association_ends` counts by the `Config`.
+pub fn an_association_keeps_its_limits()
+    ensures begun { EachBeginsLimited }
+    ensures deeds { EachDeedKeepsLimits }
+    ensures quiet { EachQuietKeepsLimits }
+    ensures few { FewAreLeftBy }
 {}

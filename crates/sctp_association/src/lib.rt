@@ -2,6 +2,7 @@
 //! socket or random source: moments, datagrams and secrets are handed in.
 #![tactic(auto)]
 
+pub mod alone;
 mod association;
 mod config;
 mod draft;

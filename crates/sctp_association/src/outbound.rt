@@ -4,7 +4,7 @@ ghost use Rattle.std.specs.Prelude.{◌≡◌, ◌⊎◌, ◌-◌, ◌<◌, ◌�
 ghost use Rattle.sctp_association.specs.declared.fault.Fault.TheVariants.{OutOfMemory};
 ghost use Rattle.sctp_association.specs.Arrivals.{new_sender};
 ghost use Rattle.sctp_association.specs.Asked.{AsksOn};
-ghost use Rattle.sctp_association.specs.Counts.{CountsNone};
+ghost use Rattle.sctp_association.specs.Counts.{CountsNone, HasLimitsOf};
 ghost use Rattle.sctp_association.specs.Halves.{fragment_size};
 ghost use Rattle.sctp_association.specs.Runs.{Sends};
 ghost use Rattle.sctp_association.specs.Waiting.{IsRefusal, closed_where, fault_of, opened, waiting_fault};
@@ -338,6 +338,7 @@ impl Outbound {
           rto = self.new.rto;
           failures = self.new.failures;
         } }
+        ensures limits { HasLimitsOf self.old self.new }
     {
         self.rto.measured(trip);
         self.failures.clear();
@@ -384,6 +385,7 @@ impl Outbound {
             → self.new.timeouts ≡ count_up self.old.timeouts 1 }
         ensures resent { self.new.resent ≡ self.old.resent }
         ensures timed { IsTimed self.new.sender.flight.queue.inflight.chunks self.new.timer.at }
+        ensures limits { HasLimitsOf self.old self.new }
         ensures soon { EndsWithin now self.new.rto.limits.most self.old.timer.at
             self.new.timer.at }
     {

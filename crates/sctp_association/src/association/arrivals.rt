@@ -9,7 +9,9 @@ ghost use Rattle.sctp_association.specs.Coming.{FollowsData, GoesOn, IsDue, Take
 ghost use Rattle.sctp_association.specs.Cookies.{IsAlive, IsSealed, cookie_in};
 ghost use Rattle.sctp_association.specs.Entering.{usable_in};
 ghost use Rattle.sctp_association.specs.Halves.{HalvesAlike, halves_of};
+ghost use Rattle.sctp_association.specs.Lasting.{KeepsLimits};
 ghost use Rattle.sctp_association.specs.Sacks.{HearsFirstOf, HearsOn, TakesSacksOf};
+ghost use Rattle.sctp_association.specs.Paths.{MovesBehind, MovesByFirstOf, MovesOn, all_go_on};
 ghost use Rattle.sctp_association.specs.Reached.{most_user_data};
 ghost use Rattle.sctp_association.specs.Steps.{is_accepted, is_taken};
 ghost use Rattle.sctp_association.specs.Telling.{Tells, TellsEnd};
@@ -145,6 +147,8 @@ impl Association {
         ensures came { Arrives datagram.now (halves_of self.old) (halves_of self.new) }
         // And a half is a new one only with the first TSN of a ticket that this side has sealed, or, where it has asked, of the INIT ACK.
         ensures offered { ArrivesAsOffered datagram.now self.old self.new }
+        // The config and the limits stay: those of the handshake, of failures and of the RTO. So does a restart of the peer leave them.
+        ensures limits { KeepsLimits self.old self.new }
         // Whose packet it is not is not accepted, and changes nothing (RFC 9260 8.5, 5.1.5).
         ensures accepted { IfOk result (λ t. is_accepted t ≡ true
             → IsFor datagram.now self.old.key self.old.machine) }
@@ -180,6 +184,12 @@ impl Association {
         ensures sacks { TakesSacksOf (u32_at datagram.now 4) self.old → result ≡ Ok Accepted
             → (chunks : List ChunkPlace) → TellsAll place_at datagram.now chunks
             → HearsFirstOf chunks datagram.now self.old self.new }
+        // Where each of them is DATA, SACK or FORWARD-TSN: cwnd, ssthresh, the RTO, T3-rtx, the peer's window and all else of the sending half are
+        // what the first SACK makes of them; without one they stay (RFC 9260 6.2.1, 6.3, 7.2).
+        ensures path { TakesSacksOf (u32_at datagram.now 4) self.old → result ≡ Ok Accepted
+            → (chunks : List ChunkPlace) → TellsAll place_at datagram.now chunks
+            → all_go_on chunks ≡ true
+            → MovesByFirstOf chunks datagram.now now self.old self.new }
     {
         let zero = if self.config.zero_checksum {
             ZeroChecksum::Allowed
@@ -264,6 +274,9 @@ impl Association {
             → TakesEachOf chunks.entry.left datagram.now self.old self.new }
         ensures sacks { TakesSacksOf (u32_at datagram.now 4) self.old → result ≡ Ok Accepted
             → HearsFirstOf chunks.entry.left datagram.now self.old self.new }
+        ensures path { TakesSacksOf (u32_at datagram.now 4) self.old → result ≡ Ok Accepted
+            → all_go_on chunks.entry.left ≡ true
+            → MovesByFirstOf chunks.entry.left datagram.now now self.old self.new }
     {
         let mut chunks = chunks;
         let tag = chunks.header().verification_tag;
@@ -295,6 +308,7 @@ impl Association {
         ensures peer { KeepsPeer self.old self.new }
         ensures over { self.new.is_over ≡ self.old.is_over }
         ensures usable { (s : ℕ) → usable_in s self.new.inbound ≡ usable_in s self.old.inbound }
+        ensures sending { self.new.outbound ≡ self.old.outbound }
     {
         self.datagram_ended(now);
         self.settle(now);
@@ -307,6 +321,7 @@ impl Association {
         ensures kept { IsKept self.old self.new }
         ensures over { self.new.is_over ≡ self.old.is_over }
         ensures usable { (s : ℕ) → usable_in s self.new.inbound ≡ usable_in s self.old.inbound }
+        ensures sending { self.new.outbound ≡ self.old.outbound }
     {
         if let Some(inbound) = &mut self.inbound {
             inbound.datagram_ended(now);
@@ -353,6 +368,8 @@ impl Association {
             → IfOk result (λ s. GoesOn chunk tag datagram.now s self.old self.new) }
         ensures sacks { TakesSacksOf tag self.old → goes_on chunk.typ ≡ true
             → IfOk result (λ s. HearsOn chunk tag datagram.now s self.old self.new) }
+        ensures path { TakesSacksOf tag self.old → goes_on chunk.typ ≡ true → IfOk result
+            (λ s. MovesOn chunk datagram.now now s self.old.outbound self.new.outbound) }
     {
         let is_alone = chunk.typ == 1 || chunk.typ == 10 || count < 2;
         if is_alone || self.machine.state() == State::Closed {
@@ -376,6 +393,10 @@ impl Association {
             → TakesEachOf chunks.entry.left datagram.now self.old self.new }
         ensures sacks { (first ≡ 3 → ⊥) → TakesSacksOf (u32_at datagram.now 4) self.old
             → result ≡ true → HearsFirstOf chunks.entry.left datagram.now self.old self.new }
+        ensures path { TakesSacksOf (u32_at datagram.now 4) self.old → result ≡ true
+            → all_go_on chunks.entry.left ≡ true → (self.new.is_over ≡ true)
+            ⊎ MovesBehind first chunks.entry.left datagram.now now
+            self.old.outbound self.new.outbound }
     {
         let mut chunks = chunks;
         let tag = chunks.header().verification_tag;
@@ -414,6 +435,8 @@ impl Association {
             → IfOk result (λ s. GoesOn chunk tag datagram.now s self.old self.new) }
         ensures sacks { TakesSacksOf tag self.old → goes_on chunk.typ ≡ true
             → IfOk result (λ s. HearsOn chunk tag datagram.now s self.old self.new) }
+        ensures path { TakesSacksOf tag self.old → goes_on chunk.typ ≡ true → IfOk result
+            (λ s. MovesOn chunk datagram.now now s self.old.outbound self.new.outbound) }
         ensures never { TakesDataOf tag self.old → goes_on chunk.typ ≡ true
             → (r : Reason) → result ≡ Ok (step.Refused r) → ⊥ }
         ensures never_sacks { TakesSacksOf tag self.old → goes_on chunk.typ ≡ true
@@ -487,6 +510,8 @@ impl Association {
             → IfOk result (λ s. GoesOn chunk tag datagram.now s self.old self.new) }
         ensures sacks { TakesSacksOf tag self.old → goes_on chunk.typ ≡ true
             → IfOk result (λ s. HearsOn chunk tag datagram.now s self.old self.new) }
+        ensures path { TakesSacksOf tag self.old → goes_on chunk.typ ≡ true → IfOk result
+            (λ s. MovesOn chunk datagram.now now s self.old.outbound self.new.outbound) }
     {
         if !self.admits(chunk, tag, count) {
             return Ok(Step::Refused(Reason::Tag));
@@ -524,6 +549,7 @@ impl Association {
             → IfOk result (λ s. GoesOn chunk tag datagram.now s self.old self.new) }
         ensures sacks { (tag : ℕ) → TakesSacksOf tag self.old
             → IfOk result (λ s. HearsOn chunk tag datagram.now s self.old self.new) }
+        ensures sending { self.new.outbound ≡ self.old.outbound }
     {
         if !self.machine.state().takes_data() {
             return Ok(Step::Refused(Reason::Unexpected));
@@ -548,6 +574,7 @@ impl Association {
         ensures tells { TellsEnd self.old self.new }
         ensures kept { IsKept self.old self.new }
         ensures halves { HalvesAlike self.old self.new }
+        ensures sending { self.new.outbound ≡ self.old.outbound }
         ensures over { self.new.is_over ≡ self.old.is_over }
         ensures inbound { self.new.inbound ≡ self.old.inbound }
     {
@@ -573,6 +600,7 @@ impl Association {
             → IfOk result (λ s. GoesOn chunk tag datagram.now s self.old self.new) }
         ensures sacks { (tag : ℕ) → TakesSacksOf tag self.old
             → IfOk result (λ s. HearsOn chunk tag datagram.now s self.old self.new) }
+        ensures sending { self.new.outbound ≡ self.old.outbound }
     {
         if !self.machine.state().takes_data() {
             return Ok(Step::Refused(Reason::Unexpected));
@@ -599,6 +627,7 @@ impl Association {
         ensures halves { HalvesAlike self.old self.new }
         ensures peer { KeepsPeer self.old self.new }
         ensures on { result ≡ step.Next → self.new ≡ self.old }
+        ensures sending { self.new.outbound ≡ self.old.outbound }
         ensures whole { result ≡ step.Cut → ⊥ }
     {
         let Some(kind) = ending_of(followed) else {
@@ -625,6 +654,8 @@ impl Association {
             → IfOk result (λ s. GoesOn chunk tag datagram.now s self.old self.new) }
         ensures sacks { (tag : ℕ) → TakesSacksOf tag self.old
             → IfOk result (λ s. HearsOn chunk tag datagram.now s self.old self.new) }
+        ensures path { IfOk result
+            (λ s. MovesOn chunk datagram.now now s self.old.outbound self.new.outbound) }
     {
         if !self.machine.state().takes_sacks() {
             return Ok(Step::Refused(Reason::Unexpected));

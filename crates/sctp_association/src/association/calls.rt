@@ -177,6 +177,7 @@ impl Association {
         ensures lower { OnOk result (mtu < self.old.config.mtu
             → HoldsNothing self.old.outbound.sender) }
         ensures kept { IsKeptButMtu self.old self.new }
+        ensures inbound { self.new.inbound ≡ self.old.inbound }
         ensures left { LastsNoLonger self.old self.new }
         ensures err { OnErr result (self.new ≡ self.old) }
     {

@@ -1,15 +1,17 @@
 //! What the state machine is answered and tells.
 
-ghost use Rattle.std.specs.Prelude.{◌≡◌, ◌<◌, true, false, None, Some};
+ghost use Rattle.std.specs.Prelude.{◌≡◌, ◌<◌, if◌then◌else◌, true, false, None, Some};
 ghost use Rattle.sctp_association.specs.Beginnings.{Begins, BeginsBy, KeepsPeer, OwesInit};
 ghost use Rattle.sctp_association.specs.Kept.{IsKept, OwesNoMore, ticket_due, ticket_in_kind};
 ghost use Rattle.sctp_association.specs.Failing.{IsGuarded, farewell_to};
 ghost use Rattle.sctp_association.specs.Halves.{HalvesAlike, halves_of};
 ghost use Rattle.sctp_association.specs.Lasting.{LastsNoLonger};
-ghost use Rattle.sctp_association.specs.Leaving.{DueBy, OwesNothingNew, StaysDue, owed_of, replies_of};
+ghost use Rattle.sctp_association.specs.Leaving.{AsksNoMore, DueBy, OwesNothingNew, StaysDue, owed_of, replies_of};
 ghost use Rattle.sctp_association.specs.Sending.{holds_nothing};
 ghost use Rattle.sctp_association.specs.Telling.{PassesOn, TellsEnd};
+ghost use Rattle.sctp_association.specs.declared.event.Ending.TheVariants.{Aborted, Unanswered};
 ghost use Rattle.sctp_handshake.specs.declared.answer.Reply.TheVariants.{Init};
+ghost use Rattle.sctp_handshake.specs.declared.answer.Told.TheVariants.{Failed};
 ghost use Rattle.sctp_handshake.specs.Endings.{on_drained};
 ghost use Rattle.sctp_handshake.specs.States.{accepts_writes};
 
@@ -32,6 +34,17 @@ fn code_of(cause: AbortCause) -> u16 {
     }
 }
 
+// How an association ended that failed, with an ABORT or without.
+fn failure(is_told: bool) -> Ending
+    ensures { result ≡ (if is_told then Aborted else Unanswered) }
+{
+    if is_told {
+        Ending::Aborted
+    } else {
+        Ending::Unanswered
+    }
+}
+
 impl Association {
     /// What follows from an input to the machine, which was in the state `before`: its timer, a reply to `tag`, and what is told.
     #[inline(always)]
@@ -41,6 +54,10 @@ impl Association {
         ensures quiet { answer.told ≡ None → HalvesAlike self.old self.new }
         ensures sending { answer.told ≡ None → self.new.outbound ≡ self.old.outbound }
         ensures inbound { answer.told ≡ None → self.new.inbound ≡ self.old.inbound }
+        ensures heartbeat { answer.told ≡ None → self.new.heartbeat ≡ self.old.heartbeat }
+        ensures requests { answer.told ≡ None → self.new.requests ≡ self.old.requests }
+        ensures peer_requests { answer.told ≡ None
+            → self.new.peer_requests ≡ self.old.peer_requests }
         ensures begun { BeginsBy answer.told self.old.machine self.old.config
             (halves_of self.old) (halves_of self.new) }
         ensures init { answer.reply ≡ Some Init → answer.told ≡ None → OwesInit self.new }
@@ -63,6 +80,10 @@ impl Association {
         ensures quiet { answer.told ≡ None → HalvesAlike self.old self.new }
         ensures sending { answer.told ≡ None → self.new.outbound ≡ self.old.outbound }
         ensures inbound { answer.told ≡ None → self.new.inbound ≡ self.old.inbound }
+        ensures heartbeat { answer.told ≡ None → self.new.heartbeat ≡ self.old.heartbeat }
+        ensures requests { answer.told ≡ None → self.new.requests ≡ self.old.requests }
+        ensures peer_requests { answer.told ≡ None
+            → self.new.peer_requests ≡ self.old.peer_requests }
         ensures begun { BeginsBy answer.told self.old.machine self.old.config
             (halves_of self.old) (halves_of self.new) }
         ensures init { answer.reply ≡ Some Init → answer.told ≡ None → OwesInit self.new }
@@ -79,7 +100,7 @@ impl Association {
             self.owe(reply, tag);
         }
         if let Some(told) = answer.told {
-            self.tell(told, now);
+            self.tell(told, answer.reply.is_some(), now);
         }
     }
 
@@ -90,6 +111,9 @@ impl Association {
         ensures halves { HalvesAlike self.old self.new }
         ensures sending { self.new.outbound ≡ self.old.outbound }
         ensures inbound { self.new.inbound ≡ self.old.inbound }
+        ensures heartbeat { self.new.heartbeat ≡ self.old.heartbeat }
+        ensures requests { self.new.requests ≡ self.old.requests }
+        ensures peer_requests { self.new.peer_requests ≡ self.old.peer_requests }
         ensures over { self.new.is_over ≡ self.old.is_over }
         ensures replies { replies_of self.new ≡ replies_of self.old }
         ensures due { self.new.due ≡ self.old.due }
@@ -161,8 +185,10 @@ impl Association {
         }
     }
 
-    // What the application is told.
-    fn tell(&mut self, told: Told, now: u64)
+    // What the application is told; where the peer is replied to as well, the reply to what fails is an ABORT (RFC 9260 3.3.3).
+    fn tell(&mut self, told: Told, has_reply: bool, now: u64)
+        ensures failed { told ≡ Failed → self.new.events.closed
+            ≡ Some (if has_reply then Aborted else Unanswered) }
         ensures tells { PassesOn (Some told) self.old self.new }
         ensures kept { IsKept self.old self.new }
         ensures begun { BeginsBy (Some told) self.old.machine self.old.config
@@ -184,7 +210,7 @@ impl Association {
             }
             Told::ShutdownBegun => self.events.shutdown = true,
             Told::Closed => self.end(Ending::Shutdown),
-            Told::Failed => self.end(Ending::Unanswered),
+            Told::Failed => self.end(failure(has_reply)),
         }
     }
 
@@ -229,11 +255,13 @@ impl Association {
         ensures peer { KeepsPeer self.old self.new }
         ensures over { self.new.is_over ≡ self.old.is_over }
         ensures inbound { self.new.inbound ≡ self.old.inbound }
+        ensures sending { self.new.outbound ≡ self.old.outbound }
         ensures left { LastsNoLonger self.old self.new }
         ensures writes { accepts_writes self.old.machine.state ≡ false
             → accepts_writes self.new.machine.state ≡ false }
         ensures stays { StaysDue self.old self.new }
         ensures asks { OwesNothingNew (owed_of self.old) (owed_of self.new) }
+        ensures moments { AsksNoMore now self.old self.new }
     {
         if self.wants_shutdown && self.machine.state() == State::Established {
             self.wants_shutdown = false;
@@ -252,11 +280,13 @@ impl Association {
         ensures peer { KeepsPeer self.old self.new }
         ensures over { self.new.is_over ≡ self.old.is_over }
         ensures inbound { self.new.inbound ≡ self.old.inbound }
+        ensures sending { self.new.outbound ≡ self.old.outbound }
         ensures left { LastsNoLonger self.old self.new }
         ensures writes { accepts_writes self.old.machine.state ≡ false
             → accepts_writes self.new.machine.state ≡ false }
         ensures stays { StaysDue self.old self.new }
         ensures asks { OwesNothingNew (owed_of self.old) (owed_of self.new) }
+        ensures moments { AsksNoMore now self.old self.new }
     {
         if !self.outbound.is_drained() {
             return;
@@ -272,6 +302,7 @@ impl Association {
         ensures over { self.new.is_over ≡ true }
         ensures owed { self.new.due.alone ≡ farewell_to kind self.old.machine.peer }
         ensures outbound { self.new.outbound ≡ self.old.outbound }
+        ensures inbound { self.new.inbound ≡ self.old.inbound }
         ensures halves { HalvesAlike self.old self.new }
         ensures peer { ticket_in_kind kind ≡ None → KeepsPeer self.old self.new }
     {

@@ -1,16 +1,19 @@
 //! What goes into a datagram (RFC 9260 6.10, 8.5).
 
-ghost use Rattle.std.specs.Prelude.{◌≡◌, ◌≢◌, ◌⊎◌, ◌≤◌, ◌-◌, ◌∷◌, None, Ok, Some, IfOk, IfSome, OnErr, OnOk, [], map, true, false, length};
+ghost use Rattle.std.specs.Prelude.{◌≡◌, ◌≢◌, ◌⊎◌, ℕ, ◌≤◌, ◌-◌, ◌∷◌, None, Ok, Some, IfOk, IfSome, OnErr, OnOk, [], map, true, false, length};
 ghost use Rattle.sctp_association.specs.Beginnings.{KeepsPeer};
 ghost use Rattle.sctp_association.specs.Congested.{IsAsFull, LeavesWithin, SendsWithin};
-ghost use Rattle.sctp_association.specs.Halves.{HalvesAlike, PutsDue, PutsOthers, is_sent, sides_of};
+ghost use Rattle.sctp_association.specs.Halves.{HalvesAlike, IsAsTimed, PutsDue, PutsOnce, PutsOthers, is_sent, sides_of};
+ghost use Rattle.sctp_association.specs.Entering.{usable_in};
 ghost use Rattle.sctp_association.specs.Filled.{IfNoneAdded, IfNonePut};
 ghost use Rattle.sctp_association.specs.Idle.{HasNoSackDue, IsIdle, MayReply, MaySend, OwesNoControl, OwesNone, WaitsForSacks, in_flight, sack_delay, sends};
 ghost use Rattle.sctp_association.specs.Kept.{IsUnmoved};
 ghost use Rattle.sctp_association.specs.Lasting.{LastsNoLonger};
-ghost use Rattle.sctp_association.specs.Leaving.{IsDueOnce, LeavesBy, LeavesInto, OwesNothingNew, owed_of, replies_of};
+ghost use Rattle.sctp_association.specs.Leaving.{AsksNoMore, IsDueOnce, LeavesBy, LeavesInto, OwesNothingNew, beats, owed_at, owed_of, replies_of};
 ghost use Rattle.sctp_association.specs.Offering.{HasFirst, IsInitWith, IsReplyOf, OffersAsDue, PutsReply};
-ghost use Rattle.sctp_association.specs.Replying.{AddsReply, IsReply, LeavesAlone, PutsOne, header_to, host_name_causes, one_cause};
+ghost use Rattle.sctp_association.specs.declared.due.AloneKind.{AloneKind};
+ghost use Rattle.sctp_association.specs.Replying.{AddsReply, IsReply, LeavesAlone, PutsOne, header_to, host_name_causes};
+ghost use Rattle.sctp_association.specs.Reports.{one_cause};
 ghost use Rattle.sctp_association.specs.Sending.{IsTimed};
 ghost use Rattle.sctp_association.specs.Still.{IsLater, heartbeat_time};
 ghost use Rattle.sctp_association.specs.Telling.{Tells};
@@ -75,6 +78,8 @@ impl Association {
         // An INIT has the first TSN of this side; an INIT ACK has a cookie over the ticket that was due.
         ensures offers { is_sent result ≡ true → OffersAsDue self.old self.new.draft.bytes }
         ensures peer { KeepsPeer self.old self.new }
+        // The peer may use the same streams.
+        ensures usable { (s : ℕ) → usable_in s self.new.inbound ≡ usable_in s self.old.inbound }
         ensures left { LastsNoLonger self.old self.new }
         // The one reply that is due leaves first, in a packet of its own, with exactly its chunks.
         ensures reply { IfSome self.old.due.alone (λ alone. IfOk result
@@ -91,12 +96,14 @@ impl Association {
         // What else is due stays due, or leaves in the datagram: a COOKIE-ECHO with the cookie, a SHUTDOWN with the cumulative TSN, a
         // HEARTBEAT-ACK with what came. Only one that no packet has room for is dropped.
         ensures leaves { LeavesBy (is_sent result) self.old self.new }
-        // Nothing else comes to be due, but a SHUTDOWN or SHUTDOWN-ACK where nothing waits or is in flight.
+        // Nothing else comes to be due, but a SHUTDOWN or SHUTDOWN-ACK where nothing waits or is in flight; no HEARTBEAT or RE-CONFIG (`moments`).
         ensures asks { OwesNothingNew (owed_of self.old) (owed_of self.new) }
-        // What left is due no more: each COOKIE-ECHO, COOKIE-ACK, SHUTDOWN, SHUTDOWN-ACK and HEARTBEAT-ACK of a packet of what else is due was
-        // due, as it says.
-        ensures once { is_sent result ≡ true → self.old.due.alone ≡ None → IsPacketOf
-            (IsDueOnce (owed_of self.old) (owed_of self.new)) self.new.draft.bytes }
+        ensures moments { AsksNoMore now self.old self.new }
+        // What left is due no more: each COOKIE-ECHO, COOKIE-ACK, SHUTDOWN, SHUTDOWN-ACK, HEARTBEAT-ACK, SACK, HEARTBEAT, ERROR and parameter of a
+        // RE-CONFIG in a packet of what else is due was due, as it says.
+        ensures once { is_sent result ≡ true → self.old.due.alone ≡ None
+            → IsPacketOf (IsDueOnce (owed_at now self.old) (owed_at now self.new))
+            self.new.draft.bytes }
     {
         if let Some(alone) = self.due.alone {
             self.put_alone(alone, now)?;
@@ -119,9 +126,11 @@ impl Association {
     // Writes a packet of what is due, and answers whether it has a chunk.
     fn put_packet(&mut self, header: CommonHeader, is_zero: bool, now: u64) -> Result<bool, Fault>
         ensures made { Transmits (is_sent result) (sides_of self.old) (sides_of self.new) }
-        ensures once { is_sent result ≡ true → IsPacketOf
-            (IsDueOnce (owed_of self.old) (owed_of self.new)) self.new.draft.bytes }
+        ensures once { is_sent result ≡ true
+            → IsPacketOf (IsDueOnce (owed_at now self.old) (owed_at now self.new))
+            self.new.draft.bytes }
         ensures kept { IsUnmoved self.old self.new }
+        ensures moments { AsksNoMore now self.old self.new }
         ensures owes { result ≡ Ok false → self.new.machine.state ≢ CookieEchoed
             → OwesNone self.new }
         ensures idle { result ≡ Ok false → sends self.new.machine.state ≡ true
@@ -168,6 +177,7 @@ impl Association {
         ensures reply { OnOk result (IsReply alone self.old self.new.draft.bytes) }
         ensures halves { HalvesAlike self.old self.new }
         ensures kept { IsUnmoved self.old self.new }
+        ensures timed { IsAsTimed self.old self.new }
         ensures replies { replies_of self.new ≡ replies_of self.old }
     {
         let header = self.header(alone.tag);
@@ -181,6 +191,7 @@ impl Association {
     #[tactic(auto, using(crate::proofs::Others::others_one, crate::proofs::Others::others_none, crate::proofs::Offering::reply_others))]
     fn put_reply(&mut self, kind: AloneKind, now: u64) -> Result<(), Fault>
         ensures reply { PutsReply kind self.old self.new }
+        ensures timed { IsAsTimed self.old self.new }
         // Into a packet with no chunk exactly its chunks are put.
         ensures whole { OnOk result (length self.old.draft.bytes ≡ 12
             → AddsReply kind self.old self.new) }
@@ -272,13 +283,14 @@ impl Association {
     }
 
     // Puts an ERROR with one cause.
-    #[tactic(auto, using(crate::proofs::Others::others_one, crate::proofs::Others::others_none, crate::proofs::Others::others_then))]
+    #[tactic(auto, using(crate::proofs::Offering::reply_one, crate::proofs::Offering::reply_none))]
     #[inline(never)]
     fn put_error(&mut self, code: u16, info: &[u8]) -> Result<(), Fault>
-        ensures others { PutsOthers self.old self.new }
+        ensures reply { (kind : AloneKind) → PutsReply kind self.old self.new }
         ensures put { OnOk result
             (PutsOne (error_chunk (one_cause code info.now)) self.old.draft self.new.draft) }
-        ensures acks { sack_delay self.new ≡ sack_delay self.old }
+        ensures rest { self.new ≡ record self.old { draft = self.new.draft } }
+        ensures err { OnErr result (self.new ≡ self.old) }
         ensures replies { replies_of self.new ≡ replies_of self.old }
     {
         let error = ChunkError {
@@ -344,8 +356,9 @@ impl Association {
 
     // Puts what is due into a packet: control chunks first (RFC 9260 6.10).
     fn fill(&mut self, now: u64) -> Result<(), Fault>
-        ensures made { PutsDue self.old self.new }
+        ensures made { PutsDue now self.old self.new }
         ensures kept { IsUnmoved self.old self.new }
+        ensures moments { AsksNoMore now self.old self.new }
         ensures owes { OnOk result (self.new.machine.state ≢ CookieEchoed
             → IfNoneAdded self.old.draft.bytes self.new.draft.bytes (OwesNone self.new)) }
         ensures idle { OnOk result (sends self.new.machine.state ≡ true → (p : Parts)
@@ -370,8 +383,9 @@ impl Association {
 
     // Puts what is due beside cookies, SACKs and DATA.
     fn put_control(&mut self, now: u64) -> Result<(), Fault>
-        ensures made { PutsDue self.old self.new }
+        ensures made { PutsDue now self.old self.new }
         ensures kept { IsUnmoved self.old self.new }
+        ensures moments { AsksNoMore now self.old self.new }
         ensures owes { OnOk result (IfNoneAdded self.old.draft.bytes self.new.draft.bytes
             (OwesNoControl self.new)) }
         ensures acks { sack_delay self.new ≡ sack_delay self.old }
@@ -389,6 +403,7 @@ impl Association {
     fn put_data(&mut self, now: u64) -> Result<(), Fault>
         ensures made { Puts (sides_of self.old) (sides_of self.new) }
         ensures kept { IsUnmoved self.old self.new }
+        ensures moments { AsksNoMore now self.old self.new }
         ensures acks { sack_delay self.new ≡ sack_delay self.old }
         ensures idle { OnOk result (sends self.new.machine.state ≡ true
             → IfNonePut self.old.draft.bytes self.new.draft.bytes
@@ -406,8 +421,10 @@ impl Association {
     }
 
     // A path on which DATA left is not idle (RFC 9260 8.3).
+    #[tactic(auto, using(crate::proofs::Owing::used_later))]
     fn note_use(&mut self, now: u64)
-        ensures { self.new ≡ record self.old { heartbeat = self.new.heartbeat } }
+        ensures rest { self.new ≡ record self.old { heartbeat = self.new.heartbeat } }
+        ensures moments { AsksNoMore now self.old self.new }
     {
         if let Some(heartbeat) = &mut self.heartbeat {
             if self.outbound.was_used(now) {
@@ -461,10 +478,11 @@ impl Association {
     }
 
     // Puts the SACK that is due, or one that waits where DATA goes with it (RFC 9260 6.1).
-    #[tactic(auto, using(crate::proofs::Others::sack_puts, crate::proofs::Others::same_puts))]
+    #[tactic(auto, using(crate::proofs::Others::same_puts))]
     fn put_sack(&mut self, now: u64) -> Result<(), Fault>
-        ensures made { Puts (sides_of self.old) (sides_of self.new) }
+        ensures made { PutsOnce self.old self.new }
         ensures kept { IsUnmoved self.old self.new }
+        ensures timed { IsAsTimed self.old self.new }
         ensures idle { OnOk result (IfNonePut self.old.draft.bytes self.new.draft.bytes
             (HasNoSackDue now self.new)) }
         ensures full { IsAsFull self.old.outbound self.new.outbound }
@@ -479,8 +497,9 @@ impl Association {
 
     // Puts SHUTDOWN or SHUTDOWN-ACK (RFC 9260 9.2).
     fn put_shutdown(&mut self)
-        ensures made { PutsDue self.old self.new }
+        ensures made { PutsOnce self.old self.new }
         ensures kept { IsUnmoved self.old self.new }
+        ensures timed { IsAsTimed self.old self.new }
         ensures owes { IfNoneAdded self.old.draft.bytes self.new.draft.bytes
             (((self.new.due.shutdown ≡ false) ⊎ (sack_delay self.new ≡ None))
             × (self.new.due.shutdown_ack ≡ false)) }
@@ -495,8 +514,9 @@ impl Association {
     // Puts the SHUTDOWN that is due: it acknowledges what a SACK would.
     #[tactic(auto, using(crate::proofs::Others::same_puts))]
     fn put_shutdown_asked(&mut self)
-        ensures made { PutsDue self.old self.new }
+        ensures made { PutsOnce self.old self.new }
         ensures kept { IsUnmoved self.old self.new }
+        ensures timed { IsAsTimed self.old self.new }
         ensures owes { IfNonePut self.old.draft.bytes self.new.draft.bytes
             ((self.new.due.shutdown ≡ false) ⊎ (sack_delay self.new ≡ None)) }
         ensures acks { sack_delay self.new ≡ sack_delay self.old }
@@ -533,9 +553,11 @@ impl Association {
     }
 
     // Puts the answer to a HEARTBEAT, and a HEARTBEAT of an idle path (RFC 9260 8.3).
-    #[tactic(auto, using(crate::proofs::Others::others_one, crate::proofs::Others::others_none, crate::proofs::Others::others_then))]
     fn put_heartbeats(&mut self, now: u64) -> Result<(), Fault>
-        ensures others { PutsOthers self.old self.new }
+        ensures made { PutsDue now self.old self.new }
+        ensures halves { HalvesAlike self.old self.new }
+        ensures kept { IsUnmoved self.old self.new }
+        ensures moments { AsksNoMore now self.old self.new }
         ensures owes { OnOk result (IfNoneAdded self.old.draft.bytes self.new.draft.bytes
             (self.new.due.heartbeat ≡ None)) }
         ensures acks { sack_delay self.new ≡ sack_delay self.old }
@@ -570,10 +592,14 @@ impl Association {
     }
 
     // Puts a HEARTBEAT with this time. The next one is later.
-    #[tactic(auto, using(crate::proofs::Others::others_one, crate::proofs::Others::others_none, crate::proofs::Others::others_then))]
+    #[tactic(auto, using(crate::proofs::Owing::used_later, crate::proofs::Others::same_puts))]
     #[inline(never)]
     fn put_heartbeat(&mut self, now: u64) -> Result<(), Fault>
-        ensures others { PutsOthers self.old self.new }
+        requires due { beats now self.old ≡ true }
+        ensures made { PutsDue now self.old self.new }
+        ensures halves { HalvesAlike self.old self.new }
+        ensures kept { IsUnmoved self.old self.new }
+        ensures moments { AsksNoMore now self.old self.new }
         ensures acks { sack_delay self.new ≡ sack_delay self.old }
         ensures once { OnOk result (self.new.draft ≡ self.old.draft
             ⊎ IsLater now (heartbeat_time self.new)) }

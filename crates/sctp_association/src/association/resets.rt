@@ -1,12 +1,12 @@
 //! Streams that are reset (RFC 6525; RFC 8831 6.7).
 
-ghost use Rattle.std.specs.Prelude.{◌≡◌, ◌⊎◌, true, false, Ok, Err, IfErr, IsOk, OnOk, OnErr, drop, is_some};
+ghost use Rattle.std.specs.Prelude.{◌≡◌, ◌⊎◌, ◌<◌, ◌≤◌, true, false, Ok, Err, IfErr, IfOk, IfSome, IsOk, OnOk, OnErr, drop, is_some};
 ghost use Rattle.sctp_association.specs.Arrivals.{CallsArrive, HearsBy, Does, Follows, IsReset, IsResetAt, IsRestart, ParamAsks, ParamAsksIn, ReceivedIn};
-ghost use Rattle.sctp_association.specs.Kept.{IsKept};
+ghost use Rattle.sctp_association.specs.Kept.{IsKept, IsUnmoved};
 ghost use Rattle.sctp_association.specs.Calls.{is_resettable};
-ghost use Rattle.sctp_association.specs.Halves.{HalvesAlike, PutsOthers, halves_of, receiver_of};
+ghost use Rattle.sctp_association.specs.Halves.{HalvesAlike, PutsDue, halves_of, receiver_of};
 ghost use Rattle.sctp_association.specs.Idle.{sack_delay};
-ghost use Rattle.sctp_association.specs.Leaving.{replies_of};
+ghost use Rattle.sctp_association.specs.Leaving.{AsksNoMore, IsReconfigOf, PutsReconfig, replies_of, requests_due, responses_due};
 ghost use Rattle.sctp_association.specs.Telling.{Tells, TellsEnd};
 ghost use Rattle.sctp_association.specs.declared.fault.Fault.TheVariants.{NoSuchStream, OutOfMemory};
 ghost use Rattle.sctp_association.specs.declared.association.Reason.{Reason};
@@ -16,7 +16,8 @@ ghost use Rattle.sctp_datagram.specs.Places.{IsPlace};
 ghost use Rattle.sctp_params.specs.Param.{outgoing_reset_request};
 ghost use Rattle.sctp_params.specs.ResetRequest.{reset_request_of};
 ghost use Rattle.sctp_association.specs.Still.{IsLater, request_time};
-ghost use Rattle.sctp_reset.specs.Own.{after_ask};
+ghost use Rattle.sctp_chunks.specs.Reconfig.{reconfig_of};
+ghost use Rattle.sctp_reset.specs.Own.{after_ask, is_idle};
 
 use super::arrivals::Step;
 use super::{Association, Reason};
@@ -45,7 +46,10 @@ const MOST_BYTES: usize = 4 + 12 + 16 + 2 * MOST_STREAMS;
 fn reconfig(
     response: Option<ParamReconfigResponse>,
     request: Option<ParamOutgoingResetRequest>,
-) -> Option<ChunkReconfig> {
+) -> Option<ChunkReconfig>
+    ensures { IfSome result (λ c. IsReconfigOf (is_some response) (is_some request)
+        (reconfig_of c)) }
+{
     let (param_a, param_b) = match (response, request) {
         (Some(response), Some(request)) => (
             ParamKind::ReconfigResponse(response),
@@ -94,9 +98,11 @@ impl Association {
     }
 
     /// Puts the RE-CONFIG chunk that is due, where there is room for it (RFC 6525 5.1, 5.2): a packet has one.
-    #[tactic(auto, using(crate::proofs::Others::others_one, crate::proofs::Others::others_none, crate::proofs::Others::others_then))]
     pub(super) fn put_resets(&mut self, now: u64) -> Result<(), Fault>
-        ensures others { PutsOthers self.old self.new }
+        ensures made { PutsDue now self.old self.new }
+        ensures halves { HalvesAlike self.old self.new }
+        ensures kept { IsUnmoved self.old self.new }
+        ensures moments { AsksNoMore now self.old self.new }
         ensures acks { sack_delay self.new ≡ sack_delay self.old }
         ensures replies { replies_of self.new ≡ replies_of self.old }
     {
@@ -112,11 +118,13 @@ impl Association {
     }
 
     // The response that is due, if there is one.
-    #[tactic(auto, using(crate::proofs::Others::others_one, crate::proofs::Others::others_none, crate::proofs::Others::others_then))]
+    #[tactic(auto, using(crate::proofs::Resetting::taken, crate::proofs::Resetting::fewer))]
     fn next_response(&mut self) -> Option<ParamReconfigResponse>
-        ensures others { PutsOthers self.old self.new }
-        ensures acks { sack_delay self.new ≡ sack_delay self.old }
-        ensures replies { replies_of self.new ≡ replies_of self.old }
+        ensures rest { self.new ≡ record self.old { peer_requests = self.new.peer_requests } }
+        ensures fewer { responses_due self.new.peer_requests
+            ≤ responses_due self.old.peer_requests }
+        ensures taken { is_some result ≡ true → responses_due self.new.peer_requests
+            < responses_due self.old.peer_requests }
     {
         match &mut self.peer_requests {
             Some(peer) => peer.take_response(),
@@ -125,7 +133,6 @@ impl Association {
     }
 
     // Puts a RE-CONFIG chunk with a response, a request, or both. The request leaves again later.
-    #[tactic(auto, using(crate::proofs::Others::others_one, crate::proofs::Others::others_none, crate::proofs::Others::others_then))]
     #[inline(never)]
     fn put_reconfig(
         &mut self,
@@ -133,28 +140,51 @@ impl Association {
         request: Option<ParamOutgoingResetRequest>,
         now: u64,
     )
-        ensures others { PutsOthers self.old self.new }
-        ensures acks { sack_delay self.new ≡ sack_delay self.old }
+        ensures puts { PutsReconfig (is_some response) (is_some request)
+            self.old.draft self.new.draft }
         ensures once { is_some request ≡ true → self.new.draft ≡ self.old.draft
             ⊎ IsLater now (request_time self.new) }
-        ensures replies { replies_of self.new ≡ replies_of self.old }
+        ensures under { is_some self.new.requests.under_way
+            ≡ is_some self.old.requests.under_way }
+        ensures more { requests_due now self.old.requests ≡ false
+            → requests_due now self.new.requests ≡ false }
+        ensures limit { self.new.draft.limit ≡ self.old.draft.limit }
+        ensures rest { self.new ≡ record self.old {
+          draft = self.new.draft;
+          requests = self.new.requests;
+        } }
     {
         let is_asking = request.is_some();
         let Some(chunk) = reconfig(response, request) else {
             return;
         };
-        if self.draft.put(&chunk) && is_asking {
-            // Later than now, so that it leaves once at a moment.
+        if self.draft.put(&chunk) {
+            self.note_sent(is_asking, now);
+        }
+    }
+
+    // A RE-CONFIG left: where it has a request, that leaves again later than now, so that it leaves once at a moment.
+    fn note_sent(&mut self, is_asking: bool, now: u64)
+        ensures later { is_asking ≡ true → IsLater now (request_time self.new) }
+        ensures under { is_some self.new.requests.under_way
+            ≡ is_some self.old.requests.under_way }
+        ensures more { requests_due now self.old.requests ≡ false
+            → requests_due now self.new.requests ≡ false }
+        ensures rest { self.new ≡ record self.old { requests = self.new.requests } }
+    {
+        if is_asking {
             self.requests.sent(now, self.outbound.rto.get().max(1));
         }
     }
 
     // Begins the next request, where none is under way, and answers the one that is due.
-    #[tactic(auto, using(crate::proofs::Others::others_one, crate::proofs::Others::others_none, crate::proofs::Others::others_then))]
     fn next_request(&mut self, now: u64) -> Result<Option<ParamOutgoingResetRequest>, Fault>
-        ensures others { PutsOthers self.old self.new }
-        ensures acks { sack_delay self.new ≡ sack_delay self.old }
-        ensures replies { replies_of self.new ≡ replies_of self.old }
+        ensures due { IfOk result (λ o. is_some o ≡ true
+            → (requests_due now self.old.requests ≡ true)
+            × (is_some self.new.requests.under_way ≡ true)) }
+        ensures more { requests_due now self.old.requests ≡ false
+            → requests_due now self.new.requests ≡ false }
+        ensures rest { self.new ≡ record self.old { requests = self.new.requests } }
     {
         if self.requests.is_idle() {
             return Ok(None);
@@ -165,21 +195,26 @@ impl Association {
     // The same, where some stream is to be reset: seldom, and so apart.
     #[inline(never)]
     fn next_asked(&mut self, now: u64) -> Result<Option<ParamOutgoingResetRequest>, Fault>
-        ensures others { PutsOthers self.old self.new }
-        ensures acks { sack_delay self.new ≡ sack_delay self.old }
-        ensures replies { replies_of self.new ≡ replies_of self.old }
+        requires asked { is_idle self.old.requests ≡ false }
+        ensures due { IfOk result (λ o. is_some o ≡ true
+            → (requests_due now self.old.requests ≡ true)
+            × (is_some self.new.requests.under_way ≡ true)) }
+        ensures more { requests_due now self.old.requests ≡ false
+            → requests_due now self.new.requests ≡ false }
+        ensures rest { self.new ≡ record self.old { requests = self.new.requests } }
     {
         self.begin_request(now)?;
         self.request_due(now)
     }
 
     // Begins the next request, where none is under way.
-    #[tactic(auto, using(crate::proofs::Others::others_one, crate::proofs::Others::others_none, crate::proofs::Others::others_then))]
     fn begin_request(&mut self, now: u64) -> Result<(), Fault>
-        ensures others { PutsOthers self.old self.new }
-        ensures acks { sack_delay self.new ≡ sack_delay self.old }
-        ensures replies { replies_of self.new ≡ replies_of self.old }
+        ensures under { is_some self.old.requests.under_way ≡ true → self.new ≡ self.old }
+        ensures rest { self.new ≡ record self.old { requests = self.new.requests } }
     {
+        if self.requests.next_time().is_some() {
+            return Ok(());
+        }
         let sender = &self.outbound.sender;
         let last_tsn = sender.next_tsn().wrapping_sub(1);
         let begun = self.requests.begin(
@@ -196,11 +231,11 @@ impl Association {
     }
 
     // The request that is due, for the first time or again.
-    #[tactic(auto, using(crate::proofs::Others::others_one, crate::proofs::Others::others_none, crate::proofs::Others::others_then))]
-    fn request_due(&mut self, now: u64) -> Result<Option<ParamOutgoingResetRequest>, Fault>
-        ensures others { PutsOthers self.old self.new }
-        ensures acks { sack_delay self.new ≡ sack_delay self.old }
-        ensures replies { replies_of self.new ≡ replies_of self.old }
+    #[tactic(auto, using(crate::proofs::Resetting::due_is))]
+    fn request_due(&self, now: u64) -> Result<Option<ParamOutgoingResetRequest>, Fault>
+        ensures { IfOk result (λ o. is_some o ≡ true
+            → (is_some self.now.requests.under_way ≡ true)
+            × (requests_due now self.now.requests ≡ true)) }
     {
         let Some(request) = self.requests.due(now) else {
             return Ok(None);

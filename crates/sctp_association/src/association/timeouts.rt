@@ -124,6 +124,8 @@ impl Association {
         ensures guarded { (self.new.is_over ≡ true) ⊎ IsGuarded self.new }
         // With each expiry fewer are left until it is over, while nothing of the peer comes.
         ensures left { Expires (expires now self.old) self.old self.new }
+        // The receiving half stays: so the peer may use the same streams.
+        ensures inbound { self.new.inbound ≡ self.old.inbound }
         ensures halves { MarksByT3 now self.old self.new }
         ensures peer { KeepsPeer self.old self.new }
         // Where T5-shutdown-guard does not expire: the RTO doubles, and failures are counted, exactly so often; T3-rtx alone lowers cwnd.

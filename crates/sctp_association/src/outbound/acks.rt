@@ -1,9 +1,10 @@
 //! What a SACK acknowledges (RFC 9260 6.2.1, 6.3, 7.2).
 
-ghost use Rattle.std.specs.Prelude.{◌≡◌, ◌⊎◌, ◌-◌, Ok, OnErr};
+ghost use Rattle.std.specs.Prelude.{◌≡◌, ◌⊎◌, ◌-◌, ◌==◌, not, if◌then◌else◌, None, true, is_some, Ok, OnErr};
 ghost use Rattle.sctp_association.specs.Acks.{acked_by, grown_by, size_acked, without_blocks};
 ghost use Rattle.sctp_association.specs.Arrivals.{AsksToHear, HearsBy, IsCount, without_gaps};
-ghost use Rattle.sctp_association.specs.Counts.{IsCountedAlike};
+ghost use Rattle.sctp_association.specs.Counts.{HasLimitsOf, IsCountedAlike};
+ghost use Rattle.sctp_association.specs.Paths.{IsMissedBefore, MovesBy, cleared_by, taken_as, measured_again, measured_by, missing_before, sent_once, trips_of};
 ghost use Rattle.sctp_association.specs.Sacks.{HearsSackFirst};
 ghost use Rattle.sctp_association.specs.Telling.{Stays};
 ghost use Rattle.sctp_association.specs.declared.outbound.acks.SackTaken.TheVariants.{Taken, Forged};
@@ -49,7 +50,9 @@ fn size_acked(released: &[Released]) -> usize
 
 // When the last chunk was sent that is acknowledged now and was sent once (RFC 9260 6.3.1 C4, C5). An abandoned one may not have come: it has
 // no bytes (RFC 3758 3.5).
-fn sent_once(released: &[Released]) -> Option<u64> {
+fn sent_once(released: &[Released]) -> Option<u64>
+    ensures { result ≡ sent_once released.now }
+{
     let mut sent = None;
     for one in released {
         if one.nsent == 1 && one.bytes > 0 {
@@ -88,6 +91,7 @@ impl Outbound {
             → self.new.sender ≡ after_acked (without_blocks tsn) self.old.sender }
         ensures back { self.new.came_back ≡ self.old.came_back }
         ensures counts { IsCountedAlike self.old self.new }
+        ensures limits { HasLimitsOf self.old self.new }
         ensures forged { result ≡ Ok Forged → self.new ≡ self.old }
         ensures err { OnErr result ((self.new ≡ self.old) × (low.new ≡ low.old)) }
     {
@@ -127,7 +131,10 @@ impl Outbound {
         // The sender takes it, or it is outdated.
         ensures hears { result ≡ Ok Taken
             → HearsSackFirst (sack_of sack.old) self.old.sender self.new.sender }
+        // And the windows, the RTO, T3-rtx and what is counted are what it makes of them (RFC 9260 6.3, 7.2).
+        ensures path { result ≡ Ok Taken → MovesBy (sack_of sack.old) now self.old self.new }
         ensures counts { IsCountedAlike self.old self.new }
+        ensures limits { HasLimitsOf self.old self.new }
         ensures forged { result ≡ Ok Forged → self.new ≡ self.old }
         ensures err { OnErr result ((self.new ≡ self.old) × (low.new ≡ low.old)) }
     {
@@ -157,8 +164,9 @@ impl Outbound {
 
     // Passes over the gap ack blocks of a SACK, where too much came back.
     fn pass_over_blocks(&self, sack: &mut ChunkSelectiveAck)
-        ensures { (sack_of sack.new ≡ sack_of sack.old)
+        ensures either { (sack_of sack.new ≡ sack_of sack.old)
             ⊎ (sack_of sack.new ≡ without_gaps (sack_of sack.old)) }
+        ensures taken { sack_of sack.new ≡ taken_as (sack_of sack.old) self.now }
     {
         if self.came_back >= self.most_in_flight {
             sack.gap_ack_blocks.clear();
@@ -182,15 +190,23 @@ impl Outbound {
         ensures grown { self.new.congestion
             ≡ grown_by (acked_by before flight released.now self.old.sender) released.now
             self.old.congestion }
+        ensures trips { trips_of self.new
+            ≡ measured_by now (sent_once released.now) (trips_of self.old) }
+        ensures failures { self.new.failures
+            ≡ cleared_by self.old.peer_window released.now self.old.failures }
+        ensures timer { self.new.timer.at ≡ (
+            if not (self.old.sender.flight.acked_tsn == before) then None
+            else self.old.timer.at) }
         ensures rest { self.new ≡ record self.old {
           congestion = self.new.congestion;
           rto = self.new.rto;
           timer = self.new.timer;
           failures = self.new.failures;
           measured = self.new.measured;
-          burst = self.new.burst;
-          is_skip_due = self.new.is_skip_due;
+          burst = None;
+          is_skip_due = true;
         } }
+        ensures limits { HasLimitsOf self.old self.new }
     {
         self.is_skip_due = true;
         self.burst = None;
@@ -216,10 +232,13 @@ impl Outbound {
 
     // Measures a round trip, once in each (RFC 9260 6.3.1 C4).
     fn measure(&mut self, released: &[Released], now: u64)
+        ensures trips { trips_of self.new
+            ≡ measured_by now (sent_once released.now) (trips_of self.old) }
         ensures rest { self.new ≡ record self.old {
           rto = self.new.rto;
           measured = self.new.measured;
         } }
+        ensures limits { self.new.rto.limits ≡ self.old.rto.limits }
     {
         let Some(since) = sent_once(released) else {
             return;
@@ -234,10 +253,13 @@ impl Outbound {
     // begins again with it (RFC 9260 7.2.4): an RTO of the trip before would expire before its SACK.
     fn measure_again(&mut self, released: &[Released], now: u64)
         ensures once { self.old.measured ≡ now → self.new ≡ self.old }
+        ensures trips { trips_of self.new ≡ measured_again (is_some self.old.congestion.exit)
+            now (sent_once released.now) (trips_of self.old) }
         ensures rest { self.new ≡ record self.old {
           rto = self.new.rto;
           measured = self.new.measured;
         } }
+        ensures limits { self.new.rto.limits ≡ self.old.rto.limits }
     {
         if self.congestion.is_recovering() || self.measured == now {
             return;
@@ -249,8 +271,34 @@ impl Outbound {
         self.measured = now;
     }
 
-    // Counts what is missing before the highest TSN that is acknowledged now; in fast recovery, where the cumulative TSN moved,
-    // before the highest that the SACK reports (RFC 9260 7.2.4).
+    // The TSN before which chunks are missing: the highest that is acknowledged now; in fast recovery, where the cumulative TSN moved, the highest
+    // that the SACK reports (RFC 9260 7.2.4).
+    fn missing_before(
+        &self,
+        sack: &ChunkSelectiveAck,
+        released: &[Released],
+        has_advanced: bool,
+    ) -> Option<u32>
+        ensures { result ≡ missing_before (sack_of sack.now) released.now has_advanced self.now }
+    {
+        let Some(block) = sack.gap_ack_blocks.last() else {
+            return None;
+        };
+        let Some(one) = released.last() else {
+            return None;
+        };
+        // What was sent before T3-rtx ran out says nothing of what was sent again since.
+        if one.since.unwrap_or(0) < self.timed_out {
+            return None;
+        }
+        if has_advanced && self.congestion.is_recovering() {
+            let end = u32::from(block.end);
+            return Some(sack.cumulative_tsn_ack.wrapping_add(end));
+        }
+        Some(one.tsn)
+    }
+
+    // Counts what is missing, and takes a third time for a loss (RFC 9260 7.2.4).
     #[tactic(auto, using(crate::proofs::Arriving::acknowledged_same, crate::proofs::Arriving::acknowledged_count))]
     fn count_missing(
         &mut self,
@@ -260,6 +308,9 @@ impl Outbound {
         now: u64,
     )
         ensures hearing { HearsBy IsCount self.old.sender self.new.sender }
+        ensures missed { IsMissedBefore now (sent_once released.now)
+            (missing_before (sack_of sack.now) released.now has_advanced self.old)
+            self.old self.new }
         ensures rest { self.new ≡ record self.old {
           sender = self.new.sender;
           congestion = self.new.congestion;
@@ -268,18 +319,11 @@ impl Outbound {
           is_fast = self.new.is_fast;
           has_lost = self.new.has_lost;
         } }
+        ensures limits { self.new.rto.limits ≡ self.old.rto.limits }
     {
-        let (Some(block), Some(one)) = (sack.gap_ack_blocks.last(), released.last()) else {
+        let Some(before) = self.missing_before(sack, released, has_advanced) else {
             return;
         };
-        // What was sent before T3-rtx ran out says nothing of what was sent again since.
-        if one.since.unwrap_or(0) < self.timed_out {
-            return;
-        }
-        let mut before = one.tsn;
-        if has_advanced && self.congestion.is_recovering() {
-            before = sack.cumulative_tsn_ack.wrapping_add(u32::from(block.end));
-        }
         if self.sender.add_miss_indications(before) > 0 {
             self.measure_again(released, now);
             let acked = self.sender.acked_tsn();

@@ -4,6 +4,7 @@ use Rattle.sctp_association.proofs.laws.an_unanswered_association_ends.Goals as 
 pub returns : goal.returns
 returns c = record {
   quiet = lasting.each-quiet;
+  between = lasting.each-later;
   counted = lasting.each-counts;
   ends = lasting.each-ends;
   few = lasting.few-left;

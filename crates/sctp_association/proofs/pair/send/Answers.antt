@@ -23,5 +23,5 @@ returns-clause-set_up c =
     let same = ap (λ (a : Association). receiver_of a.inbound) rest in
     on_ok_weaker c.write.result (λ asked l.
     quiet_stays c.two_associations_begin_once.ensures.quiet _ old new l _ (asks_quiet (calls_on c.args.stream call old.outbound.sender))
-    (rest_keeps old new new.outbound new.events rest) refl
+    (rest_keeps old new new.outbound new.events rest c.write.ensures.sender) refl
     (c.each_call_is_what_a_host_does.ensures.asked c.args.stream call old new l refl asked same)) c.write.ensures.asks

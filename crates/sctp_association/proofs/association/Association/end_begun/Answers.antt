@@ -1,6 +1,6 @@
 use Rattle.sctp_association.proofs.Telling.{end_same, end_then, streams_in, to_over}
 use Rattle.std.proofs.Common.{ap, ◌∙◌}
-use Rattle.sctp_association.proofs.Known.{keeps_by, knows_abort, owes_none}
+use Rattle.sctp_association.proofs.Known.{keeps_by, knows_abort, owes_none, within_same}
 use Rattle.sctp_association.specs.Kept.{ticket_due}
 use Rattle.sctp_association.specs.declared.association.Association.{Association}
 use Rattle.sctp_association.specs.declared.due.Due.{Due}
@@ -15,6 +15,8 @@ returns-clause-peer c =
     (ap (λ (x : Association). x.machine) ended ∙ ap (λ (x : Association). x.machine) owed)
     (owes_none c.args.self.now c.end.new.self (ap (λ (x : Association). ticket_due x.due.alone) ended ∙ ap (λ (d : Due). ticket_due d.alone) c.owe_farewell.ensures.due
     ∙ c.requires.no_ticket))
+    (within_same c.args.self.now c.end.new.self (ap (λ (x : Association). x.config) ended ∙ ap (λ (x : Association). x.config) owed)
+    (ap (λ (x : Association). x.outbound) ended ∙ ap (λ (x : Association). x.outbound) owed))
 
 pub returns-clause-tells : goal.returns-clause-tells
 returns-clause-tells c =

@@ -1,6 +1,6 @@
 use Rattle.sctp_association.proofs.Telling.{end_same, end_then, streams_in, to_over}
 use Rattle.std.proofs.Common.{ap, ◌∙◌}
-use Rattle.sctp_association.proofs.Known.{keeps_as, knows_abort_of, owes_none}
+use Rattle.sctp_association.proofs.Known.{keeps_as, knows_abort_of, owes_none, within_same}
 use Rattle.sctp_association.specs.declared.association.Association.{Association}
 use Rattle.sctp_association.specs.Kept.{ticket_due}
 use Rattle.sctp_association.proofs.association.Association.end_with.Goals as goal
@@ -14,6 +14,8 @@ returns-clause-peer c none =
     (ap (λ (x : Association). x.config) ended ∙ ap (λ (x : Association). x.config) owed)
     (ap (λ (x : Association). x.key) ended ∙ ap (λ (x : Association). x.key) owed) (ap (λ (x : Association). x.machine) ended)
     (owes_none c.args.self.now c.end.new.self (ap (λ (x : Association). ticket_due x.due.alone) ended ∙ c.owe_end.ensures.owes none))
+    (within_same c.args.self.now c.end.new.self (ap (λ (x : Association). x.config) ended ∙ ap (λ (x : Association). x.config) owed)
+    (ap (λ (x : Association). x.outbound) ended ∙ ap (λ (x : Association). x.outbound) owed))
 
 pub returns-clause-tells : goal.returns-clause-tells
 returns-clause-tells c =

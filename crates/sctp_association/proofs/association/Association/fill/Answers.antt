@@ -5,35 +5,66 @@ use Rattle.sctp_association.proofs.Congested.{full_of, full_then, within_behind,
 use Rattle.sctp_association.proofs.Idle.{added_longer, no_shutdown, on_ok, on_ok_so}
 use Rattle.sctp_association.proofs.Known.{still_none, unmoved_then}
 use Rattle.sctp_path.specs.Timers.{is_due}
-use Rattle.sctp_association.proofs.Others.{due_then, others_due, others_puts, others_then, puts_due}
+use Rattle.sctp_association.proofs.Others.{beats_same, beats_then, due_then, once_puts, others_once, others_puts, others_then, puts_due, timed_then}
 use Rattle.sctp_association.proofs.association.Association.fill.Goals as goal
 
 pub returns-in_err-put_sack-clause-made : goal.returns-in_err-put_sack-clause-made
-returns-in_err-put_sack-clause-made c = others_due c.args.self.now c.put_cookies.new.self c.put_sack.new.self c.put_cookies.ensures.others
-    c.put_sack.ensures.made c.put_sack.ensures.kept
+returns-in_err-put_sack-clause-made c = once_puts c.args.self.now c.put_sack.new.self c.args.now
+    (others_once c.args.self.now c.put_cookies.new.self c.put_sack.new.self
+    c.put_cookies.ensures.others c.put_sack.ensures.made c.put_sack.ensures.kept)
 
 pub returns-in_err-put_control-clause-made : goal.returns-in_err-put_control-clause-made
 returns-in_err-put_control-clause-made c =
-    let acked = others_due c.args.self.now c.put_cookies.new.self c.put_sack.new.self c.put_cookies.ensures.others c.put_sack.ensures.made
-    c.put_sack.ensures.kept in
-    due_then c.args.self.now c.put_sack.new.self c.put_control.new.self acked
-    (unmoved_then _ _ _ c.put_cookies.ensures.others.kept c.put_sack.ensures.kept) c.put_control.ensures.made c.put_control.ensures.kept
+    let acked = once_puts c.args.self.now c.put_sack.new.self c.args.now (others_once c.args.self.now c.put_cookies.new.self c.put_sack.new.self
+    c.put_cookies.ensures.others c.put_sack.ensures.made c.put_sack.ensures.kept) in
+    due_then c.args.now c.args.self.now c.put_sack.new.self c.put_control.new.self acked
+    (unmoved_then _ _ _ c.put_cookies.ensures.others.kept c.put_sack.ensures.kept)
+    (beats_same c.args.now _ _ (timed_then _ _ _ c.put_cookies.ensures.others.timed c.put_sack.ensures.timed))
+    c.put_control.ensures.made c.put_control.ensures.kept c.put_control.ensures.moments
 
 pub returns-clause-made : goal.returns-clause-made
 returns-clause-made c =
-    let acked = others_due c.args.self.now c.put_cookies.new.self c.put_sack.new.self c.put_cookies.ensures.others c.put_sack.ensures.made
-    c.put_sack.ensures.kept in
+    let acked = once_puts c.args.self.now c.put_sack.new.self c.args.now (others_once c.args.self.now c.put_cookies.new.self c.put_sack.new.self
+    c.put_cookies.ensures.others c.put_sack.ensures.made c.put_sack.ensures.kept) in
     let unmoved = unmoved_then _ _ _ c.put_cookies.ensures.others.kept c.put_sack.ensures.kept in
-    let controlled = due_then c.args.self.now c.put_sack.new.self c.put_control.new.self acked unmoved c.put_control.ensures.made
-    c.put_control.ensures.kept in
-    due_then c.args.self.now c.put_control.new.self c.put_data.new.self controlled (unmoved_then _ _ _ unmoved c.put_control.ensures.kept)
-    (puts_due c.put_control.new.self c.put_data.new.self c.put_data.ensures.made) c.put_data.ensures.kept
+    let beats = beats_same c.args.now c.args.self.now c.put_sack.new.self
+    (timed_then _ _ _ c.put_cookies.ensures.others.timed c.put_sack.ensures.timed) in
+    let controlled = due_then c.args.now c.args.self.now c.put_sack.new.self c.put_control.new.self acked unmoved beats c.put_control.ensures.made
+    c.put_control.ensures.kept c.put_control.ensures.moments in
+    due_then c.args.now c.args.self.now c.put_control.new.self c.put_data.new.self controlled (unmoved_then _ _ _ unmoved c.put_control.ensures.kept)
+    (beats_then c.args.now c.args.self.now c.put_sack.new.self c.put_control.new.self beats c.put_control.ensures.moments)
+    (puts_due c.put_control.new.self c.put_data.new.self c.args.now c.put_data.ensures.made) c.put_data.ensures.kept c.put_data.ensures.moments
 
 pub returns-then-is_empty-clause-made : goal.returns-then-is_empty-clause-made
-returns-then-is_empty-clause-made c = others_puts _ _ c.put_cookies.ensures.others
+returns-then-is_empty-clause-made c = once_puts c.args.self.now c.put_cookies.new.self c.args.now
+    (others_puts c.args.self.now c.put_cookies.new.self c.put_cookies.ensures.others)
 
 pub returns-else-is_empty-clause-made : goal.returns-else-is_empty-clause-made
-returns-else-is_empty-clause-made c = others_puts _ _ (others_then _ _ _ c.put_cookies.ensures.others c.put_report.ensures.others)
+returns-else-is_empty-clause-made c = once_puts c.args.self.now c.put_report.new.self c.args.now
+    (others_puts c.args.self.now c.put_report.new.self (others_then _ _ _ c.put_cookies.ensures.others c.put_report.ensures.others))
+
+-- ## HEARTBEATs
+
+pub returns-then-is_empty-clause-moments : goal.returns-then-is_empty-clause-moments
+returns-then-is_empty-clause-moments c = beats_same c.args.now c.args.self.now c.put_cookies.new.self c.put_cookies.ensures.others.timed
+
+pub returns-else-is_empty-clause-moments : goal.returns-else-is_empty-clause-moments
+returns-else-is_empty-clause-moments c = beats_same c.args.now c.args.self.now c.put_report.new.self
+    (timed_then _ _ _ c.put_cookies.ensures.others.timed c.put_report.ensures.others.timed)
+
+pub returns-in_err-put_sack-clause-moments : goal.returns-in_err-put_sack-clause-moments
+returns-in_err-put_sack-clause-moments c = beats_same c.args.now c.args.self.now c.put_sack.new.self
+    (timed_then _ _ _ c.put_cookies.ensures.others.timed c.put_sack.ensures.timed)
+
+pub returns-in_err-put_control-clause-moments : goal.returns-in_err-put_control-clause-moments
+returns-in_err-put_control-clause-moments c = beats_then c.args.now c.args.self.now c.put_sack.new.self c.put_control.new.self
+    (beats_same c.args.now _ _ (timed_then _ _ _ c.put_cookies.ensures.others.timed c.put_sack.ensures.timed)) c.put_control.ensures.moments
+
+pub returns-clause-moments : goal.returns-clause-moments
+returns-clause-moments c = beats_then c.args.now c.args.self.now c.put_control.new.self c.put_data.new.self (
+    beats_then c.args.now c.args.self.now c.put_sack.new.self c.put_control.new.self
+    (beats_same c.args.now _ _ (timed_then _ _ _ c.put_cookies.ensures.others.timed c.put_sack.ensures.timed)) c.put_control.ensures.moments
+    ) c.put_data.ensures.moments
 
 pub returns-clause-idle : goal.returns-clause-idle
 returns-clause-idle c = on_ok_so c.put_data.result (λ then_sent state p draft short.
@@ -79,7 +110,8 @@ returns-clause-owes c = on_ok c.put_data.result (λ state p draft short.
 -- ## What had room
 
 pub returns-then-is_empty-clause-within : goal.returns-then-is_empty-clause-within
-returns-then-is_empty-clause-within c = within_full c.args.self.now.outbound c.put_cookies.new.self.outbound (full_of _ c.put_cookies.new.self c.put_cookies.ensures.others.halves)
+returns-then-is_empty-clause-within c = within_full c.args.self.now.outbound c.put_cookies.new.self.outbound
+    (full_of _ c.put_cookies.new.self c.put_cookies.ensures.others.halves)
 
 pub returns-else-is_empty-clause-within : goal.returns-else-is_empty-clause-within
 returns-else-is_empty-clause-within c =
@@ -117,7 +149,7 @@ pub returns-in_err-put_control-clause-leaves : goal.returns-in_err-put_control-c
 returns-in_err-put_control-clause-leaves c =
     let acked = into_kept c.args.self.now c.put_cookies.new.self c.put_sack.new.self [] _ c.put_sack.ensures.made.added c.put_cookies.ensures.leaves
     c.put_sack.ensures.replies in
-    let both = others_due c.args.self.now c.put_cookies.new.self c.put_sack.new.self c.put_cookies.ensures.others c.put_sack.ensures.made
+    let both = others_once c.args.self.now c.put_cookies.new.self c.put_sack.new.self c.put_cookies.ensures.others c.put_sack.ensures.made
     c.put_sack.ensures.kept in
     into_then c.args.self.now c.put_sack.new.self c.put_control.new.self _ _ both.added c.put_control.ensures.made.added acked c.put_control.ensures.leaves
 
@@ -125,7 +157,7 @@ pub returns-clause-leaves : goal.returns-clause-leaves
 returns-clause-leaves c =
     let acked = into_kept c.args.self.now c.put_cookies.new.self c.put_sack.new.self [] _ c.put_sack.ensures.made.added c.put_cookies.ensures.leaves
     c.put_sack.ensures.replies in
-    let both = others_due c.args.self.now c.put_cookies.new.self c.put_sack.new.self c.put_cookies.ensures.others c.put_sack.ensures.made
+    let both = others_once c.args.self.now c.put_cookies.new.self c.put_sack.new.self c.put_cookies.ensures.others c.put_sack.ensures.made
     c.put_sack.ensures.kept in
     let controlled = into_then c.args.self.now c.put_sack.new.self c.put_control.new.self _ _ both.added c.put_control.ensures.made.added acked
     c.put_control.ensures.leaves in

@@ -6,12 +6,13 @@ use Rattle.sctp_association.specs.declared.association.Association.{Association}
 use Rattle.sctp_association.proofs.Coming.{if_ok, never_accepted, never_told, on_ok}
 use Rattle.sctp_association.proofs.Going.{accepted_as}
 use Rattle.sctp_association.proofs.First.{begins, first_is, for_admitted, on_err, only_data, type_of_one}
-use Rattle.sctp_association.proofs.Offered.{offered_less, offered_same}
+use Rattle.sctp_association.proofs.Offered.{limits_of_offered, offered_less, offered_same}
 use Rattle.sctp_association.proofs.association.Association.handle_datagram.Goals as goal
 use Rattle.sctp_association.proofs.Each.{told_once}
 use Rattle.sctp_association.specs.Coming.{TakesEachOf, zero_checksum_of}
+use Rattle.sctp_association.specs.Paths.{MovesByFirstOf, all_go_on}
 use Rattle.sctp_association.specs.Sacks.{HearsFirstOf}
-use Rattle.std.specs.Prelude.{ℕ}
+use Rattle.std.specs.Prelude.{ℕ, true}
 use Rattle.sctp_association.proofs.association.Association.handle_datagram.Goals.{else-self, then-self}
 use Rattle.sctp_datagram.specs.declared.datagram.ChunkPlace.{ChunkPlace}
 use Rattle.sctp_datagram.specs.Places.{TellsAll, place_at}
@@ -33,6 +34,7 @@ returns-in-Err c = record {
   dropped = λ r e. refl;
   came = arrives_same _ _ _ refl;
   offered = offered_same _ _ _ refl;
+  limits = limits_of_offered (offered_same c.args.datagram.now c.args.self.now c.args.self.now refl);
   accepted = never_accepted _ _ c.dropped_by.ensures.never;
   foreign = λ other. refl;
   init = λ begun. refl;
@@ -50,6 +52,7 @@ returns-in-Err c = record {
       let tells = subst (λ (l : List ℕ). TellsAll place_at l (due.first ∷ due.rest)) (sym c.as_slice.ensures) due.tells in
       on_ok _ _ e c.dropped_by.ensures.read (c.in-Err.ensures.only (due.first ∷ due.rest) valid tells);
   each = λ takes e. absurd (never_told _ _ e refl c.dropped_by.ensures.never);
+  path = λ takes e. absurd (never_told _ _ e refl c.dropped_by.ensures.never);
   sacks = λ takes e. absurd (never_told _ _ e refl c.dropped_by.ensures.never);
 }
 
@@ -67,6 +70,17 @@ returns-then-header-self-clause-offered c = offered_same _ _ _ refl
 
 pub returns-then-self-2-clause-offered : goal.returns-then-self-2-clause-offered
 returns-then-self-2-clause-offered c = offered_less _ _ _ _ c.take_after_end.ensures.rest c.take_after_end.ensures.owes
+
+-- ## The limits stay
+
+pub returns-then-header-self-clause-limits : goal.returns-then-header-self-clause-limits
+returns-then-header-self-clause-limits c = limits_of_offered (offered_same c.args.datagram.now c.args.self.now c.args.self.now refl)
+
+pub returns-then-self-2-clause-limits : goal.returns-then-self-2-clause-limits
+returns-then-self-2-clause-limits c = limits_of_offered (offered_less c.args.datagram.now _ _ _ c.take_after_end.ensures.rest c.take_after_end.ensures.owes)
+
+pub returns-clause-limits : goal.returns-clause-limits
+returns-clause-limits c = limits_of_offered c.take_chunks.ensures.came
 
 pub returns-clause-accepted : goal.returns-clause-accepted
 returns-clause-accepted c =
@@ -119,3 +133,14 @@ returns-then-self-2-clause-tells c = tells_due _ _ _ c.take_after_end.ensures.re
 
 pub returns-clause-tells : goal.returns-clause-tells
 returns-clause-tells c = c.take_chunks.ensures.tells
+
+pub returns-then-self-2-clause-path : goal.returns-then-self-2-clause-path
+returns-then-self-2-clause-path c takes is chunks tells all =
+    inl (ap (λ (a : Association). a.is_over) c.take_after_end.ensures.rest ∙ c.if-self-2.true)
+
+pub returns-clause-path : goal.returns-clause-path
+returns-clause-path c takes is chunks tells each =
+    let all : TellsAll place_at c.args.datagram.now c.in-Ok.chunks.left = search rules in
+    let same = told_once _ _ _ all tells in
+    subst (λ (l : List ChunkPlace). MovesByFirstOf l c.args.datagram.now c.args.now c.args.self.now c.take_chunks.new.self) same
+    (c.take_chunks.ensures.path takes is (subst (λ (l : List ChunkPlace). all_go_on l ≡ true) (sym same) each))

@@ -111,3 +111,13 @@ returns-else-has_failed-clause-fails c _ _ =
     (is_unanswered c.args.now out.rto.rto (record c.time_out_control.new.self { outbound = out })) c.has_failed.ensures.fails
     (unanswered_same c.args.now out.rto.rto old (record c.time_out_control.new.self { outbound = out }) ran.requests ran.heartbeat ran.state
     ∙ ap (λ (b : Bool). not b && is_unanswered c.args.now out.rto.rto old) (sym c.if-time_out.false))
+
+-- ## The receiving half
+
+pub returns-then-time_out-clause-inbound : goal.returns-then-time_out-clause-inbound
+returns-then-time_out-clause-inbound c =
+    let same : c.then-time_out.self.inbound ≡ c.time_out_control.new.self.inbound = elim c.then-time_out.branch [
+      | then-time_out-via-then-time_out w ↦ ap (λ (x : Association). x.inbound) w.self-is
+      | then-time_out-via-else-time_out+then-has_failed w ↦ ap (λ (x : Association). x.inbound) (w.self-is ∙ w.has_failed.ensures.rest)
+    ] in
+    c.fail.ensures.inbound ∙ same ∙ c.time_out_control.ensures.inbound

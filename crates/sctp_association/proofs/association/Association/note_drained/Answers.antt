@@ -1,12 +1,12 @@
 use Rattle.sctp_association.proofs.Known.{keeps_by, knows_drained}
 use Rattle.sctp_association.proofs.Going.{drained_told}
-use Rattle.sctp_association.proofs.Leaving.{drained_owes}
+use Rattle.sctp_association.proofs.Leaving.{drained_beats, drained_owes}
 use Rattle.sctp_association.proofs.association.Association.note_drained.Goals as goal
 
 pub returns-clause-peer : goal.returns-clause-peer
 returns-clause-peer c =
     let kept = c.follow.ensures.kept in
-    keeps_by _ _ _ (knows_drained _ _ _ c.drained-answer.ensures) kept.config kept.key kept.machine kept.owes
+    keeps_by _ _ _ (knows_drained _ _ _ c.drained-answer.ensures) kept.config kept.key kept.machine kept.owes kept.sending
 
 pub returns-clause-tells : goal.returns-clause-tells
 returns-clause-tells c = c.follow.ensures.tells.end
@@ -21,4 +21,13 @@ pub returns-clause-asks : goal.returns-clause-asks
 returns-clause-asks c =
     let told = drained_told _ _ c.drained-answer.ensures.answer in
     drained_owes c.args.self.now c.follow.new.self _ _ c.drained-answer.ensures (c.follow.ensures.due told) c.follow.ensures.kept.machine
-    (c.follow.ensures.stays told).cookie
+    (c.follow.ensures.stays told).cookie (c.follow.ensures.inbound told)
+
+pub returns-clause-moments : goal.returns-clause-moments
+returns-clause-moments c =
+    let told = drained_told _ _ c.drained-answer.ensures.answer in
+    drained_beats c.args.now c.args.self.now c.follow.new.self _ _ c.follow.ensures.kept.machine (c.follow.ensures.sending told)
+    (c.follow.ensures.heartbeat told) (c.follow.ensures.requests told) (c.follow.ensures.peer_requests told) c.drained-answer.ensures
+
+pub returns-clause-sending : goal.returns-clause-sending
+returns-clause-sending c = c.follow.ensures.sending (drained_told _ _ c.drained-answer.ensures.answer)

@@ -18,7 +18,17 @@ returns-then-is_empty-clause-came c =
     (ap (λ o. o.sender) c.perform_all.ensures.outbound) _ _ none c.perform_all.ensures.received
 
 pub loop-stream-init : goal.loop-stream-init
-loop-stream-init c = record { came = follows_same _ _ _ _ refl; kept = record { config = refl; key = refl; machine = refl; owes = λ t e. e }; tells = to_same }
+loop-stream-init c = record {
+  came = follows_same _ _ _ _ refl;
+  kept = record {
+    config = refl;
+    key = refl;
+    machine = refl;
+    owes = λ t e. e;
+    sending = (λ e. e, λ e. e);
+  };
+  tells = to_same;
+}
 
 pub loop-stream-preserved : goal.loop-stream-preserved
 loop-stream-preserved c =

@@ -8,7 +8,7 @@ pub loop-stream-init : goal.loop-stream-init
 loop-stream-init c = record {
   outbound = refl;
   received = received_in_same _ _ _ refl;
-  kept = record { config = refl; key = refl; machine = refl; owes = λ t e. e };
+  kept = record { config = refl; key = refl; machine = refl; owes = λ t e. e; sending = (λ e. e, λ e. e) };
   tells = to_same;
 }
 

@@ -1,15 +1,18 @@
-use Rattle.std.proofs.Common.{ap, refl, sym, ◌∙◌}
+use Rattle.std.proofs.Common.{Option, ap, refl, sym, ◌∙◌}
 use Rattle.sctp_association.proofs.Telling.{tells_kept, tells_peer, tells_same, tells_then, to_same, transmits_end, unmoved_end}
 use Rattle.std.proofs.lemmas.Option.{none-some}
 use Rattle.sctp_association.proofs.Congested.{as_full, dropped_windows, full_of, sends_after, sends_alike, sends_same}
-use Rattle.sctp_association.proofs.Known.{keeps_then, knows_same, unmoved_keeps}
+use Rattle.sctp_association.proofs.Known.{keeps_then, knows_same, unmoved_keeps, unmoved_within}
 use Rattle.sctp_association.proofs.Leaving.{leaves_later, leaves_same, new_then, new_unmoved, once_after, stays_leave}
 use Rattle.sctp_association.proofs.Lasting.{lasts_same, lasts_then, lasts_unmoved}
 use Rattle.sctp_association.proofs.Offering.{offers_none, offers_reply}
-use Rattle.sctp_association.proofs.Others.{alike_puts, before_then, none_sent_so, sends_puts, sent_alone, unsent, unsent_err}
+use Rattle.sctp_association.proofs.Owing.{rto_asks}
+use Rattle.sctp_association.proofs.Others.{alike_puts, at_then, beats_same, before_then, none_sent_so, sends_puts, sent_alone, unsent, unsent_err}
 use Rattle.sctp_association.proofs.Putting.{and_then, nothing}
 use Rattle.sctp_association.proofs.association.Association.poll_transmit.Goals as goal
+use Rattle.sctp_association.specs.Entering.{usable_in}
 use Rattle.sctp_association.specs.Halves.{receiver_of, sides_of}
+use Rattle.sctp_association.specs.declared.inbound.Inbound.{Inbound}
 use Rattle.sctp_association.specs.Leaving.{owed_of}
 use Rattle.sctp_association.specs.declared.outbound.Outbound.{Outbound}
 use Rattle.sctp_handshake.specs.declared.machine.Machine.{Machine}
@@ -54,7 +57,7 @@ returns-in_err-abandon-clause-offers c = unsent_err _ c.from_residual-in_err-aba
 
 pub returns-clause-offers : goal.returns-clause-offers
 returns-clause-offers c sent =
-    offers_none c.args.self.now (owed_of c.settle.new.self) (owed_of c.put_packet.new.self) _ (c.put_packet.ensures.once sent)
+    offers_none c.args.now c.args.self.now c.settle.new.self c.put_packet.new.self _ (c.put_packet.ensures.once sent)
 
 -- ## What stays
 
@@ -64,16 +67,43 @@ returns-in_err-put_alone-clause-peer c = unmoved_keeps _ _ c.put_alone.ensures.k
 pub returns-in-Some-clause-peer : goal.returns-in-Some-clause-peer
 returns-in-Some-clause-peer c =
     let kept = c.put_alone.ensures.kept in
-    record { config = kept.config; key = kept.key; machine = knows_same _ _ kept.machine; owes = λ t e. absurd (none-some t e) }
+    record {
+      config = kept.config;
+      key = kept.key;
+      machine = knows_same _ _ kept.machine;
+      owes = λ t e. absurd (none-some t e);
+      sending = unmoved_within _ _ kept;
+    }
 
 pub returns-in_default-peer-clause-peer : goal.returns-in_default-peer-clause-peer
 returns-in_default-peer-clause-peer c =
-    let peer = c.settle.ensures.peer in record { config = peer.config; key = peer.key; machine = peer.machine; owes = peer.owes }
+    let peer = c.settle.ensures.peer in
+    let rest = c.abandon.ensures.rest in
+    record {
+      config = peer.config;
+      key = peer.key;
+      machine = peer.machine;
+      owes = peer.owes;
+      sending = (
+        λ e. peer.sending.0 (ap (λ (o : Outbound). o.failures.most) rest ∙ e),
+        λ e. peer.sending.1 (ap (λ (o : Outbound). o.rto.limits) rest ∙ e),
+      );
+    }
 
 pub returns-clause-peer : goal.returns-clause-peer
 returns-clause-peer c =
     let peer = c.settle.ensures.peer in
-    keeps_then _ c.settle.new.self _ (record { config = peer.config; key = peer.key; machine = peer.machine; owes = peer.owes })
+    let rest = c.abandon.ensures.rest in
+    keeps_then _ c.settle.new.self _ (record {
+      config = peer.config;
+      key = peer.key;
+      machine = peer.machine;
+      owes = peer.owes;
+      sending = (
+        λ e. peer.sending.0 (ap (λ (o : Outbound). o.failures.most) rest ∙ e),
+        λ e. peer.sending.1 (ap (λ (o : Outbound). o.rto.limits) rest ∙ e),
+      );
+    })
     (unmoved_keeps _ _ c.put_packet.ensures.kept)
 
 pub returns-in_err-put_alone-clause-tells : goal.returns-in_err-put_alone-clause-tells
@@ -183,7 +213,9 @@ pub returns-in_err-abandon-clause-once : goal.returns-in_err-abandon-clause-once
 returns-in_err-abandon-clause-once c = unsent_err _ c.from_residual-in_err-abandon.ensures.0
 
 pub returns-clause-once : goal.returns-clause-once
-returns-clause-once c sent _ = once_after (owed_of c.args.self.now) (owed_of c.settle.new.self) (owed_of c.put_packet.new.self) _ c.settle.ensures.asks
+returns-clause-once c sent _ = once_after c.args.now c.args.self.now c.settle.new.self c.put_packet.new.self _ c.settle.ensures.asks
+    (at_then _ _ _
+    (rto_asks c.args.now c.args.self.now c.abandon.new.self (ap (λ (o : Outbound). o.rto) c.abandon.ensures.rest)) c.settle.ensures.moments)
     (ap (λ (m : Machine). m.state) c.put_packet.ensures.kept.machine) (c.put_packet.ensures.once sent)
 
 pub returns-in_err-put_alone-clause-asks : goal.returns-in_err-put_alone-clause-asks
@@ -198,6 +230,9 @@ returns-in-Some-clause-asks c =
       shutdown = put.shutdown;
       shutdown_ack = put.shutdown_ack;
       heartbeat = put.heartbeat;
+      report = put.report;
+      sack = put.sack;
+      unknown = put.unknown;
       cookie = put.cookie;
     }
 
@@ -206,3 +241,41 @@ returns-clause-asks c =
     let put = c.put_packet.ensures in
     new_then (owed_of c.args.self.now) (owed_of c.settle.new.self) (owed_of c.put_packet.new.self) c.settle.ensures.asks
     (ap (λ (m : Machine). m.state) put.kept.machine) (new_unmoved c.settle.new.self c.put_packet.new.self put.kept)
+
+-- ## Streams
+
+pub returns-in_err-put_alone-clause-usable : goal.returns-in_err-put_alone-clause-usable
+returns-in_err-put_alone-clause-usable c s = c.put_alone.ensures.kept.usable s
+
+pub returns-in-Some-clause-usable : goal.returns-in-Some-clause-usable
+returns-in-Some-clause-usable c s = c.put_alone.ensures.kept.usable s
+
+pub returns-in_default-peer-clause-usable : goal.returns-in_default-peer-clause-usable
+returns-in_default-peer-clause-usable c s = ap (λ (x : Option Inbound). usable_in s x) c.settle.ensures.inbound
+
+pub returns-clause-usable : goal.returns-clause-usable
+returns-clause-usable c s = c.put_packet.ensures.kept.usable s ∙ ap (λ (x : Option Inbound). usable_in s x) c.settle.ensures.inbound
+
+-- ## HEARTBEATs
+
+pub returns-in_err-put_alone-clause-moments : goal.returns-in_err-put_alone-clause-moments
+returns-in_err-put_alone-clause-moments c = beats_same c.args.now c.args.self.now c.put_alone.new.self c.put_alone.ensures.timed
+
+pub returns-in-Some-clause-moments : goal.returns-in-Some-clause-moments
+returns-in-Some-clause-moments c =
+    let m = beats_same c.args.now c.args.self.now c.put_alone.new.self c.put_alone.ensures.timed in
+    record { beat = m.beat; request = m.request; responses = m.responses }
+
+pub returns-in_err-abandon-clause-moments : goal.returns-in_err-abandon-clause-moments
+returns-in_err-abandon-clause-moments c =
+    rto_asks c.args.now c.args.self.now c.abandon.new.self (ap (λ (o : Outbound). o.rto) c.abandon.ensures.rest)
+
+pub returns-in_default-peer-clause-moments : goal.returns-in_default-peer-clause-moments
+returns-in_default-peer-clause-moments c = at_then _ _ _
+    (rto_asks c.args.now c.args.self.now c.abandon.new.self (ap (λ (o : Outbound). o.rto) c.abandon.ensures.rest)) c.settle.ensures.moments
+
+pub returns-clause-moments : goal.returns-clause-moments
+returns-clause-moments c = at_then _ _ _
+    (at_then _ _ _
+    (rto_asks c.args.now c.args.self.now c.abandon.new.self (ap (λ (o : Outbound). o.rto) c.abandon.ensures.rest)) c.settle.ensures.moments)
+    c.put_packet.ensures.moments

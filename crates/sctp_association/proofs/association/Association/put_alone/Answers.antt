@@ -43,7 +43,11 @@ returns-in_err-put_reply-clause-kept c =
       events = kept.events;
       over = kept.over;
       failures = kept.failures;
+      rto = kept.rto;
+      usable = kept.usable;
       due = kept.due;
+      sack = kept.sack;
+      unknown = kept.unknown;
     }
 
 pub returns-clause-kept : goal.returns-clause-kept
@@ -58,7 +62,11 @@ returns-clause-kept c =
       events = kept.events;
       over = kept.over;
       failures = kept.failures;
+      rto = kept.rto;
+      usable = kept.usable;
       due = kept.due;
+      sack = kept.sack;
+      unknown = kept.unknown;
     }
 
 pub returns-clause-reply : goal.returns-clause-reply
@@ -73,3 +81,9 @@ returns-in_err-put_reply-clause-replies c = c.put_reply.ensures.replies ∙ with
 pub returns-clause-replies : goal.returns-clause-replies
 returns-clause-replies c = with_limit (replies_of c.put_reply.new.self) _ c.seal.ensures.limit ∙ c.put_reply.ensures.replies
     ∙ with_limit (replies_of c.args.self.now) _ c.begin.ensures.limit
+
+pub returns-in_err-put_reply-clause-timed : goal.returns-in_err-put_reply-clause-timed
+returns-in_err-put_reply-clause-timed c = let t = c.put_reply.ensures.timed in record { heartbeat = t.heartbeat; requests = t.requests; peer = t.peer }
+
+pub returns-clause-timed : goal.returns-clause-timed
+returns-clause-timed c = let t = c.put_reply.ensures.timed in record { heartbeat = t.heartbeat; requests = t.requests; peer = t.peer }

@@ -1,10 +1,14 @@
 use Rattle.sctp_association.proofs.Leaving.{stands_put}
 use Rattle.std.proofs.Common.{inl, inr, refl}
-use Rattle.std.proofs.Common.{◌≤◌, ap, length, subst, ◌∙◌}
+use Rattle.std.proofs.Common.{◌≤◌, ap, length, subst, sym, ◌∙◌}
 use Rattle.sctp_association.proofs.Idle.{cookie_ack_put}
 use Rattle.sctp_association.proofs.association.Association.put_cookie_ack.Goals as goal
 use Rattle.sctp_association.proofs.association.Association.put_cookie_ack.Goals.{else-self-via-else-self, else-self-via-then-self+else-put}
 use Rattle.sctp_association.specs.declared.association.Association.{Association}
+use Rattle.sctp_association.proofs.Others.{others_none, others_same}
+use Rattle.sctp_association.proofs.Known.{owes_alike}
+use Rattle.sctp_association.specs.Halves.{PutsOthers}
+use Rattle.sctp_packets.specs.Draft.{Draft}
 
 pub returns-else-self-clause-owes : goal.returns-else-self-clause-owes
 returns-else-self-clause-owes c head short = elim c.else-self.branch [
@@ -24,3 +28,28 @@ returns-then-put-clause-leaves c = record {
   acked = refl;
   limit = c.put.ensures.limit;
 }
+
+pub returns-else-self-clause-others : goal.returns-else-self-clause-others
+returns-else-self-clause-others c = elim c.else-self.branch [
+  | else-self-via-then-self+else-put w ↦ subst (PutsOthers c.args.self.now) (sym w.self-is) (
+      others_none c.args.self.now _ (record { sender = refl; receiver = refl; windows = record { peer_window = refl; congestion = refl } })
+      (record {
+        config = refl;
+        key = refl;
+        machine = refl;
+        alone = refl;
+        cookie = refl;
+        events = refl;
+        over = refl;
+        failures = refl;
+        rto = refl;
+        usable = λ s. refl;
+        due = owes_alike _;
+        sack = λ e. e;
+        unknown = λ s e. e;
+      })
+      (record { heartbeat = refl; requests = refl; peer = refl })
+      (ap (λ (d : Draft). d.bytes) (w.put.ensures.full w.if-put.false))
+      )
+  | else-self-via-else-self w ↦ others_same c.args.self.now _ w.self-is
+]

@@ -1,6 +1,7 @@
 use Rattle.std.proofs.Common.{inl, inr, refl, sym, ◌∙◌}
+use Rattle.sctp_association.proofs.Known.{owes_alike}
 use Rattle.sctp_association.proofs.Leaving.{stands_put}
-use Rattle.sctp_association.proofs.Others.{others_one}
+use Rattle.sctp_association.proofs.Others.{others_none, others_one}
 use Rattle.sctp_association.proofs.association.Association.put_cookie_echo.Goals as goal
 
 pub returns-then-is_put-clause-leaves : goal.returns-then-is_put-clause-leaves
@@ -23,7 +24,8 @@ pub returns-then-is_put-clause-others : goal.returns-then-is_put-clause-others
 returns-then-is_put-clause-others c =
     let own = sym c.in-Some.is ∙ c.take.ensures.value in
     others_one c.put-is_put.result _ c.args.self.now _ c.put-is_put.ensures.added tt
-    (c.if-not-self.false, sym c.take.ensures.value ∙ c.in-Some.is, refl) (record { sender = refl; receiver = refl; windows = record { peer_window = refl; congestion = refl } })
+    (c.if-not-self.false, sym c.take.ensures.value ∙ c.in-Some.is, refl)
+    (record { sender = refl; receiver = refl; windows = record { peer_window = refl; congestion = refl } })
     (record {
       config = refl;
       key = refl;
@@ -33,5 +35,37 @@ returns-then-is_put-clause-others c =
       events = refl;
       over = refl;
       failures = refl;
-      due = record { cookie_echo = λ e. refl; cookie_ack = λ e. e; shutdown = λ e. e; shutdown_ack = λ e. e; heartbeat = λ info e. e };
+      rto = refl;
+      usable = λ s. refl;
+      due = record {
+        cookie_echo = λ e. refl;
+        cookie_ack = λ e. e;
+        shutdown = λ e. e;
+        shutdown_ack = λ e. e;
+        heartbeat = λ info e. e;
+        report = λ r e. e;
+      };
+      sack = λ e. e;
+      unknown = λ s e. e;
     })
+    (record { heartbeat = refl; requests = refl; peer = refl })
+
+pub returns-in_default-clause-others : goal.returns-in_default-clause-others
+returns-in_default-clause-others c = others_none c.args.self.now _
+    (record { sender = refl; receiver = refl; windows = record { peer_window = refl; congestion = refl } })
+    (record {
+      config = refl;
+      key = refl;
+      machine = refl;
+      alone = refl;
+      cookie = c.take.ensures.after ∙ (sym c.in_default.is ∙ c.take.ensures.value);
+      events = refl;
+      over = refl;
+      failures = refl;
+      rto = refl;
+      usable = λ s. refl;
+      due = owes_alike _;
+      sack = λ e. e;
+      unknown = λ s e. e;
+    })
+    (record { heartbeat = refl; requests = refl; peer = refl }) refl

@@ -1,5 +1,7 @@
 use Rattle.std.proofs.Common.{refl, subst, sym}
 use Rattle.sctp_association.proofs.Congested.{within_same}
+use Rattle.sctp_association.proofs.Others.{at_then}
+use Rattle.sctp_association.proofs.Owing.{rto_asks}
 use Rattle.sctp_association.proofs.Putting.{nothing}
 use Rattle.sctp_association.proofs.association.Association.put_data.Goals as goal
 use Rattle.sctp_association.specs.Congested.{LeavesWithin}
@@ -14,7 +16,7 @@ pub returns-in_err-put-clause-made : goal.returns-in_err-put-clause-made
 returns-in_err-put-clause-made c = c.put.ensures.made (receiver_of c.args.self.now.inbound)
 
 pub returns-clause-made : goal.returns-clause-made
-returns-clause-made c = subst (λ (a : Association). Puts (sides_of c.args.self.now) (sides_of a)) (sym c.note_use.ensures)
+returns-clause-made c = subst (λ (a : Association). Puts (sides_of c.args.self.now) (sides_of a)) (sym c.note_use.ensures.rest)
     (c.put.ensures.made (receiver_of c.args.self.now.inbound))
 
 pub returns-then-not-sends_data-clause-within : goal.returns-then-not-sends_data-clause-within
@@ -22,4 +24,11 @@ returns-then-not-sends_data-clause-within c = within_same c.args.self.now.outbou
 
 pub returns-clause-within : goal.returns-clause-within
 returns-clause-within c =
-    subst (λ (a : Association). LeavesWithin c.args.self.now.outbound a.outbound) (sym c.note_use.ensures) c.put.ensures.within
+    subst (λ (a : Association). LeavesWithin c.args.self.now.outbound a.outbound) (sym c.note_use.ensures.rest) c.put.ensures.within
+
+pub returns-in_err-put-clause-moments : goal.returns-in_err-put-clause-moments
+returns-in_err-put-clause-moments c = rto_asks c.args.now c.args.self.now c.put.new.self c.put.ensures.counted.rto
+
+pub returns-clause-moments : goal.returns-clause-moments
+returns-clause-moments c = at_then _ _ _
+    (rto_asks c.args.now c.args.self.now c.put.new.self c.put.ensures.counted.rto) c.note_use.ensures.moments

@@ -1,7 +1,9 @@
 use Rattle.std.proofs.Common.{◌≡◌, ◌⊎◌, ◌≤◌, ◌∷◌, [], ap, false, inl, inr, length, refl, sym, true, ◌∙◌}
 use Rattle.std.proofs.lemmas.Bool.{leb-true}
 use Rattle.sctp_association.proofs.Leaving.{left_or_too_long}
+use Rattle.sctp_association.proofs.Known.{owes_alike}
 use Rattle.sctp_association.proofs.Making.{of-some}
+use Rattle.sctp_association.proofs.Others.{others_none}
 use Rattle.sctp_association.proofs.association.Association.put_heartbeat_ack.Goals as goal
 use Rattle.sctp_association.proofs.association.Association.put_heartbeat_ack.Goals.{then-is_put-via-then-is_put, then-is_put-via-else-is_put+then-is_empty}
 use Rattle.sctp_association.specs.Leaving.{heartbeat_ack_of}
@@ -29,3 +31,23 @@ returns-then-is_put-clause-leaves c =
       acked = refl;
       limit = put.limit;
     }
+
+pub returns-in_err-heartbeat_ack-clause-others : goal.returns-in_err-heartbeat_ack-clause-others
+returns-in_err-heartbeat_ack-clause-others c = others_none c.args.self.now _
+    (record { sender = refl; receiver = refl; windows = record { peer_window = refl; congestion = refl } })
+    (record {
+      config = refl;
+      key = refl;
+      machine = refl;
+      alone = refl;
+      cookie = refl;
+      events = refl;
+      over = refl;
+      failures = refl;
+      rto = refl;
+      usable = λ s. refl;
+      due = owes_alike _;
+      sack = λ e. e;
+      unknown = λ s e. e;
+    })
+    (record { heartbeat = refl; requests = refl; peer = refl }) refl

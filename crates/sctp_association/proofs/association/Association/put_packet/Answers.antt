@@ -3,7 +3,8 @@ use Rattle.std.proofs.Common.{[], ap, false, refl, subst, sym, ◌∙◌}
 use Rattle.sctp_association.specs.Leaving.{replies_of}
 use Rattle.std.proofs.lemmas.Bool.{leb-true}
 use Rattle.sctp_association.proofs.Congested.{paused, within_same, within_then}
-use Rattle.sctp_association.proofs.Others.{none_sent_so, plain_after, sealed_after, sent_same, unsent, unsent_after, unsent_err}
+use Rattle.sctp_association.proofs.Others.{at_then, none_sent_so, plain_after, sealed_after, sent_same, unsent, unsent_after, unsent_err}
+use Rattle.sctp_association.proofs.Owing.{rto_asks}
 use Rattle.sctp_association.proofs.Putting.{nothing}
 use Rattle.sctp_association.proofs.association.Association.put_packet.Goals as goal
 use Rattle.sctp_association.specs.declared.outbound.Outbound.{Outbound}
@@ -87,3 +88,19 @@ pub returns-clause-leaves : goal.returns-clause-leaves
 returns-clause-leaves c = by_sealed c.args.header _ _ _ _ _ _ _ c.in_ok-begin.ensures.begun
     (with_limit (replies_of c.args.self.now) _ c.begin.ensures.limit) c.fill-filled.ensures.leaves
     (with_limit (replies_of c.fill-filled.new.self) _ c.seal.ensures.limit) c.args.is_zero c.seal.ensures.sealed
+
+-- ## HEARTBEATs
+
+pub returns-in_err-filled-clause-moments : goal.returns-in_err-filled-clause-moments
+returns-in_err-filled-clause-moments c =
+    let m = c.fill-filled.ensures.moments in record { beat = m.beat; request = m.request; responses = m.responses }
+
+pub returns-then-is_empty-clause-moments : goal.returns-then-is_empty-clause-moments
+returns-then-is_empty-clause-moments c =
+    let m = c.fill-filled.ensures.moments in
+    at_then _ _ _ (record { beat = m.beat; request = m.request; responses = m.responses })
+    (rto_asks c.args.now c.fill-filled.new.self c.pause.new.self (ap (λ (o : Outbound). o.rto) c.pause.ensures))
+
+pub returns-clause-moments : goal.returns-clause-moments
+returns-clause-moments c =
+    let m = c.fill-filled.ensures.moments in record { beat = m.beat; request = m.request; responses = m.responses }

@@ -1,15 +1,35 @@
 use Rattle.std.proofs.Common.{refl}
 use Rattle.sctp_association.proofs.Idle.{on_ok_so}
 use Rattle.sctp_association.proofs.Known.{owes_alike}
-use Rattle.sctp_association.proofs.Offering.{reply_shutting}
-use Rattle.sctp_association.proofs.Replying.{abort_reply, as_be32, as_missing, complete_reply, host_name_reply, no_cookie_reply, no_data_reply, shutting_reply, stale_reply}
+use Rattle.sctp_association.proofs.Offering.{reply_one, reply_then}
+use Rattle.sctp_association.proofs.Replying.{abort_reply, as_be32, as_missing, complete_reply}
+use Rattle.sctp_association.proofs.Replying.{host_name_reply, no_cookie_reply, no_data_reply, shutting_reply, stale_reply}
 use Rattle.sctp_association.proofs.association.Association.put_reply.Goals as goal
+
+pub returns-in-StaleCookie-clause-reply : goal.returns-in-StaleCookie-clause-reply
+returns-in-StaleCookie-clause-reply c = c.put_error.ensures.reply c.args.kind
 
 pub returns-in-ShuttingDown-clause-reply : goal.returns-in-ShuttingDown-clause-reply
 returns-in-ShuttingDown-clause-reply c =
-    reply_shutting c.put-in-ShuttingDown.result _ c.args.self.now _ _ c.put-in-ShuttingDown.ensures.added (record { sender = refl; receiver = refl; windows = record { peer_window = refl; congestion = refl } })
-    (record { config = refl; key = refl; machine = refl; alone = refl; cookie = refl; events = refl; over = refl; failures = refl; due = owes_alike _ })
-    c.put_error-in-ShuttingDown.ensures.others
+    reply_then c.args.kind c.args.self.now _ _ (
+    reply_one c.put-in-ShuttingDown.result _ c.args.kind c.args.self.now _ c.put-in-ShuttingDown.ensures.added tt tt
+    (record { sender = refl; receiver = refl; windows = record { peer_window = refl; congestion = refl } })
+    (record {
+      config = refl;
+      key = refl;
+      machine = refl;
+      alone = refl;
+      cookie = refl;
+      events = refl;
+      over = refl;
+      failures = refl;
+      rto = refl;
+      usable = λ s. refl;
+      due = owes_alike _;
+      sack = λ e. e;
+      unknown = λ s e. e;
+    })
+    ) (c.put_error-in-ShuttingDown.ensures.reply c.args.kind)
 
 -- ## Exactly its chunks
 

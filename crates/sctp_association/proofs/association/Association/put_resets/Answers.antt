@@ -1,6 +1,72 @@
-use Rattle.sctp_association.proofs.Others.{others_then}
+use Rattle.std.proofs.Common.{ap, refl, subst, ◌∙◌}
+use Rattle.sctp_association.proofs.Resetting.{puts_resets, reset_alike, reset_asks, reset_draft, reset_less, reset_most, reset_requests}
+use Rattle.sctp_association.proofs.Others.{same_puts}
+use Rattle.sctp_association.proofs.Putting.{nothing}
+use Rattle.sctp_association.proofs.Resetting.{request_rest, reset_rest, reset_unmoved, response_rest, sent_later}
 use Rattle.sctp_association.proofs.association.Association.put_resets.Goals as goal
+use Rattle.std.specs.Prelude.{is_some}
+use Rattle.sctp_association.specs.declared.association.Association.{Association}
+use Rattle.sctp_association.specs.Halves.{sides_of}
+use Rattle.sctp_association.specs.Leaving.{PutsReconfig, requests_due}
+use Rattle.sctp_packets.specs.Draft.{Draft}
 
-pub returns-then-is_some-clause-others : goal.returns-then-is_some-clause-others
-returns-then-is_some-clause-others c =
-    others_then _ _ _ (others_then _ _ _ c.next_request.ensures.others c.next_response-response.ensures.others) c.put_reconfig.ensures.others
+pub returns-then-is_some-clause-halves : goal.returns-then-is_some-clause-halves
+returns-then-is_some-clause-halves c = reset_alike c.args.now c.args.self.now c.put_reconfig.new.self
+    (reset_rest c.args.self.now c.next_request.new.self c.next_response-response.new.self c.put_reconfig.new.self
+    c.next_request.ensures.rest c.next_response-response.ensures.rest c.put_reconfig.ensures.rest)
+
+pub returns-then-is_some-clause-kept : goal.returns-then-is_some-clause-kept
+returns-then-is_some-clause-kept c = reset_unmoved c.args.now c.args.self.now c.put_reconfig.new.self
+    (reset_rest c.args.self.now c.next_request.new.self c.next_response-response.new.self c.put_reconfig.new.self
+    c.next_request.ensures.rest c.next_response-response.ensures.rest c.put_reconfig.ensures.rest)
+
+pub returns-then-is_some-clause-moments : goal.returns-then-is_some-clause-moments
+returns-then-is_some-clause-moments c = reset_asks c.args.now c.args.self.now c.put_reconfig.new.self
+    (reset_rest c.args.self.now c.next_request.new.self c.next_response-response.new.self c.put_reconfig.new.self
+    c.next_request.ensures.rest c.next_response-response.ensures.rest c.put_reconfig.ensures.rest)
+    (λ none. c.put_reconfig.ensures.more
+    (ap (λ r. requests_due c.args.now r) (reset_requests c.args.self.now c.next_request.new.self c.next_response-response.new.self c.put_reconfig.new.self
+    c.next_request.ensures.rest c.next_response-response.ensures.rest c.put_reconfig.ensures.rest)
+    ∙ c.next_request.ensures.more none))
+    (reset_most c.args.self.now c.next_request.new.self c.next_response-response.new.self c.put_reconfig.new.self
+    c.next_request.ensures.rest c.next_response-response.ensures.rest c.put_reconfig.ensures.rest
+    c.next_response-response.ensures.fewer)
+
+pub returns-then-is_some-clause-made : goal.returns-then-is_some-clause-made
+returns-then-is_some-clause-made c =
+    let draft = reset_draft c.args.self.now c.next_request.new.self c.next_response-response.new.self c.put_reconfig.new.self
+    c.next_request.ensures.rest c.next_response-response.ensures.rest c.put_reconfig.ensures.rest in
+    let requests = reset_requests c.args.self.now c.next_request.new.self c.next_response-response.new.self c.put_reconfig.new.self
+    c.next_request.ensures.rest c.next_response-response.ensures.rest c.put_reconfig.ensures.rest in
+    let P : Draft → Type 0 = λ d.
+    PutsReconfig (is_some c.next_response-response.result) (is_some c.in_ok-request.request) d c.put_reconfig.new.self.draft in
+    let puts = subst P draft c.put_reconfig.ensures.puts in
+    puts_resets c.args.now c.args.self.now c.put_reconfig.new.self _ _ puts
+    (λ some. reset_less c.args.self.now c.next_request.new.self c.next_response-response.new.self c.put_reconfig.new.self
+    c.next_request.ensures.rest c.next_response-response.ensures.rest c.put_reconfig.ensures.rest
+    (c.next_response-response.ensures.taken some))
+    (reset_alike c.args.now c.args.self.now c.put_reconfig.new.self
+    (reset_rest c.args.self.now c.next_request.new.self c.next_response-response.new.self c.put_reconfig.new.self
+    c.next_request.ensures.rest c.next_response-response.ensures.rest c.put_reconfig.ensures.rest))
+    _ refl (λ some. (c.in_ok-request.ensures.due some).0)
+    (λ some. sent_later c.args.now c.put_reconfig.new.self _ _
+    (c.put_reconfig.ensures.under ∙ ap (λ r. is_some r.under_way) requests ∙ (c.in_ok-request.ensures.due some).1) draft (c.put_reconfig.ensures.once some))
+
+-- ## Nothing is put
+
+pub returns-then-room-lt-MOST_BYTES-clause-made : goal.returns-then-room-lt-MOST_BYTES-clause-made
+returns-then-room-lt-MOST_BYTES-clause-made c = nothing (sides_of c.args.self.now)
+
+pub returns-in_err-request-clause-made : goal.returns-in_err-request-clause-made
+returns-in_err-request-clause-made c =
+    same_puts c.args.self.now c.next_request.new.self (ap (λ (x : Association). x.draft.bytes) c.next_request.ensures.rest)
+    (reset_alike c.args.now c.args.self.now c.next_request.new.self (request_rest c.args.self.now c.next_request.new.self c.next_request.ensures.rest))
+
+pub returns-else-is_some-2-clause-made : goal.returns-else-is_some-2-clause-made
+returns-else-is_some-2-clause-made c =
+    let rest = response_rest c.args.self.now c.next_request.new.self c.next_response-response.new.self c.next_request.ensures.rest
+    c.next_response-response.ensures.rest in
+    let bytes = ap (λ (x : Association). x.draft.bytes) c.next_response-response.ensures.rest
+    ∙ ap (λ (x : Association). x.draft.bytes) c.next_request.ensures.rest in
+    same_puts c.args.self.now c.next_response-response.new.self bytes
+    (reset_alike c.args.now c.args.self.now c.next_response-response.new.self rest)

@@ -2,12 +2,15 @@ use Rattle.sctp_association.proofs.Congested.{full_others}
 use Rattle.sctp_association.proofs.Leaving.{into_then}
 use Rattle.std.proofs.Common.{arith, ◌∙◌}
 use Rattle.sctp_association.proofs.Idle.{added_longer, no_shutdown}
-use Rattle.sctp_association.proofs.Others.{due_others}
+use Rattle.sctp_association.proofs.Others.{once_others, timed_then}
 use Rattle.sctp_association.proofs.association.Association.put_shutdown.Goals as goal
 
 pub returns-clause-made : goal.returns-clause-made
-returns-clause-made c = due_others c.args.self.now c.put_shutdown_asked.new.self c.put_shutdown_ack.new.self c.put_shutdown_asked.ensures.made
+returns-clause-made c = once_others c.args.self.now c.put_shutdown_asked.new.self c.put_shutdown_ack.new.self c.put_shutdown_asked.ensures.made
     c.put_shutdown_asked.ensures.kept c.put_shutdown_ack.ensures.others
+
+pub returns-clause-timed : goal.returns-clause-timed
+returns-clause-timed c = timed_then _ _ _ c.put_shutdown_asked.ensures.timed c.put_shutdown_ack.ensures.others.timed
 
 pub returns-clause-owes : goal.returns-clause-owes
 returns-clause-owes c p draft short =

@@ -1,6 +1,7 @@
-use Rattle.std.proofs.Common.{refl, sym, ◌∙◌}
+use Rattle.std.proofs.Common.{ap, refl, sym, ◌∙◌}
 use Rattle.sctp_association.proofs.Known.{keeps_by, knows_timed}
 use Rattle.sctp_association.proofs.Lasting.{expires_run_out, timed_left}
+use Rattle.sctp_path.specs.Rto.{Timeout}
 use Rattle.sctp_association.proofs.association.Association.run_out.Goals as goal
 
 pub returns-else-is_some-clause-left : goal.returns-else-is_some-clause-left
@@ -9,4 +10,6 @@ returns-else-is_some-clause-left c going =
     (timed_left c.args.self.now.machine _ _ c.timed_out-answer.ensures (sym c.is_some.ensures ∙ c.if-is_some.false))
 
 pub returns-else-is_some-clause-peer : goal.returns-else-is_some-clause-peer
-returns-else-is_some-clause-peer c = keeps_by _ _ _ (knows_timed _ _ _ c.timed_out-answer.ensures) refl refl refl c.owe_again.ensures
+returns-else-is_some-clause-peer c =
+    keeps_by _ _ _ (knows_timed _ _ _ c.timed_out-answer.ensures) refl refl refl c.owe_again.ensures
+    (λ e. e, λ e. ap (λ (t : Timeout). t.limits) c.backed_off.ensures ∙ e)

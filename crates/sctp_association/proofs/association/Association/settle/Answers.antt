@@ -1,9 +1,13 @@
 use Rattle.sctp_association.specs.Telling.{TellsEnd}
 use Rattle.sctp_association.proofs.Telling.{end_same, end_then}
 use Rattle.std.proofs.Common.{ap}
-use Rattle.sctp_association.proofs.Known.{keeps_by, keeps_kept, keeps_then, knows_asked, owes_same}
+use Rattle.sctp_association.proofs.Known.{keeps_by, keeps_kept, keeps_then, knows_asked, owes_same, within_same}
 use Rattle.sctp_association.specs.Beginnings.{KeepsPeer}
 use Rattle.sctp_association.specs.declared.association.Association.{Association}
+use Rattle.sctp_association.proofs.Leaving.{asked_beats}
+use Rattle.sctp_association.proofs.Others.{beats_same, beats_then}
+use Rattle.sctp_association.specs.Leaving.{AsksNoMore}
+use Rattle.sctp_association.specs.Still.{heartbeat_time}
 use Rattle.sctp_association.proofs.association.Association.settle.Goals as goal
 use Rattle.sctp_association.proofs.association.Association.settle.Goals.{else-self, then-self+then-eq}
 
@@ -13,11 +17,13 @@ returns-clause-peer c =
       | then-self+then-eq w ↦ keeps_by _ _ _ (knows_asked _ _ _ w.shutdown_asked-answer.ensures) (ap (λ (x : Association). x.config) w.self-is)
           (ap (λ (x : Association). x.key) w.self-is) (ap (λ (x : Association). x.machine) w.self-is)
           (owes_same c.args.self.now c.if-self.self (ap (λ (x : Association). x.due) w.self-is))
+          (within_same c.args.self.now c.if-self.self (ap (λ (x : Association). x.config) w.self-is) (ap (λ (x : Association). x.outbound) w.self-is))
       | else-self w ↦ keeps_kept _ _ (record {
         config = ap (λ (x : Association). x.config) w.self-is;
         key = ap (λ (x : Association). x.key) w.self-is;
         machine = ap (λ (x : Association). x.machine) w.self-is;
         owes = owes_same c.args.self.now c.if-self.self (ap (λ (x : Association). x.due) w.self-is);
+        sending = within_same c.args.self.now c.if-self.self (ap (λ (x : Association). x.config) w.self-is) (ap (λ (x : Association). x.outbound) w.self-is);
       })
     ] in
     keeps_then _ _ _ first c.note_drained.ensures.peer
@@ -29,3 +35,17 @@ returns-clause-tells c =
       | else-self w ↦ end_same _ _ w.self-is
     ] in
     end_then first c.note_drained.ensures.tells
+
+pub returns-clause-moments : goal.returns-clause-moments
+returns-clause-moments c =
+    let first : AsksNoMore c.args.now c.args.self.now c.if-self.self = elim c.if-self.branch [
+      | then-self+then-eq w ↦ asked_beats c.args.now c.args.self.now c.if-self.self _ _ (ap (λ (x : Association). x.machine) w.self-is)
+          (ap (λ (x : Association). x.outbound) w.self-is) (ap (λ (x : Association). x.heartbeat) w.self-is) (ap (λ (x : Association). x.requests) w.self-is)
+          (ap (λ (x : Association). x.peer_requests) w.self-is) w.shutdown_asked-answer.ensures
+      | else-self w ↦ beats_same c.args.now c.args.self.now c.if-self.self (record {
+        heartbeat = ap heartbeat_time w.self-is;
+        requests = ap (λ (x : Association). x.requests) w.self-is;
+        peer = ap (λ (x : Association). x.peer_requests) w.self-is;
+      })
+    ] in
+    beats_then c.args.now c.args.self.now c.if-self.self c.note_drained.new.self first c.note_drained.ensures.moments

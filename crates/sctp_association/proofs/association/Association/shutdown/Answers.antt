@@ -1,4 +1,4 @@
-use Rattle.std.proofs.Common.{rules}
+use Rattle.std.proofs.Common.{rules, ◌∙◌}
 use Rattle.sctp_association.proofs.Telling.{tells_peer, tells_then}
 use Rattle.sctp_association.proofs.Begun.{asked_told}
 use Rattle.sctp_association.proofs.Others.{alike_then}
@@ -18,11 +18,17 @@ pub returns-clause-peer : goal.returns-clause-peer
 returns-clause-peer c =
     let kept = c.follow.ensures.kept in
     keeps_then _ c.follow.new.self _
-    (keeps_by _ _ _ (knows_asked _ _ _ c.shutdown_asked-answer.ensures) kept.config kept.key kept.machine kept.owes) c.settle.ensures.peer
+    (keeps_by _ _ _ (knows_asked _ _ _ c.shutdown_asked-answer.ensures) kept.config kept.key kept.machine kept.owes kept.sending) c.settle.ensures.peer
 
 pub returns-clause-tells : goal.returns-clause-tells
 returns-clause-tells c =
     let kept = c.follow.ensures.kept in
     tells_then _ c.follow.new.self _
-    (tells_peer _ _ (keeps_by _ _ _ (knows_asked _ _ _ c.shutdown_asked-answer.ensures) kept.config kept.key kept.machine kept.owes) c.follow.ensures.tells.end)
+    (tells_peer _ _ (keeps_by _ _ _ (knows_asked _ _ _ c.shutdown_asked-answer.ensures) kept.config kept.key kept.machine kept.owes kept.sending)
+    c.follow.ensures.tells.end)
     (tells_peer _ _ c.settle.ensures.peer c.settle.ensures.tells)
+
+pub returns-clause-inbound : goal.returns-clause-inbound
+returns-clause-inbound c =
+    let quiet = asked_told c.args.self.now.machine _ (λ e. absurd (search rules)) c.shutdown_asked-answer.ensures.answer in
+    c.settle.ensures.inbound ∙ c.follow.ensures.inbound quiet

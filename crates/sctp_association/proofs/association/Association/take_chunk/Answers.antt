@@ -1,6 +1,7 @@
 use Rattle.sctp_association.proofs.Telling.{tells_due, tells_peer, tells_same, tells_still}
-use Rattle.std.proofs.Common.{refl}
+use Rattle.std.proofs.Common.{arith, refl}
 use Rattle.sctp_association.proofs.Offered.{offered_calls, offered_due, offered_kept, offered_same}
+use Rattle.sctp_association.proofs.Paths.{moves_none}
 use Rattle.sctp_association.proofs.association.Association.take_chunk.Goals as goal
 
 pub returns-then-not-admits-clause-came : goal.returns-then-not-admits-clause-came
@@ -44,3 +45,13 @@ returns-in-130-clause-tells c = tells_still _ _ c.take_reconfig.ensures.kept c.t
 
 pub returns-in-192-clause-tells : goal.returns-in-192-clause-tells
 returns-in-192-clause-tells c = tells_peer _ _ c.take_skip.ensures.peer c.take_skip.ensures.tells
+
+pub returns-in-0-clause-path : goal.returns-in-0-clause-path
+returns-in-0-clause-path c takes going =
+    moves_none c.args.chunk c.args.datagram.now c.args.now c.take_data.result c.args.self.now.outbound c.take_data.new.self.outbound
+    (λ is. absurd (omega (arith, is))) c.take_data.ensures.sending
+
+pub returns-in-192-clause-path : goal.returns-in-192-clause-path
+returns-in-192-clause-path c takes going =
+    moves_none c.args.chunk c.args.datagram.now c.args.now c.take_skip.result c.args.self.now.outbound c.take_skip.new.self.outbound
+    (λ is. absurd (omega (arith, is))) c.take_skip.ensures.sending

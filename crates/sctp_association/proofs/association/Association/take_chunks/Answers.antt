@@ -15,7 +15,9 @@ use Rattle.sctp_util.specs.Field.{u32_at}
 use Rattle.sctp_association.proofs.Carrying.{all_own, next_own}
 use Rattle.sctp_association.proofs.association.Association.take_chunks.Goals as goal
 use Rattle.sctp_association.proofs.Each.{each_ended, first_next, first_same, first_stop}
+use Rattle.sctp_association.proofs.Paths.{first_move_next, first_move_stop, move_ended}
 use Rattle.sctp_association.proofs.Sacks.{first_sack_next, first_sack_stop, sack_ended}
+use Rattle.sctp_association.specs.Paths.{MovesByFirstOf, all_go_on}
 use Rattle.sctp_association.specs.Sacks.{HearsFirstOf, TakesSacksOf}
 use Rattle.std.specs.Prelude.{ℕ, true}
 use Rattle.sctp_datagram.specs.declared.datagram.ChunkPlace.{ChunkPlace}
@@ -221,3 +223,34 @@ pub returns-clause-tells : goal.returns-clause-tells
 returns-clause-tells c =
     let ended = c.end_datagram-2.ensures in
     tells_then _ _ _ c.take_first.ensures.tells (tells_then _ _ _ c.take_others-is_whole.ensures.tells (tells_peer _ _ ended.peer ended.tells))
+
+-- ## What moves
+
+pub returns-in-Stop-clause-path : goal.returns-in-Stop-clause-path
+returns-in-Stop-clause-path c takes is all =
+    let stop : c.take_first.result ≡ Ok step.Stop = search rules in
+    let tag : c.header-tag.result.verification_tag ≡ u32_at c.args.datagram.now 4 =
+    c.header-tag.ensures.verification_tag ∙ ap (λ l. u32_at l 4) c.requires.whole in
+    let of : TakesSacksOf c.header-tag.result.verification_tag c.args.self.now = subst (λ (n : ℕ). TakesSacksOf n c.args.self.now) (sym tag) takes in
+    let each = subst (λ (l : List ChunkPlace). all_go_on l ≡ true) c.in-Some.ensures.place all in
+    subst (λ (l : List ChunkPlace). MovesByFirstOf l c.args.datagram.now c.args.now c.args.self.now c.take_first.new.self) (sym c.in-Some.ensures.place)
+    (first_move_stop c.header-tag.result.verification_tag c.args.datagram.now c.args.now c.in-Some.first c.next.new.self.left c.args.self.now
+    c.take_first.new.self c.take_first.result each (c.take_first.ensures.sacks of) stop)
+
+pub returns-clause-path : goal.returns-clause-path
+returns-clause-path c takes is all =
+    let ended = c.end_datagram-2.ensures in
+    let next : c.take_first.result ≡ Ok step.Next = search rules in
+    let tag : c.header-tag.result.verification_tag ≡ u32_at c.args.datagram.now 4 =
+    c.header-tag.ensures.verification_tag ∙ ap (λ l. u32_at l 4) c.requires.whole in
+    let of : TakesSacksOf c.header-tag.result.verification_tag c.args.self.now = subst (λ (n : ℕ). TakesSacksOf n c.args.self.now) (sym tag) takes in
+    let others = λ (t : TakesSacksOf c.header-tag.result.verification_tag c.take_first.new.self).
+    c.take_others-is_whole.ensures.path (subst (λ (n : ℕ). TakesSacksOf n c.take_first.new.self) tag t) c.if-not-is_whole.false in
+    let each = subst (λ (l : List ChunkPlace). all_go_on l ≡ true) c.in-Some.ensures.place all in
+    subst (λ (l : List ChunkPlace). MovesByFirstOf l c.args.datagram.now c.args.now c.args.self.now c.end_datagram-2.new.self) (sym c.in-Some.ensures.place) (
+    move_ended (c.in-Some.first ∷ c.next.new.self.left) c.args.datagram.now c.args.now c.args.self.now c.take_others-is_whole.new.self
+    c.end_datagram-2.new.self ended.over ended.sending (
+    first_move_next c.header-tag.result.verification_tag c.args.datagram.now c.args.now c.in-Some.first c.next.new.self.left c.args.self.now
+    c.take_first.new.self c.take_first.result each (c.take_first.ensures.sacks of) (c.take_first.ensures.path of) c.take_others-is_whole.new.self others next
+    )
+    )

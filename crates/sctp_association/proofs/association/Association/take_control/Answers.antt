@@ -21,7 +21,7 @@ pub returns-in-8-clause-came : goal.returns-in-8-clause-came
 returns-in-8-clause-came c =
     let kept = c.take_answer.ensures.kept in
     offered_calls _ _ _ (came_same _ _ _ (quiet_shutdown_ack _ _ _ _ _ _ c.take_answer.ensures.begun c.shutdown_ack-answer.ensures.takes.answer))
-    (keeps_by _ _ _ (knows_shutdown_ack _ _ _ c.shutdown_ack-answer.ensures.takes) kept.config kept.key kept.machine kept.owes)
+    (keeps_by _ _ _ (knows_shutdown_ack _ _ _ c.shutdown_ack-answer.ensures.takes) kept.config kept.key kept.machine kept.owes kept.sending)
 
 pub returns-in-9-clause-came : goal.returns-in-9-clause-came
 returns-in-9-clause-came c = offered_halves _ _ _ c.take_error.ensures.halves c.take_error.ensures.peer
@@ -33,7 +33,7 @@ pub returns-in-14-clause-came : goal.returns-in-14-clause-came
 returns-in-14-clause-came c =
     let kept = c.take_answer-in-14.ensures.kept in
     offered_calls _ _ _ (came_same _ _ _ (quiet_complete _ _ _ _ _ _ c.take_answer-in-14.ensures.begun c.shutdown_complete-answer.ensures.takes.answer))
-    (keeps_by _ _ _ (knows_complete _ _ _ c.shutdown_complete-answer.ensures.takes) kept.config kept.key kept.machine kept.owes)
+    (keeps_by _ _ _ (knows_complete _ _ _ c.shutdown_complete-answer.ensures.takes) kept.config kept.key kept.machine kept.owes kept.sending)
 
 pub returns-in_default-clause-came : goal.returns-in_default-clause-came
 returns-in_default-clause-came c = offered_less _ _ _ _ c.note_unknown.ensures.rest c.note_unknown.ensures.owes
@@ -53,7 +53,8 @@ returns-in-7-clause-tells c = tells_peer _ _ c.take_shutdown.ensures.peer c.take
 pub returns-in-8-clause-tells : goal.returns-in-8-clause-tells
 returns-in-8-clause-tells c =
     let kept = c.take_answer.ensures.kept in
-    tells_peer _ _ (keeps_by _ _ _ (knows_shutdown_ack _ _ _ c.shutdown_ack-answer.ensures.takes) kept.config kept.key kept.machine kept.owes) c.take_answer.ensures.tells.end
+    tells_peer _ _ (keeps_by _ _ _ (knows_shutdown_ack _ _ _ c.shutdown_ack-answer.ensures.takes) kept.config kept.key kept.machine kept.owes kept.sending)
+    c.take_answer.ensures.tells.end
 
 pub returns-in-9-clause-tells : goal.returns-in-9-clause-tells
 returns-in-9-clause-tells c = tells_peer _ _ c.take_error.ensures.peer c.take_error.ensures.tells
@@ -61,7 +62,8 @@ returns-in-9-clause-tells c = tells_peer _ _ c.take_error.ensures.peer c.take_er
 pub returns-in-14-clause-tells : goal.returns-in-14-clause-tells
 returns-in-14-clause-tells c =
     let kept = c.take_answer-in-14.ensures.kept in
-    tells_peer _ _ (keeps_by _ _ _ (knows_complete _ _ _ c.shutdown_complete-answer.ensures.takes) kept.config kept.key kept.machine kept.owes) c.take_answer-in-14.ensures.tells.end
+    tells_peer _ _ (keeps_by _ _ _ (knows_complete _ _ _ c.shutdown_complete-answer.ensures.takes) kept.config kept.key kept.machine kept.owes kept.sending)
+    c.take_answer-in-14.ensures.tells.end
 
 pub returns-in_default-clause-tells : goal.returns-in_default-clause-tells
 returns-in_default-clause-tells c = tells_due _ _ _ c.note_unknown.ensures.rest

@@ -30,7 +30,7 @@ returns-then-ticket-tag-clause-came c = offered_same _ _ _ refl
 pub returns-then-is_none-2-clause-came : goal.returns-then-is_none-2-clause-came
 returns-then-is_none-2-clause-came c =
     let same : c.cookie_echo-answer.new.self ≡ c.args.self.now.machine = search rules in
-    offered_kept _ _ _ (came_same _ _ _ refl) (record { config = refl; key = refl; machine = same; owes = λ t e. e })
+    offered_kept _ _ _ (came_same _ _ _ refl) (record { config = refl; key = refl; machine = same; owes = λ t e. e; sending = (λ e. e, λ e. e) })
 
 pub returns-in-Some-StaleCookie-clause-came : goal.returns-in-Some-StaleCookie-clause-came
 returns-in-Some-StaleCookie-clause-came c =
@@ -44,7 +44,13 @@ returns-in-Some-StaleCookie-clause-came c =
     } in
     let kept = c.follow.ensures.kept in
     cookie_offered _ _ c.requires.own _ _ _ _ c.requires.typ _ echoed _ c.cookie_echo-answer.ensures.takes
-    (c.may_begin.ensures (search rules)) c.follow.ensures.begun (record { config = kept.config; key = kept.key; machine = kept.machine; owes = kept.owes })
+    (c.may_begin.ensures (search rules)) c.follow.ensures.begun (record {
+      config = kept.config;
+      key = kept.key;
+      machine = kept.machine;
+      owes = kept.owes;
+      sending = kept.sending;
+    })
 
 pub returns-in_default-reply-2-clause-came : goal.returns-in_default-reply-2-clause-came
 returns-in_default-reply-2-clause-came c =
@@ -58,7 +64,13 @@ returns-in_default-reply-2-clause-came c =
     } in
     let kept = c.follow.ensures.kept in
     cookie_offered _ _ c.requires.own _ _ _ _ c.requires.typ _ echoed _ c.cookie_echo-answer.ensures.takes
-    (c.may_begin.ensures (search rules)) c.follow.ensures.begun (record { config = kept.config; key = kept.key; machine = kept.machine; owes = kept.owes })
+    (c.may_begin.ensures (search rules)) c.follow.ensures.begun (record {
+      config = kept.config;
+      key = kept.key;
+      machine = kept.machine;
+      owes = kept.owes;
+      sending = kept.sending;
+    })
 
 -- what is answered by a stale cookie changed nothing
 pub returns-in-Some-StaleCookie-clause-stale : goal.returns-in-Some-StaleCookie-clause-stale
@@ -85,7 +97,13 @@ returns-in_default-reply-clause-came c =
     } in
     let kept = c.follow.ensures.kept in
     cookie_offered _ _ c.requires.own _ _ _ _ c.requires.typ _ echoed _ c.cookie_echo-answer.ensures.takes
-    (c.may_begin.ensures (search rules)) c.follow.ensures.begun (record { config = kept.config; key = kept.key; machine = kept.machine; owes = kept.owes })
+    (c.may_begin.ensures (search rules)) c.follow.ensures.begun (record {
+      config = kept.config;
+      key = kept.key;
+      machine = kept.machine;
+      owes = kept.owes;
+      sending = kept.sending;
+    })
 
 pub returns-in_default-reply-clause-first : goal.returns-in_default-reply-clause-first
 returns-in_default-reply-clause-first c closed next =

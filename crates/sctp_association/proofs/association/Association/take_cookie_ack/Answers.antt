@@ -11,7 +11,7 @@ pub returns-clause-came : goal.returns-clause-came
 returns-clause-came c =
     let kept = c.take_answer.ensures.kept in
     ack_offered _ _ c.requires.own _ _ _ _ c.requires.typ c.cookie_ack-answer.ensures.takes (c.may_begin.ensures (search rules))
-    c.take_answer.ensures.begun (record { config = kept.config; key = kept.key; machine = kept.machine; owes = kept.owes })
+    c.take_answer.ensures.begun (record { config = kept.config; key = kept.key; machine = kept.machine; owes = kept.owes; sending = kept.sending })
 
 pub returns-then-not-may_begin-clause-tells : goal.returns-then-not-may_begin-clause-tells
 returns-then-not-may_begin-clause-tells c = tells_same _ _ refl

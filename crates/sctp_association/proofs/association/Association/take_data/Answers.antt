@@ -59,7 +59,7 @@ returns-clause-peer c =
     let on = c.follow.ensures.kept in
     keeps_then c.args.self.now c.follow.new.self _
     (keeps_by _ _ _ (knows_arrived _ _ _ c.packet_arrived-answer.ensures) (on.config ∙ again.config) (on.key ∙ again.key) (on.machine ∙ again.machine)
-    (λ t e. again.owes t (on.owes t e)))
+    (λ t e. again.owes t (on.owes t e)) (λ e. on.sending.0 (again.sending.0 e), λ e. on.sending.1 (again.sending.1 e)))
     c.end_by.ensures.peer
 
 pub returns-clause-takes : goal.returns-clause-takes
@@ -135,3 +135,8 @@ returns-clause-sacks c tag takes =
     (λ is. absurd (omega (arith, c.requires.typ, is))) (λ r e. absurd (c.end_by.ensures.never r e)) c.end_by.ensures.over (
     λ next. subst (TakesSacksOf tag) (sym (c.end_by.ensures.on next)) there
     )
+
+pub returns-clause-sending : goal.returns-clause-sending
+returns-clause-sending c =
+    let quiet = arrived_told c.args.self.now.machine _ _ c.packet_arrived-answer.ensures in
+    c.end_by.ensures.sending ∙ c.follow.ensures.sending quiet ∙ c.run_again.ensures.sending

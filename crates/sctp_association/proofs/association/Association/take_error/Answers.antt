@@ -1,7 +1,7 @@
 use Rattle.sctp_association.specs.Telling.{TellsEnd}
 use Rattle.sctp_association.proofs.Telling.{end_same, end_then, to_error}
 use Rattle.std.proofs.Common.{ap, ◌∙◌}
-use Rattle.sctp_association.proofs.Known.{keeps_by, keeps_kept, knows_stale, owes_same}
+use Rattle.sctp_association.proofs.Known.{keeps_by, keeps_kept, knows_stale, owes_same, within_same, within_then}
 use Rattle.sctp_association.specs.Beginnings.{KeepsPeer}
 use Rattle.sctp_association.specs.declared.association.Association.{Association}
 use Rattle.sctp_association.proofs.association.Association.take_error.Goals as goal
@@ -15,14 +15,18 @@ returns-clause-peer c =
           (ap (λ (x : Association). x.key) w.self-is ∙ w.follow.ensures.kept.key)
           (ap (λ (x : Association). x.machine) w.self-is ∙ w.follow.ensures.kept.machine)
           (λ t e. w.follow.ensures.kept.owes t (owes_same w.follow.new.self c.if-code-eq3.self (ap (λ (x : Association). x.due) w.self-is) t e))
+          (within_then c.args.self.now w.follow.new.self c.if-code-eq3.self (λ e. w.follow.ensures.kept.sending.0 e, λ e. w.follow.ensures.kept.sending.1 e)
+          (within_same w.follow.new.self c.if-code-eq3.self (ap (λ (x : Association). x.config) w.self-is) (ap (λ (x : Association). x.outbound) w.self-is)))
       | else-code-eq3 w ↦ keeps_kept _ _ (record {
         config = ap (λ (x : Association). x.config) w.self-is;
         key = ap (λ (x : Association). x.key) w.self-is;
         machine = ap (λ (x : Association). x.machine) w.self-is;
         owes = owes_same c.args.self.now c.if-code-eq3.self (ap (λ (x : Association). x.due) w.self-is);
+        sending = within_same c.args.self.now c.if-code-eq3.self (ap (λ (x : Association). x.config) w.self-is)
+            (ap (λ (x : Association). x.outbound) w.self-is);
       })
     ] in
-    record { config = first.config; key = first.key; machine = first.machine; owes = first.owes }
+    record { config = first.config; key = first.key; machine = first.machine; owes = first.owes; sending = first.sending }
 
 pub returns-clause-tells : goal.returns-clause-tells
 returns-clause-tells c =

@@ -16,7 +16,16 @@ loop-param-preserved c =
     let step : P c.match-param.self = elim c.match-param.branch [
       | in-HeartbeatInfo+in-Some-first_chunk w ↦ subst P (sym w.self-is)
           (w.heartbeat_answered.ensures.halves, w.heartbeat_answered.ensures.kept, w.heartbeat_answered.ensures.tells)
-      | in_default-param w ↦ subst P (sym w.self-is)
-          (record { sender = refl; receiver = refl; windows = record { peer_window = refl; congestion = refl } }, record { config = refl; key = refl; machine = refl; owes = λ t e. e }, to_same)
+      | in_default-param w ↦ subst P (sym w.self-is) (
+        record { sender = refl; receiver = refl; windows = record { peer_window = refl; congestion = refl } },
+        record {
+          config = refl;
+          key = refl;
+          machine = refl;
+          owes = λ t e. e;
+          sending = (λ e. e, λ e. e);
+        },
+        to_same,
+      )
     ] in
     (tt, tt, alike_then _ _ _ on.2 step.0, kept_then _ _ _ on.3 step.1, end_then on.4 step.2)

@@ -1,4 +1,4 @@
-use Rattle.sctp_association.proofs.Known.{knows_same}
+use Rattle.sctp_association.proofs.Known.{knows_same, within_same, within_then}
 use Rattle.sctp_association.proofs.Telling.{end_same, end_then, tells_init_ack, tells_kept, to_same}
 use Rattle.std.proofs.Common.{ap, refl, rules, subst, ◌≡◌, ◌∙◌}
 use Rattle.sctp_association.proofs.Arrived.{came_same}
@@ -19,7 +19,7 @@ returns-then-is_none-2-clause-refused c =
 pub returns-then-is_none-2-clause-came : goal.returns-then-is_none-2-clause-came
 returns-then-is_none-2-clause-came c =
     let same : c.init_ack-answer.new.self ≡ c.args.self.now.machine = search rules in
-    offered_kept _ _ _ (came_same _ _ _ refl) (record { config = refl; key = refl; machine = same; owes = λ t e. e })
+    offered_kept _ _ _ (came_same _ _ _ refl) (record { config = refl; key = refl; machine = same; owes = λ t e. e; sending = (λ e. e, λ e. e) })
 
 pub returns-clause-came : goal.returns-clause-came
 returns-clause-came c =
@@ -40,6 +40,9 @@ returns-clause-came c =
       key = kept.key ∙ ap (λ (x : Association). x.key) rest;
       machine = kept.machine ∙ ap (λ (x : Association). x.machine) rest;
       owes = λ t e. c.note_params.ensures.owes t (kept.owes t e);
+      sending = within_then c.args.self.now c.note_params.new.self c.follow.new.self
+          (within_same c.args.self.now c.note_params.new.self (ap (λ (x : Association). x.config) rest) (ap (λ (x : Association). x.outbound) rest))
+          kept.sending;
     })
 
 pub returns-then-is_none-2-clause-tells : goal.returns-then-is_none-2-clause-tells

@@ -1,9 +1,11 @@
-use Rattle.std.proofs.Common.{Ok, rules, subst, sym, ◌≡◌}
+use Rattle.std.proofs.Common.{Ok, ap, rules, subst, sym, ◌≡◌}
 use Rattle.sctp_association.proofs.Coming.{if_ok}
 use Rattle.sctp_association.proofs.Each.{past_goes, past_never, step_same}
+use Rattle.sctp_association.proofs.Paths.{moves_still}
 use Rattle.sctp_association.proofs.Sacks.{past_hears, past_hears_never}
 use Rattle.sctp_association.specs.Coming.{GoesOn}
 use Rattle.sctp_association.specs.Sacks.{HearsOn, TakesSacksOf}
+use Rattle.sctp_association.specs.declared.association.Association.{Association}
 use Rattle.sctp_association.specs.declared.association.arrivals.Step.TheVariants.{Refused}
 use Rattle.sctp_association.proofs.association.Association.take_other.Goals as goal
 
@@ -40,3 +42,11 @@ returns-in-Refused-clause-never_sacks c takes going x e =
     if_ok (λ s. HearsOn c.args.chunk c.args.tag c.args.datagram.now s c.args.self.now c.take_chunk.new.self) _ _ is (c.take_chunk.ensures.sacks takes going) in
     past_hears_never c.args.chunk c.args.tag c.args.datagram.now c.in-Refused.reason x c.past.result c.args.self.now c.take_chunk.new.self was
     c.past.ensures.unexpected (step_same _ _ e)
+
+pub returns-in-Refused-clause-path : goal.returns-in-Refused-clause-path
+returns-in-Refused-clause-path c takes going =
+    let is : c.take_chunk.result ≡ Ok (Refused c.in-Refused.reason) = search rules in
+    let was : HearsOn c.args.chunk c.args.tag c.args.datagram.now (Refused c.in-Refused.reason) c.args.self.now c.take_chunk.new.self =
+    if_ok (λ s. HearsOn c.args.chunk c.args.tag c.args.datagram.now s c.args.self.now c.take_chunk.new.self) _ _ is (c.take_chunk.ensures.sacks takes going) in
+    moves_still c.args.chunk c.args.datagram.now c.args.now c.past.result c.args.self.now.outbound c.take_chunk.new.self.outbound was.1
+    (ap (λ (a : Association). a.outbound) (c.take_chunk.ensures.refused c.in-Refused.reason is))

@@ -1,7 +1,8 @@
-use Rattle.std.proofs.Common.{Ok, ap, arith, inr, length, refl, rules, sym, ◌∙◌}
+use Rattle.std.proofs.Common.{Ok, ap, arith, inl, inr, length, refl, rules, sym, ◌∙◌}
 use Rattle.std.proofs.lemmas.Bool.{false≢true}
 use Rattle.sctp_association.proofs.Each.{data_counts, none_left, one_less, owed_at, owed_first, owed_next, owed_none, owed_passed, owed_refused, owed_stop, tagged}
 use Rattle.sctp_association.proofs.Arrived.{arrives_of}
+use Rattle.sctp_association.proofs.Paths.{move_at, move_next, move_none, move_noted, move_passed, move_refused, move_stop, owed_move}
 use Rattle.sctp_association.proofs.Sacks.{owed_sack, sack_at, sack_next, sack_none, sack_noted, sack_passed, sack_refused, sack_stop}
 use Rattle.sctp_association.proofs.Sacks.{sacks_tagged}
 use Rattle.sctp_association.specs.Once.{seen}
@@ -20,6 +21,7 @@ loop-init c = record {
   tells = tells_same _ _ refl;
   each = owed_first _ _ _ _;
   sacks = λ other takes. owed_sack _ _ _ _ _ _ c.behind-once.ensures other takes;
+  path = λ takes all. owed_move c.header-tag.result.verification_tag c.args.datagram.now c.args.now _ _ _ _ c.behind-once.ensures takes all;
   count = omega arith;
   idle = λ e. refl;
 }
@@ -38,6 +40,9 @@ loop-preserved-then-not-counts c = record {
       sack_passed c.header-tag.result.verification_tag c.args.datagram.now c.in-Some.chunk c.next.new.self.left c.loop.self c.args.chunks.left
       (halves_of c.args.self.now) c.loop.once (sym c.if-not-counts.ensures.value)
       (sack_at _ _ _ _ _ _ _ _ c.in-Some.ensures.place (c.loop.invariant.sacks other takes)));
+  path = λ takes all. move_noted c.header-tag.result.verification_tag c.args.datagram.now c.args.now _ _ c.next.new.self.left c.loop.self (seen c.in-Some.chunk.typ c.loop.once) _ c.if-not-counts.ensures.noted (
+      move_passed c.header-tag.result.verification_tag c.args.datagram.now c.args.now _ _ c.in-Some.chunk c.next.new.self.left c.loop.self c.loop.once (sym c.if-not-counts.ensures.value)
+      (move_at c.header-tag.result.verification_tag c.args.datagram.now c.args.now _ _ _ _ _ _ c.in-Some.ensures.place (c.loop.invariant.path takes all)));
   count = one_less _ _ _ _ _ c.in-Some.ensures.place c.loop.invariant.count;
   idle = λ e. absurd (omega (arith, c.left-end.ensures, ap length e, c.loop-test.true));
 }
@@ -55,6 +60,10 @@ loop-preserved c = record {
       sack_next c.header-tag.result.verification_tag c.args.datagram.now c.in-Some.chunk c.next.new.self.left c.loop.self c.take_other.new.self
       c.args.chunks.left (halves_of c.args.self.now) c.loop.once c.take_other.result (arrives_of _ _ _ _ c.take_other.ensures.came.arrives)
       c.take_other.ensures.sacks (search rules) (sack_at _ _ _ _ _ _ _ _ c.in-Some.ensures.place (c.loop.invariant.sacks other takes)));
+  path = λ takes all. move_noted c.header-tag.result.verification_tag c.args.datagram.now c.args.now _ _ c.next.new.self.left c.take_other.new.self (seen c.in-Some.chunk.typ c.loop.once) _ c.if-not-counts.ensures.noted (
+      move_next c.header-tag.result.verification_tag c.args.datagram.now c.args.now _ _ c.in-Some.chunk c.next.new.self.left c.loop.self c.loop.once c.take_other.new.self c.take_other.result
+      c.take_other.ensures.sacks c.take_other.ensures.path (search rules) (sym c.if-not-counts.ensures.value)
+      (move_at c.header-tag.result.verification_tag c.args.datagram.now c.args.now _ _ _ _ _ _ c.in-Some.ensures.place (c.loop.invariant.path takes all)));
   count = one_less _ _ _ _ _ c.in-Some.ensures.place c.loop.invariant.count;
   idle = λ e. absurd (omega (arith, c.left-end.ensures, ap length e, c.loop-test.true));
 }
@@ -66,6 +75,7 @@ pub returns-in-Ok-Cut : goal.returns-in-Ok-Cut
 returns-in-Ok-Cut c = record {
   each = λ takes is. absurd (false≢true is);
   sacks = λ other takes is. absurd (false≢true is);
+  path = λ takes is all. absurd (false≢true is);
   none = λ e. absurd (omega (arith, c.left-end.ensures, ap length e, c.loop-test.true));
   came = offered_then _ _ _ c.loop.invariant.came _ c.take_other.ensures.came;
   tells = tells_then _ _ _ c.loop.invariant.tells c.take_other.ensures.tells;
@@ -75,6 +85,7 @@ pub returns-in-Ok-Cut-2 : goal.returns-in-Ok-Cut-2
 returns-in-Ok-Cut-2 c = record {
   each = λ takes is. absurd (false≢true is);
   sacks = λ other takes is. absurd (false≢true is);
+  path = λ takes is all. absurd (false≢true is);
   none = λ e. absurd (omega (arith, c.left-end.ensures, ap length e, c.loop-test.true));
   came = offered_then _ _ _ c.loop.invariant.came _ c.take_other.ensures.came;
   tells = tells_then _ _ _ c.loop.invariant.tells c.take_other.ensures.tells;
@@ -88,6 +99,9 @@ returns-after-loop c = record {
   sacks = λ other takes is. inr (sack_none c.header-tag.result.verification_tag c.args.datagram.now c.loop.chunks.left c.args.chunks.left c.loop.self
       (halves_of c.args.self.now) c.loop.once (none_left _ _ _ _ c.loop.invariant.count c.left-end.ensures c.loop-test.false)
       (c.loop.invariant.sacks other (sacks_tagged _ _ _ (c.header-tag.ensures.verification_tag ∙ ap (λ l. u32_at l 4) c.requires.whole) takes)));
+  path = λ takes is all. inr (move_none c.header-tag.result.verification_tag c.args.datagram.now c.args.now _ _ c.loop.chunks.left c.loop.self c.loop.once
+      (none_left _ _ _ _ c.loop.invariant.count c.left-end.ensures c.loop-test.false) (c.loop.invariant.path
+      (sacks_tagged _ _ _ (c.header-tag.ensures.verification_tag ∙ ap (λ l. u32_at l 4) c.requires.whole) takes) all));
   came = c.loop.invariant.came;
   tells = c.loop.invariant.tells;
   none = λ e. (refl, c.loop.invariant.idle e);
@@ -101,6 +115,8 @@ returns-in_default c = record {
   sacks = λ other takes is. inr (sack_none c.header-tag.result.verification_tag c.args.datagram.now c.loop.chunks.left c.args.chunks.left c.loop.self
       (halves_of c.args.self.now) c.loop.once (search rules)
       (c.loop.invariant.sacks other (sacks_tagged _ _ _ (c.header-tag.ensures.verification_tag ∙ ap (λ l. u32_at l 4) c.requires.whole) takes)));
+  path = λ takes is all. inr (move_none c.header-tag.result.verification_tag c.args.datagram.now c.args.now _ _ c.loop.chunks.left c.loop.self c.loop.once (search rules) (c.loop.invariant.path
+      (sacks_tagged _ _ _ (c.header-tag.ensures.verification_tag ∙ ap (λ l. u32_at l 4) c.requires.whole) takes) all));
   came = c.loop.invariant.came;
   tells = c.loop.invariant.tells;
   none = λ e. (refl, c.loop.invariant.idle e);
@@ -116,6 +132,10 @@ returns-in-Ok-Stop c = record {
       (arrives_of _ _ _ _ c.take_other.ensures.came.arrives) c.take_other.ensures.sacks (search rules)
       (sack_at _ _ _ _ _ _ _ _ c.in-Some.ensures.place (c.loop.invariant.sacks other
       (sacks_tagged _ _ _ (c.header-tag.ensures.verification_tag ∙ ap (λ l. u32_at l 4) c.requires.whole) takes)));
+  path = λ takes is all. inl (move_stop c.header-tag.result.verification_tag c.args.datagram.now c.args.now _ _ c.in-Some.chunk c.next.new.self.left c.loop.self c.loop.once c.take_other.new.self
+      c.take_other.result c.take_other.ensures.sacks c.take_other.ensures.path (search rules)
+      (move_at c.header-tag.result.verification_tag c.args.datagram.now c.args.now _ _ _ _ _ _ c.in-Some.ensures.place (c.loop.invariant.path
+      (sacks_tagged _ _ _ (c.header-tag.ensures.verification_tag ∙ ap (λ l. u32_at l 4) c.requires.whole) takes) all)));
   came = offered_then _ _ _ c.loop.invariant.came _ c.take_other.ensures.came;
   tells = tells_then _ _ _ c.loop.invariant.tells c.take_other.ensures.tells;
   none = λ e. absurd (omega (arith, c.left-end.ensures, ap length e, c.loop-test.true));
@@ -132,6 +152,10 @@ returns-in-Ok-Refused c = record {
       (λ t going. c.take_other.ensures.never_sacks t going c.in-Ok-Refused.field-0-0 (c.in-Ok-Refused.is ∙ ap Ok c.in-Ok-Refused.field-0-is))
       (sack_at _ _ _ _ _ _ _ _ c.in-Some.ensures.place (c.loop.invariant.sacks other
       (sacks_tagged _ _ _ (c.header-tag.ensures.verification_tag ∙ ap (λ l. u32_at l 4) c.requires.whole) takes))));
+  path = λ takes is all. move_refused c.header-tag.result.verification_tag c.args.datagram.now c.args.now _ _ c.in-Some.chunk c.next.new.self.left c.loop.self c.loop.once
+      (λ t going. c.take_other.ensures.never_sacks t going c.in-Ok-Refused.field-0-0 (c.in-Ok-Refused.is ∙ ap Ok c.in-Ok-Refused.field-0-is))
+      (move_at c.header-tag.result.verification_tag c.args.datagram.now c.args.now _ _ _ _ _ _ c.in-Some.ensures.place (c.loop.invariant.path
+      (sacks_tagged _ _ _ (c.header-tag.ensures.verification_tag ∙ ap (λ l. u32_at l 4) c.requires.whole) takes) all));
   came = offered_then _ _ _ c.loop.invariant.came _ c.take_other.ensures.came;
   tells = tells_then _ _ _ c.loop.invariant.tells c.take_other.ensures.tells;
   none = λ e. absurd (omega (arith, c.left-end.ensures, ap length e, c.loop-test.true));

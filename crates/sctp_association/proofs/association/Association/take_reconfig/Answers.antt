@@ -12,7 +12,17 @@ pub returns-then-end-len-clause-came : goal.returns-then-end-len-clause-came
 returns-then-end-len-clause-came c = came_same _ _ _ refl
 
 pub loop-init : goal.loop-init
-loop-init c = record { came = came_same _ _ _ refl; kept = record { config = refl; key = refl; machine = refl; owes = λ t e. e }; tells = to_same }
+loop-init c = record {
+  came = came_same _ _ _ refl;
+  kept = record {
+    config = refl;
+    key = refl;
+    machine = refl;
+    owes = λ t e. e;
+    sending = (λ e. e, λ e. e);
+  };
+  tells = to_same;
+}
 
 pub returns-in_err-raw-clause-came : goal.returns-in_err-raw-clause-came
 returns-in_err-raw-clause-came c = came_same _ _ _ refl

@@ -5,14 +5,25 @@ use Rattle.sctp_association.proofs.Known.{kept_by}
 use Rattle.sctp_association.proofs.association.Association.take_response.Goals as goal
 
 pub loop-stream-init : goal.loop-stream-init
-loop-stream-init c = (acknowledged_same _ _ _ refl, refl, record { config = refl; key = refl; machine = refl; owes = λ t e. e }, to_same)
+loop-stream-init c = (
+  acknowledged_same _ _ _ refl,
+  refl,
+  record {
+    config = refl;
+    key = refl;
+    machine = refl;
+    owes = λ t e. e;
+    sending = (λ e. e, λ e. e);
+  },
+  to_same,
+)
 
 pub loop-stream-preserved : goal.loop-stream-preserved
 loop-stream-preserved c = (
   acknowledged_then _ _ _ _ c.loop-stream.invariant.0
       (acknowledged_restart_by _ _ _ c.reset.result c.reset.ensures.ok c.reset.ensures.accepted c.reset.ensures.err),
   c.loop-stream.invariant.1,
-  kept_by c.loop-stream.invariant.2 refl refl refl (λ t e. e),
+  kept_by c.loop-stream.invariant.2 refl refl refl (λ t e. e) (λ e. e, λ e. e),
   end_then c.loop-stream.invariant.3 (to_by_us _ _ _ _ (stays_insert _ _ _ c.insert.ensures.value c.insert.ensures.full)),
 )
 
@@ -26,6 +37,7 @@ returns-in-Err c = record {
     key = c.loop-stream.invariant.2.key;
     machine = c.loop-stream.invariant.2.machine;
     owes = c.loop-stream.invariant.2.owes;
+    sending = c.loop-stream.invariant.2.sending;
   };
   tells = c.loop-stream.invariant.3;
 }

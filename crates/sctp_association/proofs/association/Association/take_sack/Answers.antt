@@ -1,8 +1,9 @@
 use Rattle.sctp_association.proofs.Telling.{end_then, to_low, to_same}
-use Rattle.std.proofs.Common.{arith, refl, rules}
+use Rattle.std.proofs.Common.{arith, refl, rules, ◌∙◌}
 use Rattle.sctp_association.proofs.Entering.{calls_of_sack, may_use_by}
 use Rattle.sctp_association.proofs.Arrived.{came_alike, came_same, came_then, sack_came}
 use Rattle.sctp_association.proofs.Going.{sack_read}
+use Rattle.sctp_association.proofs.Paths.{moves_in}
 use Rattle.sctp_association.proofs.Sacks.{hears_in}
 use Rattle.sctp_association.proofs.association.Association.take_sack.Goals as goal
 
@@ -64,7 +65,15 @@ returns-clause-came c =
 
 pub returns-clause-peer : goal.returns-clause-peer
 returns-clause-peer c =
-    let peer = c.end_with.ensures.peer refl in record { config = peer.config; key = peer.key; machine = peer.machine; owes = peer.owes }
+    let peer = c.end_with.ensures.peer refl in
+    let limits = c.take_sack.ensures.limits in
+    record {
+      config = peer.config;
+      key = peer.key;
+      machine = peer.machine;
+      owes = peer.owes;
+      sending = (λ e. peer.sending.0 (limits.0 ∙ e), λ e. peer.sending.1 (limits.1 ∙ e));
+    }
 
 pub returns-in_err-take_sack-clause-tells : goal.returns-in_err-take_sack-clause-tells
 returns-in_err-take_sack-clause-tells c = to_low _ _ _ _ c.take_sack.ensures.low
@@ -74,3 +83,9 @@ returns-in-Taken-clause-tells c = to_low _ _ _ _ c.take_sack.ensures.low
 
 pub returns-clause-tells : goal.returns-clause-tells
 returns-clause-tells c = end_then (to_low _ _ _ _ c.take_sack.ensures.low) c.end_with.ensures.tells
+
+pub returns-in-Taken-clause-path : goal.returns-in-Taken-clause-path
+returns-in-Taken-clause-path c = (
+  λ is. moves_in _ _ _ _ c.bytes_of.ensures c.in-Ok.ensures.found _ _ _ (c.take_sack.ensures.path (search rules)),
+  λ not. absurd (not c.requires.typ),
+)

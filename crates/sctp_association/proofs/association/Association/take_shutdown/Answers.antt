@@ -1,5 +1,5 @@
 use Rattle.sctp_association.proofs.Telling.{end_then, to_low}
-use Rattle.std.proofs.Common.{drop, refl, rules}
+use Rattle.std.proofs.Common.{drop, refl, rules, ◌∙◌}
 use Rattle.sctp_chunks.specs.Wire.{shutdown_chunk}
 use Rattle.sctp_datagram.specs.Framing.{StartsWith}
 use Rattle.sctp_association.proofs.Arrived.{came_same, came_then, sender_came}
@@ -31,6 +31,7 @@ pub returns-clause-peer : goal.returns-clause-peer
 returns-clause-peer c =
     let on = c.follow.ensures.kept in
     keeps_by _ _ _ (knows_shutdown _ _ _ c.shutdown-answer.ensures.takes) on.config on.key on.machine on.owes
+    (λ e. on.sending.0 (c.take_shutdown.ensures.limits.0 ∙ e), λ e. on.sending.1 (c.take_shutdown.ensures.limits.1 ∙ e))
 
 pub returns-clause-tells : goal.returns-clause-tells
 returns-clause-tells c = end_then (to_low _ _ _ _ c.take_shutdown.ensures.low) c.follow.ensures.tells.end

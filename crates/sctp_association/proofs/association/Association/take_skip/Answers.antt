@@ -39,7 +39,7 @@ returns-clause-came c =
 
 pub returns-clause-peer : goal.returns-clause-peer
 returns-clause-peer c =
-    let peer = c.end_by.ensures.peer in record { config = peer.config; key = peer.key; machine = peer.machine; owes = peer.owes }
+    let peer = c.end_by.ensures.peer in record { config = peer.config; key = peer.key; machine = peer.machine; owes = peer.owes; sending = peer.sending }
 
 pub returns-in_default-take_skip-clause-tells : goal.returns-in_default-take_skip-clause-tells
 returns-in_default-take_skip-clause-tells c = to_in _ _ _ _ _ _ c.in-Some-inbound.is c.take_skip.ensures.tells

@@ -2,7 +2,7 @@ use Rattle.std.specs.Prelude.{is_some}
 use Rattle.sctp_association.specs.declared.event.Events.{Events}
 use Rattle.sctp_association.specs.declared.association.Association.{Association}
 use Rattle.sctp_association.proofs.Telling.{end_then, passes_as, streams_in, to_connected, to_none, to_over, to_restarted, to_shutdown}
-use Rattle.std.proofs.Common.{None, ap, refl, rules, ◌≡◌}
+use Rattle.std.proofs.Common.{None, Some, ap, refl, rules, ◌≡◌, ◌∙◌}
 use Rattle.sctp_association.proofs.Begun.{begun_by}
 use Rattle.sctp_association.specs.Arrivals.{halves, new_sender}
 use Rattle.sctp_association.specs.Halves.{fragment_size, halves_of}
@@ -74,3 +74,7 @@ returns-in-Failed-clause-tells c =
       end = to_over _ _ _ _ _ _ _ (ap (λ (x : Association). streams_in x.inbound) rest) c.end-in-Failed.ensures.told c.end-in-Failed.ensures.over;
       told = ap (λ (e : Events). is_some e.closed) c.end-in-Failed.ensures.told;
     })
+
+pub returns-in-Failed-clause-failed : goal.returns-in-Failed-clause-failed
+returns-in-Failed-clause-failed c is =
+    ap (λ (e : Events). e.closed) c.end-in-Failed.ensures.told ∙ ap (λ e. Some e) c.failure.ensures

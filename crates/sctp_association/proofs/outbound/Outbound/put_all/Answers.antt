@@ -1,9 +1,6 @@
-use Rattle.std.proofs.Common.{ap, inl, length, ◌∙◌}
 use Rattle.sctp_association.proofs.Congested.{skipped, within_after, within_again, within_behind, within_full}
 use Rattle.sctp_association.proofs.Putting.{out_then}
 use Rattle.sctp_association.proofs.outbound.Outbound.put_all.Goals as goal
-use Rattle.sctp_association.specs.declared.outbound.Outbound.{Outbound}
-use Rattle.sctp_association.specs.Idle.{in_flight}
 
 pub returns-in_err-put_lost-clause-made : goal.returns-in_err-put_lost-clause-made
 returns-in_err-put_lost-clause-made c = out_then _ _ _ _ _ _ c.put_skip.ensures.made c.put_lost.ensures.made

@@ -1,0 +1,5 @@
+use Rattle.sctp_association.specs.Lasting.{LastsNoLonger}
+use Rattle.sctp_association.proofs.alone.lose.Given as goal
+
+abbrev pub invariant-loop : goal.invariant-loop
+invariant-loop l = LastsNoLonger l.initial.one l.one
