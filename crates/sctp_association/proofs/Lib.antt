@@ -1,6 +1,7 @@
 pub mod Entering
 pub mod First
 pub mod BackOff
+pub mod Beats
 pub mod Congested
 pub mod Firsts
 pub mod Stale
@@ -62,5 +63,6 @@ pub mod Telling
 pub mod Told
 pub mod Lasting
 pub mod Limited
+pub mod Shutting
 pub mod Silence
 pub mod Pairs

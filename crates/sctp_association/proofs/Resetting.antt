@@ -148,7 +148,12 @@ response_rest a q p one two =
 -- only requests and responses change
 module _ (now : ℕ) (a d : Association) (rest : d ≡ record a { draft = d.draft; requests = d.requests; peer_requests = d.peer_requests }) where
   pub reset_alike : HalvesAlike a d
-  reset_alike = subst (HalvesAlike a) (sym rest) (record { sender = refl; receiver = refl; windows = record { peer_window = refl; congestion = refl } })
+  reset_alike = subst (HalvesAlike a) (sym rest) (record {
+    sender = refl;
+    receiver = refl;
+    windows = record { peer_window = refl; congestion = refl };
+    pace = record { used = refl; burst = refl; paused = refl };
+  })
 
   pub reset_unmoved : IsUnmoved a d
   reset_unmoved = subst (IsUnmoved a) (sym rest) (record {

@@ -6,7 +6,7 @@ use Rattle.sctp_association.specs.declared.association.Association.{Association}
 use Rattle.sctp_association.specs.declared.fault.Fault.{Fault}
 use Rattle.sctp_association.specs.declared.inbound.Inbound.{Inbound}
 use Rattle.sctp_association.specs.Arrivals.{Halves, halves, new_sender}
-use Rattle.sctp_association.specs.Congested.{HasWindowsOf}
+use Rattle.sctp_association.specs.Congested.{HasPaceOf, HasWindowsOf}
 use Rattle.sctp_association.specs.Kept.{IsUnmoved}
 use Rattle.sctp_association.specs.Leaving.{IsDueOnce, IsReplyOnce, owed_at, owed_of}
 use Rattle.sctp_association.specs.Packets.{Adds, IsOf, PutsOf, Sides, sides}
@@ -28,11 +28,12 @@ sides_of a = sides a.outbound.sender (receiver_of a.inbound) a.draft.bytes
 abbrev pub halves_of : Association → Halves
 halves_of a = halves a.outbound.sender (receiver_of a.inbound)
 
--- neither half changes, nor a window of what is sent
+-- neither half changes, nor a window of what is sent, nor when DATA left last, nor the burst
 pub record HalvesAlike (old new : Association) : Type 0 where
   pub sender : new.outbound.sender ≡ old.outbound.sender
   pub receiver : receiver_of new.inbound ≡ receiver_of old.inbound
   pub windows : HasWindowsOf old.outbound new.outbound
+  pub pace : HasPaceOf old.outbound new.outbound
 
 -- calls of both halves led on. What was put is no INIT, and each reply of it was due, and is due no more
 abbrev pub PutsDue : ℕ → Association → Association → Type 0

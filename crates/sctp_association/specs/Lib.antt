@@ -2,6 +2,7 @@ pub mod Acks
 pub mod Arrivals
 pub mod Asked
 pub mod BackOff
+pub mod Beats
 pub mod Beginnings
 pub mod Calls
 pub mod Coming
@@ -42,6 +43,7 @@ pub mod Sending
 pub mod Served
 pub mod Sessions
 pub mod Setups
+pub mod Shutting
 pub mod Silence
 pub mod Sized
 pub mod Steps

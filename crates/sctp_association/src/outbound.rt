@@ -4,6 +4,7 @@ ghost use Rattle.std.specs.Prelude.{◌≡◌, ◌⊎◌, ◌-◌, ◌<◌, ◌�
 ghost use Rattle.sctp_association.specs.declared.fault.Fault.TheVariants.{OutOfMemory};
 ghost use Rattle.sctp_association.specs.Arrivals.{new_sender};
 ghost use Rattle.sctp_association.specs.Asked.{AsksOn};
+ghost use Rattle.sctp_association.specs.Beats.{after_beat};
 ghost use Rattle.sctp_association.specs.Counts.{CountsNone, HasLimitsOf};
 ghost use Rattle.sctp_association.specs.Halves.{fragment_size};
 ghost use Rattle.sctp_association.specs.Runs.{Sends};
@@ -334,10 +335,7 @@ impl Outbound {
 
     /// A HEARTBEAT was answered after this time (RFC 9260 8.3).
     pub(crate) fn trip_measured(&mut self, trip: u64)
-        ensures rest { self.new ≡ record self.old {
-          rto = self.new.rto;
-          failures = self.new.failures;
-        } }
+        ensures trip { self.new ≡ after_beat (Some trip) self.old }
         ensures limits { HasLimitsOf self.old self.new }
     {
         self.rto.measured(trip);

@@ -3,6 +3,7 @@
 ghost use Rattle.std.specs.Prelude.{◌≡◌, ◌⊎◌, ◌<◌, ◌≤◌, ℕ, List, [], ◌∷◌, None, Ok, IfOk, IfSome, OnErr, OnOk, true, false, drop, length};
 ghost use Rattle.std.specs.List.{AllByRecursion};
 ghost use Rattle.sctp_association.specs.Arrivals.{Arrives, CallsArrive};
+ghost use Rattle.sctp_association.specs.Beats.{BeatsAt, BeatsOn};
 ghost use Rattle.sctp_association.specs.Beginnings.{ArrivesAsOffered, BeginsByDatagram, BeginsByTicket, KeepsPeer};
 ghost use Rattle.sctp_association.specs.Kept.{IsKept, OwesNoMore, ticket_in_kind};
 ghost use Rattle.sctp_association.specs.Coming.{FollowsData, GoesOn, IsDue, TakesDataAt, TakesDataOf, TakesEachOf, TakesOnlyData, goes_on, is_due};
@@ -13,6 +14,7 @@ ghost use Rattle.sctp_association.specs.Lasting.{KeepsLimits};
 ghost use Rattle.sctp_association.specs.Sacks.{HearsFirstOf, HearsOn, TakesSacksOf};
 ghost use Rattle.sctp_association.specs.Paths.{MovesBehind, MovesByFirstOf, MovesOn, all_go_on};
 ghost use Rattle.sctp_association.specs.Reached.{most_user_data};
+ghost use Rattle.sctp_association.specs.Shutting.{ShutsAt, ShutsOn};
 ghost use Rattle.sctp_association.specs.Steps.{is_accepted, is_taken};
 ghost use Rattle.sctp_association.specs.Telling.{Tells, TellsEnd};
 ghost use Rattle.sctp_association.specs.Tags.{AdmitsFirst, BeginsByCookie, EndsWithFirst, FirstIs, FirstIsAlive, IsFor, first_type, is_admitted, is_all_or_nothing};
@@ -190,6 +192,16 @@ impl Association {
             → (chunks : List ChunkPlace) → TellsAll place_at datagram.now chunks
             → all_go_on chunks ≡ true
             → MovesByFirstOf chunks datagram.now now self.old self.new }
+        // A HEARTBEAT-ACK that is accepted as the only chunk measures a round trip for the RTO, and clears the failures, only where a HEARTBEAT with
+        // its nonce waits for the answer. Then none waits, and nothing else of the sending half changes (RFC 9260 6.3.1, 8.1, 8.3).
+        ensures beats { EndsWithFirst datagram.now → first_type datagram.now ≡ 5
+            → result ≡ Ok Accepted → self.old.is_over ≡ false
+            → BeatsAt 12 datagram.now now self.old self.new }
+        // A SHUTDOWN that is accepted as the only chunk acknowledges up to its TSN: the sending half is what that makes of it. One that is outdated, or
+        // acknowledges what was not sent, changes nothing of it (RFC 9260 3.3.8, 6.3, 7.2, 9.2).
+        ensures shuts { EndsWithFirst datagram.now → first_type datagram.now ≡ 7
+            → result ≡ Ok Accepted → self.old.is_over ≡ false
+            → ShutsAt 12 datagram.now now self.old.outbound self.new.outbound }
     {
         let zero = if self.config.zero_checksum {
             ZeroChecksum::Allowed
@@ -277,6 +289,11 @@ impl Association {
         ensures path { TakesSacksOf (u32_at datagram.now 4) self.old → result ≡ Ok Accepted
             → all_go_on chunks.entry.left ≡ true
             → MovesByFirstOf chunks.entry.left datagram.now now self.old self.new }
+        ensures beats { (first : ChunkPlace) → chunks.entry.left ≡ first ∷ [] → first.typ ≡ 5
+            → result ≡ Ok Accepted → BeatsAt first.at datagram.now now self.old self.new }
+        ensures shuts { (first : ChunkPlace) → chunks.entry.left ≡ first ∷ [] → first.typ ≡ 7
+            → result ≡ Ok Accepted
+            → ShutsAt first.at datagram.now now self.old.outbound self.new.outbound }
     {
         let mut chunks = chunks;
         let tag = chunks.header().verification_tag;
@@ -309,6 +326,7 @@ impl Association {
         ensures over { self.new.is_over ≡ self.old.is_over }
         ensures usable { (s : ℕ) → usable_in s self.new.inbound ≡ usable_in s self.old.inbound }
         ensures sending { self.new.outbound ≡ self.old.outbound }
+        ensures heartbeat { self.new.heartbeat ≡ self.old.heartbeat }
     {
         self.datagram_ended(now);
         self.settle(now);
@@ -322,6 +340,7 @@ impl Association {
         ensures over { self.new.is_over ≡ self.old.is_over }
         ensures usable { (s : ℕ) → usable_in s self.new.inbound ≡ usable_in s self.old.inbound }
         ensures sending { self.new.outbound ≡ self.old.outbound }
+        ensures heartbeat { self.new.heartbeat ≡ self.old.heartbeat }
     {
         if let Some(inbound) = &mut self.inbound {
             inbound.datagram_ended(now);
@@ -370,6 +389,10 @@ impl Association {
             → IfOk result (λ s. HearsOn chunk tag datagram.now s self.old self.new) }
         ensures path { TakesSacksOf tag self.old → goes_on chunk.typ ≡ true → IfOk result
             (λ s. MovesOn chunk datagram.now now s self.old.outbound self.new.outbound) }
+        ensures beats { count < 2 → chunk.typ ≡ 5 → IfOk result
+            (λ s. BeatsOn chunk.at datagram.now now s self.old self.new) }
+        ensures shuts { count < 2 → chunk.typ ≡ 7 → IfOk result
+            (λ s. ShutsOn chunk.at datagram.now now s self.old.outbound self.new.outbound) }
     {
         let is_alone = chunk.typ == 1 || chunk.typ == 10 || count < 2;
         if is_alone || self.machine.state() == State::Closed {
@@ -512,6 +535,10 @@ impl Association {
             → IfOk result (λ s. HearsOn chunk tag datagram.now s self.old self.new) }
         ensures path { TakesSacksOf tag self.old → goes_on chunk.typ ≡ true → IfOk result
             (λ s. MovesOn chunk datagram.now now s self.old.outbound self.new.outbound) }
+        ensures beats { chunk.typ ≡ 5 → IfOk result
+            (λ s. BeatsOn chunk.at datagram.now now s self.old self.new) }
+        ensures shuts { chunk.typ ≡ 7 → IfOk result
+            (λ s. ShutsOn chunk.at datagram.now now s self.old.outbound self.new.outbound) }
     {
         if !self.admits(chunk, tag, count) {
             return Ok(Step::Refused(Reason::Tag));

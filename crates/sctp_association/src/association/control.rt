@@ -11,7 +11,7 @@ ghost use Rattle.sctp_association.specs.Sending.{holds_nothing};
 ghost use Rattle.sctp_association.specs.Telling.{PassesOn, TellsEnd};
 ghost use Rattle.sctp_association.specs.declared.event.Ending.TheVariants.{Aborted, Unanswered};
 ghost use Rattle.sctp_handshake.specs.declared.answer.Reply.TheVariants.{Init};
-ghost use Rattle.sctp_handshake.specs.declared.answer.Told.TheVariants.{Failed};
+ghost use Rattle.sctp_handshake.specs.declared.answer.Told.TheVariants.{Failed, ShutdownBegun};
 ghost use Rattle.sctp_handshake.specs.Endings.{on_drained};
 ghost use Rattle.sctp_handshake.specs.States.{accepts_writes};
 
@@ -65,6 +65,8 @@ impl Association {
         ensures stays { answer.told ≡ None → StaysDue self.old self.new }
         ensures due { answer.told ≡ None
             → DueBy answer.reply self.old.due self.new.due }
+        ensures shutdown { answer.told ≡ Some ShutdownBegun
+            → self.new.outbound ≡ self.old.outbound }
     {
         let is_silent = answer.reply.is_none() && answer.told.is_none();
         if !is_silent || self.machine.state() != before {
@@ -91,6 +93,8 @@ impl Association {
         ensures stays { answer.told ≡ None → StaysDue self.old self.new }
         ensures due { answer.told ≡ None
             → DueBy answer.reply self.old.due self.new.due }
+        ensures shutdown { answer.told ≡ Some ShutdownBegun
+            → self.new.outbound ≡ self.old.outbound }
     {
         let state = self.machine.state();
         if state != before {
@@ -193,6 +197,7 @@ impl Association {
         ensures kept { IsKept self.old self.new }
         ensures begun { BeginsBy (Some told) self.old.machine self.old.config
             (halves_of self.old) (halves_of self.new) }
+        ensures shutdown { told ≡ ShutdownBegun → self.new.outbound ≡ self.old.outbound }
     {
         match told {
             Told::Connected => {
@@ -256,6 +261,7 @@ impl Association {
         ensures over { self.new.is_over ≡ self.old.is_over }
         ensures inbound { self.new.inbound ≡ self.old.inbound }
         ensures sending { self.new.outbound ≡ self.old.outbound }
+        ensures heartbeat { self.new.heartbeat ≡ self.old.heartbeat }
         ensures left { LastsNoLonger self.old self.new }
         ensures writes { accepts_writes self.old.machine.state ≡ false
             → accepts_writes self.new.machine.state ≡ false }
@@ -281,6 +287,7 @@ impl Association {
         ensures over { self.new.is_over ≡ self.old.is_over }
         ensures inbound { self.new.inbound ≡ self.old.inbound }
         ensures sending { self.new.outbound ≡ self.old.outbound }
+        ensures heartbeat { self.new.heartbeat ≡ self.old.heartbeat }
         ensures left { LastsNoLonger self.old self.new }
         ensures writes { accepts_writes self.old.machine.state ≡ false
             → accepts_writes self.new.machine.state ≡ false }

@@ -1,10 +1,12 @@
 //! Control chunks that come: HEARTBEAT, ABORT, SHUTDOWN, ERROR and the like (RFC 9260 3.3.5 to 3.3.13, 8.3, 9).
 
-ghost use Rattle.std.specs.Prelude.{◌≡◌, None, Ok, OnErr};
+ghost use Rattle.std.specs.Prelude.{◌≡◌, ℕ, List, [], ◌∷◌, map, None, Some, Ok, IfOk, OnErr};
 ghost use Rattle.sctp_association.specs.Arrivals.{CallsArrive};
+ghost use Rattle.sctp_association.specs.Beats.{BeatsOn, IsBeaten, nonce_in};
 ghost use Rattle.sctp_association.specs.Beginnings.{ArrivesAsOffered, BeginsBy, KeepsPeer};
 ghost use Rattle.sctp_association.specs.Kept.{IsKept};
 ghost use Rattle.sctp_association.specs.Halves.{HalvesAlike, halves_of};
+ghost use Rattle.sctp_association.specs.Shutting.{ShutsOn};
 ghost use Rattle.sctp_association.specs.Telling.{PassesOn, Tells, TellsEnd};
 ghost use Rattle.sctp_association.specs.declared.association.Reason.{Reason};
 ghost use Rattle.sctp_association.specs.declared.association.Reason.TheVariants.{Unexpected};
@@ -13,6 +15,8 @@ ghost use Rattle.sctp_datagram.specs.Carried.{IsChunkOf};
 ghost use Rattle.sctp_datagram.specs.Places.{IsPlace};
 ghost use Rattle.sctp_datagram.specs.declared.datagram.ChunkPlace.{ChunkPlace};
 ghost use Rattle.sctp_handshake.specs.Answers.{silent};
+ghost use Rattle.sctp_params.specs.Param.{heartbeat_info};
+ghost use Rattle.sctp_params.specs.ParamKind.{parameter_of};
 
 use super::arrivals::Step;
 use super::{Association, Reason};
@@ -24,6 +28,21 @@ use sctp_datagram::ChunkPlace;
 use sctp_handshake::{Answer, State};
 use sctp_params::ParamKind;
 use sctp_util::field::read_u16;
+
+// The nonce that a HEARTBEAT-ACK brings back; None where its Heartbeat Info is too short for one (RFC 9260 8.3).
+fn nonce_of(ack: &ChunkHeartbeatAck) -> Option<u64>
+    ensures { (info : List ℕ) → map parameter_of ack.now.params.items ≡ heartbeat_info info ∷ []
+        → result ≡ nonce_in info }
+{
+    let [param] = ack.params.as_slice() else {
+        return None;
+    };
+    let ParamKind::HeartbeatInfo(info) = param else {
+        return None;
+    };
+    let nonce = info.heartbeat_information.as_slice().first_chunk::<8>()?;
+    Some(u64::from_be_bytes(*nonce))
+}
 
 impl Association {
     // Takes a chunk of a peer that is no user data.
@@ -41,6 +60,10 @@ impl Association {
         ensures refused { (r : Reason) → result ≡ Ok (step.Refused r) → self.new ≡ self.old }
         ensures err { OnErr result (self.new ≡ self.old) }
         ensures whole { result ≡ Ok step.Cut → ⊥ }
+        ensures beats { chunk.typ ≡ 5 → IfOk result
+            (λ s. BeatsOn chunk.at datagram.now now s self.old self.new) }
+        ensures shuts { chunk.typ ≡ 7 → IfOk result
+            (λ s. ShutsOn chunk.at datagram.now now s self.old.outbound self.new.outbound) }
     {
         match chunk.typ {
             4 => self.take_heartbeat(datagram, chunk),
@@ -120,6 +143,8 @@ impl Association {
         ensures refused { (r : Reason) → result ≡ Ok (step.Refused r) → self.new ≡ self.old }
         ensures err { OnErr result (self.new ≡ self.old) }
         ensures whole { result ≡ Ok step.Cut → ⊥ }
+        ensures shuts { IfOk result
+            (λ s. ShutsOn chunk.at datagram.now now s self.old.outbound self.new.outbound) }
     {
         let Some(shutdown) = self.read_chunk::<ChunkShutdown>(datagram, chunk)? else {
             return Ok(Step::Refused(Reason::NoPacket));
@@ -181,6 +206,8 @@ impl Association {
         ensures kept { IsKept self.old self.new }
         ensures err { OnErr result (self.new ≡ self.old) }
         ensures whole { result ≡ Ok step.Cut → ⊥ }
+        ensures beats { IfOk result
+            (λ s. BeatsOn chunk.at datagram.now now s self.old self.new) }
     {
         let Some(ack) = self.read_chunk::<ChunkHeartbeatAck>(datagram, chunk)? else {
             return Ok(Step::Refused(Reason::NoPacket));
@@ -188,13 +215,8 @@ impl Association {
         if self.heartbeat.is_none() {
             return Ok(Step::Refused(Reason::Unexpected));
         }
-        for param in ack.params {
-            if let ParamKind::HeartbeatInfo(info) = param {
-                let Some(nonce) = info.heartbeat_information.first_chunk::<8>() else {
-                    continue;
-                };
-                self.heartbeat_answered(u64::from_be_bytes(*nonce), now);
-            }
+        if let Some(nonce) = nonce_of(&ack) {
+            self.heartbeat_answered(nonce, now);
         }
         Ok(Step::Next)
     }
@@ -204,6 +226,7 @@ impl Association {
         ensures tells { TellsEnd self.old self.new }
         ensures halves { HalvesAlike self.old self.new }
         ensures kept { IsKept self.old self.new }
+        ensures beats { IsBeaten now (Some nonce) self.old self.new }
     {
         let Some(heartbeat) = &mut self.heartbeat else {
             return;

@@ -91,8 +91,9 @@ impl Association {
         ensures owes { result ≡ Ok false → MayReply self.new → OwesNone self.new }
         // Where there is no datagram though DATA may leave: what waits or is to be sent again waits for a SACK, or for T3-rtx.
         ensures idle { result ≡ Ok false → MaySend self.new → IsIdle now self.new }
-        // New DATA leaves while nothing is outstanding, or less than cwnd is and the peer's window has room (RFC 9260 6.1 A, B).
-        ensures within { SendsWithin self.old.outbound self.new.outbound }
+        // New DATA leaves while nothing is outstanding; or less than cwnd is, the burst lasts, and the peer's window has room (RFC 9260 6.1 A, B, D).
+        // For each idle RTO cwnd falls once (7.2.1).
+        ensures within { SendsWithin now self.old.outbound self.new.outbound }
         // What else is due stays due, or leaves in the datagram: a COOKIE-ECHO with the cookie, a SHUTDOWN with the cumulative TSN, a
         // HEARTBEAT-ACK with what came. Only one that no packet has room for is dropped.
         ensures leaves { LeavesBy (is_sent result) self.old self.new }
@@ -135,7 +136,7 @@ impl Association {
             → OwesNone self.new }
         ensures idle { result ≡ Ok false → sends self.new.machine.state ≡ true
             → IsIdle now self.new }
-        ensures within { LeavesWithin self.old.outbound self.new.outbound }
+        ensures within { LeavesWithin now self.old.outbound self.new.outbound }
         ensures leaves { LeavesBy (is_sent result) self.old self.new }
     {
         self.draft.begin(header)?;
@@ -364,7 +365,7 @@ impl Association {
         ensures idle { OnOk result (sends self.new.machine.state ≡ true → (p : Parts)
             → IsDraft p self.old.draft.bytes → length self.new.draft.bytes ≤ 12
             → IsIdle now self.new) }
-        ensures within { LeavesWithin self.old.outbound self.new.outbound }
+        ensures within { LeavesWithin now self.old.outbound self.new.outbound }
         ensures leaves { LeavesInto self.old self.new }
     {
         self.put_cookies();
@@ -409,7 +410,7 @@ impl Association {
             → IfNonePut self.old.draft.bytes self.new.draft.bytes
             (WaitsForSacks self.new.draft.limit self.new.outbound.sender
             × IsTimed (in_flight self.new.outbound.sender) self.new.outbound.timer.at)) }
-        ensures within { LeavesWithin self.old.outbound self.new.outbound }
+        ensures within { LeavesWithin now self.old.outbound self.new.outbound }
         ensures replies { replies_of self.new ≡ replies_of self.old }
     {
         if !self.machine.state().sends_data() {

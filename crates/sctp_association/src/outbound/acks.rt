@@ -1,11 +1,12 @@
 //! What a SACK acknowledges (RFC 9260 6.2.1, 6.3, 7.2).
 
-ghost use Rattle.std.specs.Prelude.{◌≡◌, ◌⊎◌, ◌-◌, ◌==◌, not, if◌then◌else◌, None, true, is_some, Ok, OnErr};
+ghost use Rattle.std.specs.Prelude.{◌≡◌, ◌⊎◌, ◌-◌, ◌==◌, not, if◌then◌else◌, None, true, is_some, Ok, IfOk, OnErr};
 ghost use Rattle.sctp_association.specs.Acks.{acked_by, grown_by, size_acked, without_blocks};
 ghost use Rattle.sctp_association.specs.Arrivals.{AsksToHear, HearsBy, IsCount, without_gaps};
 ghost use Rattle.sctp_association.specs.Counts.{HasLimitsOf, IsCountedAlike};
 ghost use Rattle.sctp_association.specs.Paths.{IsMissedBefore, MovesBy, cleared_by, taken_as, measured_again, measured_by, missing_before, sent_once, trips_of};
 ghost use Rattle.sctp_association.specs.Sacks.{HearsSackFirst};
+ghost use Rattle.sctp_association.specs.Shutting.{ShutsBy};
 ghost use Rattle.sctp_association.specs.Telling.{Stays};
 ghost use Rattle.sctp_association.specs.declared.outbound.acks.SackTaken.TheVariants.{Taken, Forged};
 ghost use Rattle.sctp_chunks.specs.Wire.{sack_chunk, shutdown_chunk};
@@ -89,6 +90,7 @@ impl Outbound {
             self.old.sender self.new.sender }
         ensures acked { result ≡ Ok Taken
             → self.new.sender ≡ after_acked (without_blocks tsn) self.old.sender }
+        ensures path { IfOk result (λ taken. ShutsBy tsn now self.old self.new) }
         ensures back { self.new.came_back ≡ self.old.came_back }
         ensures counts { IsCountedAlike self.old self.new }
         ensures limits { HasLimitsOf self.old self.new }
@@ -108,11 +110,12 @@ impl Outbound {
             Err(SenderRefusal::OutOfMemory) => return Err(Fault::OutOfMemory),
             Err(_) => return Ok(SackTaken::Forged),
         };
-        if !sna32lt(tsn, before) {
-            note_low(low, &released);
-            self.follow(&released, before, flight, now);
-            self.run_timer(now);
+        if sna32lt(tsn, before) {
+            return Ok(SackTaken::Taken);
         }
+        note_low(low, &released);
+        self.follow(&released, before, flight, now);
+        self.run_timer(now);
         Ok(SackTaken::Taken)
     }
 

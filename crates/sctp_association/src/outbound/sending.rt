@@ -1,7 +1,7 @@
 //! What goes into a packet (RFC 9260 6.1, 6.10).
 
 ghost use Rattle.std.specs.Prelude.{◌≡◌, ◌⊎◌, ◌+◌, ◌-◌, ◌^◌, ◌<◌, ◌≤◌, [], min, true, false, None, Some, IfOk, IfSome, OnErr, OnOk, find, length};
-ghost use Rattle.sctp_association.specs.Congested.{IsAsMany, KeepsWindows, LeavesWithin, StaysOrLeft};
+ghost use Rattle.sctp_association.specs.Congested.{BeginsNew, IsAsMany, LeavesWithin, StaysOrLeft, idle_at};
 ghost use Rattle.sctp_association.specs.Counts.{CountsNone, IsCountedAlong, IsCountedOn};
 ghost use Rattle.sctp_association.specs.Filled.{IfNonePut};
 ghost use Rattle.sctp_association.specs.Idle.{SendsNoneAgain, SendsNoneNew, WaitsBehind, WaitsForSacks, in_flight};
@@ -48,7 +48,7 @@ impl Outbound {
         // Where nothing was put: what waits, or is to be sent again, waits for a SACK.
         ensures idle { OnOk result (IfNonePut packet.old.bytes packet.new.bytes
             (WaitsForSacks packet.old.limit self.new.sender)) }
-        ensures within { LeavesWithin self.old self.new }
+        ensures within { LeavesWithin now self.old self.new }
     {
         let filled = self.put_all(packet, now);
         self.run_timer(now);
@@ -64,7 +64,7 @@ impl Outbound {
         ensures grows { length packet.old.bytes ≤ length packet.new.bytes }
         ensures idle { OnOk result (IfNonePut packet.old.bytes packet.new.bytes
             (WaitsForSacks packet.old.limit self.new.sender)) }
-        ensures within { LeavesWithin self.old self.new }
+        ensures within { LeavesWithin now self.old self.new }
     {
         self.put_skip(packet)?;
         self.put_lost(packet, now)?;
@@ -98,7 +98,7 @@ impl Outbound {
         ensures grows { length packet.old.bytes ≤ length packet.new.bytes }
         ensures idle { OnOk result (IfNonePut packet.old.bytes packet.new.bytes
             (SendsNoneAgain (packet.old.limit - length packet.old.bytes) self.old self.new)) }
-        ensures many { IsAsMany self.old self.new }
+        ensures many { IsAsMany now self.old self.new }
     {
         let flight = self.flight();
         self.put_marked(packet, self.is_fast, flight, now)
@@ -120,7 +120,7 @@ impl Outbound {
         ensures idle { OnOk result (IfNonePut packet.old.bytes packet.new.bytes
             (flight ≡ flight_of (in_flight self.old.sender)
             → SendsNoneAgain (packet.old.limit - length packet.old.bytes) self.old self.new)) }
-        ensures many { IsAsMany self.old self.new }
+        ensures many { IsAsMany now self.old self.new }
     {
         if !self.put_again(packet, is_fast, flight, now)? {
             return Ok(());
@@ -163,7 +163,7 @@ impl Outbound {
         ensures none { IfOk result (λ sent. sent ≡ false
             → flight ≡ flight_of (in_flight self.old.sender)
             → SendsNoneAgain (packet.old.limit - length packet.old.bytes) self.old self.new) }
-        ensures many { IsAsMany self.old self.new }
+        ensures many { IsAsMany now self.old self.new }
     {
         if !self.may_send_again(is_fast, flight, now) {
             return Ok(false);
@@ -230,7 +230,7 @@ impl Outbound {
             → IfOk result (λ sent. sent ≡ true → 12 < length packet.new.bytes) }
         ensures none { IfOk result (λ sent. sent ≡ false → next_within
             (packet.old.limit - length packet.old.bytes) self.old.sender.flight ≡ None) }
-        ensures many { IsAsMany self.old self.new }
+        ensures many { IsAsMany now self.old self.new }
     {
         let Some(chunk) = self.sender.resend_next(now, packet.room())? else {
             return Ok(false);
@@ -280,7 +280,7 @@ impl Outbound {
         ensures sender { self.new.sender ≡ self.old.sender }
         ensures counts { CountsNone self.old self.new }
         ensures lost { self.new.has_lost ≡ self.old.has_lost }
-        ensures windows { KeepsWindows self.old.sender self.old self.new }
+        ensures begins { BeginsNew now result self.old self.new }
         ensures none { result ≡ false → (self.old.has_lost ≡ true)
             ⊎ (chunk_count self.old.sender.flight.queue.pending ≡ 0) }
     {
@@ -303,7 +303,7 @@ impl Outbound {
         ensures grows { length packet.old.bytes ≤ length packet.new.bytes }
         ensures idle { OnOk result (IfNonePut packet.old.bytes packet.new.bytes
             (SendsNoneNew (packet.old.limit - length packet.old.bytes) self.old self.new)) }
-        ensures within { LeavesWithin self.old self.new }
+        ensures within { LeavesWithin now self.old self.new }
     {
         if !self.begin_new(now) {
             return Ok(());
@@ -336,6 +336,9 @@ impl Outbound {
           congestion = self.new.congestion;
           used = self.new.used;
         } }
+        // These RTOs count no more.
+        ensures over { 0 < idle_at now self.old → self.new.used ≡ now }
+        ensures none { idle_at now self.old ≡ 0 → self.new.used ≡ self.old.used }
     {
         let rto = self.rto.get().max(1);
         let times = (now.saturating_sub(self.used) / rto).min(MOST_HALVINGS);
@@ -382,7 +385,7 @@ impl Outbound {
         ensures counts { CountsNone self.old self.new }
         ensures limit { packet.new.limit ≡ packet.old.limit }
         ensures grows { length packet.old.bytes ≤ length packet.new.bytes }
-        ensures within { StaysOrLeft self.old self.new }
+        ensures within { StaysOrLeft now self.old self.new }
     {
         if self.is_partial && self.is_front_late(now) {
             return Ok(false);
@@ -407,7 +410,7 @@ impl Outbound {
             → IfOk result (λ sent. sent ≡ true → 12 < length packet.new.bytes) }
         ensures none { IfOk result (λ sent. sent ≡ false
             → WaitsBehind (packet.old.limit - length packet.old.bytes) self.old.sender) }
-        ensures within { StaysOrLeft self.old self.new }
+        ensures within { StaysOrLeft now self.old self.new }
     {
         let Some(chunk) = self.sender.outbound().peek_pending() else {
             return Ok(false);

@@ -110,28 +110,30 @@ returns-clause-owes c = on_ok c.put_data.result (λ state p draft short.
 -- ## What had room
 
 pub returns-then-is_empty-clause-within : goal.returns-then-is_empty-clause-within
-returns-then-is_empty-clause-within c = within_full c.args.self.now.outbound c.put_cookies.new.self.outbound
-    (full_of _ c.put_cookies.new.self c.put_cookies.ensures.others.halves)
+returns-then-is_empty-clause-within c = within_full c.args.now c.args.self.now.outbound c.put_cookies.new.self.outbound
+    (full_of _ c.put_cookies.new.self c.put_cookies.ensures.others.halves c.put_cookies.ensures.others.kept.rto)
 
 pub returns-else-is_empty-clause-within : goal.returns-else-is_empty-clause-within
 returns-else-is_empty-clause-within c =
-    within_full c.args.self.now.outbound c.put_report.new.self.outbound (full_then _ c.put_cookies.new.self.outbound _
-    (full_of _ c.put_cookies.new.self c.put_cookies.ensures.others.halves) (full_of c.put_cookies.new.self _ c.put_report.ensures.others.halves))
+    within_full c.args.now c.args.self.now.outbound c.put_report.new.self.outbound (full_then _ c.put_cookies.new.self.outbound _
+    (full_of _ c.put_cookies.new.self c.put_cookies.ensures.others.halves c.put_cookies.ensures.others.kept.rto)
+    (full_of c.put_cookies.new.self _ c.put_report.ensures.others.halves c.put_report.ensures.others.kept.rto))
 
 pub returns-in_err-put_sack-clause-within : goal.returns-in_err-put_sack-clause-within
 returns-in_err-put_sack-clause-within c =
-    within_full c.args.self.now.outbound c.put_sack.new.self.outbound
-    (full_then _ c.put_cookies.new.self.outbound _ (full_of _ c.put_cookies.new.self c.put_cookies.ensures.others.halves) c.put_sack.ensures.full)
+    within_full c.args.now c.args.self.now.outbound c.put_sack.new.self.outbound
+    (full_then _ c.put_cookies.new.self.outbound _
+    (full_of _ c.put_cookies.new.self c.put_cookies.ensures.others.halves c.put_cookies.ensures.others.kept.rto) c.put_sack.ensures.full)
 
 pub returns-in_err-put_control-clause-within : goal.returns-in_err-put_control-clause-within
 returns-in_err-put_control-clause-within c =
-    within_full c.args.self.now.outbound c.put_control.new.self.outbound (full_then _ c.put_cookies.new.self.outbound _
-    (full_of _ c.put_cookies.new.self c.put_cookies.ensures.others.halves)
+    within_full c.args.now c.args.self.now.outbound c.put_control.new.self.outbound (full_then _ c.put_cookies.new.self.outbound _
+    (full_of _ c.put_cookies.new.self c.put_cookies.ensures.others.halves c.put_cookies.ensures.others.kept.rto)
     (full_then _ c.put_sack.new.self.outbound _ c.put_sack.ensures.full c.put_control.ensures.full))
 
 pub returns-clause-within : goal.returns-clause-within
-returns-clause-within c = within_behind c.args.self.now.outbound c.put_control.new.self.outbound c.put_data.new.self.outbound (
-    full_then _ c.put_cookies.new.self.outbound _ (full_of _ c.put_cookies.new.self c.put_cookies.ensures.others.halves)
+returns-clause-within c = within_behind c.args.now c.args.self.now.outbound c.put_control.new.self.outbound c.put_data.new.self.outbound (
+    full_then _ c.put_cookies.new.self.outbound _ (full_of _ c.put_cookies.new.self c.put_cookies.ensures.others.halves c.put_cookies.ensures.others.kept.rto)
     (full_then _ c.put_sack.new.self.outbound _ c.put_sack.ensures.full c.put_control.ensures.full)
     ) c.put_data.ensures.within
 

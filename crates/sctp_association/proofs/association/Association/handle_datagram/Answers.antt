@@ -3,9 +3,12 @@ use Rattle.std.proofs.Common.{ap, inl, refl, rules, ◌∙◌, List, subst, sym,
 use Rattle.sctp_association.proofs.Arrived.{arrives_of, arrives_same}
 use Rattle.sctp_association.specs.Halves.{halves_of}
 use Rattle.sctp_association.specs.declared.association.Association.{Association}
+use Rattle.std.proofs.lemmas.Bool.{false≢true}
+use Rattle.sctp_association.specs.Beats.{BeatsAt}
+use Rattle.sctp_association.specs.Shutting.{ShutsAt}
 use Rattle.sctp_association.proofs.Coming.{if_ok, never_accepted, never_told, on_ok}
 use Rattle.sctp_association.proofs.Going.{accepted_as}
-use Rattle.sctp_association.proofs.First.{begins, first_is, for_admitted, on_err, only_data, type_of_one}
+use Rattle.sctp_association.proofs.First.{begins, first_is, for_admitted, on_err, only_data, only_one, type_of_one}
 use Rattle.sctp_association.proofs.Offered.{limits_of_offered, offered_less, offered_same}
 use Rattle.sctp_association.proofs.association.Association.handle_datagram.Goals as goal
 use Rattle.sctp_association.proofs.Each.{told_once}
@@ -43,6 +46,8 @@ returns-in-Err c = record {
   memory = on_err _ refl;
   partly = λ e. absurd (never_told _ _ e refl c.dropped_by.ensures.never);
   takes = λ one typ e. absurd (never_told _ _ e refl c.dropped_by.ensures.never);
+  beats = λ one typ e. absurd (never_told _ _ e refl c.dropped_by.ensures.never);
+  shuts = λ one typ e. absurd (never_told _ _ e refl c.dropped_by.ensures.never);
   due = λ due r e.
       let zero : zero_checksum_of c.args.self.now.config ≡ c.if-self.zero = elim c.if-self.branch [
         | then-self w ↦ rw w.if-self.true (sym w.zero-is)
@@ -144,3 +149,25 @@ returns-clause-path c takes is chunks tells each =
     let same = told_once _ _ _ all tells in
     subst (λ (l : List ChunkPlace). MovesByFirstOf l c.args.datagram.now c.args.now c.args.self.now c.take_chunks.new.self) same
     (c.take_chunks.ensures.path takes is (subst (λ (l : List ChunkPlace). all_go_on l ≡ true) (sym same) each))
+
+-- ## A HEARTBEAT-ACK as the only chunk
+
+pub returns-then-self-2-clause-beats : goal.returns-then-self-2-clause-beats
+returns-then-self-2-clause-beats c one typ is going = absurd (false≢true (sym going ∙ c.if-self-2.true))
+
+pub returns-clause-beats : goal.returns-clause-beats
+returns-clause-beats c one typ is going =
+    let all : TellsAll place_at c.args.datagram.now c.in-Ok.chunks.left = search rules in
+    only_one (λ p. BeatsAt p.at c.args.datagram.now c.args.now c.args.self.now c.take_chunks.new.self) 5 _ _ _ _ all one typ
+    (if_ok _ _ _ is c.take_chunks.ensures.accepted refl) (λ first are t. c.take_chunks.ensures.beats first are t is)
+
+-- ## A SHUTDOWN as the only chunk
+
+pub returns-then-self-2-clause-shuts : goal.returns-then-self-2-clause-shuts
+returns-then-self-2-clause-shuts c one typ is going = absurd (false≢true (sym going ∙ c.if-self-2.true))
+
+pub returns-clause-shuts : goal.returns-clause-shuts
+returns-clause-shuts c one typ is going =
+    let all : TellsAll place_at c.args.datagram.now c.in-Ok.chunks.left = search rules in
+    only_one (λ p. ShutsAt p.at c.args.datagram.now c.args.now c.args.self.now.outbound c.take_chunks.new.self.outbound) 7 _ _ _ _ all one typ
+    (if_ok _ _ _ is c.take_chunks.ensures.accepted refl) (λ first are t. c.take_chunks.ensures.shuts first are t is)

@@ -31,3 +31,6 @@ returns-clause-moments c =
 
 pub returns-clause-sending : goal.returns-clause-sending
 returns-clause-sending c = c.follow.ensures.sending (drained_told _ _ c.drained-answer.ensures.answer)
+
+pub returns-clause-heartbeat : goal.returns-clause-heartbeat
+returns-clause-heartbeat c = c.follow.ensures.heartbeat (drained_told _ _ c.drained-answer.ensures.answer)

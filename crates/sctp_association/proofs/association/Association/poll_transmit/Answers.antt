@@ -1,7 +1,7 @@
 use Rattle.std.proofs.Common.{Option, ap, refl, sym, ◌∙◌}
 use Rattle.sctp_association.proofs.Telling.{tells_kept, tells_peer, tells_same, tells_then, to_same, transmits_end, unmoved_end}
 use Rattle.std.proofs.lemmas.Option.{none-some}
-use Rattle.sctp_association.proofs.Congested.{as_full, dropped_windows, full_of, sends_after, sends_alike, sends_same}
+use Rattle.sctp_association.proofs.Congested.{as_full, dropped_full, full_of, sends_after, sends_alike, sends_same}
 use Rattle.sctp_association.proofs.Known.{keeps_then, knows_same, unmoved_keeps, unmoved_within}
 use Rattle.sctp_association.proofs.Leaving.{leaves_later, leaves_same, new_then, new_unmoved, once_after, stays_leave}
 use Rattle.sctp_association.proofs.Lasting.{lasts_same, lasts_then, lasts_unmoved}
@@ -159,27 +159,31 @@ returns-clause-left c = lasts_then c.args.self.now c.settle.new.self _ (
 
 pub returns-in_err-put_alone-clause-within : goal.returns-in_err-put_alone-clause-within
 returns-in_err-put_alone-clause-within c =
-    sends_same c.args.self.now.outbound c.put_alone.new.self.outbound (full_of _ c.put_alone.new.self c.put_alone.ensures.halves)
+    sends_same c.args.now c.args.self.now.outbound c.put_alone.new.self.outbound
+    (full_of _ c.put_alone.new.self c.put_alone.ensures.halves c.put_alone.ensures.kept.rto)
 
 pub returns-in-Some-clause-within : goal.returns-in-Some-clause-within
 returns-in-Some-clause-within c =
-    sends_same c.args.self.now.outbound c.put_alone.new.self.outbound (full_of _ c.put_alone.new.self c.put_alone.ensures.halves)
+    sends_same c.args.now c.args.self.now.outbound c.put_alone.new.self.outbound
+    (full_of _ c.put_alone.new.self c.put_alone.ensures.halves c.put_alone.ensures.kept.rto)
 
 pub returns-then-self-clause-within : goal.returns-then-self-clause-within
-returns-then-self-clause-within c = sends_same c.args.self.now.outbound c.args.self.now.outbound (as_full _ _ refl)
+returns-then-self-clause-within c = sends_same c.args.now c.args.self.now.outbound c.args.self.now.outbound (as_full _ _ refl)
 
 pub returns-in_err-abandon-clause-within : goal.returns-in_err-abandon-clause-within
-returns-in_err-abandon-clause-within c = sends_alike c.args.self.now.outbound c.abandon.new.self c.abandon.new.self c.abandon.ensures.dropped
-    (dropped_windows _ c.abandon.new.self _ _ c.abandon.ensures.rest) (as_full _ _ refl)
+returns-in_err-abandon-clause-within c = sends_alike c.args.now c.args.self.now.outbound c.abandon.new.self c.abandon.new.self c.abandon.ensures.dropped
+    (dropped_full _ c.abandon.new.self _ _ c.abandon.ensures.rest) (as_full _ _ refl)
 
 pub returns-in_default-peer-clause-within : goal.returns-in_default-peer-clause-within
-returns-in_default-peer-clause-within c = sends_alike c.args.self.now.outbound c.abandon.new.self c.settle.new.self.outbound c.abandon.ensures.dropped
-    (dropped_windows _ c.abandon.new.self _ _ c.abandon.ensures.rest) (full_of _ c.settle.new.self c.settle.ensures.halves)
+returns-in_default-peer-clause-within c = sends_alike c.args.now c.args.self.now.outbound c.abandon.new.self c.settle.new.self.outbound
+    c.abandon.ensures.dropped (dropped_full _ c.abandon.new.self _ _ c.abandon.ensures.rest)
+    (full_of _ c.settle.new.self c.settle.ensures.halves (ap (λ (o : Outbound). o.rto) c.settle.ensures.sending))
 
 pub returns-clause-within : goal.returns-clause-within
 returns-clause-within c =
-    sends_after c.args.self.now.outbound c.abandon.new.self c.settle.new.self.outbound c.put_packet.new.self.outbound c.abandon.ensures.dropped
-    (dropped_windows _ c.abandon.new.self _ _ c.abandon.ensures.rest) (full_of _ c.settle.new.self c.settle.ensures.halves) c.put_packet.ensures.within
+    sends_after c.args.now c.args.self.now.outbound c.abandon.new.self c.settle.new.self.outbound c.put_packet.new.self.outbound c.abandon.ensures.dropped
+    (dropped_full _ c.abandon.new.self _ _ c.abandon.ensures.rest)
+    (full_of _ c.settle.new.self c.settle.ensures.halves (ap (λ (o : Outbound). o.rto) c.settle.ensures.sending)) c.put_packet.ensures.within
 
 -- ## What is due
 

@@ -137,25 +137,26 @@ returns-clause-leaves c =
 
 pub returns-in_err-put_heartbeats-clause-full : goal.returns-in_err-put_heartbeats-clause-full
 returns-in_err-put_heartbeats-clause-full c = full_then _ c.put_shutdown.new.self.outbound _ c.put_shutdown.ensures.full
-    (full_of c.put_shutdown.new.self c.put_heartbeats.new.self c.put_heartbeats.ensures.halves)
+    (full_of c.put_shutdown.new.self c.put_heartbeats.new.self c.put_heartbeats.ensures.halves c.put_heartbeats.ensures.kept.rto)
 
 pub returns-in_err-put_unknown_stream-clause-full : goal.returns-in_err-put_unknown_stream-clause-full
 returns-in_err-put_unknown_stream-clause-full c =
     let first = full_then _ c.put_shutdown.new.self.outbound _ c.put_shutdown.ensures.full
-    (full_of c.put_shutdown.new.self c.put_heartbeats.new.self c.put_heartbeats.ensures.halves) in
+    (full_of c.put_shutdown.new.self c.put_heartbeats.new.self c.put_heartbeats.ensures.halves c.put_heartbeats.ensures.kept.rto) in
     full_others c.args.self.now.outbound c.put_heartbeats.new.self c.put_unknown_stream.new.self first c.put_unknown_stream.ensures.others
 
 pub returns-in_err-put_report-clause-full : goal.returns-in_err-put_report-clause-full
 returns-in_err-put_report-clause-full c =
     let first = full_then _ c.put_shutdown.new.self.outbound _ c.put_shutdown.ensures.full
-    (full_of c.put_shutdown.new.self c.put_heartbeats.new.self c.put_heartbeats.ensures.halves) in
+    (full_of c.put_shutdown.new.self c.put_heartbeats.new.self c.put_heartbeats.ensures.halves c.put_heartbeats.ensures.kept.rto) in
     full_others c.args.self.now.outbound c.put_heartbeats.new.self c.put_report.new.self first
     (others_then _ c.put_unknown_stream.new.self _ c.put_unknown_stream.ensures.others c.put_report.ensures.others)
 
 pub returns-clause-full : goal.returns-clause-full
 returns-clause-full c =
     let first = full_then _ c.put_shutdown.new.self.outbound _ c.put_shutdown.ensures.full
-    (full_of c.put_shutdown.new.self c.put_heartbeats.new.self c.put_heartbeats.ensures.halves) in
+    (full_of c.put_shutdown.new.self c.put_heartbeats.new.self c.put_heartbeats.ensures.halves c.put_heartbeats.ensures.kept.rto) in
     let told = full_others c.args.self.now.outbound c.put_heartbeats.new.self c.put_report.new.self first
     (others_then _ c.put_unknown_stream.new.self _ c.put_unknown_stream.ensures.others c.put_report.ensures.others) in
-    full_then _ c.put_report.new.self.outbound _ told (full_of c.put_report.new.self c.put_resets.new.self c.put_resets.ensures.halves)
+    full_then _ c.put_report.new.self.outbound _ told
+    (full_of c.put_report.new.self c.put_resets.new.self c.put_resets.ensures.halves c.put_resets.ensures.kept.rto)

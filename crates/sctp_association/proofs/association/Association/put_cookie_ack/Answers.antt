@@ -32,7 +32,12 @@ returns-then-put-clause-leaves c = record {
 pub returns-else-self-clause-others : goal.returns-else-self-clause-others
 returns-else-self-clause-others c = elim c.else-self.branch [
   | else-self-via-then-self+else-put w ↦ subst (PutsOthers c.args.self.now) (sym w.self-is) (
-      others_none c.args.self.now _ (record { sender = refl; receiver = refl; windows = record { peer_window = refl; congestion = refl } })
+      others_none c.args.self.now _ (record {
+        sender = refl;
+        receiver = refl;
+        windows = record { peer_window = refl; congestion = refl };
+        pace = record { used = refl; burst = refl; paused = refl };
+      })
       (record {
         config = refl;
         key = refl;

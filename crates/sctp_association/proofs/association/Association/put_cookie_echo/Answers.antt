@@ -25,7 +25,12 @@ returns-then-is_put-clause-others c =
     let own = sym c.in-Some.is ∙ c.take.ensures.value in
     others_one c.put-is_put.result _ c.args.self.now _ c.put-is_put.ensures.added tt
     (c.if-not-self.false, sym c.take.ensures.value ∙ c.in-Some.is, refl)
-    (record { sender = refl; receiver = refl; windows = record { peer_window = refl; congestion = refl } })
+    (record {
+      sender = refl;
+      receiver = refl;
+      windows = record { peer_window = refl; congestion = refl };
+      pace = record { used = refl; burst = refl; paused = refl };
+    })
     (record {
       config = refl;
       key = refl;
@@ -52,7 +57,12 @@ returns-then-is_put-clause-others c =
 
 pub returns-in_default-clause-others : goal.returns-in_default-clause-others
 returns-in_default-clause-others c = others_none c.args.self.now _
-    (record { sender = refl; receiver = refl; windows = record { peer_window = refl; congestion = refl } })
+    (record {
+      sender = refl;
+      receiver = refl;
+      windows = record { peer_window = refl; congestion = refl };
+      pace = record { used = refl; burst = refl; paused = refl };
+    })
     (record {
       config = refl;
       key = refl;

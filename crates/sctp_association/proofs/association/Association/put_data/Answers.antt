@@ -20,11 +20,11 @@ returns-clause-made c = subst (λ (a : Association). Puts (sides_of c.args.self.
     (c.put.ensures.made (receiver_of c.args.self.now.inbound))
 
 pub returns-then-not-sends_data-clause-within : goal.returns-then-not-sends_data-clause-within
-returns-then-not-sends_data-clause-within c = within_same c.args.self.now.outbound c.args.self.now.outbound refl
+returns-then-not-sends_data-clause-within c = within_same c.args.now c.args.self.now.outbound c.args.self.now.outbound refl
 
 pub returns-clause-within : goal.returns-clause-within
 returns-clause-within c =
-    subst (λ (a : Association). LeavesWithin c.args.self.now.outbound a.outbound) (sym c.note_use.ensures.rest) c.put.ensures.within
+    subst (λ (a : Association). LeavesWithin c.args.now c.args.self.now.outbound a.outbound) (sym c.note_use.ensures.rest) c.put.ensures.within
 
 pub returns-in_err-put-clause-moments : goal.returns-in_err-put-clause-moments
 returns-in_err-put-clause-moments c = rto_asks c.args.now c.args.self.now c.put.new.self c.put.ensures.counted.rto

@@ -34,7 +34,12 @@ returns-then-is_put-clause-leaves c =
 
 pub returns-in_err-heartbeat_ack-clause-others : goal.returns-in_err-heartbeat_ack-clause-others
 returns-in_err-heartbeat_ack-clause-others c = others_none c.args.self.now _
-    (record { sender = refl; receiver = refl; windows = record { peer_window = refl; congestion = refl } })
+    (record {
+      sender = refl;
+      receiver = refl;
+      windows = record { peer_window = refl; congestion = refl };
+      pace = record { used = refl; burst = refl; paused = refl };
+    })
     (record {
       config = refl;
       key = refl;

@@ -2,7 +2,7 @@ use Rattle.sctp_association.proofs.Leaving.{by_none, by_sealed, leaves_same, wit
 use Rattle.std.proofs.Common.{[], ap, false, refl, subst, sym, ◌∙◌}
 use Rattle.sctp_association.specs.Leaving.{replies_of}
 use Rattle.std.proofs.lemmas.Bool.{leb-true}
-use Rattle.sctp_association.proofs.Congested.{paused, within_same, within_then}
+use Rattle.sctp_association.proofs.Congested.{within_paused, within_same}
 use Rattle.sctp_association.proofs.Others.{at_then, none_sent_so, plain_after, sealed_after, sent_same, unsent, unsent_after, unsent_err}
 use Rattle.sctp_association.proofs.Owing.{rto_asks}
 use Rattle.sctp_association.proofs.Putting.{nothing}
@@ -61,11 +61,11 @@ returns-then-is_empty-clause-owes c _ state =
 -- ## What had room
 
 pub returns-in_err-begin-clause-within : goal.returns-in_err-begin-clause-within
-returns-in_err-begin-clause-within c = within_same c.args.self.now.outbound c.args.self.now.outbound refl
+returns-in_err-begin-clause-within c = within_same c.args.now c.args.self.now.outbound c.args.self.now.outbound refl
 
 pub returns-then-is_empty-clause-within : goal.returns-then-is_empty-clause-within
-returns-then-is_empty-clause-within c = within_then c.args.self.now.outbound.sender c.args.self.now.outbound c.fill-filled.new.self.outbound c.pause.new.self
-    c.fill-filled.ensures.within (paused c.fill-filled.new.self.outbound c.pause.new.self _ c.pause.ensures)
+returns-then-is_empty-clause-within c = within_paused c.args.now c.args.self.now.outbound.sender c.args.self.now.outbound c.fill-filled.new.self.outbound
+    c.pause.new.self c.fill-filled.ensures.within c.pause.ensures
 
 -- ## What leaves
 

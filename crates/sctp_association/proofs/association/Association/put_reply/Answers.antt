@@ -13,7 +13,12 @@ pub returns-in-ShuttingDown-clause-reply : goal.returns-in-ShuttingDown-clause-r
 returns-in-ShuttingDown-clause-reply c =
     reply_then c.args.kind c.args.self.now _ _ (
     reply_one c.put-in-ShuttingDown.result _ c.args.kind c.args.self.now _ c.put-in-ShuttingDown.ensures.added tt tt
-    (record { sender = refl; receiver = refl; windows = record { peer_window = refl; congestion = refl } })
+    (record {
+      sender = refl;
+      receiver = refl;
+      windows = record { peer_window = refl; congestion = refl };
+      pace = record { used = refl; burst = refl; paused = refl };
+    })
     (record {
       config = refl;
       key = refl;

@@ -32,7 +32,12 @@ returns-then-put-clause-leaves c = record {
 pub returns-then-put-clause-others : goal.returns-then-put-clause-others
 returns-then-put-clause-others c =
     others_one c.put.result _ c.args.self.now _ c.put.ensures.added tt (inl c.if-self.true, refl)
-    (record { sender = refl; receiver = refl; windows = record { peer_window = refl; congestion = refl } })
+    (record {
+      sender = refl;
+      receiver = refl;
+      windows = record { peer_window = refl; congestion = refl };
+      pace = record { used = refl; burst = refl; paused = refl };
+    })
     (record {
       config = refl;
       key = refl;
@@ -60,7 +65,12 @@ returns-then-put-clause-others c =
 pub returns-else-self-clause-others : goal.returns-else-self-clause-others
 returns-else-self-clause-others c = elim c.else-self.branch [
   | else-self-via-then-self+else-put w ↦ subst (PutsOthers c.args.self.now) (sym w.self-is) (
-      others_none c.args.self.now _ (record { sender = refl; receiver = refl; windows = record { peer_window = refl; congestion = refl } })
+      others_none c.args.self.now _ (record {
+        sender = refl;
+        receiver = refl;
+        windows = record { peer_window = refl; congestion = refl };
+        pace = record { used = refl; burst = refl; paused = refl };
+      })
       (record {
         config = refl;
         key = refl;

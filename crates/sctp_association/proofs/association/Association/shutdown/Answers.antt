@@ -11,7 +11,12 @@ returns-clause-halves c =
     let quiet = asked_told c.args.self.now.machine _ (λ e. absurd (search rules)) c.shutdown_asked-answer.ensures.answer in
     let first = c.follow.ensures.quiet quiet in
     let begun : HalvesAlike c.args.self.now c.follow.new.self =
-    record { sender = first.sender; receiver = first.receiver; windows = record { peer_window = first.windows.peer_window; congestion = first.windows.congestion } } in
+    record {
+      sender = first.sender;
+      receiver = first.receiver;
+      windows = record { peer_window = first.windows.peer_window; congestion = first.windows.congestion };
+      pace = record { used = first.pace.used; burst = first.pace.burst; paused = first.pace.paused };
+    } in
     alike_then _ c.follow.new.self _ begun c.settle.ensures.halves
 
 pub returns-clause-peer : goal.returns-clause-peer

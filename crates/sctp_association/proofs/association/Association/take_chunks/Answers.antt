@@ -2,6 +2,10 @@ use Rattle.sctp_association.proofs.Telling.{tells_peer, tells_same, tells_then}
 use Rattle.std.proofs.Common.{Ok, ap, arith, inl, inr, length, refl, rules, subst, sym, ◌≡◌, ◌<◌, ◌∙◌, ◌∷◌, List}
 use Rattle.std.proofs.lemmas.Bool.{false≢true}
 use Rattle.sctp_association.proofs.Arrived.{arrives_of, alike_halves}
+use Rattle.sctp_association.proofs.Beats.{beats_still}
+use Rattle.sctp_association.specs.Beats.{BeatsAt}
+use Rattle.sctp_association.proofs.Shutting.{shuts_still}
+use Rattle.sctp_association.specs.Shutting.{ShutsAt}
 use Rattle.sctp_association.proofs.Coming.{if_ok, takes_still}
 use Rattle.sctp_association.proofs.First.{one_first}
 use Rattle.sctp_association.proofs.Firsts.{by_datagram}
@@ -254,3 +258,44 @@ returns-clause-path c takes is all =
     c.take_first.new.self c.take_first.result each (c.take_first.ensures.sacks of) (c.take_first.ensures.path of) c.take_others-is_whole.new.self others next
     )
     )
+
+-- ## A HEARTBEAT-ACK as the only chunk
+
+pub returns-in-Stop-clause-beats : goal.returns-in-Stop-clause-beats
+returns-in-Stop-clause-beats c first are typ is =
+    let same = one_first _ _ _ (sym c.in-Some.ensures.place ∙ are) in
+    let stop : c.take_first.result ≡ Ok step.Stop = search rules in
+    let alone : c.left-count.result < 2 = omega (arith, c.left-count.ensures, ap length are) in
+    absurd (if_ok _ _ _ stop (c.take_first.ensures.beats alone (ap (λ (p : ChunkPlace). p.typ) same.0 ∙ typ)))
+
+pub returns-clause-beats : goal.returns-clause-beats
+returns-clause-beats c first are typ is =
+    let same = one_first _ _ _ (sym c.in-Some.ensures.place ∙ are) in
+    let next : c.take_first.result ≡ Ok step.Next = search rules in
+    let alone : c.left-count.result < 2 = omega (arith, c.left-count.ensures, ap length are) in
+    let beat = if_ok _ _ _ next (c.take_first.ensures.beats alone (ap (λ (p : ChunkPlace). p.typ) same.0 ∙ typ)) in
+    let idle = (c.take_others-is_whole.ensures.none same.1).1 in
+    subst (λ (p : ChunkPlace). BeatsAt p.at c.args.datagram.now c.args.now c.args.self.now c.end_datagram-2.new.self) same.0
+    (beats_still _ _ _ c.args.self.now c.take_first.new.self c.end_datagram-2.new.self
+    (c.end_datagram-2.ensures.sending ∙ ap (λ (a : Association). a.outbound) idle)
+    (c.end_datagram-2.ensures.heartbeat ∙ ap (λ (a : Association). a.heartbeat) idle) beat)
+
+-- ## A SHUTDOWN as the only chunk
+
+pub returns-in-Stop-clause-shuts : goal.returns-in-Stop-clause-shuts
+returns-in-Stop-clause-shuts c first are typ is =
+    let same = one_first _ _ _ (sym c.in-Some.ensures.place ∙ are) in
+    let stop : c.take_first.result ≡ Ok step.Stop = search rules in
+    let alone : c.left-count.result < 2 = omega (arith, c.left-count.ensures, ap length are) in
+    absurd (if_ok _ _ _ stop (c.take_first.ensures.shuts alone (ap (λ (p : ChunkPlace). p.typ) same.0 ∙ typ)))
+
+pub returns-clause-shuts : goal.returns-clause-shuts
+returns-clause-shuts c first are typ is =
+    let same = one_first _ _ _ (sym c.in-Some.ensures.place ∙ are) in
+    let next : c.take_first.result ≡ Ok step.Next = search rules in
+    let alone : c.left-count.result < 2 = omega (arith, c.left-count.ensures, ap length are) in
+    let shut = if_ok _ _ _ next (c.take_first.ensures.shuts alone (ap (λ (p : ChunkPlace). p.typ) same.0 ∙ typ)) in
+    let idle = (c.take_others-is_whole.ensures.none same.1).1 in
+    subst (λ (p : ChunkPlace). ShutsAt p.at c.args.datagram.now c.args.now c.args.self.now.outbound c.end_datagram-2.new.self.outbound) same.0
+    (shuts_still _ _ _ c.args.self.now.outbound c.take_first.new.self.outbound c.end_datagram-2.new.self.outbound
+    (c.end_datagram-2.ensures.sending ∙ ap (λ (a : Association). a.outbound) idle) shut)

@@ -4,6 +4,9 @@ use Rattle.sctp_chunks.specs.Wire.{shutdown_chunk}
 use Rattle.sctp_datagram.specs.Framing.{StartsWith}
 use Rattle.sctp_association.proofs.Arrived.{came_same, came_then, sender_came}
 use Rattle.sctp_association.proofs.Begun.{quiet_shutdown}
+use Rattle.std.proofs.Common.{◌≡◌}
+use Rattle.sctp_association.proofs.Shutting.{shutdown_still, shuts_still}
+use Rattle.sctp_association.specs.Shutting.{ShutsBy}
 use Rattle.sctp_association.proofs.Known.{keeps_by, knows_shutdown}
 use Rattle.sctp_association.proofs.association.Association.take_shutdown.Goals as goal
 
@@ -38,3 +41,12 @@ returns-clause-tells c = end_then (to_low _ _ _ _ c.take_shutdown.ensures.low) c
 
 pub returns-in_err-_taken-clause-tells : goal.returns-in_err-_taken-clause-tells
 returns-in_err-_taken-clause-tells c = to_low _ _ _ _ c.take_shutdown.ensures.low
+
+-- what follows leaves the sending half
+pub returns-clause-shuts : goal.returns-clause-shuts
+returns-clause-shuts c =
+    let reads : StartsWith (drop c.args.chunk.at c.args.datagram.now) (shutdown_chunk c.in-Some.shutdown.cumulative_tsn_ack) = search rules in
+    let same : c.follow.new.self.outbound ≡ c.take_shutdown.new.self =
+    shutdown_still _ _ _ _ c.shutdown-answer.ensures.takes.answer c.follow.ensures.sending c.follow.ensures.shutdown in
+    let shuts : ShutsBy c.in-Some.shutdown.cumulative_tsn_ack c.args.now c.args.self.now.outbound c.take_shutdown.new.self = search rules in
+    shuts_still _ _ _ _ _ _ same (record { tsn = c.in-Some.shutdown.cumulative_tsn_ack; reads = reads; shuts = shuts })

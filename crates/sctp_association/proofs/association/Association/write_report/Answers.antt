@@ -18,7 +18,12 @@ returns-clause-others c = elim c.if-is_put.branch [
             ∙ ap (one_cause c.in-Some.report.code) c.as_slice.ensures,
         refl,
       ))
-      (record { sender = refl; receiver = refl; windows = record { peer_window = refl; congestion = refl } })
+      (record {
+        sender = refl;
+        receiver = refl;
+        windows = record { peer_window = refl; congestion = refl };
+        pace = record { used = refl; burst = refl; paused = refl };
+      })
       (record {
         config = refl;
         key = refl;
@@ -44,7 +49,12 @@ returns-clause-others c = elim c.if-is_put.branch [
       (record { heartbeat = refl; requests = refl; peer = refl })
       )
   | else-is_put+else-is_empty w ↦ subst (PutsOthers c.args.self.now) (sym w.self-is) (
-      others_none c.args.self.now _ (record { sender = refl; receiver = refl; windows = record { peer_window = refl; congestion = refl } })
+      others_none c.args.self.now _ (record {
+        sender = refl;
+        receiver = refl;
+        windows = record { peer_window = refl; congestion = refl };
+        pace = record { used = refl; burst = refl; paused = refl };
+      })
       (record {
         config = refl;
         key = refl;

@@ -10,14 +10,14 @@ returns-clause-made c =
     out_then _ _ _ _ _ _ (out_then _ _ _ _ _ _ c.put_skip.ensures.made c.put_lost.ensures.made) c.put_new.ensures.made
 
 pub returns-in_err-put_skip-clause-within : goal.returns-in_err-put_skip-clause-within
-returns-in_err-put_skip-clause-within c = within_full c.args.self.now c.put_skip.new.self (skipped c.args.self.now _ _ c.put_skip.ensures.rest)
+returns-in_err-put_skip-clause-within c = within_full c.args.now c.args.self.now c.put_skip.new.self (skipped c.args.self.now _ _ c.put_skip.ensures.rest)
 
 pub returns-in_err-put_lost-clause-within : goal.returns-in_err-put_lost-clause-within
 returns-in_err-put_lost-clause-within c =
-    within_behind c.args.self.now c.put_skip.new.self c.put_lost.new.self (skipped c.args.self.now _ _ c.put_skip.ensures.rest)
-    (within_again c.put_skip.new.self c.put_lost.new.self c.put_lost.ensures.many)
+    within_behind c.args.now c.args.self.now c.put_skip.new.self c.put_lost.new.self (skipped c.args.self.now _ _ c.put_skip.ensures.rest)
+    (within_again c.args.now c.put_skip.new.self c.put_lost.new.self c.put_lost.ensures.many)
 
 pub returns-clause-within : goal.returns-clause-within
 returns-clause-within c =
-    within_behind c.args.self.now c.put_skip.new.self c.put_new.new.self (skipped c.args.self.now _ _ c.put_skip.ensures.rest)
-    (within_after c.put_skip.new.self c.put_lost.new.self c.put_new.new.self c.put_lost.ensures.many c.put_new.ensures.within)
+    within_behind c.args.now c.args.self.now c.put_skip.new.self c.put_new.new.self (skipped c.args.self.now _ _ c.put_skip.ensures.rest)
+    (within_after c.args.now c.put_skip.new.self c.put_lost.new.self c.put_new.new.self c.put_lost.ensures.many c.put_new.ensures.within)

@@ -1,5 +1,5 @@
-use Rattle.std.proofs.Common.{ap, length, refl, sym, ◌∙◌}
-use Rattle.sctp_association.proofs.Congested.{again_many, resent_control}
+use Rattle.std.proofs.Common.{ap, inl, inr, length, refl, sym, ◌∙◌}
+use Rattle.sctp_association.proofs.Congested.{again_many, resent_control, some_again}
 use Rattle.sctp_association.proofs.Idle.{data_put, resent_fits}
 use Rattle.sctp_association.proofs.Making.{again_put, none_again}
 use Rattle.sctp_association.proofs.Putting.{kept, to_same}
@@ -29,6 +29,10 @@ pub returns-in_default-clause-many : goal.returns-in_default-clause-many
 returns-in_default-clause-many c = record {
   many = again_many c.args.now c.room.result c.args.self.now.sender c.resend_next.new.self c.in_ok-chunk.ensures.none c.in_ok-chunk.ensures.ok;
   windows = record { peer_window = refl; congestion = refl };
+  used = inl refl;
+  burst = refl;
+  paused = refl;
+  rto = refl;
 }
 
 pub returns-clause-many : goal.returns-clause-many
@@ -39,4 +43,11 @@ returns-clause-many c = record {
     peer_window = ap (λ (o : Outbound). o.peer_window) c.stop_where_first.ensures.rest;
     congestion = resent_control c.args.self.now.congestion _ _ c.sent_again.ensures (ap (λ (o : Outbound). o.congestion) c.stop_where_first.ensures.rest);
   };
+  used = inr (
+    ap (λ (o : Outbound). o.used) c.stop_where_first.ensures.rest,
+    some_again _ c.room.result c.args.self.now.sender.flight c.in-Some.chunk (sym c.in-Some.is ∙ c.in_ok-chunk.ensures.answer),
+  );
+  burst = ap (λ (o : Outbound). o.burst) c.stop_where_first.ensures.rest;
+  paused = ap (λ (o : Outbound). o.paused) c.stop_where_first.ensures.rest;
+  rto = ap (λ (o : Outbound). o.rto) c.stop_where_first.ensures.rest;
 }

@@ -5,7 +5,7 @@ use Rattle.sctp_association.proofs.Putting.{nothing, out_then}
 use Rattle.sctp_association.proofs.outbound.Outbound.put_marked.Goals as goal
 
 pub loop-init : goal.loop-init
-loop-init c = (refl, on_same _, (λ r. nothing _), omega arith, many_same _ _ refl)
+loop-init c = (refl, on_same _, (λ r. nothing _), omega arith, many_same _ _ _ refl)
 
 pub loop-preserved : goal.loop-preserved
 loop-preserved c = (
@@ -13,7 +13,7 @@ loop-preserved c = (
   on_then _ _ _ c.loop.invariant.1 c.put_again-in-loop.ensures.counts,
   out_then _ _ _ _ _ _ c.loop.invariant.2 c.put_again-in-loop.ensures.made,
   omega (arith, c.loop.invariant.3, c.put_again-in-loop.ensures.grows),
-  many_then _ c.loop.self _ c.loop.invariant.4 c.put_again-in-loop.ensures.many,
+  many_then _ _ c.loop.self _ c.loop.invariant.4 c.put_again-in-loop.ensures.many,
 )
 
 pub returns-in_err-put_again-2-clause-made : goal.returns-in_err-put_again-2-clause-made
@@ -50,12 +50,12 @@ returns-then-not-branch-2-clause-idle c head short _ = absurd (omega (
 ))
 
 pub returns-in_err-put_again-2-clause-many : goal.returns-in_err-put_again-2-clause-many
-returns-in_err-put_again-2-clause-many c = many_then c.args.self.now c.put_again.new.self _ c.put_again.ensures.many
-    (many_then _ c.loop.self _ c.loop.invariant.4 c.put_again-in-loop.ensures.many)
+returns-in_err-put_again-2-clause-many c = many_then c.args.now c.args.self.now c.put_again.new.self _ c.put_again.ensures.many
+    (many_then _ _ c.loop.self _ c.loop.invariant.4 c.put_again-in-loop.ensures.many)
 
 pub returns-after-loop-clause-many : goal.returns-after-loop-clause-many
-returns-after-loop-clause-many c = many_then c.args.self.now c.put_again.new.self _ c.put_again.ensures.many c.loop.invariant.4
+returns-after-loop-clause-many c = many_then c.args.now c.args.self.now c.put_again.new.self _ c.put_again.ensures.many c.loop.invariant.4
 
 pub returns-then-not-branch-2-clause-many : goal.returns-then-not-branch-2-clause-many
-returns-then-not-branch-2-clause-many c = many_then c.args.self.now c.put_again.new.self _ c.put_again.ensures.many
-    (many_then _ c.loop.self _ c.loop.invariant.4 c.put_again-in-loop.ensures.many)
+returns-then-not-branch-2-clause-many c = many_then c.args.now c.args.self.now c.put_again.new.self _ c.put_again.ensures.many
+    (many_then _ _ c.loop.self _ c.loop.invariant.4 c.put_again-in-loop.ensures.many)

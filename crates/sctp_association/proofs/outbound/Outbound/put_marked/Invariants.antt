@@ -9,4 +9,4 @@ abbrev pub invariant-loop : goal.invariant-loop
 invariant-loop l = (l.packet.limit ≡ l.initial.packet.limit) × IsCountedOn l.initial.self l.self
     × PutsOut l.initial.self.sender l.self.sender l.initial.packet.bytes l.packet.bytes
     × (length l.initial.packet.bytes ≤ length l.packet.bytes)
-    × IsAsMany l.initial.self l.self
+    × IsAsMany l.now l.initial.self l.self

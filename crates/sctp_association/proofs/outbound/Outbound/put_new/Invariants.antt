@@ -9,4 +9,4 @@ abbrev pub invariant-loop : goal.invariant-loop
 invariant-loop l = (l.packet.limit ≡ l.initial.packet.limit) × CountsNone l.initial.self l.self
     × PutsOut l.initial.self.sender l.self.sender l.initial.packet.bytes l.packet.bytes
     × (length l.initial.packet.bytes ≤ length l.packet.bytes)
-    × StaysOrLeft l.initial.self l.self
+    × StaysOrLeft l.now l.initial.self l.self

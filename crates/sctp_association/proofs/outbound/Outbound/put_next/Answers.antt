@@ -1,12 +1,13 @@
-use Rattle.std.proofs.Common.{ℕ, Some, ap, arith, inr, length, min, refl, subst, sym, true, ◌∙◌, ◌≡◌, ◌+◌, ◌-◌, ◌^◌}
-use Rattle.sctp_association.proofs.Congested.{full_same, sent_within}
+use Rattle.std.proofs.Common.{ℕ, Option, Some, ap, arith, inl, inr, length, min, refl, subst, sym, true, ◌∙◌, ◌≡◌, ◌+◌, ◌-◌, ◌^◌}
+use Rattle.sctp_association.proofs.Congested.{full_same, left_behind}
 use Rattle.sctp_association.proofs.Idle.{data_put, fits_so, lent_fits}
 use Rattle.sctp_association.proofs.Making.{lent_put, none_put, sent_there}
 use Rattle.sctp_association.proofs.Putting.{kept, nothing}
 use Rattle.sctp_association.proofs.outbound.Outbound.put_next.Goals as goal
+use Rattle.sctp_association.proofs.outbound.Outbound.put_next.Goals.{in-Some-burst, in_default-burst-2, in_default-burst}
 use Rattle.sctp_association.specs.declared.outbound.Outbound.{Outbound}
 use Rattle.sctp_association.specs.Idle.{in_flight}
-use Rattle.sctp_association.specs.Sending.{may_send_next}
+use Rattle.sctp_association.specs.Sending.{base_of, flight_of, may_send_next}
 use Rattle.sctp_outbound.specs.outbound_queue.OutboundQueue.{Outbound as Queue}
 use Rattle.sctp_outbound.specs.pending_queue.PendingQueue.{next_pending}
 use Rattle.sctp_sender.specs.Sender.{Transmission}
@@ -34,7 +35,7 @@ returns-in-Err c = record {
   grows = omega arith;
   put = λ _. tt;
   none = tt;
-  within = full_same _ _ (ap (λ (s : Transmission). let y : Outbound = record c.args.self.now { sender = s } in y) c.in-Err.ensures.err);
+  within = full_same _ _ _ (ap (λ (s : Transmission). let y : Outbound = record c.args.self.now { sender = s } in y) c.in-Err.ensures.err);
 }
 
 pub returns-in-Some-get-clause-made : goal.returns-in-Some-get-clause-made
@@ -77,9 +78,17 @@ returns-in-Some-get-clause-within c =
     sym (c.in-Some.ensures.value ∙ ap (λ (o : Queue). next_pending o.pending) c.outbound.ensures) in
     record {
       windows = record { peer_window = refl; congestion = refl };
-      left = inr (sent_within c.args.now c.args.self.now.peer_window c.args.self.now.most_in_flight c.args.self.now.burst c.args.self.now.congestion t
-          c.send_next_tsn.new.sender c.in-Some.chunk.now e (
+      paused = refl;
+      left = inr (left_behind c.args.now _ c.args.self.now _ c.in-Some.chunk.now e (
           subst (λ (n : ℕ). may_send_next n c.args.self.now.most_in_flight c.args.self.now.peer_window c.args.self.now.burst c.args.self.now.congestion
           (in_flight t) ≡ true) c.len-bytes.ensures.value (sym c.may_send.ensures.value ∙ c.if-not-may_send.false)
-          ) c.in-Ok.ensures.ok);
+          ) c.in-Ok.ensures.ok refl refl (elim c.match-self.branch [
+            | in-Some-burst w ↦ inr (w.self-is ∙ sym (ap (λ (o : Option ℕ). base_of (flight_of (in_flight t)) o) w.in-Some-burst.is))
+            | in_default-burst-2 w ↦ inl (
+              omega (arith, c.flight-flight.ensures, w.if-flight-gt0.false),
+              omega (arith, w.self-is, w.if-flight-gt0.false),
+            )
+            | in_default-burst w ↦ inr (w.self-is ∙ c.flight-flight.ensures
+                ∙ sym (ap (λ (o : Option ℕ). base_of (flight_of (in_flight t)) o) w.in_default-burst.is))
+          ]) refl refl);
     }
