@@ -388,6 +388,8 @@ RULES = [
         ("a HEARTBEAT once the path was idle for RTO and HB.interval; its answer has the nonce, and a round trip", "8.3", "the caller sends it",
          ["sctp_path::Heartbeat::at", "sctp_path::Heartbeat::sent", "sctp_path::Heartbeat::answered trip after",
           "sctp_association::Association::handle_datagram beats"], ["sctp_path Heartbeats.trip_of", "sctp_association Beats.IsBeaten"], []),
+        ("a HEARTBEAT that comes is answered with its information", "8.3", ["sctp_association::Association::handle_datagram answers"],
+         ["sctp_association Beats.AnswersAt"], ["c_tests/assoc/heartbeat.script"]),
         ("several addresses", "6.4, 8.2", "this layer knows no addresses", [], [], []),
         ("a State Cookie has the moment of its making and what the responder wants back, under a message authentication code", "5.1.3; 2104 2",
          ["sctp_cookie::seal ok", "sctp_cookie::HmacSha256::code"], ["sctp_cookie Cookie.sealed", "sctp_cookie Hmac.hmac_sha256"],

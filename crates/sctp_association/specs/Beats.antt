@@ -1,11 +1,13 @@
--- What a HEARTBEAT-ACK makes of the sending half: the RTO and the failures (RFC 9260 6.3.1, 8.1, 8.3). Moments are nanoseconds.
+-- What a HEARTBEAT asks for (RFC 9260 8.3), and what a HEARTBEAT-ACK makes of the sending half: the RTO and the failures (6.3.1, 8.1, 8.3). Moments are
+-- nanoseconds.
 use Rattle.std.specs.Int.{w64, from_be_bytes}
 use Rattle.std.specs.Prelude.{◌≡◌, ⊤, ℕ, nat_lt, if◌then◌else◌, List, [], ◌∷◌, drop, length, take, Option, Some, None}
+use Rattle.sctp_association.specs.Halves.{receiver_of}
 use Rattle.sctp_association.specs.declared.association.Association.{Association}
 use Rattle.sctp_association.specs.declared.association.arrivals.Step.{Step}
 use Rattle.sctp_association.specs.declared.association.arrivals.Step.TheVariants.{Next, Stop, Cut, Refused}
 use Rattle.sctp_association.specs.declared.outbound.Outbound.{Outbound}
-use Rattle.sctp_chunks.specs.Wire.{heartbeat_ack_chunk}
+use Rattle.sctp_chunks.specs.Wire.{heartbeat_ack_chunk, heartbeat_chunk}
 use Rattle.sctp_datagram.specs.Framing.{StartsWith}
 use Rattle.sctp_params.specs.Param.{heartbeat_info}
 use Rattle.sctp_path.specs.Heartbeats.{asked_after, trip_of}
@@ -53,3 +55,21 @@ BeatsOn at datagram now Next old new = BeatsAt at datagram now old new
 BeatsOn at datagram now Stop old new = ⊥
 BeatsOn at datagram now Cut old new = ⊥
 BeatsOn at datagram now (Refused r) old new = ⊤
+
+-- ## The HEARTBEAT that is answered
+
+-- The HEARTBEAT at a place: its answer is due with its information. The sender and the receiver stay, and the association goes on.
+pub record AnswersAt (at : ℕ) (datagram : List ℕ) (old new : Association) : Type 0 where
+  pub info : List ℕ
+  pub reads : StartsWith (drop at datagram) (heartbeat_chunk (heartbeat_info info ∷ []))
+  pub due : new.due.heartbeat ≡ Some info
+  pub outbound : new.outbound ≡ old.outbound
+  pub receiver : receiver_of new.inbound ≡ receiver_of old.inbound
+  pub over : new.is_over ≡ old.is_over
+
+-- so it is of one that is taken; it ends nothing
+abbrev pub AnswersOn : (at : ℕ) → List ℕ → Step → (old new : Association) → Type 0
+AnswersOn at datagram Next old new = AnswersAt at datagram old new
+AnswersOn at datagram Stop old new = ⊥
+AnswersOn at datagram Cut old new = ⊥
+AnswersOn at datagram (Refused r) old new = ⊤

@@ -1,9 +1,9 @@
 //! What comes in a datagram (RFC 9260 5, 6, 8.5, 9).
 
-ghost use Rattle.std.specs.Prelude.{◌≡◌, ◌⊎◌, ◌<◌, ◌≤◌, ℕ, List, [], ◌∷◌, None, Ok, IfOk, IfSome, OnErr, OnOk, true, false, drop, length};
+ghost use Rattle.std.specs.Prelude.{◌≡◌, ◌⊎◌, ◌<◌, ◌≤◌, ℕ, List, [], ◌∷◌, None, Some, Ok, IfOk, IfSome, OnErr, OnOk, true, false, drop, length};
 ghost use Rattle.std.specs.List.{AllByRecursion};
 ghost use Rattle.sctp_association.specs.Arrivals.{Arrives, CallsArrive};
-ghost use Rattle.sctp_association.specs.Beats.{BeatsAt, BeatsOn};
+ghost use Rattle.sctp_association.specs.Beats.{AnswersAt, AnswersOn, BeatsAt, BeatsOn};
 ghost use Rattle.sctp_association.specs.Beginnings.{ArrivesAsOffered, BeginsByDatagram, BeginsByTicket, KeepsPeer};
 ghost use Rattle.sctp_association.specs.Kept.{IsKept, OwesNoMore, ticket_in_kind};
 ghost use Rattle.sctp_association.specs.Coming.{FollowsData, GoesOn, IsDue, TakesDataAt, TakesDataOf, TakesEachOf, TakesOnlyData, goes_on, is_due};
@@ -192,6 +192,11 @@ impl Association {
             → (chunks : List ChunkPlace) → TellsAll place_at datagram.now chunks
             → all_go_on chunks ≡ true
             → MovesByFirstOf chunks datagram.now now self.old self.new }
+        // A HEARTBEAT that is accepted as the only chunk is answered: the HEARTBEAT-ACK is due with its information. The sender and the receiver stay
+        // (RFC 9260 8.3).
+        ensures answers { EndsWithFirst datagram.now → first_type datagram.now ≡ 4
+            → result ≡ Ok Accepted → self.old.is_over ≡ false
+            → AnswersAt 12 datagram.now self.old self.new }
         // A HEARTBEAT-ACK that is accepted as the only chunk measures a round trip for the RTO, and clears the failures, only where a HEARTBEAT with
         // its nonce waits for the answer. Then none waits, and nothing else of the sending half changes (RFC 9260 6.3.1, 8.1, 8.3).
         ensures beats { EndsWithFirst datagram.now → first_type datagram.now ≡ 5
@@ -289,6 +294,8 @@ impl Association {
         ensures path { TakesSacksOf (u32_at datagram.now 4) self.old → result ≡ Ok Accepted
             → all_go_on chunks.entry.left ≡ true
             → MovesByFirstOf chunks.entry.left datagram.now now self.old self.new }
+        ensures answers { (first : ChunkPlace) → chunks.entry.left ≡ first ∷ [] → first.typ ≡ 4
+            → result ≡ Ok Accepted → AnswersAt first.at datagram.now self.old self.new }
         ensures beats { (first : ChunkPlace) → chunks.entry.left ≡ first ∷ [] → first.typ ≡ 5
             → result ≡ Ok Accepted → BeatsAt first.at datagram.now now self.old self.new }
         ensures shuts { (first : ChunkPlace) → chunks.entry.left ≡ first ∷ [] → first.typ ≡ 7
@@ -327,6 +334,8 @@ impl Association {
         ensures usable { (s : ℕ) → usable_in s self.new.inbound ≡ usable_in s self.old.inbound }
         ensures sending { self.new.outbound ≡ self.old.outbound }
         ensures heartbeat { self.new.heartbeat ≡ self.old.heartbeat }
+        ensures answer { (info : List ℕ) → self.old.due.heartbeat ≡ Some info
+            → self.new.due.heartbeat ≡ Some info }
     {
         self.datagram_ended(now);
         self.settle(now);
@@ -341,6 +350,7 @@ impl Association {
         ensures usable { (s : ℕ) → usable_in s self.new.inbound ≡ usable_in s self.old.inbound }
         ensures sending { self.new.outbound ≡ self.old.outbound }
         ensures heartbeat { self.new.heartbeat ≡ self.old.heartbeat }
+        ensures due { self.new.due ≡ self.old.due }
     {
         if let Some(inbound) = &mut self.inbound {
             inbound.datagram_ended(now);
@@ -389,6 +399,8 @@ impl Association {
             → IfOk result (λ s. HearsOn chunk tag datagram.now s self.old self.new) }
         ensures path { TakesSacksOf tag self.old → goes_on chunk.typ ≡ true → IfOk result
             (λ s. MovesOn chunk datagram.now now s self.old.outbound self.new.outbound) }
+        ensures answers { count < 2 → chunk.typ ≡ 4 → IfOk result
+            (λ s. AnswersOn chunk.at datagram.now s self.old self.new) }
         ensures beats { count < 2 → chunk.typ ≡ 5 → IfOk result
             (λ s. BeatsOn chunk.at datagram.now now s self.old self.new) }
         ensures shuts { count < 2 → chunk.typ ≡ 7 → IfOk result
@@ -535,6 +547,8 @@ impl Association {
             → IfOk result (λ s. HearsOn chunk tag datagram.now s self.old self.new) }
         ensures path { TakesSacksOf tag self.old → goes_on chunk.typ ≡ true → IfOk result
             (λ s. MovesOn chunk datagram.now now s self.old.outbound self.new.outbound) }
+        ensures answers { chunk.typ ≡ 4 → IfOk result
+            (λ s. AnswersOn chunk.at datagram.now s self.old self.new) }
         ensures beats { chunk.typ ≡ 5 → IfOk result
             (λ s. BeatsOn chunk.at datagram.now now s self.old self.new) }
         ensures shuts { chunk.typ ≡ 7 → IfOk result

@@ -2,7 +2,7 @@
 
 ghost use Rattle.std.specs.Prelude.{◌≡◌, ℕ, List, [], ◌∷◌, map, None, Some, Ok, IfOk, OnErr};
 ghost use Rattle.sctp_association.specs.Arrivals.{CallsArrive};
-ghost use Rattle.sctp_association.specs.Beats.{BeatsOn, IsBeaten, nonce_in};
+ghost use Rattle.sctp_association.specs.Beats.{AnswersOn, BeatsOn, IsBeaten, nonce_in};
 ghost use Rattle.sctp_association.specs.Beginnings.{ArrivesAsOffered, BeginsBy, KeepsPeer};
 ghost use Rattle.sctp_association.specs.Kept.{IsKept};
 ghost use Rattle.sctp_association.specs.Halves.{HalvesAlike, halves_of};
@@ -28,6 +28,7 @@ use sctp_datagram::ChunkPlace;
 use sctp_handshake::{Answer, State};
 use sctp_params::ParamKind;
 use sctp_util::field::read_u16;
+use std::mem;
 
 // The nonce that a HEARTBEAT-ACK brings back; None where its Heartbeat Info is too short for one (RFC 9260 8.3).
 fn nonce_of(ack: &ChunkHeartbeatAck) -> Option<u64>
@@ -42,6 +43,21 @@ fn nonce_of(ack: &ChunkHeartbeatAck) -> Option<u64>
     };
     let nonce = info.heartbeat_information.as_slice().first_chunk::<8>()?;
     Some(u64::from_be_bytes(*nonce))
+}
+
+// The information of a HEARTBEAT that was read (RFC 9260 8.3).
+fn info_of(heartbeat: ChunkHeartbeat) -> Option<Bytes>
+    ensures { (info : List ℕ) → map parameter_of heartbeat.params.items ≡ heartbeat_info info ∷ []
+        → result ≡ Some info }
+{
+    let mut params = heartbeat.params;
+    let [param] = params.as_mut_slice() else {
+        return None;
+    };
+    let ParamKind::HeartbeatInfo(info) = param else {
+        return None;
+    };
+    Some(mem::replace(&mut info.heartbeat_information, Bytes::new()))
 }
 
 impl Association {
@@ -60,6 +76,8 @@ impl Association {
         ensures refused { (r : Reason) → result ≡ Ok (step.Refused r) → self.new ≡ self.old }
         ensures err { OnErr result (self.new ≡ self.old) }
         ensures whole { result ≡ Ok step.Cut → ⊥ }
+        ensures answers { chunk.typ ≡ 4 → IfOk result
+            (λ s. AnswersOn chunk.at datagram.now s self.old self.new) }
         ensures beats { chunk.typ ≡ 5 → IfOk result
             (λ s. BeatsOn chunk.at datagram.now now s self.old self.new) }
         ensures shuts { chunk.typ ≡ 7 → IfOk result
@@ -176,6 +194,8 @@ impl Association {
         ensures kept { IsKept self.old self.new }
         ensures err { OnErr result (self.new ≡ self.old) }
         ensures whole { result ≡ Ok step.Cut → ⊥ }
+        ensures answers { IfOk result
+            (λ s. AnswersOn chunk.at datagram.now s self.old self.new) }
     {
         // Who asks answers from COOKIE-ECHOED on, who is asked once the association stands (RFC 9260 8.3).
         if self.machine.peer().is_none() {
@@ -184,10 +204,8 @@ impl Association {
         let Some(heartbeat) = self.read_chunk::<ChunkHeartbeat>(datagram, chunk)? else {
             return Ok(Step::Refused(Reason::NoPacket));
         };
-        for param in heartbeat.params {
-            if let ParamKind::HeartbeatInfo(info) = param {
-                self.due.heartbeat = Some(info.heartbeat_information);
-            }
+        if let Some(info) = info_of(heartbeat) {
+            self.due.heartbeat = Some(info);
         }
         Ok(Step::Next)
     }

@@ -4,7 +4,7 @@ use Rattle.sctp_association.proofs.Arrived.{arrives_of, arrives_same}
 use Rattle.sctp_association.specs.Halves.{halves_of}
 use Rattle.sctp_association.specs.declared.association.Association.{Association}
 use Rattle.std.proofs.lemmas.Bool.{false≢true}
-use Rattle.sctp_association.specs.Beats.{BeatsAt}
+use Rattle.sctp_association.specs.Beats.{AnswersAt, BeatsAt}
 use Rattle.sctp_association.specs.Shutting.{ShutsAt}
 use Rattle.sctp_association.proofs.Coming.{if_ok, never_accepted, never_told, on_ok}
 use Rattle.sctp_association.proofs.Going.{accepted_as}
@@ -46,6 +46,7 @@ returns-in-Err c = record {
   memory = on_err _ refl;
   partly = λ e. absurd (never_told _ _ e refl c.dropped_by.ensures.never);
   takes = λ one typ e. absurd (never_told _ _ e refl c.dropped_by.ensures.never);
+  answers = λ one typ e. absurd (never_told _ _ e refl c.dropped_by.ensures.never);
   beats = λ one typ e. absurd (never_told _ _ e refl c.dropped_by.ensures.never);
   shuts = λ one typ e. absurd (never_told _ _ e refl c.dropped_by.ensures.never);
   due = λ due r e.
@@ -149,6 +150,17 @@ returns-clause-path c takes is chunks tells each =
     let same = told_once _ _ _ all tells in
     subst (λ (l : List ChunkPlace). MovesByFirstOf l c.args.datagram.now c.args.now c.args.self.now c.take_chunks.new.self) same
     (c.take_chunks.ensures.path takes is (subst (λ (l : List ChunkPlace). all_go_on l ≡ true) (sym same) each))
+
+-- ## A HEARTBEAT as the only chunk
+
+pub returns-then-self-2-clause-answers : goal.returns-then-self-2-clause-answers
+returns-then-self-2-clause-answers c one typ is going = absurd (false≢true (sym going ∙ c.if-self-2.true))
+
+pub returns-clause-answers : goal.returns-clause-answers
+returns-clause-answers c one typ is going =
+    let all : TellsAll place_at c.args.datagram.now c.in-Ok.chunks.left = search rules in
+    only_one (λ p. AnswersAt p.at c.args.datagram.now c.args.self.now c.take_chunks.new.self) 4 _ _ _ _ all one typ
+    (if_ok _ _ _ is c.take_chunks.ensures.accepted refl) (λ first are t. c.take_chunks.ensures.answers first are t is)
 
 -- ## A HEARTBEAT-ACK as the only chunk
 

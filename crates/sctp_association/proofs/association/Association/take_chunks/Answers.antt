@@ -2,8 +2,8 @@ use Rattle.sctp_association.proofs.Telling.{tells_peer, tells_same, tells_then}
 use Rattle.std.proofs.Common.{Ok, ap, arith, inl, inr, length, refl, rules, subst, sym, ◌≡◌, ◌<◌, ◌∙◌, ◌∷◌, List}
 use Rattle.std.proofs.lemmas.Bool.{false≢true}
 use Rattle.sctp_association.proofs.Arrived.{arrives_of, alike_halves}
-use Rattle.sctp_association.proofs.Beats.{beats_still}
-use Rattle.sctp_association.specs.Beats.{BeatsAt}
+use Rattle.sctp_association.proofs.Beats.{answers_still, beats_still}
+use Rattle.sctp_association.specs.Beats.{AnswersAt, BeatsAt}
 use Rattle.sctp_association.proofs.Shutting.{shuts_still}
 use Rattle.sctp_association.specs.Shutting.{ShutsAt}
 use Rattle.sctp_association.proofs.Coming.{if_ok, takes_still}
@@ -258,6 +258,29 @@ returns-clause-path c takes is all =
     c.take_first.new.self c.take_first.result each (c.take_first.ensures.sacks of) (c.take_first.ensures.path of) c.take_others-is_whole.new.self others next
     )
     )
+
+-- ## A HEARTBEAT as the only chunk
+
+pub returns-in-Stop-clause-answers : goal.returns-in-Stop-clause-answers
+returns-in-Stop-clause-answers c first are typ is =
+    let same = one_first _ _ _ (sym c.in-Some.ensures.place ∙ are) in
+    let stop : c.take_first.result ≡ Ok step.Stop = search rules in
+    let alone : c.left-count.result < 2 = omega (arith, c.left-count.ensures, ap length are) in
+    absurd (if_ok _ _ _ stop (c.take_first.ensures.answers alone (ap (λ (p : ChunkPlace). p.typ) same.0 ∙ typ)))
+
+pub returns-clause-answers : goal.returns-clause-answers
+returns-clause-answers c first are typ is =
+    let same = one_first _ _ _ (sym c.in-Some.ensures.place ∙ are) in
+    let next : c.take_first.result ≡ Ok step.Next = search rules in
+    let alone : c.left-count.result < 2 = omega (arith, c.left-count.ensures, ap length are) in
+    let answered = if_ok _ _ _ next (c.take_first.ensures.answers alone (ap (λ (p : ChunkPlace). p.typ) same.0 ∙ typ)) in
+    let idle = (c.take_others-is_whole.ensures.none same.1).1 in
+    subst (λ (p : ChunkPlace). AnswersAt p.at c.args.datagram.now c.args.self.now c.end_datagram-2.new.self) same.0
+    (answers_still _ _ c.args.self.now c.take_first.new.self c.end_datagram-2.new.self
+    (λ info is. c.end_datagram-2.ensures.answer info (ap (λ (a : Association). a.due.heartbeat) idle ∙ is))
+    (c.end_datagram-2.ensures.sending ∙ ap (λ (a : Association). a.outbound) idle)
+    (c.end_datagram-2.ensures.halves.receiver ∙ ap (λ (a : Association). receiver_of a.inbound) idle)
+    (c.end_datagram-2.ensures.over ∙ ap (λ (a : Association). a.is_over) idle) answered)
 
 -- ## A HEARTBEAT-ACK as the only chunk
 
