@@ -1,6 +1,5 @@
 -- A HEARTBEAT or HEARTBEAT-ACK that comes alone.
-use Rattle.std.proofs.Common.{◌≡◌, ℕ, List, Some, inl, inr, ◌∙◌}
-use Rattle.std.specs.Prelude.{◌⊎◌}
+use Rattle.std.proofs.Common.{◌≡◌, ℕ, List, Some, ◌∙◌}
 use Rattle.sctp_association.specs.Beats.{AnswersAt, BeatsAt}
 use Rattle.sctp_association.specs.Halves.{receiver_of}
 use Rattle.sctp_association.specs.declared.association.Association.{Association}
@@ -15,12 +14,6 @@ beats_still at d now a b e out beat h = record {
 }
 
 -- ## The HEARTBEAT that is answered
-
--- its answer stays due
-pub answer_stays : (X : Type 0) → X ⊎ (⊥ ⊎ ⊥) → X
-answer_stays X (inl x) = x
-answer_stays X (inr (inl none)) = absurd none
-answer_stays X (inr (inr none)) = absurd none
 
 -- what comes behind it leaves its answer and both halves
 pub answers_still : (at : ℕ) (d : List ℕ) (a b e : Association) → ((info : List ℕ) → b.due.heartbeat ≡ Some info → e.due.heartbeat ≡ Some info)

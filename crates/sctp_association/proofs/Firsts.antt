@@ -1,7 +1,7 @@
 -- In the state Closed a cookie that is not too old begins an association, and its ticket has the peer's offer.
 use Rattle.std.proofs.Common.{◌≡◌, List, ℕ, Bool, true, false, Some, None, Option, refl, ap, sym, subst, ◌∙◌}
 use Rattle.std.proofs.lemmas.Bool.{false≢true}
-use Rattle.sctp_association.proofs.Stale.{is_stale_reply}
+use Rattle.sctp_association.specs.Openings.{is_stale_reply}
 use Rattle.sctp_association.specs.Arrivals.{Arrives, Halves}
 use Rattle.sctp_association.specs.Beginnings.{Begins, BeginsBy, BeginsByDatagram, BeginsByTicket}
 use Rattle.sctp_association.specs.Cookies.{IsSealedAt, cookie_in}

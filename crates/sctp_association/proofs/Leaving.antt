@@ -12,10 +12,11 @@ use Rattle.sctp_association.specs.declared.association.Association.{Association}
 use Rattle.sctp_association.specs.declared.due.Due.{Due}
 use Rattle.sctp_association.specs.Kept.{IsUnmoved}
 use Rattle.sctp_association.specs.Kept.{sack_waits, unknown_in}
-use Rattle.sctp_association.specs.Leaving.{AsksNoMore, DueBy, IsDueOnce, IsReplyOnce, IsSentIn, IsTooLong, IsTooLongIn, Leaves, LeavesInto, Owed}
+use Rattle.sctp_association.specs.Leaving.{AsksNoMore, IsDueOnce, IsReplyOnce, IsSentIn, IsTooLong, IsTooLongIn, Leaves, LeavesInto, Owed}
 use Rattle.sctp_association.specs.Leaving.{OwesNothingNew, Reaches, Replies, Stands, beats, owed_at, owed_of, replies_of, requests_due, responses_due}
 use Rattle.sctp_association.specs.Packets.{Adds, IsPacketOf, put_where, sum_of, with_chunks}
 use Rattle.sctp_chunks.specs.Wire.{HasEncoding, Wire}
+use Rattle.sctp_association.specs.Rows.{owed_by}
 use Rattle.sctp_association.specs.Still.{heartbeat_in}
 use Rattle.sctp_association.specs.declared.inbound.Inbound.{Inbound}
 use Rattle.sctp_association.specs.declared.outbound.Outbound.{Outbound}
@@ -278,7 +279,7 @@ pending≢sent e = cc
 received≢sent : ShutdownReceived ≡ ShutdownAckSent → ⊥
 received≢sent e = cc
 
-owes-row : (s : State) (m : Machine) (d e : Due) (k : Option (List ℕ)) (i : Option Inbound) → m.state ≡ s → DueBy (drained_row s m).answer.reply d e
+owes-row : (s : State) (m : Machine) (d e : Due) (k : Option (List ℕ)) (i : Option Inbound) → m.state ≡ s → e ≡ owed_by (drained_row s m).answer.reply 0 d
     → OwesNothingNew (owed-in d k m.state i) (owed-in e k (drained_row s m).machine.state i)
 owes-row ShutdownPending m d e k i is due =
     let Q : Due → Type 0 = λ e. OwesNothingNew (owed-in d k m.state i) (owed-in e k ShutdownSent i) in
@@ -309,11 +310,11 @@ owes-row ShutdownReceived m d e k i is due =
 owes-row _ m d e k i is due = nothing_new _ _ (ap (λ e. owed-in e k m.state i) due)
 
 -- as the machine is told that nothing waits or is in flight
-pub drained_owes : (a b : Association) (n : Machine) (r : Answer) → Takes (on_drained a.machine) n r → DueBy r.reply a.due b.due → b.machine ≡ n
+pub drained_owes : (a b : Association) (n : Machine) (r : Answer) → Takes (on_drained a.machine) n r → b.due ≡ owed_by r.reply 0 a.due → b.machine ≡ n
     → b.cookie ≡ a.cookie → b.inbound ≡ a.inbound → OwesNothingNew (owed_of a) (owed_of b)
 drained_owes a b n r t due machine cookie inbound =
     let row = owes-row a.machine.state a.machine a.due b.due a.cookie a.inbound refl
-    (subst (λ (x : Answer). DueBy x.reply a.due b.due) t.answer due) in
+    (subst (λ (x : Answer). b.due ≡ owed_by x.reply 0 a.due) t.answer due) in
     let state : b.machine.state ≡ (on_drained a.machine).machine.state = ap (λ (m : Machine). m.state) (machine ∙ t.machine) in
     let Q : State → Type 0 = λ s. OwesNothingNew (owed_of a) (owed-in b.due a.cookie s a.inbound) in
     let R : Option (List ℕ) → Type 0 = λ k. OwesNothingNew (owed_of a) (owed-in b.due k b.machine.state a.inbound) in

@@ -51,6 +51,10 @@ pub mod Tsns
 pub mod Hosts
 pub mod HostCalls
 pub mod Sized
+pub mod Rows
+pub mod Heard
+pub mod Openings
+pub mod Single
 pub mod Rules
 pub mod PlainHosts
 pub mod OneLife

@@ -1,8 +1,7 @@
 -- What is answered by a stale cookie changed nothing.
-use Rattle.std.proofs.Common.{◌≡◌, Bool, true, false, refl, ap}
+use Rattle.std.proofs.Common.{◌≡◌, Bool, Some, true, false, refl, ap}
 use Rattle.std.proofs.lemmas.Bool.{false≢true}
-use Rattle.std.specs.Prelude.{Option, Some, None}
-use Rattle.sctp_handshake.specs.declared.answer.Reply.{Reply}
+use Rattle.sctp_association.specs.Openings.{is_stale_reply}
 use Rattle.sctp_handshake.specs.declared.answer.Reply.TheVariants as reply
 use Rattle.sctp_handshake.specs.declared.machine.cookies.CookieRow.{CookieRow}
 use Rattle.sctp_handshake.specs.declared.machine.cookies.CookieRow.TheVariants.{First, Restart, Collision, Late, Repeat, Unlisted}
@@ -13,11 +12,6 @@ use Rattle.sctp_handshake.specs.declared.state.State.TheVariants.{ShutdownAckSen
 use Rattle.sctp_handshake.specs.declared.ticket.Ticket.{Ticket}
 use Rattle.sctp_handshake.specs.Cookies.{row_of, renewal_row, repeat_row, unless_stale, cookie_step, on_cookie_echo}
 use Rattle.sctp_handshake.specs.Machines.{Step}
-
-abbrev pub is_stale_reply : Option Reply → Bool
-is_stale_reply None = false
-is_stale_reply (Some reply.StaleCookie) = true
-is_stale_reply (Some _) = false
 
 -- a step that answers so leaves the machine
 abbrev Keeps : Machine → Step → Type 0

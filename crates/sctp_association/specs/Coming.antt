@@ -1,6 +1,5 @@
 -- What becomes of DATA that comes (RFC 9260 6.2), and of which packets something is taken.
 use Rattle.std.specs.Prelude.{◌≡◌, ◌⊎◌, ⊤, ℕ, ◌==◌, ◌&&◌, ◌||◌, if◌then◌else◌, Bool, true, false, List, [], ◌∷◌, drop, Option, Some, None, is_some}
-use Rattle.crc32c.specs.Castagnoli.{crc32c_of}
 use Rattle.sctp_association.specs.Arrivals.{Arrival, Arrives, Asks, Does, Follows}
 use Rattle.sctp_association.specs.declared.association.Reason.TheVariants.{Unexpected}
 use Rattle.sctp_association.specs.declared.association.Association.{Association}
@@ -16,13 +15,10 @@ use Rattle.sctp_data.specs.PayloadData.{data_of}
 use Rattle.sctp_datagram.specs.declared.datagram.ChunkPlace.{ChunkPlace}
 use Rattle.sctp_datagram.specs.declared.datagram.ZeroChecksum.{ZeroChecksum}
 use Rattle.sctp_datagram.specs.declared.datagram.ZeroChecksum.TheVariants as zero
-use Rattle.sctp_datagram.specs.Fault.{IsAccepted}
 use Rattle.sctp_datagram.specs.Framing.{StartsWith}
-use Rattle.sctp_datagram.specs.Places.{TellsAll, place_at}
 use Rattle.sctp_handshake.specs.States.{takes_data, takes_sacks}
 use Rattle.sctp_receiver.specs.Receiver.{Reception, filter_of}
 use Rattle.sctp_receiver.specs.TsnFilter.{has_come}
-use Rattle.sctp_util.specs.Field.{u16_at, u32_at}
 
 -- the TSN of the chunk has come, or the receiver refuses it still
 abbrev pub HasComeOrIsDropped : ChunkPayloadData → Option Reception → Type 0
@@ -127,15 +123,3 @@ is_due typ a =
 -- whether a checksum of 0 is allowed
 abbrev pub zero_checksum_of : Config → ZeroChecksum
 zero_checksum_of c = if c.zero_checksum then zero.Allowed else zero.Refused
-
--- a packet for the association, which goes on: it is valid, has its ports and its tag, and begins with a chunk that is taken
-pub record IsDue (datagram : List ℕ) (a : Association) : Type 0 where
-  pub going : a.is_over ≡ false
-  pub valid : IsAccepted (zero_checksum_of a.config) crc32c_of datagram
-  pub first : ChunkPlace
-  pub rest : List ChunkPlace
-  pub tells : TellsAll place_at datagram (first ∷ rest)
-  pub source : u16_at datagram 0 ≡ a.config.destination_port
-  pub destination : u16_at datagram 2 ≡ a.config.source_port
-  pub tag : u32_at datagram 4 ≡ a.machine.own.tag
-  pub taken : is_due first.typ a ≡ true

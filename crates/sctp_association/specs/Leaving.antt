@@ -16,8 +16,6 @@ use Rattle.sctp_chunks.specs.Wire.{cookie_ack_chunk, cookie_echo_chunk, error_ch
 use Rattle.sctp_chunks.specs.Wire.{reconfig_chunk}
 use Rattle.sctp_chunks.specs.Wire.{sack_chunk, shutdown_ack_chunk, shutdown_chunk}
 use Rattle.sctp_chunks.specs.declared.chunk.error_cause.ErrorCause.{ErrorCause}
-use Rattle.sctp_handshake.specs.declared.answer.Reply.{Reply}
-use Rattle.sctp_handshake.specs.declared.answer.Reply.TheVariants.{Shutdown, ShutdownAck}
 use Rattle.sctp_handshake.specs.declared.state.State.{State}
 use Rattle.sctp_handshake.specs.declared.state.State.TheVariants.{ShutdownAckSent, ShutdownSent}
 use Rattle.sctp_packets.specs.Draft.{Draft, IsDraft}
@@ -227,13 +225,6 @@ pub record OwesNothingNew (old new : Owed) : Type 0 where
   pub sack : old.sack ≡ false → new.sack ≡ false
   pub unknown : (s : ℕ) → new.unknown ≡ Some s → old.unknown ≡ Some s
   pub cookie : new.cookie ≡ old.cookie
-
--- what is due by the reply of an answer, where that shuts down
-abbrev pub DueBy : Option Reply → (old new : Due) → Type 0
-DueBy None old new = new ≡ old
-DueBy (Some Shutdown) old new = new ≡ record old { shutdown = true }
-DueBy (Some ShutdownAck) old new = new ≡ record old { shutdown_ack = true }
-DueBy _ old new = ⊤
 
 -- ## Into a packet that is being written
 

@@ -16,6 +16,7 @@ pub mod Events
 pub mod Failing
 pub mod Filled
 pub mod Halves
+pub mod Heard
 pub mod Held
 pub mod HostCalls
 pub mod Hosts
@@ -29,6 +30,7 @@ pub mod Lives
 pub mod Once
 pub mod Offering
 pub mod OneLife
+pub mod Openings
 pub mod Packets
 pub mod Pairs
 pub mod Paths
@@ -37,6 +39,7 @@ pub mod Reads
 pub mod Replying
 pub mod Reports
 pub mod Rooms
+pub mod Rows
 pub mod Runs
 pub mod Sacks
 pub mod Sending
@@ -45,6 +48,7 @@ pub mod Sessions
 pub mod Setups
 pub mod Shutting
 pub mod Silence
+pub mod Single
 pub mod Sized
 pub mod Steps
 pub mod Still

@@ -102,7 +102,7 @@ abbrev pub cleared_by : (peer_window : ℕ) → List Released → Failures → F
 cleared_by peer_window gone f =
     if (length gone == 0) && not (peer_window == 0) then f else record f { count = 0 }
 
--- the SACK is taken, and what it acknowledges is followed; T3-rtx stops where the cumulative TSN advances (6.3.2 R3)
+-- the SACK is taken, and what it acknowledges is followed; T3-rtx stops where the cumulative TSN advances (RFC 9260 6.3.2)
 pub record IsAcked (s : Sack) (now : ℕ) (old new : Outbound) : Type 0 where
   pub sender : new.sender ≡ acked_with s old.sender
   pub came_back : new.came_back ≡ came_back_by s old

@@ -26,7 +26,7 @@ abbrev pub passes_nothing : (tsn : ℕ) → Flight → Bool
 passes_nothing tsn f =
     is_outdated (without_blocks tsn) f || is_some (sack_refusal (without_blocks tsn) f)
 
--- what it acknowledges is followed; T3-rtx stops where the cumulative TSN advances (6.3.2 R3)
+-- what it acknowledges is followed; T3-rtx stops where the cumulative TSN advances (RFC 9260 6.3.2)
 pub record IsPassed (tsn now : ℕ) (old new : Outbound) : Type 0 where
   pub sender : new.sender ≡ passed_with tsn old.sender
   pub congestion : new.congestion ≡ grown_by (acked_by old.sender.flight.acked_tsn

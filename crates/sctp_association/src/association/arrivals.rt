@@ -2,19 +2,24 @@
 
 ghost use Rattle.std.specs.Prelude.{◌≡◌, ◌⊎◌, ◌<◌, ◌≤◌, ℕ, List, [], ◌∷◌, None, Some, Ok, IfOk, IfSome, OnErr, OnOk, true, false, drop, length};
 ghost use Rattle.std.specs.List.{AllByRecursion};
+ghost use Rattle.sctp_association.specs.Single.{AloneAt, AloneOn};
 ghost use Rattle.sctp_association.specs.Arrivals.{Arrives, CallsArrive};
-ghost use Rattle.sctp_association.specs.Beats.{AnswersAt, AnswersOn, BeatsAt, BeatsOn};
+ghost use Rattle.sctp_association.specs.Beats.{AnswersAt, BeatsAt};
 ghost use Rattle.sctp_association.specs.Beginnings.{ArrivesAsOffered, BeginsByDatagram, BeginsByTicket, KeepsPeer};
 ghost use Rattle.sctp_association.specs.Kept.{IsKept, OwesNoMore, ticket_in_kind};
-ghost use Rattle.sctp_association.specs.Coming.{FollowsData, GoesOn, IsDue, TakesDataAt, TakesDataOf, TakesEachOf, TakesOnlyData, goes_on, is_due};
+ghost use Rattle.sctp_association.specs.Coming.{FollowsData, GoesOn, TakesDataAt, TakesDataOf, TakesEachOf, TakesOnlyData, goes_on, is_due};
 ghost use Rattle.sctp_association.specs.Cookies.{IsAlive, IsSealed, cookie_in};
 ghost use Rattle.sctp_association.specs.Entering.{usable_in};
 ghost use Rattle.sctp_association.specs.Halves.{HalvesAlike, halves_of};
+ghost use Rattle.sctp_association.specs.Heard.{IsDue, IsHeard};
 ghost use Rattle.sctp_association.specs.Lasting.{KeepsLimits};
 ghost use Rattle.sctp_association.specs.Sacks.{HearsFirstOf, HearsOn, TakesSacksOf};
+ghost use Rattle.sctp_association.specs.Openings.{EchoesBy, InitAckBy, OffersTo};
 ghost use Rattle.sctp_association.specs.Paths.{MovesBehind, MovesByFirstOf, MovesOn, all_go_on};
 ghost use Rattle.sctp_association.specs.Reached.{most_user_data};
-ghost use Rattle.sctp_association.specs.Shutting.{ShutsAt, ShutsOn};
+ghost use Rattle.sctp_association.specs.Reports.{value_in};
+ghost use Rattle.sctp_association.specs.Rows.{RowOn, Settles, StepsBy, has_row};
+ghost use Rattle.sctp_association.specs.Shutting.{ShutsAt};
 ghost use Rattle.sctp_association.specs.Steps.{is_accepted, is_taken};
 ghost use Rattle.sctp_association.specs.Telling.{Tells, TellsEnd};
 ghost use Rattle.sctp_association.specs.Tags.{AdmitsFirst, BeginsByCookie, EndsWithFirst, FirstIs, FirstIsAlive, IsFor, first_type, is_admitted, is_all_or_nothing};
@@ -175,8 +180,10 @@ impl Association {
         // may use its stream, its user data entered the receiver, unless its TSN had come, or its message is too long.
         ensures takes { EndsWithFirst datagram.now → first_type datagram.now ≡ 0
             → result ≡ Ok Accepted → TakesOnlyData datagram.now self.old self.new }
-        // What is for it is not dropped: a packet that begins with DATA, SACK or FORWARD-TSN, in a state that takes that (RFC 9260 6).
-        ensures due { IsDue datagram.now self.old → (r : Reason) → result ≡ Ok (Dropped r) → ⊥ }
+        // What is for it is not dropped: a packet that begins with DATA, a SACK or a FORWARD-TSN in a state that takes that, or with a control chunk
+        // that its state expects (RFC 9260 5, 6, 8.3, 9).
+        ensures due { IsDue datagram.now now self.old
+            → (r : Reason) → result ≡ Ok (Dropped r) → ⊥ }
         // Each DATA chunk of it has come so, or is refused and dropped, up to a chunk behind which the datagram may end; or the association is
         // over.
         ensures each { TakesDataOf (u32_at datagram.now 4) self.old → result ≡ Ok Accepted
@@ -187,7 +194,7 @@ impl Association {
             → (chunks : List ChunkPlace) → TellsAll place_at datagram.now chunks
             → HearsFirstOf chunks datagram.now self.old self.new }
         // Where each of them is DATA, SACK or FORWARD-TSN: cwnd, ssthresh, the RTO, T3-rtx, the peer's window and all else of the sending half are
-        // what the first SACK makes of them; without one they stay (RFC 9260 6.2.1, 6.3, 7.2).
+        // what the first SACK makes of them; without one they stay; or the association is over (RFC 9260 6.2.1, 6.3, 7.2).
         ensures path { TakesSacksOf (u32_at datagram.now 4) self.old → result ≡ Ok Accepted
             → (chunks : List ChunkPlace) → TellsAll place_at datagram.now chunks
             → all_go_on chunks ≡ true
@@ -207,6 +214,24 @@ impl Association {
         ensures shuts { EndsWithFirst datagram.now → first_type datagram.now ≡ 7
             → result ≡ Ok Accepted → self.old.is_over ≡ false
             → ShutsAt 12 datagram.now now self.old.outbound self.new.outbound }
+        // Of a chunk that is accepted as the only one the state machine makes what the row of its state says. Its reply is due, and no other; what it
+        // tells waits to be told; and the association is over where the row ends it. DATA, a SACK or a FORWARD-TSN may end it (RFC 9260 4, 5, 9).
+        ensures rows { EndsWithFirst datagram.now → has_row (first_type datagram.now) ≡ true
+            → result ≡ Ok Accepted → self.old.is_over ≡ false
+            → StepsBy (place_at datagram.now 12) datagram.now self.old self.new }
+        // A COOKIE-ECHO that is accepted as the only chunk is of this side. The machine takes the step of its ticket: the association stands, or stands
+        // anew, and a COOKIE-ACK is due; or an ERROR is (RFC 9260 5.1 D, 5.2.4).
+        ensures echoes { EndsWithFirst datagram.now → first_type datagram.now ≡ 10
+            → result ≡ Ok Accepted → self.old.is_over ≡ false
+            → EchoesBy (place_at datagram.now 12) datagram.now now self.old self.new }
+        // So is an INIT ACK: its cookie is kept, and a COOKIE-ECHO is due; or what was begun ends (RFC 9260 5.1 C).
+        ensures acks { EndsWithFirst datagram.now → first_type datagram.now ≡ 2
+            → result ≡ Ok Accepted → self.old.is_over ≡ false
+            → InitAckBy (place_at datagram.now 12) datagram.now self.old self.new }
+        // An INIT that is accepted is answered: an INIT ACK is due, to its tag, with a ticket of both offers; or what else its row says (RFC 9260 5.1 B).
+        ensures offers { EndsWithFirst datagram.now → first_type datagram.now ≡ 1
+            → result ≡ Ok Accepted → self.old.is_over ≡ false
+            → OffersTo (value_in datagram.now (place_at datagram.now 12)) self.old self.new }
     {
         let zero = if self.config.zero_checksum {
             ZeroChecksum::Allowed
@@ -284,8 +309,10 @@ impl Association {
             → result ≡ Ok Accepted → (self.new.is_over ≡ true)
             ⊎ TakesDataAt first.at datagram.now self.old self.new }
         ensures due { (first : ChunkPlace) → (rest : List ChunkPlace)
-            → chunks.entry.left ≡ first ∷ rest → is_due first.typ self.old ≡ true
-            → u32_at datagram.now 4 ≡ self.old.machine.own.tag
+            → chunks.entry.left ≡ first ∷ rest
+            → is_admitted first (u32_at datagram.now 4) (length (first ∷ rest))
+            self.old.machine ≡ true
+            → IsHeard first (u32_at datagram.now 4) datagram.now now self.old
             → (r : Reason) → result ≡ Ok (Dropped r) → ⊥ }
         ensures each { TakesDataOf (u32_at datagram.now 4) self.old → result ≡ Ok Accepted
             → TakesEachOf chunks.entry.left datagram.now self.old self.new }
@@ -294,13 +321,8 @@ impl Association {
         ensures path { TakesSacksOf (u32_at datagram.now 4) self.old → result ≡ Ok Accepted
             → all_go_on chunks.entry.left ≡ true
             → MovesByFirstOf chunks.entry.left datagram.now now self.old self.new }
-        ensures answers { (first : ChunkPlace) → chunks.entry.left ≡ first ∷ [] → first.typ ≡ 4
-            → result ≡ Ok Accepted → AnswersAt first.at datagram.now self.old self.new }
-        ensures beats { (first : ChunkPlace) → chunks.entry.left ≡ first ∷ [] → first.typ ≡ 5
-            → result ≡ Ok Accepted → BeatsAt first.at datagram.now now self.old self.new }
-        ensures shuts { (first : ChunkPlace) → chunks.entry.left ≡ first ∷ [] → first.typ ≡ 7
-            → result ≡ Ok Accepted
-            → ShutsAt first.at datagram.now now self.old.outbound self.new.outbound }
+        ensures alone { (first : ChunkPlace) → chunks.entry.left ≡ first ∷ []
+            → result ≡ Ok Accepted → AloneAt first datagram.now now self.old self.new }
     {
         let mut chunks = chunks;
         let tag = chunks.header().verification_tag;
@@ -334,8 +356,7 @@ impl Association {
         ensures usable { (s : ℕ) → usable_in s self.new.inbound ≡ usable_in s self.old.inbound }
         ensures sending { self.new.outbound ≡ self.old.outbound }
         ensures heartbeat { self.new.heartbeat ≡ self.old.heartbeat }
-        ensures answer { (info : List ℕ) → self.old.due.heartbeat ≡ Some info
-            → self.new.due.heartbeat ≡ Some info }
+        ensures settles { Settles self.old self.new }
     {
         self.datagram_ended(now);
         self.settle(now);
@@ -351,6 +372,7 @@ impl Association {
         ensures sending { self.new.outbound ≡ self.old.outbound }
         ensures heartbeat { self.new.heartbeat ≡ self.old.heartbeat }
         ensures due { self.new.due ≡ self.old.due }
+        ensures wants { self.new.wants_shutdown ≡ self.old.wants_shutdown }
     {
         if let Some(inbound) = &mut self.inbound {
             inbound.datagram_ended(now);
@@ -391,7 +413,8 @@ impl Association {
             (halves_of self.old) (halves_of self.new) }
         ensures closed_else { self.old.machine.state ≡ Closed → (result ≡ Ok step.Next → ⊥)
             → self.new.machine ≡ self.old.machine }
-        ensures due { is_due chunk.typ self.old ≡ true → tag ≡ self.old.machine.own.tag
+        ensures due { is_admitted chunk tag count self.old.machine ≡ true
+            → IsHeard chunk tag datagram.now now self.old
             → (r : Reason) → result ≡ Ok (step.Refused r) → ⊥ }
         ensures on { TakesDataOf tag self.old → goes_on chunk.typ ≡ true
             → IfOk result (λ s. GoesOn chunk tag datagram.now s self.old self.new) }
@@ -399,12 +422,8 @@ impl Association {
             → IfOk result (λ s. HearsOn chunk tag datagram.now s self.old self.new) }
         ensures path { TakesSacksOf tag self.old → goes_on chunk.typ ≡ true → IfOk result
             (λ s. MovesOn chunk datagram.now now s self.old.outbound self.new.outbound) }
-        ensures answers { count < 2 → chunk.typ ≡ 4 → IfOk result
-            (λ s. AnswersOn chunk.at datagram.now s self.old self.new) }
-        ensures beats { count < 2 → chunk.typ ≡ 5 → IfOk result
-            (λ s. BeatsOn chunk.at datagram.now now s self.old self.new) }
-        ensures shuts { count < 2 → chunk.typ ≡ 7 → IfOk result
-            (λ s. ShutsOn chunk.at datagram.now now s self.old.outbound self.new.outbound) }
+        ensures alone { count < 2 → IfOk result
+            (λ s. AloneOn chunk tag datagram.now now s self.old self.new) }
     {
         let is_alone = chunk.typ == 1 || chunk.typ == 10 || count < 2;
         if is_alone || self.machine.state() == State::Closed {
@@ -539,7 +558,8 @@ impl Association {
             (halves_of self.old) (halves_of self.new) }
         ensures closed_else { self.old.machine.state ≡ Closed → (result ≡ Ok step.Next → ⊥)
             → self.new.machine ≡ self.old.machine }
-        ensures due { is_due chunk.typ self.old ≡ true → tag ≡ self.old.machine.own.tag
+        ensures due { is_admitted chunk tag count self.old.machine ≡ true
+            → IsHeard chunk tag datagram.now now self.old
             → (r : Reason) → result ≡ Ok (step.Refused r) → ⊥ }
         ensures on { TakesDataOf tag self.old → goes_on chunk.typ ≡ true
             → IfOk result (λ s. GoesOn chunk tag datagram.now s self.old self.new) }
@@ -547,12 +567,8 @@ impl Association {
             → IfOk result (λ s. HearsOn chunk tag datagram.now s self.old self.new) }
         ensures path { TakesSacksOf tag self.old → goes_on chunk.typ ≡ true → IfOk result
             (λ s. MovesOn chunk datagram.now now s self.old.outbound self.new.outbound) }
-        ensures answers { chunk.typ ≡ 4 → IfOk result
-            (λ s. AnswersOn chunk.at datagram.now s self.old self.new) }
-        ensures beats { chunk.typ ≡ 5 → IfOk result
-            (λ s. BeatsOn chunk.at datagram.now now s self.old self.new) }
-        ensures shuts { chunk.typ ≡ 7 → IfOk result
-            (λ s. ShutsOn chunk.at datagram.now now s self.old.outbound self.new.outbound) }
+        ensures alone { IfOk result
+            (λ s. AloneOn chunk tag datagram.now now s self.old self.new) }
     {
         if !self.admits(chunk, tag, count) {
             return Ok(Step::Refused(Reason::Tag));
@@ -591,6 +607,7 @@ impl Association {
         ensures sacks { (tag : ℕ) → TakesSacksOf tag self.old
             → IfOk result (λ s. HearsOn chunk tag datagram.now s self.old self.new) }
         ensures sending { self.new.outbound ≡ self.old.outbound }
+        ensures row { IfOk result (λ s. RowOn chunk datagram.now s self.old self.new) }
     {
         if !self.machine.state().takes_data() {
             return Ok(Step::Refused(Reason::Unexpected));
@@ -618,6 +635,10 @@ impl Association {
         ensures sending { self.new.outbound ≡ self.old.outbound }
         ensures over { self.new.is_over ≡ self.old.is_over }
         ensures inbound { self.new.inbound ≡ self.old.inbound }
+        ensures rest { self.new ≡ record self.old {
+          control = self.new.control;
+          guard = self.new.guard;
+        } }
     {
         if answer.reply.is_some() {
             self.run_control(now);
@@ -642,6 +663,7 @@ impl Association {
         ensures sacks { (tag : ℕ) → TakesSacksOf tag self.old
             → IfOk result (λ s. HearsOn chunk tag datagram.now s self.old self.new) }
         ensures sending { self.new.outbound ≡ self.old.outbound }
+        ensures row { IfOk result (λ s. RowOn chunk datagram.now s self.old self.new) }
     {
         if !self.machine.state().takes_data() {
             return Ok(Step::Refused(Reason::Unexpected));
@@ -697,6 +719,7 @@ impl Association {
             → IfOk result (λ s. HearsOn chunk tag datagram.now s self.old self.new) }
         ensures path { IfOk result
             (λ s. MovesOn chunk datagram.now now s self.old.outbound self.new.outbound) }
+        ensures row { IfOk result (λ s. RowOn chunk datagram.now s self.old self.new) }
     {
         if !self.machine.state().takes_sacks() {
             return Ok(Step::Refused(Reason::Unexpected));

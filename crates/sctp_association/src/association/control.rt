@@ -6,7 +6,8 @@ ghost use Rattle.sctp_association.specs.Kept.{IsKept, OwesNoMore, ticket_due, ti
 ghost use Rattle.sctp_association.specs.Failing.{IsGuarded, farewell_to};
 ghost use Rattle.sctp_association.specs.Halves.{HalvesAlike, halves_of};
 ghost use Rattle.sctp_association.specs.Lasting.{LastsNoLonger};
-ghost use Rattle.sctp_association.specs.Leaving.{AsksNoMore, DueBy, OwesNothingNew, StaysDue, owed_of, replies_of};
+ghost use Rattle.sctp_association.specs.Leaving.{AsksNoMore, OwesNothingNew, StaysDue, owed_of, replies_of};
+ghost use Rattle.sctp_association.specs.Rows.{FollowsAnswer, Settles, cause_code, drained_where, over_by, owed_by};
 ghost use Rattle.sctp_association.specs.Sending.{holds_nothing};
 ghost use Rattle.sctp_association.specs.Telling.{PassesOn, TellsEnd};
 ghost use Rattle.sctp_association.specs.declared.event.Ending.TheVariants.{Aborted, Unanswered};
@@ -27,7 +28,9 @@ use sctp_receiver::receiver::limits::Limits;
 use sctp_reset::{OwnRequests, PeerRequests};
 
 // The code of a cause (RFC 9260 3.3.10).
-fn code_of(cause: AbortCause) -> u16 {
+fn code_of(cause: AbortCause) -> u16
+    ensures { result ≡ cause_code cause }
+{
     match cause {
         AbortCause::InvalidMandatoryParameter => 7,
         AbortCause::UserInitiatedAbort => 12,
@@ -61,10 +64,11 @@ impl Association {
         ensures begun { BeginsBy answer.told self.old.machine self.old.config
             (halves_of self.old) (halves_of self.new) }
         ensures init { answer.reply ≡ Some Init → answer.told ≡ None → OwesInit self.new }
+        ensures answer { FollowsAnswer answer tag self.old self.new }
         ensures over { answer.told ≡ None → self.new.is_over ≡ self.old.is_over }
         ensures stays { answer.told ≡ None → StaysDue self.old self.new }
         ensures due { answer.told ≡ None
-            → DueBy answer.reply self.old.due self.new.due }
+            → self.new.due ≡ owed_by answer.reply tag self.old.due }
         ensures shutdown { answer.told ≡ Some ShutdownBegun
             → self.new.outbound ≡ self.old.outbound }
     {
@@ -89,10 +93,11 @@ impl Association {
         ensures begun { BeginsBy answer.told self.old.machine self.old.config
             (halves_of self.old) (halves_of self.new) }
         ensures init { answer.reply ≡ Some Init → answer.told ≡ None → OwesInit self.new }
+        ensures answer { FollowsAnswer answer tag self.old self.new }
         ensures over { answer.told ≡ None → self.new.is_over ≡ self.old.is_over }
         ensures stays { answer.told ≡ None → StaysDue self.old self.new }
         ensures due { answer.told ≡ None
-            → DueBy answer.reply self.old.due self.new.due }
+            → self.new.due ≡ owed_by answer.reply tag self.old.due }
         ensures shutdown { answer.told ≡ Some ShutdownBegun
             → self.new.outbound ≡ self.old.outbound }
     {
@@ -120,7 +125,10 @@ impl Association {
         ensures peer_requests { self.new.peer_requests ≡ self.old.peer_requests }
         ensures over { self.new.is_over ≡ self.old.is_over }
         ensures replies { replies_of self.new ≡ replies_of self.old }
-        ensures due { self.new.due ≡ self.old.due }
+        ensures rest { self.new ≡ record self.old {
+          control = self.new.control;
+          guard = self.new.guard;
+        } }
     {
         match self.machine.state().timer() {
             Some(_) => self.control.restart(now, self.outbound.rto.get()),
@@ -168,7 +176,7 @@ impl Association {
         ensures owes { OwesNoMore self.old self.new }
         ensures rest { self.new ≡ record self.old { due = self.new.due } }
         ensures stays { StaysDue self.old self.new }
-        ensures due { DueBy (Some reply) self.old.due self.new.due }
+        ensures due { self.new.due ≡ owed_by (Some reply) tag self.old.due }
     {
         match reply {
             Reply::Init => self.owe_alone(0, AloneKind::Init),
@@ -198,6 +206,11 @@ impl Association {
         ensures begun { BeginsBy (Some told) self.old.machine self.old.config
             (halves_of self.old) (halves_of self.new) }
         ensures shutdown { told ≡ ShutdownBegun → self.new.outbound ≡ self.old.outbound }
+        ensures over { self.new.is_over ≡ over_by (Some told) self.old.is_over }
+        ensures wants { self.new.wants_shutdown ≡ self.old.wants_shutdown }
+        ensures due { self.new.due ≡ record self.old.due {
+          cookie_echo = self.new.due.cookie_echo;
+        } }
     {
         match told {
             Told::Connected => {
@@ -227,6 +240,11 @@ impl Association {
         ensures begun { (halves_of self.old).receiver ≡ None
             → Begins self.old.machine.peer self.old.config
             (halves_of self.old) (halves_of self.new) }
+        ensures over { self.new.is_over ≡ self.old.is_over }
+        ensures wants { self.new.wants_shutdown ≡ self.old.wants_shutdown }
+        ensures due { self.new.due ≡ record self.old.due {
+          cookie_echo = self.new.due.cookie_echo;
+        } }
     {
         let (Some(peer), Some(agreed)) = (self.machine.peer(), self.machine.agreed()) else {
             return;
@@ -268,6 +286,7 @@ impl Association {
         ensures stays { StaysDue self.old self.new }
         ensures asks { OwesNothingNew (owed_of self.old) (owed_of self.new) }
         ensures moments { AsksNoMore now self.old self.new }
+        ensures settles { Settles self.old self.new }
     {
         if self.wants_shutdown && self.machine.state() == State::Established {
             self.wants_shutdown = false;
@@ -294,6 +313,8 @@ impl Association {
         ensures stays { StaysDue self.old self.new }
         ensures asks { OwesNothingNew (owed_of self.old) (owed_of self.new) }
         ensures moments { AsksNoMore now self.old self.new }
+        ensures due { self.new.due ≡ owed_by (drained_where
+            (holds_nothing self.old.outbound.sender) self.old.machine).answer.reply 0 self.old.due }
     {
         if !self.outbound.is_drained() {
             return;

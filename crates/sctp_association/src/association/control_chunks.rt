@@ -1,24 +1,32 @@
 //! Control chunks that come: HEARTBEAT, ABORT, SHUTDOWN, ERROR and the like (RFC 9260 3.3.5 to 3.3.13, 8.3, 9).
 
-ghost use Rattle.std.specs.Prelude.{◌≡◌, ℕ, List, [], ◌∷◌, map, None, Some, Ok, IfOk, OnErr};
+ghost use Rattle.std.specs.Prelude.{◌≡◌, ◌||◌, ℕ, List, [], ◌∷◌, drop, is_some, map, None, Some, Ok, IfOk, OnErr, true};
+ghost use Rattle.sctp_association.specs.Single.{AloneOn, IsOther};
 ghost use Rattle.sctp_association.specs.Arrivals.{CallsArrive};
 ghost use Rattle.sctp_association.specs.Beats.{AnswersOn, BeatsOn, IsBeaten, nonce_in};
 ghost use Rattle.sctp_association.specs.Beginnings.{ArrivesAsOffered, BeginsBy, KeepsPeer};
 ghost use Rattle.sctp_association.specs.Kept.{IsKept};
 ghost use Rattle.sctp_association.specs.Halves.{HalvesAlike, halves_of};
+ghost use Rattle.sctp_association.specs.Heard.{IsReadable, expects, is_received, speaks};
+ghost use Rattle.sctp_association.specs.Rows.{FollowsAnswer, FollowsStep, StepsOn, cause_in, error_row, tag_of};
 ghost use Rattle.sctp_association.specs.Shutting.{ShutsOn};
 ghost use Rattle.sctp_association.specs.Telling.{PassesOn, Tells, TellsEnd};
 ghost use Rattle.sctp_association.specs.declared.association.Reason.{Reason};
 ghost use Rattle.sctp_association.specs.declared.association.Reason.TheVariants.{Unexpected};
 ghost use Rattle.sctp_association.specs.declared.association.arrivals.Step.TheVariants as step;
+ghost use Rattle.sctp_chunks.specs.Wire.{heartbeat_ack_chunk, heartbeat_chunk, shutdown_chunk};
 ghost use Rattle.sctp_datagram.specs.Carried.{IsChunkOf};
+ghost use Rattle.sctp_datagram.specs.Framing.{StartsWith};
 ghost use Rattle.sctp_datagram.specs.Places.{IsPlace};
 ghost use Rattle.sctp_datagram.specs.declared.datagram.ChunkPlace.{ChunkPlace};
 ghost use Rattle.sctp_handshake.specs.Answers.{silent};
+ghost use Rattle.sctp_handshake.specs.Endings.{on_abort, on_shutdown};
+ghost use Rattle.sctp_handshake.specs.Machines.{dropped};
+ghost use Rattle.sctp_handshake.specs.declared.state.State.TheVariants.{Closed};
 ghost use Rattle.sctp_params.specs.Param.{heartbeat_info};
 ghost use Rattle.sctp_params.specs.ParamKind.{parameter_of};
 
-use super::arrivals::Step;
+use super::arrivals::{Step, bytes_of};
 use super::{Association, Reason};
 use crate::event::Ending;
 use crate::fault::Fault;
@@ -60,6 +68,17 @@ fn info_of(heartbeat: ChunkHeartbeat) -> Option<Bytes>
     Some(mem::replace(&mut info.heartbeat_information, Bytes::new()))
 }
 
+// The code of the first cause of an ERROR, if it has one (RFC 9260 3.3.10).
+fn cause_of(datagram: &Bytes, chunk: ChunkPlace) -> Option<u16>
+    ensures { result ≡ cause_in datagram.now chunk }
+{
+    let raw = bytes_of(datagram, chunk);
+    if chunk.length < 8 || raw.len() < 8 {
+        return None;
+    }
+    Some(read_u16(raw, 4))
+}
+
 impl Association {
     // Takes a chunk of a peer that is no user data.
     #[inline(never)]
@@ -76,12 +95,11 @@ impl Association {
         ensures refused { (r : Reason) → result ≡ Ok (step.Refused r) → self.new ≡ self.old }
         ensures err { OnErr result (self.new ≡ self.old) }
         ensures whole { result ≡ Ok step.Cut → ⊥ }
-        ensures answers { chunk.typ ≡ 4 → IfOk result
-            (λ s. AnswersOn chunk.at datagram.now s self.old self.new) }
-        ensures beats { chunk.typ ≡ 5 → IfOk result
-            (λ s. BeatsOn chunk.at datagram.now now s self.old self.new) }
-        ensures shuts { chunk.typ ≡ 7 → IfOk result
-            (λ s. ShutsOn chunk.at datagram.now now s self.old.outbound self.new.outbound) }
+        ensures heard { (self.old.machine.state ≡ Closed → ⊥) → expects chunk.typ self.old ≡ true
+            → IsReadable chunk.typ (drop chunk.at datagram.now)
+            → (r : Reason) → result ≡ Ok (step.Refused r) → ⊥ }
+        ensures alone { IsOther chunk.typ → (tag : ℕ) → IfOk result
+            (λ s. AloneOn chunk tag datagram.now now s self.old self.new) }
     {
         match chunk.typ {
             4 => self.take_heartbeat(datagram, chunk),
@@ -106,7 +124,9 @@ impl Association {
     }
 
     // The tag of the peer's packets' receiver; 0 where it is not known.
-    fn peer_tag(&self) -> u32 {
+    fn peer_tag(&self) -> u32
+        ensures { result ≡ tag_of self.now.machine.peer }
+    {
         match self.machine.peer() {
             Some(peer) => peer.tag,
             None => 0,
@@ -118,10 +138,13 @@ impl Association {
         ensures tells { PassesOn answer.told self.old self.new }
         ensures refused { (r : Reason) → result ≡ step.Refused r
             → (answer ≡ silent) × (self.new ≡ self.old) }
+        ensures heard { speaks answer ≡ true → (r : Reason) → result ≡ step.Refused r → ⊥ }
         ensures kept { IsKept self.old self.new }
         ensures begun { BeginsBy answer.told self.old.machine self.old.config
             (halves_of self.old) (halves_of self.new) }
         ensures whole { result ≡ step.Cut → ⊥ }
+        ensures answer { result ≡ step.Next → FollowsAnswer answer tag self.old self.new }
+        ensures next { result ≡ step.Stop → ⊥ }
     {
         if answer.reply.is_none() && answer.told.is_none() {
             return Step::Refused(Reason::Unexpected);
@@ -137,6 +160,11 @@ impl Association {
         ensures halves { HalvesAlike self.old self.new }
         ensures peer { KeepsPeer self.old self.new }
         ensures whole { result ≡ step.Cut → ⊥ }
+        ensures next { result ≡ step.Next → ⊥ }
+        ensures row { result ≡ step.Stop
+            → FollowsStep (on_abort self.old.machine) 0 self.old self.new }
+        ensures heard { speaks (on_abort self.old.machine).answer ≡ true
+            → (r : Reason) → result ≡ step.Refused r → ⊥ }
     {
         let answer = self.machine.abort();
         if answer.told.is_none() {
@@ -163,6 +191,12 @@ impl Association {
         ensures whole { result ≡ Ok step.Cut → ⊥ }
         ensures shuts { IfOk result
             (λ s. ShutsOn chunk.at datagram.now now s self.old.outbound self.new.outbound) }
+        ensures row { IfOk result
+            (λ s. StepsOn (on_shutdown self.old.machine) 0 s self.old self.new) }
+        ensures heard { (speaks (on_shutdown self.old.machine).answer
+            || is_received self.old.machine.state) ≡ true
+            → (tsn : ℕ) → StartsWith (drop chunk.at datagram.now) (shutdown_chunk tsn)
+            → (r : Reason) → result ≡ Ok (step.Refused r) → ⊥ }
     {
         let Some(shutdown) = self.read_chunk::<ChunkShutdown>(datagram, chunk)? else {
             return Ok(Step::Refused(Reason::NoPacket));
@@ -196,6 +230,12 @@ impl Association {
         ensures whole { result ≡ Ok step.Cut → ⊥ }
         ensures answers { IfOk result
             (λ s. AnswersOn chunk.at datagram.now s self.old self.new) }
+        ensures row { IfOk result
+            (λ s. StepsOn (dropped self.old.machine) 0 s self.old self.new) }
+        ensures heard { is_some self.old.machine.peer ≡ true → (info : List ℕ)
+            → StartsWith (drop chunk.at datagram.now)
+            (heartbeat_chunk (heartbeat_info info ∷ []))
+            → (r : Reason) → result ≡ Ok (step.Refused r) → ⊥ }
     {
         // Who asks answers from COOKIE-ECHOED on, who is asked once the association stands (RFC 9260 8.3).
         if self.machine.peer().is_none() {
@@ -226,6 +266,12 @@ impl Association {
         ensures whole { result ≡ Ok step.Cut → ⊥ }
         ensures beats { IfOk result
             (λ s. BeatsOn chunk.at datagram.now now s self.old self.new) }
+        ensures row { IfOk result
+            (λ s. StepsOn (dropped self.old.machine) 0 s self.old self.new) }
+        ensures heard { is_some self.old.heartbeat ≡ true → (info : List ℕ)
+            → StartsWith (drop chunk.at datagram.now)
+            (heartbeat_ack_chunk (heartbeat_info info ∷ []))
+            → (r : Reason) → result ≡ Ok (step.Refused r) → ⊥ }
     {
         let Some(ack) = self.read_chunk::<ChunkHeartbeatAck>(datagram, chunk)? else {
             return Ok(Step::Refused(Reason::NoPacket));
@@ -245,6 +291,10 @@ impl Association {
         ensures halves { HalvesAlike self.old self.new }
         ensures kept { IsKept self.old self.new }
         ensures beats { IsBeaten now (Some nonce) self.old self.new }
+        ensures rest { self.new ≡ record self.old {
+          outbound = self.new.outbound;
+          heartbeat = self.new.heartbeat;
+        } }
     {
         let Some(heartbeat) = &mut self.heartbeat else {
             return;
@@ -261,12 +311,13 @@ impl Association {
         ensures halves { halves_of self.new ≡ halves_of self.old }
         ensures peer { KeepsPeer self.old self.new }
         ensures whole { result ≡ step.Cut → ⊥ }
+        ensures row { StepsOn (error_row (cause_in datagram.now chunk) self.old.machine) 0
+            result self.old self.new }
+        ensures never { (r : Reason) → result ≡ step.Refused r → ⊥ }
     {
-        let end = chunk.at.saturating_add(chunk.length);
-        if end > datagram.len() || chunk.at.saturating_add(8) > end {
+        let Some(code) = cause_of(datagram, chunk) else {
             return Step::Next;
-        }
-        let code = read_u16(&datagram[chunk.at..end], 4);
+        };
         if code == 3 {
             let before = self.machine.state();
             let answer = self.machine.stale_cookie();

@@ -1,16 +1,22 @@
 //! INIT, INIT ACK and the cookie (RFC 9260 5).
 
-ghost use Rattle.std.specs.Prelude.{◌≡◌, ◌≢◌, ◌⊎◌, ◌≤◌, Ok, IfOk, OnErr, None, length, true, false};
+ghost use Rattle.std.specs.Prelude.{◌≡◌, ◌≢◌, ◌⊎◌, ◌≤◌, Ok, IfOk, OnErr, None, Some, length, true, false};
+ghost use Rattle.sctp_association.specs.Single.{OffersOn};
 ghost use Rattle.sctp_association.specs.Beginnings.{ArrivesAsOffered, BeginsByTicket, IsOwedFor, KeepsPeer, is_standing};
 ghost use Rattle.sctp_association.specs.Kept.{OwesNoMore, OwesTicket, ticket_in_kind};
 ghost use Rattle.sctp_association.specs.Cookies.{IsAlive, IsSealed, cookie_in};
 ghost use Rattle.sctp_association.specs.Halves.{HalvesAlike, halves_of};
+ghost use Rattle.sctp_association.specs.Heard.{IsEchoHeard, may_begin, speaks};
+ghost use Rattle.sctp_association.specs.Openings.{EchoesOn, InitAckOn, owed_to_init};
 ghost use Rattle.sctp_association.specs.Reports.{AnswersHostName, EndsBegun, EndsByHostName, value_in};
+ghost use Rattle.sctp_association.specs.Rows.{StepsOn};
 ghost use Rattle.sctp_association.specs.Steps.{is_taken};
 ghost use Rattle.sctp_association.specs.Telling.{Tells, TellsEnd};
 ghost use Rattle.sctp_association.specs.declared.association.Reason.{Reason};
 ghost use Rattle.sctp_association.specs.declared.association.arrivals.Step.TheVariants as step;
 ghost use Rattle.sctp_datagram.specs.Carried.{IsChunkOf};
+ghost use Rattle.sctp_datagram.specs.Places.{IsPlace};
+ghost use Rattle.sctp_handshake.specs.Cookies.{on_cookie_ack};
 ghost use Rattle.sctp_handshake.specs.declared.answer.Reply.TheVariants.{InitAck};
 ghost use Rattle.sctp_handshake.specs.declared.state.State.TheVariants.{Closed, CookieWait};
 ghost use Rattle.sctp_handshake.specs.declared.ticket.Ticket.{Ticket};
@@ -52,6 +58,7 @@ impl Association {
         ensures whole { result ≡ Ok step.Cut → ⊥ }
         ensures host { result ≡ Ok step.Stop
             → AnswersHostName (value_in datagram.now chunk) self.new }
+        ensures offers { IfOk result (λ s. OffersOn chunk datagram.now s self.old self.new) }
     {
         let Ok(value) = init_value(bytes_of(datagram, chunk)) else {
             return Ok(Step::Refused(Reason::NoPacket));
@@ -79,6 +86,7 @@ impl Association {
     fn owe_answer(&mut self, reply: Reply, tag: u32)
         ensures owes { (ticket : Ticket) → OwesTicket self.new ticket
             → OwesTicket self.old ticket ⊎ (reply ≡ InitAck ticket) }
+        ensures due { self.new.due ≡ owed_to_init (Some reply) tag self.old.due }
         ensures rest { self.new ≡ record self.old { due = self.new.due } }
     {
         match reply {
@@ -105,6 +113,7 @@ impl Association {
         ensures passed { result ≡ Ok step.Next → host_name_of (value_in datagram.now chunk) ≡ None }
         ensures host { result ≡ Ok step.Stop
             → EndsByHostName (value_in datagram.now chunk) self.old self.new }
+        ensures row { IfOk result (λ s. InitAckOn chunk datagram.now s self.old self.new) }
     {
         let Ok(value) = init_value(bytes_of(datagram, chunk)) else {
             return Ok(Step::Refused(Reason::NoPacket));
@@ -141,6 +150,7 @@ impl Association {
     fn note_params(&mut self, reported: Option<Bytes>)
         ensures rest { self.new ≡ record self.old { due = self.new.due } }
         ensures owes { OwesNoMore self.old self.new }
+        ensures due { self.new.due ≡ record self.old.due { report = self.new.due.report } }
     {
         if let Some(raw) = reported {
             self.due.report = Some(Report { code: 8, raw });
@@ -187,6 +197,7 @@ impl Association {
         tag: u32,
         now: u64,
     ) -> Result<Step, Fault>
+        requires place { IsPlace datagram.now chunk }
         requires own { IsChunkOf datagram.now chunk }
         requires typ { chunk.typ ≡ 10 }
         ensures tells { Tells self.old self.new }
@@ -205,6 +216,10 @@ impl Association {
         // A cookie that is too old begins nothing (RFC 9260 5.1.5).
         ensures stale { result ≡ Ok step.Stop → self.new.machine ≡ self.old.machine }
         ensures whole { result ≡ Ok step.Cut → ⊥ }
+        ensures row { IfOk result (λ s. EchoesOn tag (cookie_in datagram.now chunk) now s
+            self.old self.new) }
+        ensures heard { IsEchoHeard chunk tag datagram.now now self.old
+            → (r : Reason) → result ≡ Ok (step.Refused r) → ⊥ }
     {
         let raw = bytes_of(datagram, chunk);
         if chunk.length > raw.len() || chunk.length < 4 {
@@ -243,6 +258,9 @@ impl Association {
         ensures came { ArrivesAsOffered datagram.now self.old self.new }
         ensures refused { (r : Reason) → result ≡ step.Refused r → self.new ≡ self.old }
         ensures whole { result ≡ step.Cut → ⊥ }
+        ensures row { StepsOn (on_cookie_ack self.old.machine) 0 result self.old self.new }
+        ensures heard { speaks (on_cookie_ack self.old.machine).answer ≡ true
+            → may_begin self.old ≡ true → (r : Reason) → result ≡ step.Refused r → ⊥ }
     {
         if !self.may_begin() {
             return Step::Refused(Reason::Unexpected);
@@ -254,8 +272,9 @@ impl Association {
 
     // Whether an association may begin: it begins once, so no receiver is there of one that does not stand any more.
     fn may_begin(&self) -> bool
-        ensures { result ≡ true → is_standing self.now.machine.state ≡ false
+        ensures once { result ≡ true → is_standing self.now.machine.state ≡ false
             → self.now.inbound ≡ None }
+        ensures value { result ≡ may_begin self.now }
     {
         match self.machine.state() {
             State::Closed | State::CookieWait | State::CookieEchoed => self.inbound.is_none(),

@@ -6,8 +6,10 @@ ghost use Rattle.sctp_association.specs.Kept.{OwesNoMore};
 ghost use Rattle.sctp_association.specs.Leaving.{replies_of};
 ghost use Rattle.sctp_association.specs.Offering.{IsLonger};
 ghost use Rattle.sctp_association.specs.Reports.{host_name_told, most_reported, reported_after};
+ghost use Rattle.sctp_association.specs.Rows.{StepsOn};
 ghost use Rattle.sctp_association.specs.declared.association.Reason.{Reason};
 ghost use Rattle.sctp_association.specs.declared.association.arrivals.Step.TheVariants as step;
+ghost use Rattle.sctp_handshake.specs.Machines.{dropped};
 
 use super::arrivals::{Step, bytes_of};
 use super::{Association, Reason};
@@ -60,6 +62,8 @@ impl Association {
         ensures rest { self.new ≡ record self.old { due = self.new.due } }
         ensures owes { OwesNoMore self.old self.new }
         ensures err { OnErr result (self.new ≡ self.old) }
+        ensures row { IfOk result
+            (λ s. StepsOn (dropped self.old.machine) 0 s self.old self.new) }
     {
         let is_reported = chunk.is_reported || chunk.typ == I_FORWARD_TSN;
         if !is_reported || self.due.report.is_some() || self.machine.peer().is_none() {

@@ -1,6 +1,4 @@
-use Rattle.std.proofs.Common.{Option, Some, ap, ◌≡◌, ◌∙◌}
-use Rattle.sctp_association.proofs.Beats.{answer_stays}
-use Rattle.sctp_association.specs.declared.due.Due.{Due}
+use Rattle.std.proofs.Common.{Option, ap, ◌∙◌}
 use Rattle.sctp_association.specs.Entering.{usable_in}
 use Rattle.sctp_association.specs.declared.inbound.Inbound.{Inbound}
 use Rattle.sctp_association.proofs.Telling.{end_then}
@@ -15,8 +13,3 @@ returns-clause-tells c = end_then c.datagram_ended.ensures.tells c.settle.ensure
 
 pub returns-clause-usable : goal.returns-clause-usable
 returns-clause-usable c s = ap (λ (x : Option Inbound). usable_in s x) c.settle.ensures.inbound ∙ c.datagram_ended.ensures.usable s
-
-pub returns-clause-answer : goal.returns-clause-answer
-returns-clause-answer c info is =
-    answer_stays (c.settle.new.self.due.heartbeat ≡ Some info)
-    (c.settle.ensures.stays.heartbeat info (ap (λ (d : Due). d.heartbeat) c.datagram_ended.ensures.due ∙ is))

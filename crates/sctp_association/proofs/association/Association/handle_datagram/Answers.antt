@@ -4,8 +4,7 @@ use Rattle.sctp_association.proofs.Arrived.{arrives_of, arrives_same}
 use Rattle.sctp_association.specs.Halves.{halves_of}
 use Rattle.sctp_association.specs.declared.association.Association.{Association}
 use Rattle.std.proofs.lemmas.Bool.{false≢true}
-use Rattle.sctp_association.specs.Beats.{AnswersAt, BeatsAt}
-use Rattle.sctp_association.specs.Shutting.{ShutsAt}
+use Rattle.sctp_association.specs.Single.{AloneAt}
 use Rattle.sctp_association.proofs.Coming.{if_ok, never_accepted, never_told, on_ok}
 use Rattle.sctp_association.proofs.Going.{accepted_as}
 use Rattle.sctp_association.proofs.First.{begins, first_is, for_admitted, on_err, only_data, only_one, type_of_one}
@@ -49,6 +48,10 @@ returns-in-Err c = record {
   answers = λ one typ e. absurd (never_told _ _ e refl c.dropped_by.ensures.never);
   beats = λ one typ e. absurd (never_told _ _ e refl c.dropped_by.ensures.never);
   shuts = λ one typ e. absurd (never_told _ _ e refl c.dropped_by.ensures.never);
+  echoes = λ one typ e. absurd (never_told _ _ e refl c.dropped_by.ensures.never);
+  acks = λ one typ e. absurd (never_told _ _ e refl c.dropped_by.ensures.never);
+  offers = λ one typ e. absurd (never_told _ _ e refl c.dropped_by.ensures.never);
+  rows = λ one row e. absurd (never_told _ _ e refl c.dropped_by.ensures.never);
   due = λ due r e.
       let zero : zero_checksum_of c.args.self.now.config ≡ c.if-self.zero = elim c.if-self.branch [
         | then-self w ↦ rw w.if-self.true (sym w.zero-is)
@@ -129,7 +132,7 @@ returns-clause-sacks c takes is chunks tells =
 pub returns-clause-due : goal.returns-clause-due
 returns-clause-due c due r is =
     let all : TellsAll place_at c.args.datagram.now c.in-Ok.chunks.left = search rules in
-    c.take_chunks.ensures.due due.first due.rest (told_once _ _ _ all due.tells) due.taken due.tag r is
+    c.take_chunks.ensures.due due.first due.rest (told_once _ _ _ all due.tells) due.admitted due.heard r is
 
 pub returns-then-header-self-clause-tells : goal.returns-then-header-self-clause-tells
 returns-then-header-self-clause-tells c = tells_same _ _ refl
@@ -151,35 +154,67 @@ returns-clause-path c takes is chunks tells each =
     subst (λ (l : List ChunkPlace). MovesByFirstOf l c.args.datagram.now c.args.now c.args.self.now c.take_chunks.new.self) same
     (c.take_chunks.ensures.path takes is (subst (λ (l : List ChunkPlace). all_go_on l ≡ true) (sym same) each))
 
--- ## A HEARTBEAT as the only chunk
+-- ## A chunk that comes alone
 
 pub returns-then-self-2-clause-answers : goal.returns-then-self-2-clause-answers
 returns-then-self-2-clause-answers c one typ is going = absurd (false≢true (sym going ∙ c.if-self-2.true))
 
-pub returns-clause-answers : goal.returns-clause-answers
-returns-clause-answers c one typ is going =
-    let all : TellsAll place_at c.args.datagram.now c.in-Ok.chunks.left = search rules in
-    only_one (λ p. AnswersAt p.at c.args.datagram.now c.args.self.now c.take_chunks.new.self) 4 _ _ _ _ all one typ
-    (if_ok _ _ _ is c.take_chunks.ensures.accepted refl) (λ first are t. c.take_chunks.ensures.answers first are t is)
-
--- ## A HEARTBEAT-ACK as the only chunk
-
 pub returns-then-self-2-clause-beats : goal.returns-then-self-2-clause-beats
 returns-then-self-2-clause-beats c one typ is going = absurd (false≢true (sym going ∙ c.if-self-2.true))
-
-pub returns-clause-beats : goal.returns-clause-beats
-returns-clause-beats c one typ is going =
-    let all : TellsAll place_at c.args.datagram.now c.in-Ok.chunks.left = search rules in
-    only_one (λ p. BeatsAt p.at c.args.datagram.now c.args.now c.args.self.now c.take_chunks.new.self) 5 _ _ _ _ all one typ
-    (if_ok _ _ _ is c.take_chunks.ensures.accepted refl) (λ first are t. c.take_chunks.ensures.beats first are t is)
-
--- ## A SHUTDOWN as the only chunk
 
 pub returns-then-self-2-clause-shuts : goal.returns-then-self-2-clause-shuts
 returns-then-self-2-clause-shuts c one typ is going = absurd (false≢true (sym going ∙ c.if-self-2.true))
 
+pub returns-then-self-2-clause-offers : goal.returns-then-self-2-clause-offers
+returns-then-self-2-clause-offers c one typ is going = absurd (false≢true (sym going ∙ c.if-self-2.true))
+
+pub returns-then-self-2-clause-acks : goal.returns-then-self-2-clause-acks
+returns-then-self-2-clause-acks c one typ is going = absurd (false≢true (sym going ∙ c.if-self-2.true))
+
+pub returns-then-self-2-clause-echoes : goal.returns-then-self-2-clause-echoes
+returns-then-self-2-clause-echoes c one typ is going = absurd (false≢true (sym going ∙ c.if-self-2.true))
+
+pub returns-then-self-2-clause-rows : goal.returns-then-self-2-clause-rows
+returns-then-self-2-clause-rows c one row is going = absurd (false≢true (sym going ∙ c.if-self-2.true))
+
+pub returns-clause-offers : goal.returns-clause-offers
+returns-clause-offers c one typ is going =
+    let all : TellsAll place_at c.args.datagram.now c.in-Ok.chunks.left = search rules in
+    (only_one (λ p. AloneAt p c.args.datagram.now c.args.now c.args.self.now c.take_chunks.new.self) _ _ _ _ _ all one refl
+    (if_ok _ _ _ is c.take_chunks.ensures.accepted refl) (λ first are t. c.take_chunks.ensures.alone first are is)).init typ
+
+pub returns-clause-acks : goal.returns-clause-acks
+returns-clause-acks c one typ is going =
+    let all : TellsAll place_at c.args.datagram.now c.in-Ok.chunks.left = search rules in
+    (only_one (λ p. AloneAt p c.args.datagram.now c.args.now c.args.self.now c.take_chunks.new.self) _ _ _ _ _ all one refl
+    (if_ok _ _ _ is c.take_chunks.ensures.accepted refl) (λ first are t. c.take_chunks.ensures.alone first are is)).init_ack typ
+
+pub returns-clause-answers : goal.returns-clause-answers
+returns-clause-answers c one typ is going =
+    let all : TellsAll place_at c.args.datagram.now c.in-Ok.chunks.left = search rules in
+    (only_one (λ p. AloneAt p c.args.datagram.now c.args.now c.args.self.now c.take_chunks.new.self) _ _ _ _ _ all one refl
+    (if_ok _ _ _ is c.take_chunks.ensures.accepted refl) (λ first are t. c.take_chunks.ensures.alone first are is)).heartbeat typ
+
+pub returns-clause-beats : goal.returns-clause-beats
+returns-clause-beats c one typ is going =
+    let all : TellsAll place_at c.args.datagram.now c.in-Ok.chunks.left = search rules in
+    (only_one (λ p. AloneAt p c.args.datagram.now c.args.now c.args.self.now c.take_chunks.new.self) _ _ _ _ _ all one refl
+    (if_ok _ _ _ is c.take_chunks.ensures.accepted refl) (λ first are t. c.take_chunks.ensures.alone first are is)).heartbeat_ack typ
+
 pub returns-clause-shuts : goal.returns-clause-shuts
 returns-clause-shuts c one typ is going =
     let all : TellsAll place_at c.args.datagram.now c.in-Ok.chunks.left = search rules in
-    only_one (λ p. ShutsAt p.at c.args.datagram.now c.args.now c.args.self.now.outbound c.take_chunks.new.self.outbound) 7 _ _ _ _ all one typ
-    (if_ok _ _ _ is c.take_chunks.ensures.accepted refl) (λ first are t. c.take_chunks.ensures.shuts first are t is)
+    (only_one (λ p. AloneAt p c.args.datagram.now c.args.now c.args.self.now c.take_chunks.new.self) _ _ _ _ _ all one refl
+    (if_ok _ _ _ is c.take_chunks.ensures.accepted refl) (λ first are t. c.take_chunks.ensures.alone first are is)).shutdown typ
+
+pub returns-clause-echoes : goal.returns-clause-echoes
+returns-clause-echoes c one typ is going =
+    let all : TellsAll place_at c.args.datagram.now c.in-Ok.chunks.left = search rules in
+    (only_one (λ p. AloneAt p c.args.datagram.now c.args.now c.args.self.now c.take_chunks.new.self) _ _ _ _ _ all one refl
+    (if_ok _ _ _ is c.take_chunks.ensures.accepted refl) (λ first are t. c.take_chunks.ensures.alone first are is)).cookie_echo typ
+
+pub returns-clause-rows : goal.returns-clause-rows
+returns-clause-rows c one typ is going =
+    let all : TellsAll place_at c.args.datagram.now c.in-Ok.chunks.left = search rules in
+    (only_one (λ p. AloneAt p c.args.datagram.now c.args.now c.args.self.now c.take_chunks.new.self) _ _ _ _ _ all one refl
+    (if_ok _ _ _ is c.take_chunks.ensures.accepted refl) (λ first are t. c.take_chunks.ensures.alone first are is)).row typ

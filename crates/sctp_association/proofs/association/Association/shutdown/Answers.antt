@@ -1,4 +1,8 @@
-use Rattle.std.proofs.Common.{rules, ◌∙◌}
+use Rattle.std.proofs.Common.{ap, rules, subst, sym, ◌≤◌, ◌∙◌}
+use Rattle.sctp_association.proofs.Lasting.{asked_left, lasts_by, lasts_then}
+use Rattle.sctp_association.specs.Lasting.{control_left}
+use Rattle.sctp_association.specs.declared.outbound.Outbound.{Outbound}
+use Rattle.sctp_handshake.specs.declared.machine.Machine.{Machine}
 use Rattle.sctp_association.proofs.Telling.{tells_peer, tells_then}
 use Rattle.sctp_association.proofs.Begun.{asked_told}
 use Rattle.sctp_association.proofs.Others.{alike_then}
@@ -37,3 +41,13 @@ pub returns-clause-inbound : goal.returns-clause-inbound
 returns-clause-inbound c =
     let quiet = asked_told c.args.self.now.machine _ (λ e. absurd (search rules)) c.shutdown_asked-answer.ensures.answer in
     c.settle.ensures.inbound ∙ c.follow.ensures.inbound quiet
+
+pub returns-clause-left : goal.returns-clause-left
+returns-clause-left c =
+    let old = c.args.self.now in
+    let quiet = asked_told old.machine _ (λ e. absurd (search rules)) c.shutdown_asked-answer.ensures.answer in
+    let fewer = asked_left old.machine _ _ (λ e. absurd (search rules)) c.shutdown_asked-answer.ensures in
+    lasts_then old c.follow.new.self _ (
+    lasts_by old c.follow.new.self (c.follow.ensures.over quiet) (ap (λ (o : Outbound). o.failures) (c.follow.ensures.sending quiet))
+    (subst (λ (m : Machine). control_left m ≤ control_left old.machine) (sym c.follow.ensures.kept.machine) fewer)
+    ) c.settle.ensures.left

@@ -1,5 +1,9 @@
+use Rattle.sctp_association.proofs.Heard.{heard_at, heard_begun, heard_control, heard_echo, heard_none}
 use Rattle.sctp_association.proofs.Telling.{tells_due, tells_peer, tells_same, tells_still}
-use Rattle.std.proofs.Common.{arith, refl}
+use Rattle.std.proofs.Common.{ap, arith, refl, rules, sym, ◌≡◌, ◌∙◌}
+use Rattle.std.proofs.lemmas.Bool.{false≢true}
+use Rattle.sctp_association.proofs.Single.{alone_by, alone_plain, alone_refused, alone_silent}
+use Rattle.sctp_association.specs.Rows.{has_row}
 use Rattle.sctp_association.proofs.Offered.{offered_calls, offered_due, offered_kept, offered_same}
 use Rattle.sctp_association.proofs.Paths.{moves_none}
 use Rattle.sctp_association.proofs.association.Association.take_chunk.Goals as goal
@@ -55,3 +59,112 @@ pub returns-in-192-clause-path : goal.returns-in-192-clause-path
 returns-in-192-clause-path c takes going =
     moves_none c.args.chunk c.args.datagram.now c.args.now c.take_skip.result c.args.self.now.outbound c.take_skip.new.self.outbound
     (λ is. absurd (omega (arith, is))) c.take_skip.ensures.sending
+
+pub returns-in-3-clause-sacks : goal.returns-in-3-clause-sacks
+returns-in-3-clause-sacks c takes going = c.take_sack.ensures.sacks c.args.tag takes
+
+-- ## A chunk that comes alone
+
+pub returns-then-not-admits-clause-alone : goal.returns-then-not-admits-clause-alone
+returns-then-not-admits-clause-alone c = alone_refused c.args.chunk c.args.tag c.args.datagram.now c.args.now c.args.self.now c.args.self.now _
+
+pub returns-then-not-is_beginning-clause-alone : goal.returns-then-not-is_beginning-clause-alone
+returns-then-not-is_beginning-clause-alone c = alone_refused c.args.chunk c.args.tag c.args.datagram.now c.args.now c.args.self.now c.args.self.now _
+
+pub returns-in-0-clause-alone : goal.returns-in-0-clause-alone
+returns-in-0-clause-alone c =
+    let typ : c.args.chunk.typ ≡ 0 = search rules in
+    alone_plain c.args.chunk c.args.tag c.args.datagram.now c.args.now c.args.self.now c.take_data.new.self c.take_data.result 0 typ refl c.take_data.ensures.row
+
+pub returns-in-1-clause-alone : goal.returns-in-1-clause-alone
+returns-in-1-clause-alone c =
+    let typ : c.args.chunk.typ ≡ 1 = search rules in
+    alone_by c.args.chunk c.args.tag c.args.datagram.now c.args.now c.args.self.now c.take_init.new.self c.take_init.result
+    (λ is. c.take_init.ensures.offers) (λ is. absurd (omega (arith, is, typ))) (λ is. absurd (omega (arith, is, typ)))
+    (λ is. absurd (omega (arith, is, typ))) (λ is. absurd (omega (arith, is, typ))) (λ is. absurd (omega (arith, is, typ)))
+    (λ row. absurd (false≢true (sym (ap has_row typ) ∙ row)))
+
+pub returns-in-2-clause-alone : goal.returns-in-2-clause-alone
+returns-in-2-clause-alone c =
+    let typ : c.args.chunk.typ ≡ 2 = search rules in
+    alone_by c.args.chunk c.args.tag c.args.datagram.now c.args.now c.args.self.now c.take_init_ack.new.self c.take_init_ack.result
+    (λ is. absurd (omega (arith, is, typ))) (λ is. c.take_init_ack.ensures.row) (λ is. absurd (omega (arith, is, typ)))
+    (λ is. absurd (omega (arith, is, typ))) (λ is. absurd (omega (arith, is, typ))) (λ is. absurd (omega (arith, is, typ)))
+    (λ row. absurd (false≢true (sym (ap has_row typ) ∙ row)))
+
+pub returns-in-3-clause-alone : goal.returns-in-3-clause-alone
+returns-in-3-clause-alone c =
+    let typ : c.args.chunk.typ ≡ 3 = search rules in
+    alone_plain c.args.chunk c.args.tag c.args.datagram.now c.args.now c.args.self.now c.take_sack.new.self c.take_sack.result 3 typ refl c.take_sack.ensures.row
+
+pub returns-in-10-clause-alone : goal.returns-in-10-clause-alone
+returns-in-10-clause-alone c =
+    let typ : c.args.chunk.typ ≡ 10 = search rules in
+    alone_by c.args.chunk c.args.tag c.args.datagram.now c.args.now c.args.self.now c.take_cookie.new.self c.take_cookie.result
+    (λ is. absurd (omega (arith, is, typ))) (λ is. absurd (omega (arith, is, typ))) (λ is. absurd (omega (arith, is, typ)))
+    (λ is. absurd (omega (arith, is, typ))) (λ is. absurd (omega (arith, is, typ))) (λ is. c.take_cookie.ensures.row)
+    (λ row. absurd (false≢true (sym (ap has_row typ) ∙ row)))
+
+-- of a RE-CONFIG nothing is said
+pub returns-in-130-clause-alone : goal.returns-in-130-clause-alone
+returns-in-130-clause-alone c =
+    let typ : c.args.chunk.typ ≡ 130 = search rules in
+    alone_silent c.args.chunk c.args.tag c.args.datagram.now c.args.now c.args.self.now c.take_reconfig.new.self c.take_reconfig.result typ
+
+pub returns-in-192-clause-alone : goal.returns-in-192-clause-alone
+returns-in-192-clause-alone c =
+    let typ : c.args.chunk.typ ≡ 192 = search rules in
+    alone_plain c.args.chunk c.args.tag c.args.datagram.now c.args.now c.args.self.now c.take_skip.new.self c.take_skip.result 192 typ refl c.take_skip.ensures.row
+
+pub returns-in_default-clause-alone : goal.returns-in_default-clause-alone
+returns-in_default-clause-alone c = c.take_control.ensures.alone (search rules, search rules, search rules, search rules) c.args.tag
+
+-- ## What is heard is not refused
+
+pub returns-then-not-is_beginning-clause-due : goal.returns-then-not-is_beginning-clause-due
+returns-then-not-is_beginning-clause-due c admitted heard r is =
+    heard_begun c.args.chunk c.args.tag c.args.datagram.now c.args.now c.args.self.now heard (search rules) (search rules)
+
+pub returns-in-0-clause-due : goal.returns-in-0-clause-due
+returns-in-0-clause-due c admitted heard =
+    let typ : c.args.chunk.typ ≡ 0 = search rules in
+    c.take_data.ensures.due (heard_at c.args.chunk c.args.tag c.args.datagram.now c.args.now c.args.self.now heard 0 typ (λ e. omega (arith, e))).0
+
+pub returns-in-1-clause-due : goal.returns-in-1-clause-due
+returns-in-1-clause-due c admitted heard r is =
+    let typ : c.args.chunk.typ ≡ 1 = search rules in
+    heard_none c.args.self.now 1 refl refl
+    (heard_at c.args.chunk c.args.tag c.args.datagram.now c.args.now c.args.self.now heard 1 typ (λ e. omega (arith, e))).0
+
+pub returns-in-2-clause-due : goal.returns-in-2-clause-due
+returns-in-2-clause-due c admitted heard r is =
+    let typ : c.args.chunk.typ ≡ 2 = search rules in
+    heard_none c.args.self.now 2 refl refl
+    (heard_at c.args.chunk c.args.tag c.args.datagram.now c.args.now c.args.self.now heard 2 typ (λ e. omega (arith, e))).0
+
+pub returns-in-3-clause-due : goal.returns-in-3-clause-due
+returns-in-3-clause-due c admitted heard =
+    let typ : c.args.chunk.typ ≡ 3 = search rules in
+    c.take_sack.ensures.due (heard_at c.args.chunk c.args.tag c.args.datagram.now c.args.now c.args.self.now heard 3 typ (λ e. omega (arith, e))).0
+
+pub returns-in-10-clause-due : goal.returns-in-10-clause-due
+returns-in-10-clause-due c admitted heard =
+    let typ : c.args.chunk.typ ≡ 10 = search rules in
+    c.take_cookie.ensures.heard (heard_echo c.args.chunk c.args.tag c.args.datagram.now c.args.now c.args.self.now heard typ)
+
+pub returns-in-130-clause-due : goal.returns-in-130-clause-due
+returns-in-130-clause-due c admitted heard r is =
+    let typ : c.args.chunk.typ ≡ 130 = search rules in
+    heard_none c.args.self.now 130 refl refl
+    (heard_at c.args.chunk c.args.tag c.args.datagram.now c.args.now c.args.self.now heard 130 typ (λ e. omega (arith, e))).0
+
+pub returns-in-192-clause-due : goal.returns-in-192-clause-due
+returns-in-192-clause-due c admitted heard =
+    let typ : c.args.chunk.typ ≡ 192 = search rules in
+    c.take_skip.ensures.due (heard_at c.args.chunk c.args.tag c.args.datagram.now c.args.now c.args.self.now heard 192 typ (λ e. omega (arith, e))).0
+
+pub returns-in_default-clause-due : goal.returns-in_default-clause-due
+returns-in_default-clause-due c admitted heard =
+    let at = heard_at c.args.chunk c.args.tag c.args.datagram.now c.args.now c.args.self.now heard c.args.chunk.typ refl (search rules) in
+    let control = heard_control c.args.self.now c.args.chunk.typ (search rules) (search rules) (search rules) at.0 in
+    c.take_control.ensures.heard control.0 control.1 at.1

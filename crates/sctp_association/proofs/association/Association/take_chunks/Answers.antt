@@ -2,17 +2,17 @@ use Rattle.sctp_association.proofs.Telling.{tells_peer, tells_same, tells_then}
 use Rattle.std.proofs.Common.{Ok, ap, arith, inl, inr, length, refl, rules, subst, sym, ◌≡◌, ◌<◌, ◌∙◌, ◌∷◌, List}
 use Rattle.std.proofs.lemmas.Bool.{false≢true}
 use Rattle.sctp_association.proofs.Arrived.{arrives_of, alike_halves}
-use Rattle.sctp_association.proofs.Beats.{answers_still, beats_still}
-use Rattle.sctp_association.specs.Beats.{AnswersAt, BeatsAt}
-use Rattle.sctp_association.proofs.Shutting.{shuts_still}
-use Rattle.sctp_association.specs.Shutting.{ShutsAt}
+use Rattle.sctp_association.proofs.Single.{alone_next, alone_stop}
+use Rattle.sctp_association.specs.Single.{AloneAt, AloneOn}
+use Rattle.sctp_association.specs.Heard.{IsHeard}
+use Rattle.sctp_association.specs.Rows.{Settles}
 use Rattle.sctp_association.proofs.Coming.{if_ok, takes_still}
 use Rattle.sctp_association.proofs.First.{one_first}
 use Rattle.sctp_association.proofs.Firsts.{by_datagram}
 use Rattle.sctp_association.proofs.Offered.{offered_alike, offered_same, offered_then}
-use Rattle.sctp_association.specs.Coming.{TakesDataAt, TakesDataOf, TakesEachOf, is_due}
+use Rattle.sctp_association.specs.Coming.{TakesDataAt, TakesDataOf, TakesEachOf}
 use Rattle.sctp_association.specs.Halves.{receiver_of}
-use Rattle.sctp_association.specs.Tags.{AdmitsFirst, is_all_or_nothing}
+use Rattle.sctp_association.specs.Tags.{AdmitsFirst, is_admitted, is_all_or_nothing}
 use Rattle.sctp_association.specs.declared.association.Association.{Association}
 use Rattle.sctp_association.specs.declared.association.arrivals.Step.TheVariants as step
 use Rattle.sctp_util.specs.Field.{u32_at}
@@ -135,12 +135,18 @@ returns-clause-takes c first are typ is =
 -- ## What is due, and each DATA chunk
 
 pub returns-in-Refused-clause-due : goal.returns-in-Refused-clause-due
-returns-in-Refused-clause-due c first rest are due own r is =
+returns-in-Refused-clause-due c first rest are admitted heard r is =
     let same = first_same _ _ _ _ (sym c.in-Some.ensures.place ∙ are) in
     let refused : c.take_first.result ≡ Ok (step.Refused c.in-Refused.reason) = search rules in
-    let tag : c.header-tag.result.verification_tag ≡ c.args.self.now.machine.own.tag =
-    c.header-tag.ensures.verification_tag ∙ ap (λ l. u32_at l 4) c.requires.whole ∙ own in
-    c.take_first.ensures.due (subst (λ (p : ChunkPlace). is_due p.typ c.args.self.now ≡ true) (sym same) due) tag _ refused
+    let tag : u32_at c.args.datagram.now 4 ≡ c.header-tag.result.verification_tag =
+    sym (c.header-tag.ensures.verification_tag ∙ ap (λ l. u32_at l 4) c.requires.whole) in
+    let count : length (first ∷ rest) ≡ c.left-count.result = sym (c.left-count.ensures ∙ ap length are) in
+    c.take_first.ensures.due
+    (ap (λ (p : ChunkPlace). is_admitted p c.header-tag.result.verification_tag c.left-count.result c.args.self.now.machine) same
+    ∙ sym (ap (λ n. is_admitted first n c.left-count.result c.args.self.now.machine) tag)
+    ∙ sym (ap (λ n. is_admitted first (u32_at c.args.datagram.now 4) n c.args.self.now.machine) count) ∙ admitted)
+    (subst (λ (p : ChunkPlace). IsHeard p c.header-tag.result.verification_tag c.args.datagram.now c.args.now c.args.self.now) (sym same)
+    (subst (λ (n : ℕ). IsHeard first n c.args.datagram.now c.args.now c.args.self.now) tag heard)) _ refused
 
 pub returns-in-Stop-clause-each : goal.returns-in-Stop-clause-each
 returns-in-Stop-clause-each c takes is =
@@ -259,66 +265,30 @@ returns-clause-path c takes is all =
     )
     )
 
--- ## A HEARTBEAT as the only chunk
+-- ## A chunk that comes alone
 
-pub returns-in-Stop-clause-answers : goal.returns-in-Stop-clause-answers
-returns-in-Stop-clause-answers c first are typ is =
+pub returns-in-Stop-clause-alone : goal.returns-in-Stop-clause-alone
+returns-in-Stop-clause-alone c first are is =
     let same = one_first _ _ _ (sym c.in-Some.ensures.place ∙ are) in
     let stop : c.take_first.result ≡ Ok step.Stop = search rules in
     let alone : c.left-count.result < 2 = omega (arith, c.left-count.ensures, ap length are) in
-    absurd (if_ok _ _ _ stop (c.take_first.ensures.answers alone (ap (λ (p : ChunkPlace). p.typ) same.0 ∙ typ)))
+    subst (λ (p : ChunkPlace). AloneAt p c.args.datagram.now c.args.now c.args.self.now c.take_first.new.self) same.0
+    (alone_stop c.in-Some.first c.args.datagram.now c.args.now c.args.self.now c.take_first.new.self (
+    subst (λ (n : ℕ). AloneOn c.in-Some.first n c.args.datagram.now c.args.now step.Stop c.args.self.now c.take_first.new.self)
+    (c.header-tag.ensures.verification_tag ∙ ap (λ l. u32_at l 4) c.requires.whole) (if_ok _ _ _ stop (c.take_first.ensures.alone alone))
+    ))
 
-pub returns-clause-answers : goal.returns-clause-answers
-returns-clause-answers c first are typ is =
+pub returns-clause-alone : goal.returns-clause-alone
+returns-clause-alone c first are is =
     let same = one_first _ _ _ (sym c.in-Some.ensures.place ∙ are) in
     let next : c.take_first.result ≡ Ok step.Next = search rules in
     let alone : c.left-count.result < 2 = omega (arith, c.left-count.ensures, ap length are) in
-    let answered = if_ok _ _ _ next (c.take_first.ensures.answers alone (ap (λ (p : ChunkPlace). p.typ) same.0 ∙ typ)) in
     let idle = (c.take_others-is_whole.ensures.none same.1).1 in
-    subst (λ (p : ChunkPlace). AnswersAt p.at c.args.datagram.now c.args.self.now c.end_datagram-2.new.self) same.0
-    (answers_still _ _ c.args.self.now c.take_first.new.self c.end_datagram-2.new.self
-    (λ info is. c.end_datagram-2.ensures.answer info (ap (λ (a : Association). a.due.heartbeat) idle ∙ is))
-    (c.end_datagram-2.ensures.sending ∙ ap (λ (a : Association). a.outbound) idle)
-    (c.end_datagram-2.ensures.halves.receiver ∙ ap (λ (a : Association). receiver_of a.inbound) idle)
-    (c.end_datagram-2.ensures.over ∙ ap (λ (a : Association). a.is_over) idle) answered)
-
--- ## A HEARTBEAT-ACK as the only chunk
-
-pub returns-in-Stop-clause-beats : goal.returns-in-Stop-clause-beats
-returns-in-Stop-clause-beats c first are typ is =
-    let same = one_first _ _ _ (sym c.in-Some.ensures.place ∙ are) in
-    let stop : c.take_first.result ≡ Ok step.Stop = search rules in
-    let alone : c.left-count.result < 2 = omega (arith, c.left-count.ensures, ap length are) in
-    absurd (if_ok _ _ _ stop (c.take_first.ensures.beats alone (ap (λ (p : ChunkPlace). p.typ) same.0 ∙ typ)))
-
-pub returns-clause-beats : goal.returns-clause-beats
-returns-clause-beats c first are typ is =
-    let same = one_first _ _ _ (sym c.in-Some.ensures.place ∙ are) in
-    let next : c.take_first.result ≡ Ok step.Next = search rules in
-    let alone : c.left-count.result < 2 = omega (arith, c.left-count.ensures, ap length are) in
-    let beat = if_ok _ _ _ next (c.take_first.ensures.beats alone (ap (λ (p : ChunkPlace). p.typ) same.0 ∙ typ)) in
-    let idle = (c.take_others-is_whole.ensures.none same.1).1 in
-    subst (λ (p : ChunkPlace). BeatsAt p.at c.args.datagram.now c.args.now c.args.self.now c.end_datagram-2.new.self) same.0
-    (beats_still _ _ _ c.args.self.now c.take_first.new.self c.end_datagram-2.new.self
-    (c.end_datagram-2.ensures.sending ∙ ap (λ (a : Association). a.outbound) idle)
-    (c.end_datagram-2.ensures.heartbeat ∙ ap (λ (a : Association). a.heartbeat) idle) beat)
-
--- ## A SHUTDOWN as the only chunk
-
-pub returns-in-Stop-clause-shuts : goal.returns-in-Stop-clause-shuts
-returns-in-Stop-clause-shuts c first are typ is =
-    let same = one_first _ _ _ (sym c.in-Some.ensures.place ∙ are) in
-    let stop : c.take_first.result ≡ Ok step.Stop = search rules in
-    let alone : c.left-count.result < 2 = omega (arith, c.left-count.ensures, ap length are) in
-    absurd (if_ok _ _ _ stop (c.take_first.ensures.shuts alone (ap (λ (p : ChunkPlace). p.typ) same.0 ∙ typ)))
-
-pub returns-clause-shuts : goal.returns-clause-shuts
-returns-clause-shuts c first are typ is =
-    let same = one_first _ _ _ (sym c.in-Some.ensures.place ∙ are) in
-    let next : c.take_first.result ≡ Ok step.Next = search rules in
-    let alone : c.left-count.result < 2 = omega (arith, c.left-count.ensures, ap length are) in
-    let shut = if_ok _ _ _ next (c.take_first.ensures.shuts alone (ap (λ (p : ChunkPlace). p.typ) same.0 ∙ typ)) in
-    let idle = (c.take_others-is_whole.ensures.none same.1).1 in
-    subst (λ (p : ChunkPlace). ShutsAt p.at c.args.datagram.now c.args.now c.args.self.now.outbound c.end_datagram-2.new.self.outbound) same.0
-    (shuts_still _ _ _ c.args.self.now.outbound c.take_first.new.self.outbound c.end_datagram-2.new.self.outbound
-    (c.end_datagram-2.ensures.sending ∙ ap (λ (a : Association). a.outbound) idle) shut)
+    let ended = c.end_datagram-2.ensures in
+    subst (λ (p : ChunkPlace). AloneAt p c.args.datagram.now c.args.now c.args.self.now c.end_datagram-2.new.self) same.0
+    (alone_next c.in-Some.first c.args.datagram.now c.args.now c.args.self.now c.take_first.new.self c.end_datagram-2.new.self (
+    subst (λ (n : ℕ). AloneOn c.in-Some.first n c.args.datagram.now c.args.now step.Next c.args.self.now c.take_first.new.self)
+    (c.header-tag.ensures.verification_tag ∙ ap (λ l. u32_at l 4) c.requires.whole) (if_ok _ _ _ next (c.take_first.ensures.alone alone))
+    )
+    (subst (λ (x : Association). Settles x c.end_datagram-2.new.self) idle ended.settles)
+    (ended.halves.receiver ∙ ap (λ (a : Association). receiver_of a.inbound) idle) (ended.heartbeat ∙ ap (λ (a : Association). a.heartbeat) idle))

@@ -1,4 +1,16 @@
+use Rattle.std.proofs.lemmas.Bool.{and_parts}
+use Rattle.sctp_association.specs.Heard.{expects, may_begin, speaks}
+use Rattle.sctp_association.specs.declared.association.arrivals.Step.TheVariants.{Refused}
 use Rattle.sctp_association.proofs.Telling.{tells_due, tells_peer, tells_still}
+use Rattle.std.proofs.Common.{Ok, ap, arith, refl, rules, sym, ◌≡◌, ◌∙◌}
+use Rattle.std.specs.Prelude.{true}
+use Rattle.sctp_association.proofs.Single.{alone_by, alone_plain, is_plain, plain_other}
+use Rattle.sctp_association.proofs.Rows.{follows_step, row_abort, row_other, row_steps, steps_on, tag_other}
+use Rattle.sctp_association.specs.Rows.{FollowsStep, cause_in, error_row, row_at, tag_to}
+use Rattle.sctp_association.specs.declared.association.arrivals.Step.TheVariants.{Next}
+use Rattle.sctp_handshake.specs.Cookies.{on_cookie_ack}
+use Rattle.sctp_handshake.specs.Endings.{on_shutdown, on_shutdown_ack, on_shutdown_complete}
+use Rattle.sctp_handshake.specs.Machines.{dropped}
 use Rattle.sctp_association.proofs.Arrived.{came_alike, came_same}
 use Rattle.sctp_association.proofs.Begun.{quiet_complete, quiet_shutdown_ack}
 use Rattle.sctp_association.proofs.Known.{keeps_by, knows_complete, knows_shutdown_ack}
@@ -67,3 +79,154 @@ returns-in-14-clause-tells c =
 
 pub returns-in_default-clause-tells : goal.returns-in_default-clause-tells
 returns-in_default-clause-tells c = tells_due _ _ _ c.note_unknown.ensures.rest
+
+-- ## A chunk that comes alone
+
+pub returns-in-4-clause-alone : goal.returns-in-4-clause-alone
+returns-in-4-clause-alone c other tag =
+    let typ : c.args.chunk.typ ≡ 4 = search rules in
+    let d = c.args.datagram.now in
+    alone_by c.args.chunk tag d c.args.now c.args.self.now c.take_heartbeat.new.self c.take_heartbeat.result
+    (λ is. absurd (omega (arith, is, typ))) (λ is. absurd (omega (arith, is, typ))) (λ is. c.take_heartbeat.ensures.answers)
+    (λ is. absurd (omega (arith, is, typ))) (λ is. absurd (omega (arith, is, typ))) (λ is. absurd (omega (arith, is, typ)))
+    (λ e. row_steps c.args.chunk d c.args.now c.args.self.now c.take_heartbeat.new.self (dropped c.args.self.now.machine) 0
+    (ap (λ n. row_at n (cause_in d c.args.chunk) c.args.self.now.machine) typ) (ap (λ n. tag_to n c.args.self.now.machine) typ)
+    c.take_heartbeat.result c.take_heartbeat.ensures.row)
+
+pub returns-in-5-clause-alone : goal.returns-in-5-clause-alone
+returns-in-5-clause-alone c other tag =
+    let typ : c.args.chunk.typ ≡ 5 = search rules in
+    let d = c.args.datagram.now in
+    alone_by c.args.chunk tag d c.args.now c.args.self.now c.take_heartbeat_ack.new.self c.take_heartbeat_ack.result
+    (λ is. absurd (omega (arith, is, typ))) (λ is. absurd (omega (arith, is, typ))) (λ is. absurd (omega (arith, is, typ)))
+    (λ is. c.take_heartbeat_ack.ensures.beats) (λ is. absurd (omega (arith, is, typ))) (λ is. absurd (omega (arith, is, typ)))
+    (λ e. row_steps c.args.chunk d c.args.now c.args.self.now c.take_heartbeat_ack.new.self (dropped c.args.self.now.machine) 0
+    (ap (λ n. row_at n (cause_in d c.args.chunk) c.args.self.now.machine) typ) (ap (λ n. tag_to n c.args.self.now.machine) typ)
+    c.take_heartbeat_ack.result c.take_heartbeat_ack.ensures.row)
+
+pub returns-in-6-clause-alone : goal.returns-in-6-clause-alone
+returns-in-6-clause-alone c other tag =
+    let typ : c.args.chunk.typ ≡ 6 = search rules in
+    alone_plain c.args.chunk tag c.args.datagram.now c.args.now c.args.self.now c.take_abort.new.self (Ok c.take_abort.result) 6 typ refl
+    (row_abort c.args.chunk c.args.datagram.now c.args.now c.args.self.now c.take_abort.new.self c.take_abort.result typ
+    c.take_abort.ensures.next c.take_abort.ensures.row)
+
+pub returns-in-7-clause-alone : goal.returns-in-7-clause-alone
+returns-in-7-clause-alone c other tag =
+    let typ : c.args.chunk.typ ≡ 7 = search rules in
+    let d = c.args.datagram.now in
+    alone_by c.args.chunk tag d c.args.now c.args.self.now c.take_shutdown.new.self c.take_shutdown.result
+    (λ is. absurd (omega (arith, is, typ))) (λ is. absurd (omega (arith, is, typ))) (λ is. absurd (omega (arith, is, typ)))
+    (λ is. absurd (omega (arith, is, typ))) (λ is. c.take_shutdown.ensures.shuts) (λ is. absurd (omega (arith, is, typ)))
+    (λ e. row_steps c.args.chunk d c.args.now c.args.self.now c.take_shutdown.new.self (on_shutdown c.args.self.now.machine) 0
+    (ap (λ n. row_at n (cause_in d c.args.chunk) c.args.self.now.machine) typ) (ap (λ n. tag_to n c.args.self.now.machine) typ)
+    c.take_shutdown.result c.take_shutdown.ensures.row)
+
+pub returns-in-8-clause-alone : goal.returns-in-8-clause-alone
+returns-in-8-clause-alone c other tag =
+    let typ : c.args.chunk.typ ≡ 8 = search rules in
+    let d = c.args.datagram.now in
+    let took = c.shutdown_ack-answer.ensures.takes in
+    let steps : c.take_answer.result ≡ Next → FollowsStep (on_shutdown_ack c.args.self.now.machine) c.peer_tag-tag.result c.args.self.now c.take_answer.new.self = λ is.
+    follows_step _ _ _ _ _ _ took.machine took.answer c.take_answer.ensures.kept.machine (
+    let h = c.take_answer.ensures.answer is in record { due = h.due; over = h.over; told = h.told; wants = h.wants }
+    ) in
+    alone_plain c.args.chunk tag d c.args.now c.args.self.now c.take_answer.new.self (Ok c.take_answer.result) 8 typ refl
+    (row_steps c.args.chunk d c.args.now c.args.self.now c.take_answer.new.self (on_shutdown_ack c.args.self.now.machine) c.peer_tag-tag.result
+    (ap (λ n. row_at n (cause_in d c.args.chunk) c.args.self.now.machine) typ) (ap (λ n. tag_to n c.args.self.now.machine) typ ∙ sym c.peer_tag-tag.ensures)
+    (Ok c.take_answer.result) (steps_on _ _ _ _ c.take_answer.result steps c.take_answer.ensures.next c.take_answer.ensures.whole))
+
+pub returns-in-9-clause-alone : goal.returns-in-9-clause-alone
+returns-in-9-clause-alone c other tag =
+    let typ : c.args.chunk.typ ≡ 9 = search rules in
+    let d = c.args.datagram.now in
+    alone_plain c.args.chunk tag d c.args.now c.args.self.now c.take_error.new.self (Ok c.take_error.result) 9 typ refl
+    (row_steps c.args.chunk d c.args.now c.args.self.now c.take_error.new.self (error_row (cause_in d c.args.chunk) c.args.self.now.machine) 0
+    (ap (λ n. row_at n (cause_in d c.args.chunk) c.args.self.now.machine) typ) (ap (λ n. tag_to n c.args.self.now.machine) typ)
+    (Ok c.take_error.result) c.take_error.ensures.row)
+
+pub returns-in-11-clause-alone : goal.returns-in-11-clause-alone
+returns-in-11-clause-alone c other tag =
+    let typ : c.args.chunk.typ ≡ 11 = search rules in
+    let d = c.args.datagram.now in
+    alone_plain c.args.chunk tag d c.args.now c.args.self.now c.take_cookie_ack.new.self (Ok c.take_cookie_ack.result) 11 typ refl
+    (row_steps c.args.chunk d c.args.now c.args.self.now c.take_cookie_ack.new.self (on_cookie_ack c.args.self.now.machine) 0
+    (ap (λ n. row_at n (cause_in d c.args.chunk) c.args.self.now.machine) typ) (ap (λ n. tag_to n c.args.self.now.machine) typ)
+    (Ok c.take_cookie_ack.result) c.take_cookie_ack.ensures.row)
+
+pub returns-in-14-clause-alone : goal.returns-in-14-clause-alone
+returns-in-14-clause-alone c other tag =
+    let typ : c.args.chunk.typ ≡ 14 = search rules in
+    let d = c.args.datagram.now in
+    let took = c.shutdown_complete-answer.ensures.takes in
+    let steps : c.take_answer-in-14.result ≡ Next → FollowsStep (on_shutdown_complete c.args.self.now.machine) 0 c.args.self.now c.take_answer-in-14.new.self = λ is.
+    follows_step _ _ _ _ _ _ took.machine took.answer c.take_answer-in-14.ensures.kept.machine (
+    let h = c.take_answer-in-14.ensures.answer is in record { due = h.due; over = h.over; told = h.told; wants = h.wants }
+    ) in
+    alone_plain c.args.chunk tag d c.args.now c.args.self.now c.take_answer-in-14.new.self (Ok c.take_answer-in-14.result) 14 typ refl
+    (row_steps c.args.chunk d c.args.now c.args.self.now c.take_answer-in-14.new.self (on_shutdown_complete c.args.self.now.machine) 0
+    (ap (λ n. row_at n (cause_in d c.args.chunk) c.args.self.now.machine) typ) (ap (λ n. tag_to n c.args.self.now.machine) typ)
+    (Ok c.take_answer-in-14.result) (steps_on _ _ _ _ c.take_answer-in-14.result steps c.take_answer-in-14.ensures.next c.take_answer-in-14.ensures.whole))
+
+-- a chunk of another type makes nothing of the machine
+pub returns-in_default-clause-alone : goal.returns-in_default-clause-alone
+returns-in_default-clause-alone c other tag =
+    let d = c.args.datagram.now in
+    let plain : is_plain c.args.chunk.typ ≡ true = plain_other c.args.chunk.typ other.1 other.2 (search rules) (search rules) (search rules) other.3 in
+    alone_plain c.args.chunk tag d c.args.now c.args.self.now c.note_unknown.new.self c.note_unknown.result c.args.chunk.typ refl plain
+    (row_steps c.args.chunk d c.args.now c.args.self.now c.note_unknown.new.self (dropped c.args.self.now.machine) 0
+    (row_other c.args.chunk.typ (cause_in d c.args.chunk) c.args.self.now.machine other.0 (search rules) (search rules) (search rules)
+    (search rules) (search rules) (search rules)) (tag_other c.args.chunk.typ c.args.self.now.machine (search rules))
+    c.note_unknown.result c.note_unknown.ensures.row)
+
+-- ## What is expected is not refused
+
+pub returns-in-4-clause-heard : goal.returns-in-4-clause-heard
+returns-in-4-clause-heard c begun expected reads =
+    let typ : c.args.chunk.typ ≡ 4 = search rules in
+    let info = reads.heartbeat typ in
+    c.take_heartbeat.ensures.heard (sym (ap (λ n. expects n c.args.self.now) typ) ∙ expected) info.0 info.1
+
+pub returns-in-5-clause-heard : goal.returns-in-5-clause-heard
+returns-in-5-clause-heard c begun expected reads =
+    let typ : c.args.chunk.typ ≡ 5 = search rules in
+    let info = reads.heartbeat_ack typ in
+    c.take_heartbeat_ack.ensures.heard (sym (ap (λ n. expects n c.args.self.now) typ) ∙ expected) info.0 info.1
+
+pub returns-in-6-clause-heard : goal.returns-in-6-clause-heard
+returns-in-6-clause-heard c begun expected reads r is =
+    let typ : c.args.chunk.typ ≡ 6 = search rules in
+    let refused : c.take_abort.result ≡ Refused r = search rules in
+    c.take_abort.ensures.heard (sym (ap (λ n. expects n c.args.self.now) typ) ∙ expected) r refused
+
+pub returns-in-7-clause-heard : goal.returns-in-7-clause-heard
+returns-in-7-clause-heard c begun expected reads =
+    let typ : c.args.chunk.typ ≡ 7 = search rules in
+    let tsn = reads.shutdown typ in
+    c.take_shutdown.ensures.heard (sym (ap (λ n. expects n c.args.self.now) typ) ∙ expected) tsn.0 tsn.1
+
+pub returns-in-8-clause-heard : goal.returns-in-8-clause-heard
+returns-in-8-clause-heard c begun expected reads r is =
+    let typ : c.args.chunk.typ ≡ 8 = search rules in
+    let refused : c.take_answer.result ≡ Refused r = search rules in
+    c.take_answer.ensures.heard (ap speaks c.shutdown_ack-answer.ensures.takes.answer ∙ sym (ap (λ n. expects n c.args.self.now) typ) ∙ expected) r refused
+
+pub returns-in-9-clause-heard : goal.returns-in-9-clause-heard
+returns-in-9-clause-heard c begun expected reads r is =
+    let refused : c.take_error.result ≡ Refused r = search rules in
+    c.take_error.ensures.never r refused
+
+pub returns-in-11-clause-heard : goal.returns-in-11-clause-heard
+returns-in-11-clause-heard c begun expected reads r is =
+    let typ : c.args.chunk.typ ≡ 11 = search rules in
+    let refused : c.take_cookie_ack.result ≡ Refused r = search rules in
+    let both = and_parts (speaks (on_cookie_ack c.args.self.now.machine).answer) (may_begin c.args.self.now)
+    (sym (ap (λ n. expects n c.args.self.now) typ) ∙ expected) in
+    c.take_cookie_ack.ensures.heard both.0 both.1 r refused
+
+pub returns-in-14-clause-heard : goal.returns-in-14-clause-heard
+returns-in-14-clause-heard c begun expected reads r is =
+    let typ : c.args.chunk.typ ≡ 14 = search rules in
+    let refused : c.take_answer-in-14.result ≡ Refused r = search rules in
+    c.take_answer-in-14.ensures.heard (ap speaks c.shutdown_complete-answer.ensures.takes.answer
+    ∙ sym (ap (λ n. expects n c.args.self.now) typ) ∙ expected) r refused

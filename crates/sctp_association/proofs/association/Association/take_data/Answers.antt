@@ -1,3 +1,8 @@
+use Rattle.std.specs.Prelude.{true}
+use Rattle.sctp_association.proofs.Rows.{follows_from, follows_step, row_goes}
+use Rattle.sctp_association.specs.Coming.{goes_on}
+use Rattle.sctp_association.specs.Rows.{FollowsStep, cause_in, row_at, tag_to}
+use Rattle.sctp_handshake.specs.Timeouts.{on_packet_arrived}
 use Rattle.sctp_association.proofs.Telling.{end_then, to_in}
 use Rattle.std.proofs.Common.{arith, Ok, Some, ap, refl, subst, sym, ◌≡◌, ◌∙◌}
 use Rattle.sctp_association.proofs.Arrived.{came_alike, came_same, came_then, receiver_came}
@@ -140,3 +145,22 @@ pub returns-clause-sending : goal.returns-clause-sending
 returns-clause-sending c =
     let quiet = arrived_told c.args.self.now.machine _ _ c.packet_arrived-answer.ensures in
     c.end_by.ensures.sending ∙ c.follow.ensures.sending quiet ∙ c.run_again.ensures.sending
+
+-- ## The row of DATA
+
+pub returns-clause-row : goal.returns-clause-row
+returns-clause-row c =
+    let old = c.args.self.now in
+    let took = c.packet_arrived-answer.ensures in
+    let again = c.run_again.ensures.rest in
+    let step = on_packet_arrived true old.machine in
+    row_goes c.args.chunk c.args.datagram.now 0 old c.end_by.new.self step 0
+    (ap (λ n. row_at n (cause_in c.args.datagram.now c.args.chunk) old.machine) c.requires.typ) (ap (λ n. tag_to n old.machine) c.requires.typ)
+    (ap goes_on c.requires.typ) c.end_by.result (
+    λ next. subst (λ (x : Association). FollowsStep step 0 old x) (sym (c.end_by.ensures.on next)) (
+    follows_step step 0 old c.follow.new.self _ _ took.machine took.answer (c.follow.ensures.kept.machine ∙ c.run_again.ensures.kept.machine) (
+    follows_from _ 0 old c.run_again.new.self c.follow.new.self (ap (λ (x : Association). x.due) again) (ap (λ (x : Association). x.is_over) again)
+    (ap (λ (x : Association). x.wants_shutdown) again) c.follow.ensures.answer
+    )
+    )
+    ) c.end_by.ensures.over

@@ -1,6 +1,9 @@
+use Rattle.sctp_association.proofs.Rows.{follows_noted, follows_step}
 use Rattle.sctp_association.proofs.Known.{knows_same, within_same, within_then}
 use Rattle.sctp_association.proofs.Telling.{end_same, end_then, tells_init_ack, tells_kept, to_same}
-use Rattle.std.proofs.Common.{ap, refl, rules, subst, ◌≡◌, ◌∙◌}
+use Rattle.std.proofs.Common.{Some, ap, refl, rules, subst, ◌+◌, ◌≡◌, ◌∙◌}
+use Rattle.std.specs.Prelude.{slice_range}
+use Rattle.sctp_association.specs.Reports.{value_in}
 use Rattle.sctp_association.proofs.Arrived.{came_same}
 use Rattle.sctp_association.proofs.Kept.{same_machine}
 use Rattle.sctp_association.proofs.Offered.{offered_kept}
@@ -56,3 +59,26 @@ returns-clause-tells c =
     let told = c.follow.ensures.tells in
     tells_init_ack _ _ _ _ (c.follow.ensures.kept.machine ∙ ap (λ (x : Association). x.machine) rest) (end_then (end_same _ _ rest) told.end) told.told _
     c.init_ack-answer.ensures.takes
+
+-- ## The row of its offer
+
+pub returns-clause-row : goal.returns-clause-row
+returns-clause-row c =
+    let old = c.args.self.now in
+    let takes = c.init_ack-answer.ensures.takes in
+    let rest = c.note_params.ensures.rest in
+    let h = c.follow.ensures.answer in
+    record {
+      offer = c.in-Ok-read_init_ack.read.0;
+      place = c.in-Ok-read_init_ack.read.1;
+      reads = search rules;
+      follows = follows_step _ _ old c.follow.new.self _ _ takes.machine takes.answer
+          (c.follow.ensures.kept.machine ∙ ap (λ (x : Association). x.machine) rest)
+          (follows_noted _ _ old c.note_params.new.self c.follow.new.self c.note_params.ensures.due (ap (λ (x : Association). x.is_over) rest)
+          (ap (λ (x : Association). x.wants_shutdown) rest) h);
+      cookie = λ none.
+          let kept : c.note_params.new.self.cookie
+          ≡ Some (slice_range (value_in c.args.datagram.now c.args.chunk) c.in-Ok-read_init_ack.read.1.at
+          (c.in-Ok-read_init_ack.read.1.at + c.in-Ok-read_init_ack.read.1.length)) = search rules in
+          (c.follow.ensures.stays (ap (λ a. a.told) takes.answer ∙ none)).cookie ∙ kept;
+    }

@@ -1,3 +1,9 @@
+use Rattle.std.proofs.Common.{ap, inr}
+use Rattle.sctp_association.proofs.Rows.{follows_still, row_is}
+use Rattle.sctp_association.specs.Coming.{goes_on}
+use Rattle.sctp_association.specs.Rows.{cause_in, row_at, tag_to}
+use Rattle.sctp_association.specs.declared.association.arrivals.Step.TheVariants.{Next}
+use Rattle.sctp_handshake.specs.Machines.{dropped}
 use Rattle.sctp_association.proofs.Telling.{end_then, to_low, to_same}
 use Rattle.std.proofs.Common.{arith, refl, rules, ◌∙◌}
 use Rattle.sctp_association.proofs.Entering.{calls_of_sack, may_use_by}
@@ -89,3 +95,15 @@ returns-in-Taken-clause-path c = (
   λ is. moves_in _ _ _ _ c.bytes_of.ensures c.in-Ok.ensures.found _ _ _ (c.take_sack.ensures.path (search rules)),
   λ not. absurd (not c.requires.typ),
 )
+
+-- ## The row of a SACK
+
+pub returns-in-Taken-clause-row : goal.returns-in-Taken-clause-row
+returns-in-Taken-clause-row c =
+    let old = c.args.self.now in
+    row_is c.args.chunk c.args.datagram.now 0 old _ (dropped old.machine) 0
+    (ap (λ n. row_at n (cause_in c.args.datagram.now c.args.chunk) old.machine) c.requires.typ) (ap (λ n. tag_to n old.machine) c.requires.typ)
+    Next (follows_still 0 old _ refl refl refl refl)
+
+pub returns-clause-row : goal.returns-clause-row
+returns-clause-row c = inr (ap goes_on c.requires.typ, c.end_with.ensures.over)

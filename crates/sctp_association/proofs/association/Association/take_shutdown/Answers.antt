@@ -1,3 +1,4 @@
+use Rattle.std.proofs.Common.{Ok, ap}
 use Rattle.sctp_association.proofs.Telling.{end_then, to_low}
 use Rattle.std.proofs.Common.{drop, refl, rules, ◌∙◌}
 use Rattle.sctp_chunks.specs.Wire.{shutdown_chunk}
@@ -50,3 +51,7 @@ returns-clause-shuts c =
     shutdown_still _ _ _ _ c.shutdown-answer.ensures.takes.answer c.follow.ensures.sending c.follow.ensures.shutdown in
     let shuts : ShutsBy c.in-Some.shutdown.cumulative_tsn_ack c.args.now c.args.self.now.outbound c.take_shutdown.new.self = search rules in
     shuts_still _ _ _ _ _ _ same (record { tsn = c.in-Some.shutdown.cumulative_tsn_ack; reads = reads; shuts = shuts })
+
+-- a SHUTDOWN is read
+pub returns-in_default-clause-heard : goal.returns-in_default-clause-heard
+returns-in_default-clause-heard c expected tsn reads r is = c.in_ok-shutdown.ensures.some (shutdown_chunk tsn) tt reads (ap Ok c.in_default.is)

@@ -1,3 +1,7 @@
+use Rattle.sctp_association.proofs.Rows.{follows_still, row_goes}
+use Rattle.sctp_association.specs.Coming.{goes_on}
+use Rattle.sctp_association.specs.Rows.{FollowsStep, cause_in, row_at, tag_to}
+use Rattle.sctp_handshake.specs.Machines.{dropped}
 use Rattle.sctp_association.proofs.Telling.{end_then, to_in}
 use Rattle.std.proofs.Common.{arith, drop, refl, rules, Ok, Some, ap, subst, sym, ◌≡◌}
 use Rattle.sctp_association.specs.Arrivals.{halves}
@@ -88,3 +92,15 @@ returns-clause-sacks c tag takes =
     hears_by c.args.chunk tag c.args.datagram.now c.end_by.result c.args.self.now c.end_by.new.self
     (λ is. absurd (omega (arith, c.requires.typ, is))) (λ r e. absurd (c.end_by.ensures.never r e)) c.end_by.ensures.over (λ next.
     subst (TakesSacksOf tag) (sym (c.end_by.ensures.on next)) (record { going = takes.going; state = takes.state; own = takes.own }))
+
+-- ## The row of a FORWARD-TSN
+
+pub returns-clause-row : goal.returns-clause-row
+returns-clause-row c =
+    let old = c.args.self.now in
+    let step = dropped old.machine in
+    row_goes c.args.chunk c.args.datagram.now 0 old c.end_by.new.self step 0
+    (ap (λ n. row_at n (cause_in c.args.datagram.now c.args.chunk) old.machine) c.requires.typ) (ap (λ n. tag_to n old.machine) c.requires.typ)
+    (ap goes_on c.requires.typ) c.end_by.result
+    (λ next. subst (λ (x : Association). FollowsStep step 0 old x) (sym (c.end_by.ensures.on next)) (follows_still 0 old _ refl refl refl refl))
+    c.end_by.ensures.over

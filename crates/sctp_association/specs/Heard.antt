@@ -1,0 +1,89 @@
+-- Of which packets something is taken, by their first chunk (RFC 9260 5, 6, 8.3, 9). Moments are nanoseconds.
+use Rattle.std.specs.Prelude.{◌≡◌, ◌⊎◌, ℕ, ◌<◌, ◌^◌, ◌==◌, ◌&&◌, ◌||◌, not, if◌then◌else◌, Bool, true, false, List, [], ◌∷◌, drop, length, None, is_none, is_some}
+use Rattle.crc32c.specs.Castagnoli.{crc32c_of}
+use Rattle.sctp_association.specs.Beginnings.{is_standing}
+use Rattle.sctp_association.specs.Coming.{goes_on, is_due, zero_checksum_of}
+use Rattle.sctp_association.specs.Cookies.{IsSealedAt, cookie_in}
+use Rattle.sctp_association.specs.Openings.{echo_step}
+use Rattle.sctp_association.specs.Rows.{row_at}
+use Rattle.sctp_association.specs.Tags.{is_admitted}
+use Rattle.sctp_association.specs.declared.association.Association.{Association}
+use Rattle.sctp_chunks.specs.Wire.{heartbeat_ack_chunk, heartbeat_chunk, shutdown_chunk}
+use Rattle.sctp_datagram.specs.declared.datagram.ChunkPlace.{ChunkPlace}
+use Rattle.sctp_datagram.specs.Fault.{IsAccepted}
+use Rattle.sctp_datagram.specs.Framing.{StartsWith}
+use Rattle.sctp_datagram.specs.Places.{TellsAll, place_at}
+use Rattle.sctp_handshake.specs.declared.answer.Answer.{Answer}
+use Rattle.sctp_handshake.specs.declared.state.State.{State}
+use Rattle.sctp_handshake.specs.declared.state.State.TheVariants.{Closed, ShutdownReceived}
+use Rattle.sctp_params.specs.Param.{heartbeat_info}
+use Rattle.sctp_util.specs.Field.{u16_at, u32_at}
+
+-- the machine replies, or tells
+abbrev pub speaks : Answer → Bool
+speaks a = is_some a.reply || is_some a.told
+
+abbrev pub is_closed : State → Bool
+is_closed Closed = true
+is_closed _ = false
+
+abbrev pub is_received : State → Bool
+is_received ShutdownReceived = true
+is_received _ = false
+
+-- where an association stands it may begin anew; else it begins once
+abbrev pub may_begin : Association → Bool
+may_begin a = is_standing a.machine.state || is_none a.inbound
+
+-- A control chunk of this type is expected. A HEARTBEAT is, once the peer is known, and its answer, once the association stood (8.3). ABORT, SHUTDOWN,
+-- SHUTDOWN-ACK, COOKIE-ACK and SHUTDOWN-COMPLETE are where the row of the state is not empty; and a further SHUTDOWN is (9.2). INIT, INIT ACK,
+-- COOKIE-ECHO and RE-CONFIG are not among these. An ERROR and a chunk of an unknown type are expected.
+abbrev pub expects : (typ : ℕ) → Association → Bool
+expects typ a =
+    if typ == 4 then is_some a.machine.peer
+    else (if typ == 5 then is_some a.heartbeat
+    else (if (typ == 6) || ((typ == 8) || (typ == 14)) then speaks (row_at typ None a.machine).answer
+    else (if typ == 7 then speaks (row_at 7 None a.machine).answer || is_received a.machine.state
+    else (if typ == 11 then speaks (row_at 11 None a.machine).answer && may_begin a
+    else not ((typ == 1) || ((typ == 2) || ((typ == 10) || (typ == 130))))))))
+
+-- once the association is not closed
+abbrev pub hears : (typ : ℕ) → Association → Bool
+hears typ a = if goes_on typ then is_due typ a
+    else not (is_closed a.machine.state) && expects typ a
+
+-- a HEARTBEAT, its answer and a SHUTDOWN have what their kind asks for
+pub record IsReadable (typ : ℕ) (bytes : List ℕ) : Type 0 where
+  pub heartbeat : typ ≡ 4 → (info : List ℕ)
+      × StartsWith bytes (heartbeat_chunk (heartbeat_info info ∷ []))
+  pub heartbeat_ack : typ ≡ 5 → (info : List ℕ)
+      × StartsWith bytes (heartbeat_ack_chunk (heartbeat_info info ∷ []))
+  pub shutdown : typ ≡ 7 → (tsn : ℕ) × StartsWith bytes (shutdown_chunk tsn)
+
+-- a COOKIE-ECHO brings back a cookie that this side has sealed, and the machine replies or tells (5.1 D, 5.2.4)
+pub record IsEchoHeard (c : ChunkPlace) (tag : ℕ) (datagram : List ℕ) (now : ℕ) (a : Association)
+    : Type 0 where
+  pub typ : c.typ ≡ 10
+  pub moment : ℕ
+  pub long : moment < 2 ^ 64
+  pub made : IsSealedAt moment a.key tag (cookie_in datagram c)
+  pub begins : may_begin a ≡ true
+  pub speaks : speaks (echo_step now moment made.ticket a).answer ≡ true
+
+-- a chunk of a packet with this tag is heard
+abbrev pub IsHeard : ChunkPlace → (tag : ℕ) → List ℕ → (now : ℕ) → Association → Type 0
+IsHeard c tag datagram now a =
+    ((hears c.typ a ≡ true) × IsReadable c.typ (drop c.at datagram))
+    ⊎ IsEchoHeard c tag datagram now a
+
+-- a packet for the association, which goes on: it is valid, has its ports and its tag, and begins with a chunk that is heard
+pub record IsDue (datagram : List ℕ) (now : ℕ) (a : Association) : Type 0 where
+  pub going : a.is_over ≡ false
+  pub valid : IsAccepted (zero_checksum_of a.config) crc32c_of datagram
+  pub first : ChunkPlace
+  pub rest : List ChunkPlace
+  pub tells : TellsAll place_at datagram (first ∷ rest)
+  pub source : u16_at datagram 0 ≡ a.config.destination_port
+  pub destination : u16_at datagram 2 ≡ a.config.source_port
+  pub admitted : is_admitted first (u32_at datagram 4) (length (first ∷ rest)) a.machine ≡ true
+  pub heard : IsHeard first (u32_at datagram 4) datagram now a

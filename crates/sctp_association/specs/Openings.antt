@@ -1,0 +1,127 @@
+-- What an INIT, an INIT ACK and a COOKIE-ECHO make of an association (RFC 9260 5.1, 5.2). Moments are nanoseconds.
+use Rattle.std.specs.Prelude.{◌≡◌, ◌⊎◌, ⊤, ℕ, ◌+◌, ◌-◌, ◌<◌, Bool, true, false, nat_lt, List, slice_range, Option, Some, None, Ok, Err, is_some}
+use Rattle.sctp_association.specs.Cookies.{IsSealedAt, cookie_in}
+use Rattle.sctp_association.specs.Reports.{EndsBegun, to_tag, value_in}
+use Rattle.sctp_association.specs.Rows.{FollowsStep, Settles, owed_by}
+use Rattle.sctp_association.specs.declared.association.Association.{Association}
+use Rattle.sctp_association.specs.declared.association.arrivals.Step as arrivals
+use Rattle.sctp_association.specs.declared.association.arrivals.Step.TheVariants as chunk
+use Rattle.sctp_association.specs.declared.due.AloneKind.{AloneKind}
+use Rattle.sctp_association.specs.declared.due.AloneKind.TheVariants as alone
+use Rattle.sctp_association.specs.declared.due.Due.{Due}
+use Rattle.sctp_datagram.specs.declared.datagram.ChunkPlace.{ChunkPlace}
+use Rattle.sctp_datagram.specs.declared.params.ParamPlace.{ParamPlace}
+use Rattle.sctp_handshake.specs.Beginnings.{init_reply, on_init_ack}
+use Rattle.sctp_handshake.specs.Cookies.{on_cookie_echo}
+use Rattle.sctp_handshake.specs.InitValues.{host_name_of, init_in}
+use Rattle.sctp_handshake.specs.InitValues as values
+use Rattle.sctp_handshake.specs.Machines.{Step}
+use Rattle.sctp_handshake.specs.declared.answer.Reply.{Reply}
+use Rattle.sctp_handshake.specs.declared.answer.Reply.TheVariants as reply
+use Rattle.sctp_handshake.specs.declared.init_value.InitFault.TheVariants.{MissingCookie}
+use Rattle.sctp_handshake.specs.declared.init_value.Said.{Said}
+use Rattle.sctp_handshake.specs.declared.offer.Offer.{Offer}
+use Rattle.sctp_handshake.specs.declared.ticket.Ticket.{Ticket}
+use Rattle.sctp_util.specs.Field.{u32_at}
+
+-- ## A COOKIE-ECHO
+
+-- its cookie was made longer than its life ago (5.1.5)
+abbrev pub is_old : (now life moment : ℕ) → Bool
+is_old now life moment = nat_lt life (now - moment)
+
+-- the step of the ticket in a cookie that was made at a moment (5.1 D, 5.2.4)
+abbrev pub echo_step : (now moment : ℕ) → Ticket → Association → Step
+echo_step now moment ticket a =
+    on_cookie_echo ticket (is_old now a.config.cookie_life moment) a.machine
+
+-- this side has sealed the cookie under the key, with the tag of the packet, and the machine takes the step
+pub record Echoes (tag : ℕ) (cookie : List ℕ) (now : ℕ) (step : Step) (old new : Association)
+    : Type 0 where
+  pub moment : ℕ
+  pub made : IsSealedAt moment old.key tag cookie
+  pub is : step ≡ echo_step now moment made.ticket old
+  pub follows : FollowsStep step made.ticket.peer.tag old new
+
+-- the answer is that the cookie is stale: nothing more of the packet is looked at (5.1.5)
+abbrev pub is_stale_reply : Option Reply → Bool
+is_stale_reply None = false
+is_stale_reply (Some reply.StaleCookie) = true
+is_stale_reply (Some _) = false
+
+-- so it is of one that is taken: the datagram goes on, unless the answer is that the cookie is stale
+abbrev pub EchoesOn : (tag : ℕ) → (cookie : List ℕ) → (now : ℕ) → arrivals.Step
+    → (old new : Association) → Type 0
+EchoesOn tag cookie now chunk.Next old new = (step : Step)
+    × (is_stale_reply step.answer.reply ≡ false) × Echoes tag cookie now step old new
+EchoesOn tag cookie now chunk.Stop old new = (step : Step)
+    × (is_stale_reply step.answer.reply ≡ true) × Echoes tag cookie now step old new
+EchoesOn tag cookie now chunk.Cut old new = ⊥
+EchoesOn tag cookie now (chunk.Refused r) old new = ⊤
+
+-- so it is of a datagram that has only it
+pub record EchoesBy (c : ChunkPlace) (datagram : List ℕ) (now : ℕ) (old new : Association)
+    : Type 0 where
+  pub step : Step
+  pub behind : Association
+  pub echoes : Echoes (u32_at datagram 4) (cookie_in datagram c) now step old behind
+  pub stale : is_stale_reply step.answer.reply ≡ true → new ≡ behind
+  pub settles : is_stale_reply step.answer.reply ≡ false → Settles behind new
+
+-- ## An INIT ACK
+
+-- It makes this offer: the machine takes the step, and the cookie is kept, to be echoed (5.1 C).
+pub record TakesInitAck (c : ChunkPlace) (datagram : List ℕ) (old new : Association) : Type 0 where
+  pub offer : Offer
+  pub place : ParamPlace
+  pub reads : values.cookie_in (init_in (value_in datagram c)) ≡ Ok (offer, place)
+  pub follows : FollowsStep (on_init_ack offer old.machine) offer.tag old new
+  pub cookie : (on_init_ack offer old.machine).answer.told ≡ None
+      → new.cookie ≡ Some (slice_range (value_in datagram c) place.at (place.at + place.length))
+
+-- it has no cookie, or a Host Name Address: by an ABORT with its tag what was begun ends (5.1, 5.1.2)
+pub record EndsAsked (c : ChunkPlace) (datagram : List ℕ) (old new : Association) : Type 0 where
+  pub kind : AloneKind
+  pub raw : Option (List ℕ)
+  pub why : is_some (host_name_of (value_in datagram c)) ≡ true
+      ⊎ (values.cookie_in (init_in (value_in datagram c)) ≡ Err MissingCookie)
+  pub ends : EndsBegun kind raw (u32_at (value_in datagram c) 0) old new
+
+-- so it is of one that is taken
+abbrev pub InitAckOn : ChunkPlace → List ℕ → arrivals.Step → (old new : Association) → Type 0
+InitAckOn c datagram chunk.Next old new = TakesInitAck c datagram old new
+InitAckOn c datagram chunk.Stop old new = EndsAsked c datagram old new
+InitAckOn c datagram chunk.Cut old new = ⊥
+InitAckOn c datagram (chunk.Refused r) old new = ⊤
+
+-- and of a datagram that has only it
+pub record InitAckThen (c : ChunkPlace) (datagram : List ℕ) (old new : Association) : Type 0 where
+  pub behind : Association
+  pub acks : TakesInitAck c datagram old behind
+  pub settles : Settles behind new
+
+abbrev pub InitAckBy : ChunkPlace → List ℕ → (old new : Association) → Type 0
+InitAckBy c datagram old new = EndsAsked c datagram old new ⊎ InitAckThen c datagram old new
+
+-- ## An INIT
+
+-- what is due once an INIT is answered, to its tag
+abbrev pub owed_to_init : Option Reply → (tag : ℕ) → Due → Due
+owed_to_init (Some (reply.InitAck ticket)) tag d =
+    record d { alone = Some (to_tag (alone.InitAck ticket) tag) }
+owed_to_init r tag d = owed_by r tag d
+
+-- It says this, and the reply of the row is due: an INIT ACK, or an ABORT to an offer that cannot stand, or a SHUTDOWN-ACK (5.1 B, 5.2.1, 5.2.2, 9.2).
+-- The fresh tag is one that its peer cannot guess (5.3.1).
+pub record AnswersOffer (value : List ℕ) (old new : Association) : Type 0 where
+  pub said : Said
+  pub tag : ℕ
+  pub reads : init_in value ≡ Ok said
+  pub fresh : 0 < tag
+  pub due : new.due ≡ record (
+      owed_to_init (init_reply said.offer tag old.machine) said.offer.tag old.due
+      ) { unknown_params = new.due.unknown_params }
+
+-- one without a Host Name Address (5.1.2)
+abbrev pub OffersTo : (value : List ℕ) → (old new : Association) → Type 0
+OffersTo value old new = host_name_of value ≡ None → AnswersOffer value old new
