@@ -11,6 +11,7 @@ pub mod Cookies
 pub mod Counts
 pub mod Delivered
 pub mod Drafts
+pub mod Ends
 pub mod Entering
 pub mod Events
 pub mod Failing

@@ -75,6 +75,7 @@ pub(crate) struct Inbound {
 
 impl Inbound {
     ghost use Rattle.sctp_association.specs.Coming.{HasComeOrIsDropped};
+    ghost use Rattle.sctp_association.specs.Ends.{EndsData, EndsSkip};
     ghost use Rattle.sctp_association.specs.Entering.{Handles, HandlesOpen, HandlesRefused};
     ghost use Rattle.sctp_association.specs.Reads.{IsReadOff};
     ghost use Rattle.sctp_association.specs.Served.{AreServed, IsServed, is_to_open, is_usable};
@@ -127,6 +128,8 @@ impl Inbound {
         ensures takes { result ≡ Ok Done → HasComeOrIsDropped chunk.now (Some self.new.receiver) }
         // Where the peer may use its stream its user data entered, or its message is too long, or it is dropped.
         ensures handles { result ≡ Ok Done → Handles chunk.now self.old self.new }
+        // It ends the association only without user data, or where it is refused for good.
+        ensures ends { IfOk result (λ f. EndsData chunk.now f self.new.receiver) }
         ensures err { OnErr result ((self.new ≡ self.old) × (events.new ≡ events.old)) }
     {
         if chunk.user_data.is_empty() {
@@ -158,6 +161,7 @@ impl Inbound {
         ensures takes { result ≡ Ok Done → HasComeOrIsDropped chunk.now (Some self.new.receiver) }
         ensures handles { is_to_open chunk.now.stream_identifier self.old ≡ true
             → result ≡ Ok Done → Handles chunk.now self.old self.new }
+        ensures ends { IfOk result (λ f. EndsData chunk.now f self.new.receiver) }
     {
         self.open_agreed(chunk.stream_identifier, events)?;
         self.take_on(chunk, events, now)
@@ -180,6 +184,7 @@ impl Inbound {
         ensures whole { result ≡ Ok Wanting → ⊥ }
         ensures takes { result ≡ Ok Done → HasComeOrIsDropped chunk.now (Some self.new.receiver) }
         ensures handles { result ≡ Ok Done → HandlesOpen chunk.now self.old self.new }
+        ensures ends { IfOk result (λ f. EndsData chunk.now f self.new.receiver) }
         ensures err { OnErr result ((self.new ≡ self.old) × (events.new ≡ events.old)) }
     {
         let stream = chunk.stream_identifier;
@@ -312,6 +317,8 @@ impl Inbound {
             → result ≡ Ok Done → HasComeOrIsDropped chunk.now (Some self.new.receiver) }
         ensures handles { arrival_refusal chunk.now self.old.receiver ≡ Some refusal
             → result ≡ Ok Done → HandlesRefused refusal chunk.now self.old self.new }
+        ensures ends { arrival_refusal chunk.now self.old.receiver ≡ Some refusal
+            → IfOk result (λ f. EndsData chunk.now f self.new.receiver) }
         ensures err { OnErr result ((self.new ≡ self.old) × (events.new ≡ events.old)) }
     {
         let stream = chunk.stream_identifier;
@@ -378,6 +385,9 @@ impl Inbound {
         ensures limits { (self.new.receiver.limits ≡ self.old.receiver.limits)
             × (self.new.streams ≡ self.old.streams) }
         ensures same { (n : ℕ) → is_in n self.new.discarded ≡ is_in n self.old.discarded }
+        // It ends the association only where it is refused for good.
+        ensures ends { IfOk result
+            (λ f. EndsSkip (forward_tsn_of skip.now) f self.new.receiver) }
     {
         let _tsn = skip.new_cumulative_tsn;
         self.open_named(skip, events)?;

@@ -9,6 +9,7 @@ ghost use Rattle.sctp_association.specs.Beginnings.{ArrivesAsOffered, BeginsByDa
 ghost use Rattle.sctp_association.specs.Kept.{IsKept, OwesNoMore, ticket_in_kind};
 ghost use Rattle.sctp_association.specs.Coming.{FollowsData, GoesOn, TakesDataAt, TakesDataOf, TakesEachOf, TakesOnlyData, goes_on, is_due};
 ghost use Rattle.sctp_association.specs.Cookies.{IsAlive, IsSealed, cookie_in};
+ghost use Rattle.sctp_association.specs.Ends.{EndsIn, EndsOn};
 ghost use Rattle.sctp_association.specs.Entering.{usable_in};
 ghost use Rattle.sctp_association.specs.Halves.{HalvesAlike, halves_of};
 ghost use Rattle.sctp_association.specs.Heard.{IsDue, IsHeard};
@@ -134,6 +135,7 @@ fn past(reason: Reason) -> Step
 fn ending_of(followed: Followed) -> Option<AloneKind>
     ensures silent { IfSome result (λ kind. ticket_in_kind kind ≡ None) }
     ensures none { result ≡ None → (followed ≡ Done) ⊎ (followed ≡ Wanting) }
+    ensures some { IfSome result (λ kind. (followed ≡ Done → ⊥) × (followed ≡ Wanting → ⊥)) }
 {
     match followed {
         Followed::Done | Followed::Wanting => None,
@@ -199,6 +201,9 @@ impl Association {
             → (chunks : List ChunkPlace) → TellsAll place_at datagram.now chunks
             → all_go_on chunks ≡ true
             → MovesByFirstOf chunks datagram.now now self.old self.new }
+        // It ends the association only by an INIT ACK, ABORT, SHUTDOWN-ACK, SHUTDOWN-COMPLETE or a stale cookie; by DATA without user data; by a SACK of
+        // what was not sent; or by DATA or a FORWARD-TSN that is refused for good (RFC 9260 3.3.10, 5.1, 6.2, 9).
+        ensures over { EndsIn datagram.now self.old self.new }
         // A HEARTBEAT that is accepted as the only chunk is answered: the HEARTBEAT-ACK is due with its information. The sender and the receiver stay
         // (RFC 9260 8.3).
         ensures answers { EndsWithFirst datagram.now → first_type datagram.now ≡ 4
@@ -321,6 +326,7 @@ impl Association {
         ensures path { TakesSacksOf (u32_at datagram.now 4) self.old → result ≡ Ok Accepted
             → all_go_on chunks.entry.left ≡ true
             → MovesByFirstOf chunks.entry.left datagram.now now self.old self.new }
+        ensures over { EndsIn datagram.now self.old self.new }
         ensures alone { (first : ChunkPlace) → chunks.entry.left ≡ first ∷ []
             → result ≡ Ok Accepted → AloneAt first datagram.now now self.old self.new }
     {
@@ -422,6 +428,7 @@ impl Association {
             → IfOk result (λ s. HearsOn chunk tag datagram.now s self.old self.new) }
         ensures path { TakesSacksOf tag self.old → goes_on chunk.typ ≡ true → IfOk result
             (λ s. MovesOn chunk datagram.now now s self.old.outbound self.new.outbound) }
+        ensures over { IfOk result (λ s. EndsOn chunk datagram.now s self.old self.new) }
         ensures alone { count < 2 → IfOk result
             (λ s. AloneOn chunk tag datagram.now now s self.old self.new) }
     {
@@ -451,6 +458,7 @@ impl Association {
             → all_go_on chunks.entry.left ≡ true → (self.new.is_over ≡ true)
             ⊎ MovesBehind first chunks.entry.left datagram.now now
             self.old.outbound self.new.outbound }
+        ensures over { EndsIn datagram.now self.old self.new }
     {
         let mut chunks = chunks;
         let tag = chunks.header().verification_tag;
@@ -495,6 +503,9 @@ impl Association {
             → (r : Reason) → result ≡ Ok (step.Refused r) → ⊥ }
         ensures never_sacks { TakesSacksOf tag self.old → goes_on chunk.typ ≡ true
             → (r : Reason) → result ≡ Ok (step.Refused r) → ⊥ }
+        ensures over { IfOk result (λ s. EndsOn chunk datagram.now s self.old self.new) }
+        ensures refused { (r : Reason) → result ≡ Ok (step.Refused r) → self.new ≡ self.old }
+        ensures err { OnErr result (self.new ≡ self.old) }
     {
         match self.take_chunk(datagram, chunk, tag, 2, now)? {
             Step::Refused(reason) => Ok(past(reason)),
@@ -567,6 +578,7 @@ impl Association {
             → IfOk result (λ s. HearsOn chunk tag datagram.now s self.old self.new) }
         ensures path { TakesSacksOf tag self.old → goes_on chunk.typ ≡ true → IfOk result
             (λ s. MovesOn chunk datagram.now now s self.old.outbound self.new.outbound) }
+        ensures over { IfOk result (λ s. EndsOn chunk datagram.now s self.old self.new) }
         ensures alone { IfOk result
             (λ s. AloneOn chunk tag datagram.now now s self.old self.new) }
     {
@@ -607,6 +619,7 @@ impl Association {
         ensures sacks { (tag : ℕ) → TakesSacksOf tag self.old
             → IfOk result (λ s. HearsOn chunk tag datagram.now s self.old self.new) }
         ensures sending { self.new.outbound ≡ self.old.outbound }
+        ensures over { IfOk result (λ s. EndsOn chunk datagram.now s self.old self.new) }
         ensures row { IfOk result (λ s. RowOn chunk datagram.now s self.old self.new) }
     {
         if !self.machine.state().takes_data() {
@@ -663,6 +676,7 @@ impl Association {
         ensures sacks { (tag : ℕ) → TakesSacksOf tag self.old
             → IfOk result (λ s. HearsOn chunk tag datagram.now s self.old self.new) }
         ensures sending { self.new.outbound ≡ self.old.outbound }
+        ensures over { IfOk result (λ s. EndsOn chunk datagram.now s self.old self.new) }
         ensures row { IfOk result (λ s. RowOn chunk datagram.now s self.old self.new) }
     {
         if !self.machine.state().takes_data() {
@@ -687,6 +701,7 @@ impl Association {
         ensures never { (r : Reason) → result ≡ step.Refused r → ⊥ }
         ensures next { result ≡ step.Next → (followed ≡ Done) ⊎ (followed ≡ Wanting) }
         ensures over { result ≡ step.Stop → self.new.is_over ≡ true }
+        ensures stops { result ≡ step.Stop → (followed ≡ Done → ⊥) × (followed ≡ Wanting → ⊥) }
         ensures halves { HalvesAlike self.old self.new }
         ensures peer { KeepsPeer self.old self.new }
         ensures on { result ≡ step.Next → self.new ≡ self.old }
@@ -719,6 +734,7 @@ impl Association {
             → IfOk result (λ s. HearsOn chunk tag datagram.now s self.old self.new) }
         ensures path { IfOk result
             (λ s. MovesOn chunk datagram.now now s self.old.outbound self.new.outbound) }
+        ensures over { IfOk result (λ s. EndsOn chunk datagram.now s self.old self.new) }
         ensures row { IfOk result (λ s. RowOn chunk datagram.now s self.old self.new) }
     {
         if !self.machine.state().takes_sacks() {

@@ -275,6 +275,7 @@ impl Association {
         ensures kept { IsKept self.old self.new }
         ensures refused { (r : Reason) → result ≡ Ok (step.Refused r) → self.new ≡ self.old }
         ensures err { OnErr result (self.new ≡ self.old) }
+        ensures over { self.new.is_over ≡ self.old.is_over }
     {
         if !self.machine.state().takes_data() && !self.machine.state().takes_sacks() {
             return Ok(Step::Refused(Reason::Unexpected));
@@ -312,6 +313,7 @@ impl Association {
         ensures came { Follows (ParamAsksIn (drop at raw.now)) Does
             (halves_of self.old) (halves_of self.new) }
         ensures kept { IsKept self.old self.new }
+        ensures over { self.new.is_over ≡ self.old.is_over }
     {
         match typ {
             13 | 16 => {}
@@ -336,6 +338,7 @@ impl Association {
         ensures tells { TellsEnd self.old self.new }
         ensures halves { HalvesAlike self.old self.new }
         ensures kept { IsKept self.old self.new }
+        ensures over { self.new.is_over ≡ self.old.is_over }
     {
         let Some(peer) = &mut self.peer_requests else {
             return;
@@ -356,6 +359,7 @@ impl Association {
         ensures came { Follows (ParamAsks (outgoing_reset_request (reset_request_of request.now)))
             Does (halves_of self.old) (halves_of self.new) }
         ensures kept { IsKept self.old self.new }
+        ensures over { self.new.is_over ≡ self.old.is_over }
     {
         let Some(peer) = &mut self.peer_requests else {
             return Ok(());
@@ -378,6 +382,7 @@ impl Association {
         ensures came { Follows (ParamAsks (outgoing_reset_request (reset_request_of request.now)))
             Does (halves_of self.old) (halves_of self.new) }
         ensures kept { IsKept self.old self.new }
+        ensures over { self.new.is_over ≡ self.old.is_over }
     {
         if request.stream_identifiers.is_empty() {
             return self.perform_all(request.sender_last_tsn);
@@ -400,6 +405,7 @@ impl Association {
         ensures received { ReceivedIn (IsResetAt last_tsn)
             (receiver_of self.old.inbound) (receiver_of self.new.inbound) }
         ensures kept { IsKept self.old self.new }
+        ensures over { self.new.is_over ≡ self.old.is_over }
     {
         let streams = match self.machine.agreed() {
             Some(agreed) => agreed.inbound_streams,
@@ -425,6 +431,7 @@ impl Association {
         ensures received { ReceivedIn (IsReset stream last_tsn)
             (receiver_of self.old.inbound) (receiver_of self.new.inbound) }
         ensures kept { IsKept self.old self.new }
+        ensures over { self.new.is_over ≡ self.old.is_over }
     {
         match &mut self.inbound {
             Some(inbound) => inbound.reset(stream, last_tsn, is_named, &mut self.events),
@@ -439,6 +446,7 @@ impl Association {
             self.old.outbound.sender self.new.outbound.sender }
         ensures inbound { self.new.inbound ≡ self.old.inbound }
         ensures kept { IsKept self.old self.new }
+        ensures over { self.new.is_over ≡ self.old.is_over }
     {
         let rto = self.outbound.rto.get();
         let number = response.reconfig_response_sequence_number;

@@ -1,6 +1,7 @@
 //! What a SACK acknowledges (RFC 9260 6.2.1, 6.3, 7.2).
 
 ghost use Rattle.std.specs.Prelude.{◌≡◌, ◌⊎◌, ◌-◌, ◌==◌, not, if◌then◌else◌, None, true, is_some, Ok, IfOk, OnErr};
+ghost use Rattle.sctp_association.specs.Ends.{IsForged};
 ghost use Rattle.sctp_association.specs.Acks.{acked_by, grown_by, size_acked, without_blocks};
 ghost use Rattle.sctp_association.specs.Arrivals.{AsksToHear, HearsBy, IsCount, without_gaps};
 ghost use Rattle.sctp_association.specs.Counts.{HasLimitsOf, IsCountedAlike};
@@ -139,6 +140,7 @@ impl Outbound {
         ensures counts { IsCountedAlike self.old self.new }
         ensures limits { HasLimitsOf self.old self.new }
         ensures forged { result ≡ Ok Forged → self.new ≡ self.old }
+        ensures claims { result ≡ Ok Forged → IsForged (sack_of sack.old) self.old }
         ensures err { OnErr result ((self.new ≡ self.old) × (low.new ≡ low.old)) }
     {
         let before = self.sender.acked_tsn();

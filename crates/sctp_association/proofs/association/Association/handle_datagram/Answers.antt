@@ -51,6 +51,7 @@ returns-in-Err c = record {
   echoes = λ one typ e. absurd (never_told _ _ e refl c.dropped_by.ensures.never);
   acks = λ one typ e. absurd (never_told _ _ e refl c.dropped_by.ensures.never);
   offers = λ one typ e. absurd (never_told _ _ e refl c.dropped_by.ensures.never);
+  over = λ going over. absurd (false≢true (sym going ∙ over));
   rows = λ one row e. absurd (never_told _ _ e refl c.dropped_by.ensures.never);
   due = λ due r e.
       let zero : zero_checksum_of c.args.self.now.config ≡ c.if-self.zero = elim c.if-self.branch [
@@ -218,3 +219,8 @@ returns-clause-rows c one typ is going =
     let all : TellsAll place_at c.args.datagram.now c.in-Ok.chunks.left = search rules in
     (only_one (λ p. AloneAt p c.args.datagram.now c.args.now c.args.self.now c.take_chunks.new.self) _ _ _ _ _ all one refl
     (if_ok _ _ _ is c.take_chunks.ensures.accepted refl) (λ first are t. c.take_chunks.ensures.alone first are is)).row typ
+
+-- ## What ends the association
+
+pub returns-then-self-2-clause-over : goal.returns-then-self-2-clause-over
+returns-then-self-2-clause-over c going over = absurd (false≢true (sym going ∙ c.if-self-2.true))

@@ -1,3 +1,4 @@
+use Rattle.std.proofs.Common.{◌≡◌}
 use Rattle.sctp_association.specs.Arrivals.{Does, Follows, ParamAsks}
 use Rattle.sctp_association.specs.Kept.{IsKept}
 use Rattle.sctp_association.specs.Halves.{halves_of}
@@ -12,4 +13,5 @@ invariant-loop-stream l = record {
   came : Follows (ParamAsks (outgoing_reset_request (reset_request_of l.request))) Does (halves_of l.initial.self) (halves_of l.self);
   kept : IsKept l.initial.self l.self;
   tells : TellsEnd l.initial.self l.self;
+  over : l.self.is_over ≡ l.initial.self.is_over;
 }

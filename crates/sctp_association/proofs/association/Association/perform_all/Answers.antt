@@ -10,6 +10,7 @@ loop-stream-init c = record {
   received = received_in_same _ _ _ refl;
   kept = record { config = refl; key = refl; machine = refl; owes = λ t e. e; sending = (λ e. e, λ e. e) };
   tells = to_same;
+  over = refl;
 }
 
 pub loop-stream-preserved : goal.loop-stream-preserved
@@ -18,6 +19,7 @@ loop-stream-preserved c = record {
   received = received_in_then _ _ _ _ c.loop-stream.invariant.received (received_in_of _ _ (one_of_all _ _) _ _ c.perform_one.ensures.received);
   kept = kept_then _ _ _ c.loop-stream.invariant.kept c.perform_one.ensures.kept;
   tells = end_then c.loop-stream.invariant.tells c.perform_one.ensures.tells;
+  over = c.perform_one.ensures.over ∙ c.loop-stream.invariant.over;
 }
 
 pub returns-in_err-perform_one-clause-received : goal.returns-in_err-perform_one-clause-received

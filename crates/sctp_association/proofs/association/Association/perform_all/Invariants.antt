@@ -12,4 +12,5 @@ invariant-loop-stream l = record {
   received : ReceivedIn (IsResetAt l.last_tsn) (receiver_of l.initial.self.inbound) (receiver_of l.self.inbound);
   kept : IsKept l.initial.self l.self;
   tells : TellsEnd l.initial.self l.self;
+  over : l.self.is_over ≡ l.initial.self.is_over;
 }

@@ -1,3 +1,6 @@
+use Rattle.std.proofs.Common.{Ok}
+use Rattle.sctp_association.proofs.Ends.{ends_echo, ends_init_ack, ends_row, ends_same_of, if_then, off_other, row_has}
+use Rattle.sctp_association.specs.declared.association.Association.{Association}
 use Rattle.sctp_association.proofs.Heard.{heard_at, heard_begun, heard_control, heard_echo, heard_none}
 use Rattle.sctp_association.proofs.Telling.{tells_due, tells_peer, tells_same, tells_still}
 use Rattle.std.proofs.Common.{ap, arith, refl, rules, sym, ◌≡◌, ◌∙◌}
@@ -168,3 +171,44 @@ returns-in_default-clause-due c admitted heard =
     let at = heard_at c.args.chunk c.args.tag c.args.datagram.now c.args.now c.args.self.now heard c.args.chunk.typ refl (search rules) in
     let control = heard_control c.args.self.now c.args.chunk.typ (search rules) (search rules) (search rules) at.0 in
     c.take_control.ensures.heard control.0 control.1 at.1
+
+-- ## What ends the association
+
+pub returns-then-not-admits-clause-over : goal.returns-then-not-admits-clause-over
+returns-then-not-admits-clause-over c = tt
+
+pub returns-then-not-is_beginning-clause-over : goal.returns-then-not-is_beginning-clause-over
+returns-then-not-is_beginning-clause-over c = tt
+
+pub returns-in-1-clause-over : goal.returns-in-1-clause-over
+returns-in-1-clause-over c =
+    ends_same_of c.args.chunk c.args.datagram.now c.args.self.now c.take_init.new.self
+    (ap (λ (a : Association). a.is_over) c.take_init.ensures.due) c.take_init.result
+
+pub returns-in-2-clause-over : goal.returns-in-2-clause-over
+returns-in-2-clause-over c =
+    let typ : c.args.chunk.typ ≡ 2 = search rules in
+    if_then c.take_init_ack.result (λ s is h. ends_init_ack c.args.chunk c.args.datagram.now c.args.self.now c.take_init_ack.new.self typ s h)
+    c.take_init_ack.ensures.row
+
+pub returns-in-10-clause-over : goal.returns-in-10-clause-over
+returns-in-10-clause-over c =
+    if_then c.take_cookie.result
+    (λ s is h. ends_echo c.args.chunk c.args.datagram.now c.args.self.now c.take_cookie.new.self c.args.tag c.args.now s h) c.take_cookie.ensures.row
+
+pub returns-in-130-clause-over : goal.returns-in-130-clause-over
+returns-in-130-clause-over c =
+    ends_same_of c.args.chunk c.args.datagram.now c.args.self.now c.take_reconfig.new.self c.take_reconfig.ensures.over c.take_reconfig.result
+
+pub returns-in_default-clause-over : goal.returns-in_default-clause-over
+returns-in_default-clause-over c =
+    let n0 : c.args.chunk.typ ≡ 0 → ⊥ = search rules in
+    let n1 : c.args.chunk.typ ≡ 1 → ⊥ = search rules in
+    let n2 : c.args.chunk.typ ≡ 2 → ⊥ = search rules in
+    let n3 : c.args.chunk.typ ≡ 3 → ⊥ = search rules in
+    let n10 : c.args.chunk.typ ≡ 10 → ⊥ = search rules in
+    let n130 : c.args.chunk.typ ≡ 130 → ⊥ = search rules in
+    let n192 : c.args.chunk.typ ≡ 192 → ⊥ = search rules in
+    if_then c.take_control.result (λ s is h. ends_row c.args.chunk c.args.datagram.now c.args.self.now c.take_control.new.self
+    (off_other c.args.chunk.typ n0 n3 n192) s (λ cut. c.take_control.ensures.whole (is ∙ ap Ok cut)) (h.row (row_has c.args.chunk.typ n1 n2 n10 n130)))
+    (c.take_control.ensures.alone (n0, n1, n2, n10) c.args.tag)

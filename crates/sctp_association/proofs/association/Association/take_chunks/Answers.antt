@@ -1,3 +1,7 @@
+use Rattle.sctp_association.specs.Cookies.{IsSealed, cookie_in}
+use Rattle.sctp_association.specs.Steps.{is_taken}
+use Rattle.sctp_association.proofs.Ends.{admitted_by, ended_first, ended_next, ended_same, ended_still, ended_stop, ended_then}
+use Rattle.sctp_association.specs.Ends.{EndsOn}
 use Rattle.sctp_association.proofs.Telling.{tells_peer, tells_same, tells_then}
 use Rattle.std.proofs.Common.{Ok, ap, arith, inl, inr, length, refl, rules, subst, sym, ◌≡◌, ◌<◌, ◌∙◌, ◌∷◌, List}
 use Rattle.std.proofs.lemmas.Bool.{false≢true}
@@ -65,8 +69,18 @@ returns-clause-came c =
 
 pub returns-in-Stop-clause-foreign : goal.returns-in-Stop-clause-foreign
 returns-in-Stop-clause-foreign c other =
-    let admits : AdmitsFirst c.args.datagram.now c.args.chunks.left c.args.self.now.key c.args.self.now.machine = search rules in
-    absurd (other admits)
+    let stop : c.take_first.result ≡ Ok step.Stop = search rules in
+    absurd (other (record {
+      first = c.in-Some.first;
+      rest = c.next.new.self.left;
+      are = c.in-Some.ensures.place;
+      admitted = admitted_by c.in-Some.first c.args.self.now.machine c.take_first.result _ _ _ _ (c.header-tag.ensures.verification_tag ∙ ap (λ l. u32_at l 4) c.requires.whole) c.left-count.ensures
+          (c.take_first.ensures.foreign) stop;
+      cookie = λ typ. subst (λ (n : ℕ). IsSealed c.args.self.now.key n (cookie_in c.args.datagram.now c.in-Some.first))
+          (c.header-tag.ensures.verification_tag ∙ ap (λ l. u32_at l 4) c.requires.whole)
+          (if_ok (λ s. is_taken s ≡ true → IsSealed c.args.self.now.key c.header-tag.result.verification_tag (cookie_in c.args.datagram.now c.in-Some.first))
+          c.take_first.result step.Stop stop (c.take_first.ensures.cookie typ) refl);
+    }))
 
 pub returns-in-Cut-clause-foreign : goal.returns-in-Cut-clause-foreign
 returns-in-Cut-clause-foreign c other =
@@ -292,3 +306,38 @@ returns-clause-alone c first are is =
     )
     (subst (λ (x : Association). Settles x c.end_datagram-2.new.self) idle ended.settles)
     (ended.halves.receiver ∙ ap (λ (a : Association). receiver_of a.inbound) idle) (ended.heartbeat ∙ ap (λ (a : Association). a.heartbeat) idle))
+
+-- ## What ends the association
+
+pub returns-in-Stop-clause-over : goal.returns-in-Stop-clause-over
+returns-in-Stop-clause-over c =
+    ended_stop _ c.args.self.now c.args.self.now c.take_first.new.self c.in-Some.first
+    (next_own _ _ _ _ c.in-Some.ensures.place (all_own _ _ c.requires.all)).0 (ended_first c.args.datagram.now c.args.self.now)
+    (if_ok (λ s. EndsOn c.in-Some.first c.args.datagram.now s c.args.self.now c.take_first.new.self) c.take_first.result step.Stop (search rules) c.take_first.ensures.over)
+
+pub returns-in-Cut-clause-over : goal.returns-in-Cut-clause-over
+returns-in-Cut-clause-over c =
+    ended_same _ c.args.self.now c.args.self.now c.end_datagram.new.self (ended_first c.args.datagram.now c.args.self.now) (c.end_datagram.ensures.over
+    ∙ if_ok (λ s. EndsOn c.in-Some.first c.args.datagram.now s c.args.self.now c.take_first.new.self) c.take_first.result step.Cut (search rules) c.take_first.ensures.over)
+
+pub returns-then-not-is_whole-clause-over : goal.returns-then-not-is_whole-clause-over
+returns-then-not-is_whole-clause-over c =
+    let ended = c.end_datagram-2.ensures in
+    ended_still _ c.args.self.now c.take_others-is_whole.new.self c.end_datagram-2.new.self ended.halves.receiver ended.sending ended.over (
+    ended_then _ c.args.self.now c.take_first.new.self c.take_others-is_whole.new.self (
+    ended_next _ c.args.self.now c.args.self.now c.take_first.new.self c.in-Some.first
+    (next_own _ _ _ _ c.in-Some.ensures.place (all_own _ _ c.requires.all)).0 (ended_first c.args.datagram.now c.args.self.now)
+    (if_ok (λ s. EndsOn c.in-Some.first c.args.datagram.now s c.args.self.now c.take_first.new.self) c.take_first.result step.Next (search rules) c.take_first.ensures.over)
+    ) c.take_others-is_whole.ensures.over
+    )
+
+pub returns-clause-over : goal.returns-clause-over
+returns-clause-over c =
+    let ended = c.end_datagram-2.ensures in
+    ended_still _ c.args.self.now c.take_others-is_whole.new.self c.end_datagram-2.new.self ended.halves.receiver ended.sending ended.over (
+    ended_then _ c.args.self.now c.take_first.new.self c.take_others-is_whole.new.self (
+    ended_next _ c.args.self.now c.args.self.now c.take_first.new.self c.in-Some.first
+    (next_own _ _ _ _ c.in-Some.ensures.place (all_own _ _ c.requires.all)).0 (ended_first c.args.datagram.now c.args.self.now)
+    (if_ok (λ s. EndsOn c.in-Some.first c.args.datagram.now s c.args.self.now c.take_first.new.self) c.take_first.result step.Next (search rules) c.take_first.ensures.over)
+    ) c.take_others-is_whole.ensures.over
+    )

@@ -1,3 +1,6 @@
+use Rattle.sctp_association.proofs.Coming.{if_ok}
+use Rattle.sctp_association.proofs.Ends.{data_why, ends_by}
+use Rattle.sctp_association.specs.Ends.{by_data}
 use Rattle.std.specs.Prelude.{true}
 use Rattle.sctp_association.proofs.Rows.{follows_from, follows_step, row_goes}
 use Rattle.sctp_association.specs.Coming.{goes_on}
@@ -164,3 +167,19 @@ returns-clause-row c =
     )
     )
     ) c.end_by.ensures.over
+
+-- ## What ends the association
+
+pub returns-clause-over : goal.returns-clause-over
+returns-clause-over c =
+    let old = c.args.self.now in
+    let quiet = arrived_told old.machine _ _ c.packet_arrived-answer.ensures in
+    let still : receiver_of c.end_by.new.self.inbound ≡ Some c.take_data.new.self.receiver =
+    c.end_by.ensures.halves.receiver
+    ∙ ap (λ (h : Halves). h.receiver) (quiet_arrived _ _ _ _ _ _ c.follow.ensures.begun c.packet_arrived-answer.ensures.answer)
+    ∙ c.run_again.ensures.halves.receiver in
+    let came = if_ok _ _ _ c.in_ok-followed.was c.take_data.ensures.ends in
+    ends_by c.args.chunk c.args.datagram.now old c.end_by.new.self c.end_by.result
+    (λ next. ap (λ (a : Association). a.is_over) (c.end_by.ensures.on next) ∙ c.follow.ensures.over quiet ∙ c.run_again.ensures.over)
+    (λ stop. by_data _ still c.in_ok-data.data c.in_ok-data.ensures.found
+    (data_why c.in_ok-data.data _ _ came (c.end_by.ensures.stops stop).0 (c.end_by.ensures.stops stop).1)) c.end_by.ensures.whole

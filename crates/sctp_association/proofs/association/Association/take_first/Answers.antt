@@ -1,3 +1,4 @@
+use Rattle.sctp_association.proofs.Ends.{ends_same}
 use Rattle.std.proofs.Common.{Ok, ap, refl, rules, ◌≡◌}
 use Rattle.sctp_association.proofs.Coming.{if_ok}
 use Rattle.sctp_association.proofs.Each.{past_goes}
@@ -26,3 +27,9 @@ returns-in-Refused-Unexpected-clause-path c takes going =
     if_ok (λ s. HearsOn c.args.chunk c.args.tag c.args.datagram.now s c.args.self.now c.take_chunk-2.new.self) _ _ is (c.take_chunk-2.ensures.sacks takes going) in
     moves_still c.args.chunk c.args.datagram.now c.args.now Next c.args.self.now.outbound c.take_chunk-2.new.self.outbound was.1
     (ap (λ (a : Association). a.outbound) (c.take_chunk-2.ensures.refused Unexpected is))
+
+pub returns-in-Refused-Unexpected-clause-over : goal.returns-in-Refused-Unexpected-clause-over
+returns-in-Refused-Unexpected-clause-over c =
+    let is : c.take_chunk-2.result ≡ Ok (Refused Unexpected) = search rules in
+    ends_same c.args.chunk c.args.datagram.now c.args.self.now c.take_chunk-2.new.self
+    (ap (λ (a : Association). a.is_over) (c.take_chunk-2.ensures.refused Unexpected is)) Next

@@ -1,4 +1,4 @@
-use Rattle.std.proofs.Common.{Ok, ap, arith, inl, inr, length, refl, rules, sym, ◌∙◌}
+use Rattle.std.proofs.Common.{◌≡◌, Ok, ap, arith, inl, inr, length, refl, rules, sym, ◌∙◌}
 use Rattle.std.proofs.lemmas.Bool.{false≢true}
 use Rattle.sctp_association.proofs.Each.{data_counts, none_left, one_less, owed_at, owed_first, owed_next, owed_none, owed_passed, owed_refused, owed_stop, tagged}
 use Rattle.sctp_association.proofs.Arrived.{arrives_of}
@@ -11,6 +11,11 @@ use Rattle.sctp_util.specs.Field.{u32_at}
 use Rattle.sctp_association.proofs.Offered.{offered_same, offered_then}
 use Rattle.sctp_association.proofs.Telling.{tells_same, tells_then}
 use Rattle.sctp_association.proofs.Carrying.{next_own}
+use Rattle.sctp_association.proofs.Coming.{if_ok}
+use Rattle.sctp_association.proofs.Ends.{ended_first, ended_next, ended_same, ended_stop}
+use Rattle.sctp_association.specs.Ends.{EndsOn}
+use Rattle.sctp_association.specs.declared.association.Association.{Association}
+use Rattle.sctp_association.specs.declared.association.arrivals.Step.TheVariants.{Cut, Next, Stop}
 use Rattle.sctp_association.proofs.association.Association.take_others.Goals as goal
 
 pub loop-init : goal.loop-init
@@ -24,6 +29,7 @@ loop-init c = record {
   path = λ takes all. owed_move c.header-tag.result.verification_tag c.args.datagram.now c.args.now _ _ _ _ c.behind-once.ensures takes all;
   count = omega arith;
   idle = λ e. refl;
+  over = ended_first c.args.datagram.now c.args.self.now;
 }
 
 pub loop-preserved-then-not-counts : goal.loop-preserved-then-not-counts
@@ -45,6 +51,7 @@ loop-preserved-then-not-counts c = record {
       (move_at c.header-tag.result.verification_tag c.args.datagram.now c.args.now _ _ _ _ _ _ c.in-Some.ensures.place (c.loop.invariant.path takes all)));
   count = one_less _ _ _ _ _ c.in-Some.ensures.place c.loop.invariant.count;
   idle = λ e. absurd (omega (arith, c.left-end.ensures, ap length e, c.loop-test.true));
+  over = c.loop.invariant.over;
 }
 
 pub loop-preserved : goal.loop-preserved
@@ -66,6 +73,9 @@ loop-preserved c = record {
       (move_at c.header-tag.result.verification_tag c.args.datagram.now c.args.now _ _ _ _ _ _ c.in-Some.ensures.place (c.loop.invariant.path takes all)));
   count = one_less _ _ _ _ _ c.in-Some.ensures.place c.loop.invariant.count;
   idle = λ e. absurd (omega (arith, c.left-end.ensures, ap length e, c.loop-test.true));
+  over = ended_next _ c.args.self.now c.loop.self c.take_other.new.self c.in-Some.chunk (next_own _ _ _ _ c.in-Some.ensures.place c.loop.invariant.own).0
+      c.loop.invariant.over
+      (if_ok (λ s. EndsOn c.in-Some.chunk c.args.datagram.now s c.loop.self c.take_other.new.self) c.take_other.result Next (search rules) c.take_other.ensures.over);
 }
 
 pub take_other-requires-clause-own : goal.take_other-requires-clause-own
@@ -79,6 +89,7 @@ returns-in-Ok-Cut c = record {
   none = λ e. absurd (omega (arith, c.left-end.ensures, ap length e, c.loop-test.true));
   came = offered_then _ _ _ c.loop.invariant.came _ c.take_other.ensures.came;
   tells = tells_then _ _ _ c.loop.invariant.tells c.take_other.ensures.tells;
+  over = ended_same _ c.args.self.now c.loop.self c.take_other.new.self c.loop.invariant.over (if_ok (λ s. EndsOn c.in-Some.chunk c.args.datagram.now s c.loop.self c.take_other.new.self) c.take_other.result Cut (search rules) c.take_other.ensures.over);
 }
 
 pub returns-in-Ok-Cut-2 : goal.returns-in-Ok-Cut-2
@@ -89,6 +100,8 @@ returns-in-Ok-Cut-2 c = record {
   none = λ e. absurd (omega (arith, c.left-end.ensures, ap length e, c.loop-test.true));
   came = offered_then _ _ _ c.loop.invariant.came _ c.take_other.ensures.came;
   tells = tells_then _ _ _ c.loop.invariant.tells c.take_other.ensures.tells;
+  over = let same : c.take_other.new.self ≡ c.loop.self = search rules in
+      ended_same _ c.args.self.now c.loop.self c.take_other.new.self c.loop.invariant.over (ap (λ (a : Association). a.is_over) same);
 }
 
 pub returns-after-loop : goal.returns-after-loop
@@ -105,6 +118,7 @@ returns-after-loop c = record {
   came = c.loop.invariant.came;
   tells = c.loop.invariant.tells;
   none = λ e. (refl, c.loop.invariant.idle e);
+  over = ended_same _ c.args.self.now c.loop.self c.loop.self c.loop.invariant.over refl;
 }
 
 pub returns-in_default : goal.returns-in_default
@@ -120,6 +134,7 @@ returns-in_default c = record {
   came = c.loop.invariant.came;
   tells = c.loop.invariant.tells;
   none = λ e. (refl, c.loop.invariant.idle e);
+  over = ended_same _ c.args.self.now c.loop.self c.loop.self c.loop.invariant.over refl;
 }
 
 pub returns-in-Ok-Stop : goal.returns-in-Ok-Stop
@@ -139,6 +154,8 @@ returns-in-Ok-Stop c = record {
   came = offered_then _ _ _ c.loop.invariant.came _ c.take_other.ensures.came;
   tells = tells_then _ _ _ c.loop.invariant.tells c.take_other.ensures.tells;
   none = λ e. absurd (omega (arith, c.left-end.ensures, ap length e, c.loop-test.true));
+  over = ended_stop _ c.args.self.now c.loop.self c.take_other.new.self c.in-Some.chunk (next_own _ _ _ _ c.in-Some.ensures.place c.loop.invariant.own).0
+      c.loop.invariant.over (if_ok (λ s. EndsOn c.in-Some.chunk c.args.datagram.now s c.loop.self c.take_other.new.self) c.take_other.result Stop (search rules) c.take_other.ensures.over);
 }
 
 pub returns-in-Ok-Refused : goal.returns-in-Ok-Refused
@@ -159,4 +176,6 @@ returns-in-Ok-Refused c = record {
   came = offered_then _ _ _ c.loop.invariant.came _ c.take_other.ensures.came;
   tells = tells_then _ _ _ c.loop.invariant.tells c.take_other.ensures.tells;
   none = λ e. absurd (omega (arith, c.left-end.ensures, ap length e, c.loop-test.true));
+  over = ended_same _ c.args.self.now c.loop.self c.take_other.new.self c.loop.invariant.over
+      (ap (λ (a : Association). a.is_over) (c.take_other.ensures.refused c.in-Ok-Refused.field-0-0 (c.in-Ok-Refused.is ∙ ap Ok c.in-Ok-Refused.field-0-is)));
 }

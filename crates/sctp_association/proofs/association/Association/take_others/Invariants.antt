@@ -1,6 +1,7 @@
 use Rattle.std.proofs.Common.{◌≡◌, ◌+◌, [], length, true}
 use Rattle.std.specs.List.{AllByRecursion}
 use Rattle.sctp_association.proofs.Each.{Owed}
+use Rattle.sctp_association.proofs.Ends.{EndedSo}
 use Rattle.sctp_association.proofs.Paths.{OwedMove}
 use Rattle.sctp_association.proofs.Sacks.{OwedSack}
 use Rattle.sctp_association.specs.Beginnings.{ArrivesAsOffered}
@@ -27,4 +28,5 @@ invariant-loop l = record {
       (λ z. MovesBehind l.first l.initial.chunks.left l.datagram l.now l.initial.self.outbound z) l.once;
   count : l.counter + length l.chunks.left ≡ length l.initial.chunks.left;
   idle : l.initial.chunks.left ≡ [] → l.self ≡ l.initial.self;
+  over : EndedSo l.datagram l.initial.self l.self;
 }

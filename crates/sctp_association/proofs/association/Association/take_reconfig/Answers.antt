@@ -1,5 +1,5 @@
 use Rattle.sctp_association.proofs.Telling.{end_then, to_same}
-use Rattle.std.proofs.Common.{arith, refl}
+use Rattle.std.proofs.Common.{arith, refl, ◌∙◌}
 use Rattle.sctp_association.proofs.Arrived.{came_same, came_then, param_came}
 use Rattle.sctp_association.proofs.Cut.{cut_whole}
 use Rattle.sctp_association.proofs.Known.{kept_then}
@@ -22,6 +22,7 @@ loop-init c = record {
     sending = (λ e. e, λ e. e);
   };
   tells = to_same;
+  over = refl;
 }
 
 pub returns-in_err-raw-clause-came : goal.returns-in_err-raw-clause-came
@@ -43,6 +44,7 @@ loop-preserved c =
       came = came_then _ _ _ _ c.loop.invariant.came (param_came _ _ c.requires.own c.requires.typ _ _ cut _ _ c.take_param.ensures.came);
       kept = kept_then _ _ _ c.loop.invariant.kept c.take_param.ensures.kept;
       tells = end_then c.loop.invariant.tells c.take_param.ensures.tells;
+      over = c.take_param.ensures.over ∙ c.loop.invariant.over;
     }
 
 pub returns-in_default-take_param-clause-tells : goal.returns-in_default-take_param-clause-tells

@@ -16,6 +16,7 @@ loop-stream-init c = (
     sending = (λ e. e, λ e. e);
   },
   to_same,
+  refl,
 )
 
 pub loop-stream-preserved : goal.loop-stream-preserved
@@ -25,6 +26,7 @@ loop-stream-preserved c = (
   c.loop-stream.invariant.1,
   kept_by c.loop-stream.invariant.2 refl refl refl (λ t e. e) (λ e. e, λ e. e),
   end_then c.loop-stream.invariant.3 (to_by_us _ _ _ _ (stays_insert _ _ _ c.insert.ensures.value c.insert.ensures.full)),
+  c.loop-stream.invariant.4,
 )
 
 pub returns-in-Err : goal.returns-in-Err
@@ -40,6 +42,7 @@ returns-in-Err c = record {
     sending = c.loop-stream.invariant.2.sending;
   };
   tells = c.loop-stream.invariant.3;
+  over = c.loop-stream.invariant.4;
 }
 
 pub returns-after-loop-stream-clause-hearing : goal.returns-after-loop-stream-clause-hearing

@@ -1,3 +1,8 @@
+use Rattle.std.proofs.Common.{Ok, sym, ◌≡◌}
+use Rattle.std.proofs.lemmas.Bool.{false≢true}
+use Rattle.sctp_association.proofs.Ends.{forged_still, sack_there}
+use Rattle.sctp_association.specs.Ends.{by_sack}
+use Rattle.sctp_association.specs.declared.outbound.acks.SackTaken.TheVariants.{Forged}
 use Rattle.std.proofs.Common.{ap, inr}
 use Rattle.sctp_association.proofs.Rows.{follows_still, row_is}
 use Rattle.sctp_association.specs.Coming.{goes_on}
@@ -107,3 +112,16 @@ returns-in-Taken-clause-row c =
 
 pub returns-clause-row : goal.returns-clause-row
 returns-clause-row c = inr (ap goes_on c.requires.typ, c.end_with.ensures.over)
+
+-- ## What ends the association
+
+pub returns-in-Taken-clause-over : goal.returns-in-Taken-clause-over
+returns-in-Taken-clause-over c going over = absurd (false≢true (sym going ∙ over))
+
+-- a forged one
+pub returns-clause-over : goal.returns-clause-over
+returns-clause-over c going over =
+    let forged : c.take_sack.result ≡ Ok Forged = search rules in
+    by_sack _ (sack_there c.args.chunk.at c.args.datagram.now _ c.bytes_of.result.now c.bytes_of.ensures c.in-Ok.ensures.found)
+    (forged_still _ c.args.self.now.outbound c.end_with.new.self.outbound (c.end_with.ensures.outbound ∙ c.take_sack.ensures.forged forged)
+    (c.take_sack.ensures.claims forged))

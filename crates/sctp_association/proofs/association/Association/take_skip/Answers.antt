@@ -1,3 +1,6 @@
+use Rattle.sctp_association.proofs.Coming.{if_ok}
+use Rattle.sctp_association.proofs.Ends.{ends_by, skip_why}
+use Rattle.sctp_association.specs.Ends.{by_skip}
 use Rattle.sctp_association.proofs.Rows.{follows_still, row_goes}
 use Rattle.sctp_association.specs.Coming.{goes_on}
 use Rattle.sctp_association.specs.Rows.{FollowsStep, cause_in, row_at, tag_to}
@@ -104,3 +107,14 @@ returns-clause-row c =
     (ap goes_on c.requires.typ) c.end_by.result
     (λ next. subst (λ (x : Association). FollowsStep step 0 old x) (sym (c.end_by.ensures.on next)) (follows_still 0 old _ refl refl refl refl))
     c.end_by.ensures.over
+
+-- ## What ends the association
+
+pub returns-clause-over : goal.returns-clause-over
+returns-clause-over c =
+    let reads : StartsWith (drop c.args.chunk.at c.args.datagram.now) (forward_tsn_chunk (forward_tsn_of c.in-Some.skip)) = search rules in
+    let came = if_ok _ _ _ c.in-Ok.is c.take_skip.ensures.ends in
+    ends_by c.args.chunk c.args.datagram.now c.args.self.now c.end_by.new.self c.end_by.result
+    (λ next. ap (λ (a : Association). a.is_over) (c.end_by.ensures.on next))
+    (λ stop. by_skip _ c.end_by.ensures.halves.receiver (forward_tsn_of c.in-Some.skip) reads
+    (skip_why (forward_tsn_of c.in-Some.skip) _ _ came (c.end_by.ensures.stops stop).0 (c.end_by.ensures.stops stop).1)) c.end_by.ensures.whole

@@ -1,3 +1,4 @@
+use Rattle.sctp_association.proofs.Ends.{forged_by}
 use Rattle.std.proofs.Common.{ap, false, length, refl, rules, subst, sym, true, vec_len, ◌≡◌, ◌∙◌}
 use Rattle.std.proofs.lemmas.Bool.{false≢true}
 use Rattle.sctp_association.proofs.Arriving.{acknowledged_sack, acknowledged_same, acknowledged_then, counted_asked}
@@ -23,6 +24,7 @@ returns-in-Err c = record {
   counts = search rules;
   limits = search rules;
   forged = search rules;
+  claims = λ is. forged_by _ _ c.args.self.now c.acked.result c.pass_over_blocks.ensures.taken (λ x e. cc (e, c.in-Err.is)) (λ e. search (rules, e)) c.acked.ensures.refused;
   err = search rules;
 }
 
