@@ -1,14 +1,33 @@
 -- Of which packets something is taken.
-use Rattle.std.proofs.Common.{◌≡◌, ℕ, Bool, true, false, List, drop, refl, ap, sym, subst, ◌∙◌, inl, inr}
-use Rattle.std.proofs.lemmas.Bool.{and_parts, cases_Bool, false≢true, ne_eqb}
-use Rattle.std.specs.Prelude.{◌&&◌, not, if◌then◌else◌}
+use Rattle.std.proofs.Common.{◌≡◌, ◌⊎◌, ◌<◌, ℕ, Bool, true, false, List, drop, length, Option, None, Some, refl, ap, sym, subst, ◌∙◌, inl, inr, arith}
+use Rattle.std.proofs.lemmas.Bool.{and_parts, cases_Bool, false≢true, lt-ltb, ne_eqb}
+use Rattle.std.specs.Prelude.{◌==◌, ◌&&◌, ◌≢◌, not, nat_lt, Result, Ok, Err, if◌then◌else◌}
 use Rattle.sctp_association.proofs.Going.{due_begun}
 use Rattle.sctp_association.specs.Coming.{goes_on, is_due}
-use Rattle.sctp_association.specs.Heard.{IsEchoHeard, IsHeard, IsReadable, expects, hears, is_closed}
+use Rattle.sctp_association.specs.Heard.{IsEchoHeard, IsHeard, IsInitAckHeard, IsInitHeard, IsReadable, expects, hears, is_closed}
 use Rattle.sctp_association.specs.declared.association.Association.{Association}
+use Rattle.sctp_association.specs.Reports.{value_in}
+use Rattle.sctp_chunks.specs.Framing.{type_at}
+use Rattle.sctp_datagram.proofs.Alone.{no-frame-fault}
+use Rattle.sctp_datagram.specs.InPlace.{NoInitFault}
+use Rattle.sctp_datagram.specs.Places.{IsPlace}
 use Rattle.sctp_datagram.specs.declared.datagram.ChunkPlace.{ChunkPlace}
+use Rattle.sctp_handshake.specs.Beginnings.{init_ack_checked, init_ack_row, init_checked, init_reply, init_row, on_init_ack}
+use Rattle.sctp_datagram.specs.declared.params.ParamPlace.{ParamPlace}
+use Rattle.sctp_handshake.specs.InitValues.{init_in, numbers_in, said_from}
+use Rattle.sctp_handshake.specs.InitValues as values
+use Rattle.sctp_handshake.specs.declared.init_value.InitFault.{InitFault}
+use Rattle.sctp_handshake.specs.Offers.{has_no_streams, offer_fault}
+use Rattle.sctp_handshake.specs.declared.answer.Answer.{Answer}
+use Rattle.sctp_handshake.specs.declared.init_value.InitFault.TheVariants.{ShortValue}
+use Rattle.sctp_handshake.specs.declared.init_value.Said.{Said}
+use Rattle.sctp_handshake.specs.declared.machine.Machine.{Machine}
+use Rattle.sctp_handshake.specs.declared.offer.Offer.{Offer}
+use Rattle.sctp_handshake.specs.declared.offer.OfferFault.{OfferFault}
+use Rattle.sctp_handshake.specs.declared.offer.OfferFault.TheVariants.{NoTag, NoStreams, SmallWindow}
+use Rattle.sctp_util.specs.declared.error.Error.{Error}
 use Rattle.sctp_handshake.specs.declared.state.State.{State}
-use Rattle.sctp_handshake.specs.declared.state.State.TheVariants.{Closed}
+use Rattle.sctp_handshake.specs.declared.state.State.TheVariants.{Closed, CookieWait}
 
 not-closed : (s : State) → not (is_closed s) ≡ true → s ≡ Closed → ⊥
 not-closed s going closed = false≢true (sym (ap (λ s. not (is_closed s)) closed) ∙ going)
@@ -21,36 +40,60 @@ hears_begun typ a e closed = elim (cases_Bool (goes_on typ)) [
       (sym (ap (λ b. if b then is_due typ a else not (is_closed a.machine.state) && expects typ a) off) ∙ e)).0 closed
 ]
 
-module _ (c : ChunkPlace) (tag : ℕ) (d : List ℕ) (now : ℕ) (a : Association) (heard : IsHeard c tag d now a) where
-  -- in Closed only a cookie is heard
-  pub heard_begun : (c.typ ≡ 10 → ⊥) → a.machine.state ≡ Closed → ⊥
-  heard_begun other closed = elim heard [
-    | inl h ↦ hears_begun c.typ a h.0 closed
-    | inr e ↦ other e.typ
-  ]
-
-  -- of a chunk of this type, which is no cookie
-  pub heard_at : (n : ℕ) → c.typ ≡ n → (n ≡ 10 → ⊥) → (hears n a ≡ true) × IsReadable n (drop c.at d)
-  heard_at n is other = elim heard [
-    | inl h ↦ subst (λ k. (hears k a ≡ true) × IsReadable k (drop c.at d)) is h
-    | inr e ↦ absurd (other (sym is ∙ e.typ))
-  ]
-
-  pub heard_echo : c.typ ≡ 10 → IsEchoHeard c tag d now a
-  heard_echo is = elim heard [
-    | inl h ↦ absurd (false≢true (sym (never (not (is_closed a.machine.state))) ∙ sym (ap (λ n. hears n a) is) ∙ h.0))
-    | inr e ↦ e
-  ]
-    where
-      never : (b : Bool) → b && false ≡ false
-      never true = refl
-      never false = refl
-
--- an INIT, an INIT ACK and a RE-CONFIG are not among these
+-- by itself no chunk of this type is heard
 pub heard_none : (a : Association) (n : ℕ) → goes_on n ≡ false → expects n a ≡ false → hears n a ≡ true → ⊥
 heard_none a n off none e =
     false≢true (sym none ∙ (and_parts (not (is_closed a.machine.state)) (expects n a)
     (sym (ap (λ b. if b then is_due n a else not (is_closed a.machine.state) && expects n a) off) ∙ e)).1)
+
+module _ (c : ChunkPlace) (tag : ℕ) (d : List ℕ) (now : ℕ) (a : Association) (heard : IsHeard c tag d now a) where
+  -- in Closed only a cookie and an INIT are heard
+  pub heard_begun : (c.typ ≡ 10 → ⊥) → (c.typ ≡ 1 → ⊥) → a.machine.state ≡ Closed → ⊥
+  heard_begun n10 n1 closed = elim heard [
+    | inl h ↦ hears_begun c.typ a h.0 closed
+    | inr (inl e) ↦ n10 e.typ
+    | inr (inr (inl e)) ↦ n1 e.typ
+    | inr (inr (inr e)) ↦ waits≢closed (sym e.waits ∙ closed)
+  ]
+    where
+      waits≢closed : CookieWait ≡ Closed → ⊥
+      waits≢closed e = cc
+
+  -- of a chunk of this type, which is no cookie, INIT or INIT ACK
+  pub heard_at : (n : ℕ) → c.typ ≡ n → (n ≡ 10 → ⊥) → (n ≡ 1 → ⊥) → (n ≡ 2 → ⊥) → (hears n a ≡ true) × IsReadable n (drop c.at d)
+  heard_at n is n10 n1 n2 = elim heard [
+    | inl h ↦ subst (λ k. (hears k a ≡ true) × IsReadable k (drop c.at d)) is h
+    | inr (inl e) ↦ absurd (n10 (sym is ∙ e.typ))
+    | inr (inr (inl e)) ↦ absurd (n1 (sym is ∙ e.typ))
+    | inr (inr (inr e)) ↦ absurd (n2 (sym is ∙ e.typ))
+  ]
+
+  never : (n : ℕ) → c.typ ≡ n → goes_on n ≡ false → expects n a ≡ false → hears c.typ a ≡ true → ⊥
+  never n is off none h = heard_none a n off none (sym (ap (λ n. hears n a) is) ∙ h)
+
+  pub heard_echo : c.typ ≡ 10 → IsEchoHeard c tag d now a
+  heard_echo is = elim heard [
+    | inl h ↦ absurd (never 10 is refl refl h.0)
+    | inr (inl e) ↦ e
+    | inr (inr (inl e)) ↦ absurd (omega (arith, is, e.typ))
+    | inr (inr (inr e)) ↦ absurd (omega (arith, is, e.typ))
+  ]
+
+  pub heard_init : c.typ ≡ 1 → IsInitHeard c d
+  heard_init is = elim heard [
+    | inl h ↦ absurd (never 1 is refl refl h.0)
+    | inr (inl e) ↦ absurd (omega (arith, is, e.typ))
+    | inr (inr (inl e)) ↦ e
+    | inr (inr (inr e)) ↦ absurd (omega (arith, is, e.typ))
+  ]
+
+  pub heard_init_ack : c.typ ≡ 2 → IsInitAckHeard c d a
+  heard_init_ack is = elim heard [
+    | inl h ↦ absurd (never 2 is refl refl h.0)
+    | inr (inl e) ↦ absurd (omega (arith, is, e.typ))
+    | inr (inr (inl e)) ↦ absurd (omega (arith, is, e.typ))
+    | inr (inr (inr e)) ↦ e
+  ]
 
 -- a control chunk
 pub heard_control : (a : Association) (n : ℕ) → (n ≡ 0 → ⊥) → (n ≡ 3 → ⊥) → (n ≡ 192 → ⊥) → hears n a ≡ true
@@ -60,3 +103,75 @@ heard_control a n n0 n3 n192 e =
     let both = and_parts (not (is_closed a.machine.state)) (expects n a)
     (sym (ap (λ b. if b then is_due n a else not (is_closed a.machine.state) && expects n a) off) ∙ e) in
     (λ closed. not-closed a.machine.state both.0 closed, both.1)
+
+-- ## An INIT and an INIT ACK are read
+
+init-long : (value : List ℕ) (said : Said) → init_in value ≡ Ok said → length value < 16 → ⊥
+init-long value said reads short = by (nat_lt (length value) 16) (lt-ltb (length value) 16 short) reads
+  where
+    short≢ok : (said : Said) → Err ShortValue ≡ Ok said → ⊥
+    short≢ok said e = cc
+    by : (b : Bool) → b ≡ true → (if b then Err ShortValue else said_from (length value) value 16 (numbers_in value)) ≡ Ok said → ⊥
+    by true is e = short≢ok said e
+    by false is e = false≢true is
+
+-- the value of a chunk that is there is found, where it says something
+pub value_found : (d : List ℕ) (c : ChunkPlace) → IsPlace d c → (c.typ ≡ 1) ⊎ (c.typ ≡ 2) → (said : Said) → init_in (value_in d c) ≡ Ok said
+    → (bytes : List ℕ) → bytes ≡ drop c.at d → (e : Error) → NoInitFault e bytes → ⊥
+value_found d c place typ said reads bytes cut e fault =
+    by (subst (NoInitFault e) cut fault)
+  where
+    is : type_at (drop c.at d) ≡ c.typ
+    is = sym (ap (λ (k : ChunkPlace). k.typ) place.told)
+    by : NoInitFault e (drop c.at d) → ⊥
+    by (inl frame) = no-frame-fault e (drop c.at d) place.there.is_framed frame
+    by (inr (inl other)) = elim typ [
+      | inl one ↦ other.2 (is ∙ one)
+      | inr two ↦ other.3 (is ∙ two)
+    ]
+    by (inr (inr short)) = init-long (value_in d c) said reads short.2
+
+-- an offer with a tag is answered
+row-answers : (s : State) (peer : Offer) (tag : ℕ) (m : Machine) → init_row s peer tag m ≡ None → ⊥
+row-answers Closed peer tag m e = cc
+row-answers _ peer tag m e = cc
+
+checked-answers : (f : Option OfferFault) (peer : Offer) (tag : ℕ) (m : Machine) → (f ≡ Some NoTag → ⊥) → init_checked f peer tag m ≡ None → ⊥
+checked-answers None peer tag m other e = row-answers m.state peer tag m e
+checked-answers (Some NoTag) peer tag m other e = other refl
+checked-answers (Some NoStreams) peer tag m other e = cc
+checked-answers (Some SmallWindow) peer tag m other e = cc
+
+pub offer_answered : (peer : Offer) (tag : ℕ) (m : Machine) → peer.tag ≢ 0 → init_reply peer tag m ≡ None → ⊥
+offer_answered peer tag m tagged e = checked-answers (offer_fault peer) peer tag m fault e
+  where
+    by : (a b c : Bool) → a ≡ false
+        → (if a then Some NoTag else (if b then Some NoStreams else (if c then Some SmallWindow else None))) ≡ Some NoTag → ⊥
+    by true b c off e = false≢true (sym off)
+    by false true c off e = cc
+    by false false true off e = cc
+    by false false false off e = cc
+    fault : offer_fault peer ≡ Some NoTag → ⊥
+    fault f = by (peer.tag == 0) (has_no_streams peer) (nat_lt peer.window 1500) (ne_eqb peer.tag 0 tagged) f
+
+-- where an INIT ACK is waited for the machine replies or tells
+ack-speaks : (f : Option OfferFault) (peer : Offer) (m : Machine) → (init_ack_checked f peer m).answer.reply ≡ None
+    → (init_ack_checked f peer m).answer.told ≡ None → ⊥
+ack-speaks None peer m e told = cc
+ack-speaks (Some NoTag) peer m e told = cc
+ack-speaks (Some NoStreams) peer m e told = cc
+ack-speaks (Some SmallWindow) peer m e told = cc
+
+pub init_ack_answered : (peer : Offer) (m : Machine) (a : Answer) → m.state ≡ CookieWait → a ≡ (on_init_ack peer m).answer → a.reply ≡ None
+    → a.told ≡ None → ⊥
+init_ack_answered peer m a waits is reply told =
+    let row : a ≡ (init_ack_checked (offer_fault peer) peer m).answer = is ∙ ap (λ (s : State). (init_ack_row s peer m).answer) waits in
+    ack-speaks (offer_fault peer) peer m (sym (ap (λ (k : Answer). k.reply) row) ∙ reply) (sym (ap (λ (k : Answer). k.told) row) ∙ told)
+
+-- an INIT ACK of which the cookie is found was read
+pub said_of : (r : Result Said InitFault) (x : Offer × ParamPlace) → values.cookie_in r ≡ Ok x → (said : Said) × (r ≡ Ok said)
+said_of (Ok said) x e = (said, refl)
+said_of (Err k) x e = absurd (err≢ok k x e)
+  where
+    err≢ok : (k : InitFault) (x : Offer × ParamPlace) → Err k ≡ Ok x → ⊥
+    err≢ok k x e = cc

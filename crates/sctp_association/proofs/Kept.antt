@@ -25,3 +25,6 @@ pub same_inbound : (a : Association) (o : Option Inbound) (e : Events) (p : IsIn
 same_inbound a o e p same told =
     let P : Option Inbound → Type 0 = λ x. (q : IsIn a x) → record a { inbound = x; events = e; limited = q } ≡ a in
     subst P (sym same) (λ q. ap (λ v. record a { events = v; limited = q }) told ∙ ap (λ l. record a { limited = l }) (one_proof a q a.limited)) p
+
+pub same_due : (a b : Association) (p : IsWithin a) → b ≡ record a { due = b.due; limited = p } → b ≡ record a { due = b.due }
+same_due a b p e = e ∙ ap (λ l. record a { due = b.due; limited = l }) (one_proof a p a.limited)

@@ -1,10 +1,12 @@
 -- Of which packets something is taken, by their first chunk (RFC 9260 5, 6, 8.3, 9). Moments are nanoseconds.
-use Rattle.std.specs.Prelude.{◌≡◌, ◌⊎◌, ℕ, ◌<◌, ◌^◌, ◌==◌, ◌&&◌, ◌||◌, not, if◌then◌else◌, Bool, true, false, List, [], ◌∷◌, drop, length, None, is_none, is_some}
+use Rattle.std.specs.Prelude.{◌≡◌, ◌⊎◌, ℕ, ◌<◌, ◌^◌, ◌==◌, ◌&&◌, ◌||◌, not, if◌then◌else◌, Bool, true, false, List}
+use Rattle.std.specs.Prelude.{[], ◌∷◌, drop, length, None, is_none, is_some, ◌+◌, ◌≤◌, ◌≢◌, Ok}
 use Rattle.crc32c.specs.Castagnoli.{crc32c_of}
 use Rattle.sctp_association.specs.Beginnings.{is_standing}
 use Rattle.sctp_association.specs.Coming.{goes_on, is_due, zero_checksum_of}
 use Rattle.sctp_association.specs.Cookies.{IsSealedAt, cookie_in}
 use Rattle.sctp_association.specs.Openings.{echo_step}
+use Rattle.sctp_association.specs.Reports.{value_in}
 use Rattle.sctp_association.specs.Rows.{row_at}
 use Rattle.sctp_association.specs.Tags.{is_admitted}
 use Rattle.sctp_association.specs.declared.association.Association.{Association}
@@ -13,9 +15,14 @@ use Rattle.sctp_datagram.specs.declared.datagram.ChunkPlace.{ChunkPlace}
 use Rattle.sctp_datagram.specs.Fault.{IsAccepted}
 use Rattle.sctp_datagram.specs.Framing.{StartsWith}
 use Rattle.sctp_datagram.specs.Places.{TellsAll, place_at}
+use Rattle.sctp_datagram.specs.declared.params.ParamPlace.{ParamPlace}
+use Rattle.sctp_handshake.specs.InitValues.{host_name_of, init_in}
+use Rattle.sctp_handshake.specs.InitValues as values
 use Rattle.sctp_handshake.specs.declared.answer.Answer.{Answer}
+use Rattle.sctp_handshake.specs.declared.init_value.Said.{Said}
+use Rattle.sctp_handshake.specs.declared.offer.Offer.{Offer}
 use Rattle.sctp_handshake.specs.declared.state.State.{State}
-use Rattle.sctp_handshake.specs.declared.state.State.TheVariants.{Closed, ShutdownReceived}
+use Rattle.sctp_handshake.specs.declared.state.State.TheVariants.{Closed, CookieWait, ShutdownReceived}
 use Rattle.sctp_params.specs.Param.{heartbeat_info}
 use Rattle.sctp_util.specs.Field.{u16_at, u32_at}
 
@@ -70,11 +77,28 @@ pub record IsEchoHeard (c : ChunkPlace) (tag : ℕ) (datagram : List ℕ) (now :
   pub begins : may_begin a ≡ true
   pub speaks : speaks (echo_step now moment made.ticket a).answer ≡ true
 
+-- An INIT is read, and its offer has a tag: it is answered (5.1 B, 5.2.1, 5.2.2)
+pub record IsInitHeard (c : ChunkPlace) (datagram : List ℕ) : Type 0 where
+  pub typ : c.typ ≡ 1
+  pub said : Said
+  pub reads : init_in (value_in datagram c) ≡ Ok said
+  pub tagged : said.offer.tag ≢ 0
+
+-- An INIT ACK without a Host Name Address is read, and this side waits for it: its cookie lies within it (5.1 C)
+pub record IsInitAckHeard (c : ChunkPlace) (datagram : List ℕ) (a : Association) : Type 0 where
+  pub typ : c.typ ≡ 2
+  pub waits : a.machine.state ≡ CookieWait
+  pub plain : host_name_of (value_in datagram c) ≡ None
+  pub offer : Offer
+  pub place : ParamPlace
+  pub reads : values.cookie_in (init_in (value_in datagram c)) ≡ Ok (offer, place)
+  pub within : place.at + place.length ≤ length (value_in datagram c)
+
 -- a chunk of a packet with this tag is heard
 abbrev pub IsHeard : ChunkPlace → (tag : ℕ) → List ℕ → (now : ℕ) → Association → Type 0
 IsHeard c tag datagram now a =
     ((hears c.typ a ≡ true) × IsReadable c.typ (drop c.at datagram))
-    ⊎ IsEchoHeard c tag datagram now a
+    ⊎ (IsEchoHeard c tag datagram now a ⊎ (IsInitHeard c datagram ⊎ IsInitAckHeard c datagram a))
 
 -- a packet for the association, which goes on: it is valid, has its ports and its tag, and begins with a chunk that is heard
 pub record IsDue (datagram : List ℕ) (now : ℕ) (a : Association) : Type 0 where

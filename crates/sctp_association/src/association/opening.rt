@@ -6,7 +6,7 @@ ghost use Rattle.sctp_association.specs.Beginnings.{ArrivesAsOffered, BeginsByTi
 ghost use Rattle.sctp_association.specs.Kept.{OwesNoMore, OwesTicket, ticket_in_kind};
 ghost use Rattle.sctp_association.specs.Cookies.{IsAlive, IsSealed, cookie_in};
 ghost use Rattle.sctp_association.specs.Halves.{HalvesAlike, halves_of};
-ghost use Rattle.sctp_association.specs.Heard.{IsEchoHeard, may_begin, speaks};
+ghost use Rattle.sctp_association.specs.Heard.{IsEchoHeard, IsInitAckHeard, IsInitHeard, may_begin, speaks};
 ghost use Rattle.sctp_association.specs.Openings.{EchoesOn, InitAckOn, owed_to_init};
 ghost use Rattle.sctp_association.specs.Reports.{AnswersHostName, EndsBegun, EndsByHostName, value_in};
 ghost use Rattle.sctp_association.specs.Rows.{StepsOn};
@@ -46,6 +46,7 @@ impl Association {
         chunk: ChunkPlace,
         now: u64,
     ) -> Result<Step, Fault>
+        requires place { IsPlace datagram.now chunk }
         requires own { IsChunkOf datagram.now chunk }
         requires typ { chunk.typ ≡ 1 }
         ensures refused { (r : Reason) → result ≡ Ok (step.Refused r) → self.new ≡ self.old }
@@ -59,6 +60,8 @@ impl Association {
         ensures host { result ≡ Ok step.Stop
             → AnswersHostName (value_in datagram.now chunk) self.new }
         ensures offers { IfOk result (λ s. OffersOn chunk datagram.now s self.old self.new) }
+        ensures heard { IsInitHeard chunk datagram.now
+            → (r : Reason) → result ≡ Ok (step.Refused r) → ⊥ }
     {
         let Ok(value) = init_value(bytes_of(datagram, chunk)) else {
             return Ok(Step::Refused(Reason::NoPacket));
@@ -103,6 +106,7 @@ impl Association {
         chunk: ChunkPlace,
         now: u64,
     ) -> Result<Step, Fault>
+        requires place { IsPlace datagram.now chunk }
         requires own { IsChunkOf datagram.now chunk }
         requires typ { chunk.typ ≡ 2 }
         ensures tells { Tells self.old self.new }
@@ -114,6 +118,8 @@ impl Association {
         ensures host { result ≡ Ok step.Stop
             → EndsByHostName (value_in datagram.now chunk) self.old self.new }
         ensures row { IfOk result (λ s. InitAckOn chunk datagram.now s self.old self.new) }
+        ensures heard { IsInitAckHeard chunk datagram.now self.old
+            → (r : Reason) → result ≡ Ok (step.Refused r) → ⊥ }
     {
         let Ok(value) = init_value(bytes_of(datagram, chunk)) else {
             return Ok(Step::Refused(Reason::NoPacket));

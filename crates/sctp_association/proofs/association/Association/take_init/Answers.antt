@@ -1,4 +1,8 @@
-use Rattle.std.proofs.Common.{Ok, Option, Some, ap, drop, rules, ◌≡◌, ◌∙◌}
+use Rattle.sctp_association.proofs.Kept.{same_due}
+use Rattle.sctp_association.proofs.Heard.{offer_answered, value_found}
+use Rattle.sctp_association.proofs.Openings.{ok_same}
+use Rattle.sctp_handshake.specs.declared.init_value.Said.{Said}
+use Rattle.std.proofs.Common.{Ok, Option, Some, ap, drop, inl, rules, sym, ◌≡◌, ◌∙◌}
 use Rattle.sctp_association.specs.Openings.{owed_to_init}
 use Rattle.sctp_handshake.specs.declared.answer.Reply.{Reply}
 use Rattle.sctp_association.proofs.Offers.{init_answered}
@@ -31,3 +35,24 @@ returns-in_ok-self-in-Some-2-clause-offers c none =
         unknown_params = c.owe_answer.new.self.due.unknown_params;
       }) answer;
     }
+
+-- ## What is heard is not refused
+
+pub returns-in_default-clause-heard : goal.returns-in_default-clause-heard
+returns-in_default-clause-heard c heard r is =
+    value_found c.args.datagram.now c.args.chunk c.requires.place (inl heard.typ) heard.said heard.reads c.bytes_of.result.now c.bytes_of.ensures _
+    c.in_default.ensures.fault
+
+pub returns-in_default-read_init-clause-heard : goal.returns-in_default-read_init-clause-heard
+returns-in_default-read_init-clause-heard c heard r is =
+    c.in_default-read_init.not-Ok heard.said (c.read_init.ensures ∙ ap init_in (c.in-Ok.ensures.value ∙ ap value_at c.bytes_of.ensures) ∙ heard.reads)
+
+pub returns-in-None-clause-heard : goal.returns-in-None-clause-heard
+returns-in-None-clause-heard c heard r is =
+    let said : c.in-Ok-read_init.said ≡ heard.said = ok_same c.read_init.result _ _ c.in-Ok-read_init.is
+    (c.read_init.ensures ∙ ap init_in (c.in-Ok.ensures.value ∙ ap value_at c.bytes_of.ensures) ∙ heard.reads) in
+    offer_answered c.in-Ok-read_init.said.offer c.fresh_tag-tag.result c.args.self.now.machine
+    (λ none. heard.tagged (sym (ap (λ (s : Said). s.offer.tag) said) ∙ none)) (sym c.init.ensures ∙ c.in-None.is)
+
+pub returns-in-Some-host_name_in-clause-due : goal.returns-in-Some-host_name_in-clause-due
+returns-in-Some-host_name_in-clause-due c = same_due c.args.self.now c.owe_alone.new.self _ c.owe_alone.ensures.rest
