@@ -11,8 +11,6 @@ use Rattle.sctp_association.specs.Halves.{receiver_of}
 use Rattle.sctp_association.specs.Openings.{EchoesOn, InitAckOn}
 use Rattle.sctp_association.specs.Rows.{FollowsStep, RowOn, cause_in, error_row, has_row, over_by, row_at}
 use Rattle.sctp_association.specs.declared.association.Association.{Association}
-use Rattle.sctp_association.specs.Tags.{is_admitted}
-use Rattle.sctp_association.specs.declared.association.Reason.TheVariants.{Tag}
 use Rattle.sctp_association.specs.declared.association.arrivals.Step.{Step}
 use Rattle.sctp_association.specs.declared.association.arrivals.Step.TheVariants.{Next, Stop, Cut, Refused}
 use Rattle.sctp_association.specs.declared.fault.Fault.{Fault}
@@ -266,14 +264,3 @@ pub ended_still : (d : List ℕ) (a b e : Association) → receiver_of e.inbound
 ended_still d a b e came out same ends = λ going over.
     let h = ends going (sym same ∙ over) in
     record { chunk = h.chunk; own = h.own; ends = ends_still h.chunk d b e came out h.ends }
-
--- a first chunk by which the datagram ends may stand there
-pub admitted_by : (first : ChunkPlace) (m : Machine) (r : Result Step Fault) (tag own count many : ℕ) → tag ≡ own → count ≡ many
-    → (is_admitted first tag count m ≡ false → r ≡ Ok (Refused Tag)) → r ≡ Ok Stop → is_admitted first own many m ≡ true
-admitted_by first m r tag own count many same all refused stop = elim (cases_Bool (is_admitted first tag count m)) [
-  | inl is ↦ sym (ap (λ n. is_admitted first n many m) same) ∙ sym (ap (λ n. is_admitted first tag n m) all) ∙ is
-  | inr off ↦ absurd (not-refused r stop (refused off))
-]
-  where
-    not-refused : (r : Result Step Fault) → r ≡ Ok Stop → r ≡ Ok (Refused Tag) → ⊥
-    not-refused r a b = cc

@@ -1,13 +1,17 @@
 -- The first chunk of a datagram begins behind the header.
 use Rattle.std.proofs.Common.{◌≡◌, ◌⊎◌, ℕ, true, false, List, [], ◌∷◌, ◌++◌, drop, length, ap, arith, subst, sym, ◌∙◌, inl, inr}
+use Rattle.std.proofs.lemmas.Bool.{cases_Bool, false≢true}
 use Rattle.std.specs.Prelude.{Result, Ok, Err, IfOk, OnErr}
 use Rattle.sctp_association.specs.Coming.{TakesDataAt, TakesOnlyData}
 use Rattle.sctp_association.specs.declared.association.Association.{Association}
-use Rattle.sctp_association.specs.Cookies.{cookie_in, IsAlive}
-use Rattle.sctp_association.specs.Steps.{is_accepted}
+use Rattle.sctp_association.specs.Cookies.{cookie_in, IsAlive, IsSealed}
+use Rattle.sctp_association.specs.Steps.{is_accepted, is_taken}
+use Rattle.sctp_association.specs.declared.association.Reason.TheVariants.{Tag}
+use Rattle.sctp_association.specs.declared.association.arrivals.Step.{Step}
+use Rattle.sctp_association.specs.declared.association.arrivals.Step.TheVariants.{Refused}
 use Rattle.sctp_association.specs.declared.association.Taken.{Taken}
 use Rattle.sctp_association.specs.declared.fault.Fault.{Fault}
-use Rattle.sctp_association.specs.Tags.{AdmitsFirst, BeginsByCookie, EndsWithFirst, FirstIs, FirstIsAlive, IsFor, first_type, is_all_or_nothing}
+use Rattle.sctp_association.specs.Tags.{AdmitsFirst, BeginsByCookie, EndsWithFirst, FirstIs, FirstIsAlive, IsFor, first_type, is_admitted, is_all_or_nothing}
 use Rattle.sctp_datagram.specs.declared.datagram.ChunkPlace.{ChunkPlace}
 use Rattle.sctp_datagram.specs.Places.{IsThere, Passes, TellsAll, behind, place_at}
 use Rattle.sctp_handshake.specs.declared.machine.Machine.{Machine}
@@ -112,3 +116,29 @@ only_one P n d rows key m t one typ admits f = elim (one-row d rows t.passed t.e
       let place : e.0 ≡ place_at d 12 = first_place d (e.0 ∷ []) (rw (sym e.1) t) in
       subst P place (f e.0 e.1 (e.2 ∙ typ))
 ]
+
+-- the first chunk may stand there, where it is taken
+pub admits_of : (first : ChunkPlace) (rest rows : List ChunkPlace) (d key : List ℕ) (m : Machine) (r : Result Step Fault) (tag count : ℕ)
+    → rows ≡ first ∷ rest → tag ≡ u32_at d 4 → count ≡ length rows → (is_admitted first tag count m ≡ false → r ≡ Ok (Refused Tag))
+    → (first.typ ≡ 10 → IfOk r (λ s. is_taken s ≡ true → IsSealed key tag (cookie_in d first))) → (s : Step) → r ≡ Ok s → is_taken s ≡ true
+    → AdmitsFirst d rows key m
+admits_of first rest rows d key m r tag count are own all foreign sealed s is took = record {
+  first = first;
+  rest = rest;
+  are = are;
+  admitted = sym (ap (λ n. is_admitted first n (length rows) m) own) ∙ sym (ap (λ n. is_admitted first tag n m) all) ∙ admitted;
+  cookie = λ typ. subst (λ (n : ℕ). IsSealed key n (cookie_in d first)) own (of r s is (sealed typ) took);
+}
+  where
+    of : (r : Result Step Fault) (s : Step) → r ≡ Ok s → IfOk r (λ s. is_taken s ≡ true → IsSealed key tag (cookie_in d first)) → is_taken s ≡ true
+        → IsSealed key tag (cookie_in d first)
+    of r s is h took = (subst (λ (k : Result Step Fault). IfOk k (λ s. is_taken s ≡ true → IsSealed key tag (cookie_in d first))) is h) took
+
+    step-of : (r : Result Step Fault) (x y : Step) → r ≡ Ok x → r ≡ Ok y → x ≡ y
+    step-of r x y a b = cc
+
+    admitted : is_admitted first tag count m ≡ true
+    admitted = elim (cases_Bool (is_admitted first tag count m)) [
+      | inl may ↦ may
+      | inr off ↦ absurd (false≢true (sym (ap is_taken (step-of r s (Refused Tag) is (foreign off))) ∙ took))
+    ]

@@ -111,6 +111,7 @@ init-long value said reads short = by (nat_lt (length value) 16) (lt-ltb (length
   where
     short≢ok : (said : Said) → Err ShortValue ≡ Ok said → ⊥
     short≢ok said e = cc
+
     by : (b : Bool) → b ≡ true → (if b then Err ShortValue else said_from (length value) value 16 (numbers_in value)) ≡ Ok said → ⊥
     by true is e = short≢ok said e
     by false is e = false≢true is
@@ -123,6 +124,7 @@ value_found d c place typ said reads bytes cut e fault =
   where
     is : type_at (drop c.at d) ≡ c.typ
     is = sym (ap (λ (k : ChunkPlace). k.typ) place.told)
+
     by : NoInitFault e (drop c.at d) → ⊥
     by (inl frame) = no-frame-fault e (drop c.at d) place.there.is_framed frame
     by (inr (inl other)) = elim typ [
@@ -151,6 +153,7 @@ offer_answered peer tag m tagged e = checked-answers (offer_fault peer) peer tag
     by false true c off e = cc
     by false false true off e = cc
     by false false false off e = cc
+
     fault : offer_fault peer ≡ Some NoTag → ⊥
     fault f = by (peer.tag == 0) (has_no_streams peer) (nat_lt peer.window 1500) (ne_eqb peer.tag 0 tagged) f
 

@@ -52,6 +52,7 @@ pub mod Hosts
 pub mod HostCalls
 pub mod Sized
 pub mod Rows
+pub mod Behind
 pub mod Ends
 pub mod Heard
 pub mod Openings

@@ -4,6 +4,7 @@ pub mod Asked
 pub mod BackOff
 pub mod Beats
 pub mod Beginnings
+pub mod Behind
 pub mod Calls
 pub mod Coming
 pub mod Congested

@@ -4,6 +4,7 @@ ghost use Rattle.std.specs.Prelude.{◌≡◌, ◌⊎◌, ◌<◌, ◌≤◌, �
 ghost use Rattle.std.specs.List.{AllByRecursion};
 ghost use Rattle.sctp_association.specs.Single.{AloneAt, AloneOn};
 ghost use Rattle.sctp_association.specs.Arrivals.{Arrives, CallsArrive};
+ghost use Rattle.sctp_association.specs.Behind.{FirstOf, FirstOn, StillAs, StillOn};
 ghost use Rattle.sctp_association.specs.Beats.{AnswersAt, BeatsAt};
 ghost use Rattle.sctp_association.specs.Beginnings.{ArrivesAsOffered, BeginsByDatagram, BeginsByTicket, KeepsPeer};
 ghost use Rattle.sctp_association.specs.Kept.{IsKept, OwesNoMore, ticket_in_kind};
@@ -29,7 +30,7 @@ ghost use Rattle.sctp_association.specs.declared.association.Reason.TheVariants.
 ghost use Rattle.sctp_association.specs.declared.association.Taken.TheVariants.{Accepted, Dropped, Partly};
 ghost use Rattle.sctp_association.specs.declared.association.arrivals.Step.TheVariants as step;
 ghost use Rattle.sctp_association.specs.declared.inbound.Followed.TheVariants.{Done, Wanting};
-ghost use Rattle.sctp_chunks.specs.Wire.{Wire, data_chunk};
+ghost use Rattle.sctp_chunks.specs.Wire.{data_chunk};
 ghost use Rattle.sctp_data.specs.PayloadData.{data_of};
 ghost use Rattle.sctp_datagram.specs.Carried.{IsChunkOf};
 ghost use Rattle.sctp_datagram.specs.Framing.{StartsWith};
@@ -48,7 +49,6 @@ use crate::once::Once;
 use crate::outbound::SackTaken;
 use bytes::Bytes;
 use sctp_chunks::ChunkForwardTsn;
-use sctp_chunks::chunk::Chunk;
 use sctp_data::chunk::chunk_payload_data::ChunkPayloadData;
 use sctp_datagram::in_place::{data_in, read_sack};
 use sctp_datagram::{ChunkPlace, Datagram, ZeroChecksum};
@@ -98,7 +98,7 @@ fn read_data(datagram: &Bytes, chunk: ChunkPlace) -> Result<ChunkPayloadData, Fa
 }
 
 // Refuses where memory was wanting.
-fn unless_memory(e: Error) -> Result<(), Fault>
+pub(super) fn unless_memory(e: Error) -> Result<(), Fault>
     ensures { OnOk result (e ≡ ErrOutOfMemory → ⊥) }
 {
     match e {
@@ -233,6 +233,11 @@ impl Association {
         ensures acks { EndsWithFirst datagram.now → first_type datagram.now ≡ 2
             → result ≡ Ok Accepted → self.old.is_over ≡ false
             → InitAckBy (place_at datagram.now 12) datagram.now self.old self.new }
+        // So it is of the first chunk, where DATA, SACKs and FORWARD-TSNs alone stand behind it: it is taken, or its state does not expect it. They leave
+        // the state, and what is due but a SHUTDOWN; or the association is over (RFC 9260 5.2.5, 6.10).
+        ensures behind { result ≡ Ok Accepted → self.old.is_over ≡ false
+            → (chunks : List ChunkPlace) → TellsAll place_at datagram.now chunks
+            → FirstOf chunks datagram.now now self.old self.new }
         // An INIT that is accepted is answered: an INIT ACK is due, to its tag, with a ticket of both offers; or what else its row says (RFC 9260 5.1 B).
         ensures offers { EndsWithFirst datagram.now → first_type datagram.now ≡ 1
             → result ≡ Ok Accepted → self.old.is_over ≡ false
@@ -327,6 +332,8 @@ impl Association {
             → all_go_on chunks.entry.left ≡ true
             → MovesByFirstOf chunks.entry.left datagram.now now self.old self.new }
         ensures over { EndsIn datagram.now self.old self.new }
+        ensures behind { result ≡ Ok Accepted
+            → FirstOf chunks.entry.left datagram.now now self.old self.new }
         ensures alone { (first : ChunkPlace) → chunks.entry.left ≡ first ∷ []
             → result ≡ Ok Accepted → AloneAt first datagram.now now self.old self.new }
     {
@@ -429,6 +436,8 @@ impl Association {
         ensures path { TakesSacksOf tag self.old → goes_on chunk.typ ≡ true → IfOk result
             (λ s. MovesOn chunk datagram.now now s self.old.outbound self.new.outbound) }
         ensures over { IfOk result (λ s. EndsOn chunk datagram.now s self.old self.new) }
+        ensures first { IfOk result (λ s. FirstOn chunk tag datagram.now now s
+            self.old self.new) }
         ensures alone { count < 2 → IfOk result
             (λ s. AloneOn chunk tag datagram.now now s self.old self.new) }
     {
@@ -459,6 +468,8 @@ impl Association {
             ⊎ MovesBehind first chunks.entry.left datagram.now now
             self.old.outbound self.new.outbound }
         ensures over { EndsIn datagram.now self.old self.new }
+        ensures still { all_go_on chunks.entry.left ≡ true → result ≡ true
+            → (self.new.is_over ≡ true) ⊎ StillAs self.old self.new }
     {
         let mut chunks = chunks;
         let tag = chunks.header().verification_tag;
@@ -504,6 +515,8 @@ impl Association {
         ensures never_sacks { TakesSacksOf tag self.old → goes_on chunk.typ ≡ true
             → (r : Reason) → result ≡ Ok (step.Refused r) → ⊥ }
         ensures over { IfOk result (λ s. EndsOn chunk datagram.now s self.old self.new) }
+        ensures still { goes_on chunk.typ ≡ true
+            → IfOk result (λ s. StillOn s self.old self.new) }
         ensures refused { (r : Reason) → result ≡ Ok (step.Refused r) → self.new ≡ self.old }
         ensures err { OnErr result (self.new ≡ self.old) }
     {
@@ -579,6 +592,8 @@ impl Association {
         ensures path { TakesSacksOf tag self.old → goes_on chunk.typ ≡ true → IfOk result
             (λ s. MovesOn chunk datagram.now now s self.old.outbound self.new.outbound) }
         ensures over { IfOk result (λ s. EndsOn chunk datagram.now s self.old self.new) }
+        ensures still { goes_on chunk.typ ≡ true
+            → IfOk result (λ s. StillOn s self.old self.new) }
         ensures alone { IfOk result
             (λ s. AloneOn chunk tag datagram.now now s self.old self.new) }
     {
@@ -620,6 +635,7 @@ impl Association {
             → IfOk result (λ s. HearsOn chunk tag datagram.now s self.old self.new) }
         ensures sending { self.new.outbound ≡ self.old.outbound }
         ensures over { IfOk result (λ s. EndsOn chunk datagram.now s self.old self.new) }
+        ensures still { IfOk result (λ s. StillOn s self.old self.new) }
         ensures row { IfOk result (λ s. RowOn chunk datagram.now s self.old self.new) }
     {
         if !self.machine.state().takes_data() {
@@ -677,6 +693,7 @@ impl Association {
             → IfOk result (λ s. HearsOn chunk tag datagram.now s self.old self.new) }
         ensures sending { self.new.outbound ≡ self.old.outbound }
         ensures over { IfOk result (λ s. EndsOn chunk datagram.now s self.old self.new) }
+        ensures still { IfOk result (λ s. StillOn s self.old self.new) }
         ensures row { IfOk result (λ s. RowOn chunk datagram.now s self.old self.new) }
     {
         if !self.machine.state().takes_data() {
@@ -735,6 +752,7 @@ impl Association {
         ensures path { IfOk result
             (λ s. MovesOn chunk datagram.now now s self.old.outbound self.new.outbound) }
         ensures over { IfOk result (λ s. EndsOn chunk datagram.now s self.old self.new) }
+        ensures still { IfOk result (λ s. StillOn s self.old self.new) }
         ensures row { IfOk result (λ s. RowOn chunk datagram.now s self.old self.new) }
     {
         if !self.machine.state().takes_sacks() {
@@ -755,33 +773,6 @@ impl Association {
             SackTaken::Forged => {
                 self.end_with(AloneKind::Abort(13));
                 Ok(Step::Stop)
-            }
-        }
-    }
-
-    // Reads a chunk of a kind; None where it is none.
-    pub(super) fn read_chunk<C: Chunk>(
-        &self,
-        datagram: &Bytes,
-        chunk: ChunkPlace,
-    ) -> Result<Option<C>, Fault>
-        requires place { IsPlace datagram.now chunk }
-        ensures found { IfOk result (λ read. IfSome read
-            (λ c. StartsWith (drop chunk.at datagram.now) (C.wire c))) }
-        // A chunk of the kind is read.
-        ensures some { (w : Wire) → C.IsKind w → StartsWith (drop chunk.at datagram.now) w
-            → result ≡ Ok None → ⊥ }
-    {
-        let end = chunk.at.saturating_add(chunk.length);
-        if end > datagram.len() || chunk.at > end {
-            return Ok(None);
-        }
-        let raw = datagram.slice(chunk.at..end)?;
-        match C::unmarshal(self.alloc, &raw) {
-            Ok(read) => Ok(Some(read)),
-            Err(e) => {
-                unless_memory(e)?;
-                Ok(None)
             }
         }
     }

@@ -1,6 +1,6 @@
 //! Control chunks that come: HEARTBEAT, ABORT, SHUTDOWN, ERROR and the like (RFC 9260 3.3.5 to 3.3.13, 8.3, 9).
 
-ghost use Rattle.std.specs.Prelude.{◌≡◌, ◌||◌, ℕ, List, [], ◌∷◌, drop, is_some, map, None, Some, Ok, IfOk, OnErr, true};
+ghost use Rattle.std.specs.Prelude.{◌≡◌, ◌||◌, ℕ, List, [], ◌∷◌, drop, is_some, map, None, Some, Ok, IfOk, IfSome, OnErr, true};
 ghost use Rattle.sctp_association.specs.Single.{AloneOn, IsOther};
 ghost use Rattle.sctp_association.specs.Arrivals.{CallsArrive};
 ghost use Rattle.sctp_association.specs.Beats.{AnswersOn, BeatsOn, IsBeaten, nonce_in};
@@ -14,7 +14,7 @@ ghost use Rattle.sctp_association.specs.Telling.{PassesOn, Tells, TellsEnd};
 ghost use Rattle.sctp_association.specs.declared.association.Reason.{Reason};
 ghost use Rattle.sctp_association.specs.declared.association.Reason.TheVariants.{Unexpected};
 ghost use Rattle.sctp_association.specs.declared.association.arrivals.Step.TheVariants as step;
-ghost use Rattle.sctp_chunks.specs.Wire.{heartbeat_ack_chunk, heartbeat_chunk, shutdown_chunk};
+ghost use Rattle.sctp_chunks.specs.Wire.{Wire, heartbeat_ack_chunk, heartbeat_chunk, shutdown_chunk};
 ghost use Rattle.sctp_datagram.specs.Carried.{IsChunkOf};
 ghost use Rattle.sctp_datagram.specs.Framing.{StartsWith};
 ghost use Rattle.sctp_datagram.specs.Places.{IsPlace};
@@ -26,11 +26,12 @@ ghost use Rattle.sctp_handshake.specs.declared.state.State.TheVariants.{Closed};
 ghost use Rattle.sctp_params.specs.Param.{heartbeat_info};
 ghost use Rattle.sctp_params.specs.ParamKind.{parameter_of};
 
-use super::arrivals::{Step, bytes_of};
+use super::arrivals::{Step, bytes_of, unless_memory};
 use super::{Association, Reason};
 use crate::event::Ending;
 use crate::fault::Fault;
 use bytes::Bytes;
+use sctp_chunks::chunk::Chunk;
 use sctp_chunks::{ChunkHeartbeat, ChunkHeartbeatAck, ChunkShutdown};
 use sctp_datagram::ChunkPlace;
 use sctp_handshake::{Answer, State};
@@ -325,5 +326,32 @@ impl Association {
         }
         self.events.peer_error = Some(code);
         Step::Next
+    }
+
+    // Reads a chunk of a kind; None where it is none.
+    pub(super) fn read_chunk<C: Chunk>(
+        &self,
+        datagram: &Bytes,
+        chunk: ChunkPlace,
+    ) -> Result<Option<C>, Fault>
+        requires place { IsPlace datagram.now chunk }
+        ensures found { IfOk result (λ read. IfSome read
+            (λ c. StartsWith (drop chunk.at datagram.now) (C.wire c))) }
+        // A chunk of the kind is read.
+        ensures some { (w : Wire) → C.IsKind w → StartsWith (drop chunk.at datagram.now) w
+            → result ≡ Ok None → ⊥ }
+    {
+        let end = chunk.at.saturating_add(chunk.length);
+        if end > datagram.len() || chunk.at > end {
+            return Ok(None);
+        }
+        let raw = datagram.slice(chunk.at..end)?;
+        match C::unmarshal(self.alloc, &raw) {
+            Ok(read) => Ok(Some(read)),
+            Err(e) => {
+                unless_memory(e)?;
+                Ok(None)
+            }
+        }
     }
 }

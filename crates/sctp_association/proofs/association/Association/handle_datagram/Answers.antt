@@ -1,3 +1,4 @@
+use Rattle.sctp_association.specs.Behind.{FirstOf}
 use Rattle.sctp_association.proofs.Telling.{tells_due, tells_same}
 use Rattle.std.proofs.Common.{ap, inl, refl, rules, ◌∙◌, List, subst, sym, ◌≡◌, ◌∷◌}
 use Rattle.sctp_association.proofs.Arrived.{arrives_of, arrives_same}
@@ -52,6 +53,7 @@ returns-in-Err c = record {
   acks = λ one typ e. absurd (never_told _ _ e refl c.dropped_by.ensures.never);
   offers = λ one typ e. absurd (never_told _ _ e refl c.dropped_by.ensures.never);
   over = λ going over. absurd (false≢true (sym going ∙ over));
+  behind = λ e. absurd (never_told _ _ e refl c.dropped_by.ensures.never);
   rows = λ one row e. absurd (never_told _ _ e refl c.dropped_by.ensures.never);
   due = λ due r e.
       let zero : zero_checksum_of c.args.self.now.config ≡ c.if-self.zero = elim c.if-self.branch [
@@ -224,3 +226,14 @@ returns-clause-rows c one typ is going =
 
 pub returns-then-self-2-clause-over : goal.returns-then-self-2-clause-over
 returns-then-self-2-clause-over c going over = absurd (false≢true (sym going ∙ c.if-self-2.true))
+
+-- ## The first chunk, and others
+
+pub returns-then-self-2-clause-behind : goal.returns-then-self-2-clause-behind
+returns-then-self-2-clause-behind c is going = absurd (false≢true (sym going ∙ c.if-self-2.true))
+
+pub returns-clause-behind : goal.returns-clause-behind
+returns-clause-behind c is going chunks tells =
+    let all : TellsAll place_at c.args.datagram.now c.in-Ok.chunks.left = search rules in
+    subst (λ (l : List ChunkPlace). FirstOf l c.args.datagram.now c.args.now c.args.self.now c.take_chunks.new.self) (told_once _ _ _ all tells)
+    (c.take_chunks.ensures.behind is)

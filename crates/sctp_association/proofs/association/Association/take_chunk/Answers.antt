@@ -210,3 +210,14 @@ returns-in_default-clause-over c =
     if_then c.take_control.result (λ s is h. ends_row c.args.chunk c.args.datagram.now c.args.self.now c.take_control.new.self
     (off_other c.args.chunk.typ n0 n3 n192) s (λ cut. c.take_control.ensures.whole (is ∙ ap Ok cut)) (h.row (row_has c.args.chunk.typ n1 n2 n10 n130)))
     (c.take_control.ensures.alone (n0, n1, n2, n10) c.args.tag)
+
+-- ## What a chunk leaves behind which the datagram goes on
+
+pub returns-in-0-clause-still : goal.returns-in-0-clause-still
+returns-in-0-clause-still c going = c.take_data.ensures.still
+
+pub returns-in-3-clause-still : goal.returns-in-3-clause-still
+returns-in-3-clause-still c going = c.take_sack.ensures.still
+
+pub returns-in-192-clause-still : goal.returns-in-192-clause-still
+returns-in-192-clause-still c going = c.take_skip.ensures.still

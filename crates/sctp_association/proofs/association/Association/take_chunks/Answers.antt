@@ -1,6 +1,6 @@
-use Rattle.sctp_association.specs.Cookies.{IsSealed, cookie_in}
-use Rattle.sctp_association.specs.Steps.{is_taken}
-use Rattle.sctp_association.proofs.Ends.{admitted_by, ended_first, ended_next, ended_same, ended_still, ended_stop, ended_then}
+use Rattle.sctp_association.proofs.Behind.{behind_next, behind_stop}
+use Rattle.sctp_association.specs.Behind.{FirstOn}
+use Rattle.sctp_association.proofs.Ends.{ended_first, ended_next, ended_same, ended_still, ended_stop, ended_then}
 use Rattle.sctp_association.specs.Ends.{EndsOn}
 use Rattle.sctp_association.proofs.Telling.{tells_peer, tells_same, tells_then}
 use Rattle.std.proofs.Common.{Ok, ap, arith, inl, inr, length, refl, rules, subst, sym, ◌≡◌, ◌<◌, ◌∙◌, ◌∷◌, List}
@@ -11,12 +11,12 @@ use Rattle.sctp_association.specs.Single.{AloneAt, AloneOn}
 use Rattle.sctp_association.specs.Heard.{IsHeard}
 use Rattle.sctp_association.specs.Rows.{Settles}
 use Rattle.sctp_association.proofs.Coming.{if_ok, takes_still}
-use Rattle.sctp_association.proofs.First.{one_first}
+use Rattle.sctp_association.proofs.First.{admits_of, one_first}
 use Rattle.sctp_association.proofs.Firsts.{by_datagram}
 use Rattle.sctp_association.proofs.Offered.{offered_alike, offered_same, offered_then}
 use Rattle.sctp_association.specs.Coming.{TakesDataAt, TakesDataOf, TakesEachOf}
 use Rattle.sctp_association.specs.Halves.{receiver_of}
-use Rattle.sctp_association.specs.Tags.{AdmitsFirst, is_admitted, is_all_or_nothing}
+use Rattle.sctp_association.specs.Tags.{is_admitted, is_all_or_nothing}
 use Rattle.sctp_association.specs.declared.association.Association.{Association}
 use Rattle.sctp_association.specs.declared.association.arrivals.Step.TheVariants as step
 use Rattle.sctp_util.specs.Field.{u32_at}
@@ -67,35 +67,57 @@ returns-clause-came c =
     offered_then _ _ _ c.take_others-is_whole.ensures.came _ (offered_alike _ _ _ ended.halves ended.peer)
     )
 
+pub returns-in-Stop-clause-accepted : goal.returns-in-Stop-clause-accepted
+returns-in-Stop-clause-accepted c is =
+    admits_of c.in-Some.first c.next.new.self.left c.args.chunks.left c.args.datagram.now c.args.self.now.key c.args.self.now.machine
+    c.take_first.result _ _ c.in-Some.ensures.place (c.header-tag.ensures.verification_tag ∙ ap (λ l. u32_at l 4) c.requires.whole)
+    c.left-count.ensures c.take_first.ensures.foreign c.take_first.ensures.cookie step.Stop (search rules) refl
+
 pub returns-in-Stop-clause-foreign : goal.returns-in-Stop-clause-foreign
-returns-in-Stop-clause-foreign c other =
-    let stop : c.take_first.result ≡ Ok step.Stop = search rules in
-    absurd (other (record {
-      first = c.in-Some.first;
-      rest = c.next.new.self.left;
-      are = c.in-Some.ensures.place;
-      admitted = admitted_by c.in-Some.first c.args.self.now.machine c.take_first.result _ _ _ _ (c.header-tag.ensures.verification_tag ∙ ap (λ l. u32_at l 4) c.requires.whole) c.left-count.ensures
-          (c.take_first.ensures.foreign) stop;
-      cookie = λ typ. subst (λ (n : ℕ). IsSealed c.args.self.now.key n (cookie_in c.args.datagram.now c.in-Some.first))
-          (c.header-tag.ensures.verification_tag ∙ ap (λ l. u32_at l 4) c.requires.whole)
-          (if_ok (λ s. is_taken s ≡ true → IsSealed c.args.self.now.key c.header-tag.result.verification_tag (cookie_in c.args.datagram.now c.in-Some.first))
-          c.take_first.result step.Stop stop (c.take_first.ensures.cookie typ) refl);
-    }))
+returns-in-Stop-clause-foreign c other = absurd (other (
+    admits_of c.in-Some.first c.next.new.self.left c.args.chunks.left c.args.datagram.now c.args.self.now.key c.args.self.now.machine
+    c.take_first.result _ _ c.in-Some.ensures.place (c.header-tag.ensures.verification_tag ∙ ap (λ l. u32_at l 4) c.requires.whole)
+    c.left-count.ensures c.take_first.ensures.foreign c.take_first.ensures.cookie step.Stop (search rules) refl
+    ))
+
+pub returns-in-Cut-clause-accepted : goal.returns-in-Cut-clause-accepted
+returns-in-Cut-clause-accepted c is =
+    admits_of c.in-Some.first c.next.new.self.left c.args.chunks.left c.args.datagram.now c.args.self.now.key c.args.self.now.machine
+    c.take_first.result _ _ c.in-Some.ensures.place (c.header-tag.ensures.verification_tag ∙ ap (λ l. u32_at l 4) c.requires.whole)
+    c.left-count.ensures c.take_first.ensures.foreign c.take_first.ensures.cookie step.Cut (search rules) refl
 
 pub returns-in-Cut-clause-foreign : goal.returns-in-Cut-clause-foreign
-returns-in-Cut-clause-foreign c other =
-    let admits : AdmitsFirst c.args.datagram.now c.args.chunks.left c.args.self.now.key c.args.self.now.machine = search rules in
-    absurd (other admits)
+returns-in-Cut-clause-foreign c other = absurd (other (
+    admits_of c.in-Some.first c.next.new.self.left c.args.chunks.left c.args.datagram.now c.args.self.now.key c.args.self.now.machine
+    c.take_first.result _ _ c.in-Some.ensures.place (c.header-tag.ensures.verification_tag ∙ ap (λ l. u32_at l 4) c.requires.whole)
+    c.left-count.ensures c.take_first.ensures.foreign c.take_first.ensures.cookie step.Cut (search rules) refl
+    ))
+
+pub returns-then-not-is_whole-clause-accepted : goal.returns-then-not-is_whole-clause-accepted
+returns-then-not-is_whole-clause-accepted c is =
+    admits_of c.in-Some.first c.next.new.self.left c.args.chunks.left c.args.datagram.now c.args.self.now.key c.args.self.now.machine
+    c.take_first.result _ _ c.in-Some.ensures.place (c.header-tag.ensures.verification_tag ∙ ap (λ l. u32_at l 4) c.requires.whole)
+    c.left-count.ensures c.take_first.ensures.foreign c.take_first.ensures.cookie step.Next (search rules) refl
 
 pub returns-then-not-is_whole-clause-foreign : goal.returns-then-not-is_whole-clause-foreign
-returns-then-not-is_whole-clause-foreign c other =
-    let admits : AdmitsFirst c.args.datagram.now c.args.chunks.left c.args.self.now.key c.args.self.now.machine = search rules in
-    absurd (other admits)
+returns-then-not-is_whole-clause-foreign c other = absurd (other (
+    admits_of c.in-Some.first c.next.new.self.left c.args.chunks.left c.args.datagram.now c.args.self.now.key c.args.self.now.machine
+    c.take_first.result _ _ c.in-Some.ensures.place (c.header-tag.ensures.verification_tag ∙ ap (λ l. u32_at l 4) c.requires.whole)
+    c.left-count.ensures c.take_first.ensures.foreign c.take_first.ensures.cookie step.Next (search rules) refl
+    ))
+
+pub returns-clause-accepted : goal.returns-clause-accepted
+returns-clause-accepted c is =
+    admits_of c.in-Some.first c.next.new.self.left c.args.chunks.left c.args.datagram.now c.args.self.now.key c.args.self.now.machine
+    c.take_first.result _ _ c.in-Some.ensures.place (c.header-tag.ensures.verification_tag ∙ ap (λ l. u32_at l 4) c.requires.whole)
+    c.left-count.ensures c.take_first.ensures.foreign c.take_first.ensures.cookie step.Next (search rules) refl
 
 pub returns-clause-foreign : goal.returns-clause-foreign
-returns-clause-foreign c other =
-    let admits : AdmitsFirst c.args.datagram.now c.args.chunks.left c.args.self.now.key c.args.self.now.machine = search rules in
-    absurd (other admits)
+returns-clause-foreign c other = absurd (other (
+    admits_of c.in-Some.first c.next.new.self.left c.args.chunks.left c.args.datagram.now c.args.self.now.key c.args.self.now.machine
+    c.take_first.result _ _ c.in-Some.ensures.place (c.header-tag.ensures.verification_tag ∙ ap (λ l. u32_at l 4) c.requires.whole)
+    c.left-count.ensures c.take_first.ensures.foreign c.take_first.ensures.cookie step.Next (search rules) refl
+    ))
 
 -- from Closed an association stands only behind a first chunk that begins it
 pub returns-then-not-is_whole-clause-first : goal.returns-then-not-is_whole-clause-first
@@ -341,3 +363,23 @@ returns-clause-over c =
     (if_ok (λ s. EndsOn c.in-Some.first c.args.datagram.now s c.args.self.now c.take_first.new.self) c.take_first.result step.Next (search rules) c.take_first.ensures.over)
     ) c.take_others-is_whole.ensures.over
     )
+
+-- ## The first chunk, and others
+
+pub returns-in-Stop-clause-behind : goal.returns-in-Stop-clause-behind
+returns-in-Stop-clause-behind c is =
+    let tag = c.header-tag.ensures.verification_tag ∙ ap (λ l. u32_at l 4) c.requires.whole in
+    behind_stop c.in-Some.first c.next.new.self.left _ c.args.datagram.now c.args.now c.args.self.now c.take_first.new.self c.in-Some.ensures.place
+    (subst (λ (n : ℕ). FirstOn c.in-Some.first n c.args.datagram.now c.args.now step.Stop c.args.self.now c.take_first.new.self) tag
+    (if_ok (λ s. FirstOn c.in-Some.first c.header-tag.result.verification_tag c.args.datagram.now c.args.now s c.args.self.now c.take_first.new.self)
+    c.take_first.result step.Stop (search rules) c.take_first.ensures.first))
+
+pub returns-clause-behind : goal.returns-clause-behind
+returns-clause-behind c is =
+    let tag = c.header-tag.ensures.verification_tag ∙ ap (λ l. u32_at l 4) c.requires.whole in
+    behind_next c.in-Some.first c.next.new.self.left _ c.args.datagram.now c.args.now c.args.self.now c.take_first.new.self c.take_others-is_whole.new.self
+    c.end_datagram-2.new.self c.in-Some.ensures.place
+    (subst (λ (n : ℕ). FirstOn c.in-Some.first n c.args.datagram.now c.args.now step.Next c.args.self.now c.take_first.new.self) tag
+    (if_ok (λ s. FirstOn c.in-Some.first c.header-tag.result.verification_tag c.args.datagram.now c.args.now s c.args.self.now c.take_first.new.self)
+    c.take_first.result step.Next (search rules) c.take_first.ensures.first))
+    (λ all. c.take_others-is_whole.ensures.still all c.if-not-is_whole.false) c.end_datagram-2.ensures.settles

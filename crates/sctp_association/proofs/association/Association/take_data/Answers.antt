@@ -1,3 +1,6 @@
+use Rattle.sctp_association.proofs.Behind.{still_arrived, still_by}
+use Rattle.sctp_association.specs.Behind.{StillAs}
+use Rattle.sctp_association.specs.Rows.{owed_by}
 use Rattle.sctp_association.proofs.Coming.{if_ok}
 use Rattle.sctp_association.proofs.Ends.{data_why, ends_by}
 use Rattle.sctp_association.specs.Ends.{by_data}
@@ -183,3 +186,20 @@ returns-clause-over c =
     (λ next. ap (λ (a : Association). a.is_over) (c.end_by.ensures.on next) ∙ c.follow.ensures.over quiet ∙ c.run_again.ensures.over)
     (λ stop. by_data _ still c.in_ok-data.data c.in_ok-data.ensures.found
     (data_why c.in_ok-data.data _ _ came (c.end_by.ensures.stops stop).0 (c.end_by.ensures.stops stop).1)) c.end_by.ensures.whole
+
+-- ## What it leaves
+
+pub returns-clause-still : goal.returns-clause-still
+returns-clause-still c =
+    let old = c.args.self.now in
+    let took = c.packet_arrived-answer.ensures in
+    let quiet = arrived_told old.machine _ _ took in
+    let again = c.run_again.ensures.rest in
+    let owed : c.follow.new.self.due ≡ owed_by c.packet_arrived-answer.result.reply 0 old.due =
+    c.follow.ensures.due quiet ∙ ap (λ (x : Association). owed_by c.packet_arrived-answer.result.reply 0 x.due) again in
+    still_by old c.end_by.new.self c.end_by.result (
+    λ next. subst (λ (x : Association). StillAs old x) (sym (c.end_by.ensures.on next)) (
+    still_arrived old c.follow.new.self _ _ took (c.follow.ensures.kept.machine ∙ c.run_again.ensures.kept.machine) owed
+    (c.follow.ensures.over quiet ∙ c.run_again.ensures.over) (c.follow.ensures.answer.wants ∙ ap (λ (x : Association). x.wants_shutdown) again)
+    )
+    ) c.end_by.ensures.over

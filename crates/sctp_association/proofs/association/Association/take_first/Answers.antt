@@ -1,3 +1,8 @@
+use Rattle.sctp_association.proofs.Single.{alone_refused}
+use Rattle.std.proofs.Common.{inl, inr, refl}
+use Rattle.sctp_association.proofs.Behind.{not_heard}
+use Rattle.sctp_association.proofs.Ends.{if_then}
+use Rattle.sctp_association.specs.declared.association.Reason.TheVariants.{Tag}
 use Rattle.sctp_association.proofs.Ends.{ends_same}
 use Rattle.std.proofs.Common.{Ok, ap, refl, rules, ◌≡◌}
 use Rattle.sctp_association.proofs.Coming.{if_ok}
@@ -33,3 +38,25 @@ returns-in-Refused-Unexpected-clause-over c =
     let is : c.take_chunk-2.result ≡ Ok (Refused Unexpected) = search rules in
     ends_same c.args.chunk c.args.datagram.now c.args.self.now c.take_chunk-2.new.self
     (ap (λ (a : Association). a.is_over) (c.take_chunk-2.ensures.refused Unexpected is)) Next
+
+-- ## The first chunk
+
+pub returns-in-Refused-Unexpected-clause-first : goal.returns-in-Refused-Unexpected-clause-first
+returns-in-Refused-Unexpected-clause-first c =
+    let is : c.take_chunk-2.result ≡ Ok (Refused Unexpected) = search rules in
+    inr (
+      refl,
+      c.take_chunk-2.ensures.refused Unexpected is,
+      not_heard c.args.chunk c.args.tag c.args.count c.args.datagram.now c.args.now c.args.self.now c.take_chunk-2.result Unexpected Tag
+          c.take_chunk-2.ensures.foreign tag≢unexpected c.take_chunk-2.ensures.due is,
+    )
+  where
+    tag≢unexpected : Tag ≡ Unexpected → ⊥
+    tag≢unexpected e = cc
+
+pub returns-in_default-clause-first : goal.returns-in_default-clause-first
+returns-in_default-clause-first c =
+    inl (alone_refused c.args.chunk c.args.tag c.args.datagram.now c.args.now c.args.self.now c.take_chunk-2.new.self _)
+
+pub returns-then-is_alone-clause-first : goal.returns-then-is_alone-clause-first
+returns-then-is_alone-clause-first c = if_then c.take_chunk.result (λ s is h. inl h) c.take_chunk.ensures.alone

@@ -11,7 +11,9 @@ use Rattle.sctp_util.specs.Field.{u32_at}
 use Rattle.sctp_association.proofs.Offered.{offered_same, offered_then}
 use Rattle.sctp_association.proofs.Telling.{tells_same, tells_then}
 use Rattle.sctp_association.proofs.Carrying.{next_own}
+use Rattle.sctp_association.proofs.Behind.{go_on_next, still_as, still_same, still_then}
 use Rattle.sctp_association.proofs.Coming.{if_ok}
+use Rattle.sctp_association.specs.Behind.{StillOn}
 use Rattle.sctp_association.proofs.Ends.{ended_first, ended_next, ended_same, ended_stop}
 use Rattle.sctp_association.specs.Ends.{EndsOn}
 use Rattle.sctp_association.specs.declared.association.Association.{Association}
@@ -30,6 +32,7 @@ loop-init c = record {
   count = omega arith;
   idle = λ e. refl;
   over = ended_first c.args.datagram.now c.args.self.now;
+  still = λ all. (all, still_same _);
 }
 
 pub loop-preserved-then-not-counts : goal.loop-preserved-then-not-counts
@@ -52,6 +55,7 @@ loop-preserved-then-not-counts c = record {
   count = one_less _ _ _ _ _ c.in-Some.ensures.place c.loop.invariant.count;
   idle = λ e. absurd (omega (arith, c.left-end.ensures, ap length e, c.loop-test.true));
   over = c.loop.invariant.over;
+  still = λ all. let h = c.loop.invariant.still all in ((go_on_next _ _ _ c.in-Some.ensures.place h.0).1, h.1);
 }
 
 pub loop-preserved : goal.loop-preserved
@@ -76,6 +80,12 @@ loop-preserved c = record {
   over = ended_next _ c.args.self.now c.loop.self c.take_other.new.self c.in-Some.chunk (next_own _ _ _ _ c.in-Some.ensures.place c.loop.invariant.own).0
       c.loop.invariant.over
       (if_ok (λ s. EndsOn c.in-Some.chunk c.args.datagram.now s c.loop.self c.take_other.new.self) c.take_other.result Next (search rules) c.take_other.ensures.over);
+  still = λ all. let h = c.loop.invariant.still all in
+      let goes = go_on_next _ _ _ c.in-Some.ensures.place h.0 in (
+        goes.1,
+        still_then c.args.self.now c.loop.self c.take_other.new.self h.1
+            (if_ok (λ s. StillOn s c.loop.self c.take_other.new.self) c.take_other.result Next (search rules) (c.take_other.ensures.still goes.0)),
+      );
 }
 
 pub take_other-requires-clause-own : goal.take_other-requires-clause-own
@@ -90,6 +100,7 @@ returns-in-Ok-Cut c = record {
   came = offered_then _ _ _ c.loop.invariant.came _ c.take_other.ensures.came;
   tells = tells_then _ _ _ c.loop.invariant.tells c.take_other.ensures.tells;
   over = ended_same _ c.args.self.now c.loop.self c.take_other.new.self c.loop.invariant.over (if_ok (λ s. EndsOn c.in-Some.chunk c.args.datagram.now s c.loop.self c.take_other.new.self) c.take_other.result Cut (search rules) c.take_other.ensures.over);
+  still = λ all is. absurd (false≢true is);
 }
 
 pub returns-in-Ok-Cut-2 : goal.returns-in-Ok-Cut-2
@@ -102,6 +113,7 @@ returns-in-Ok-Cut-2 c = record {
   tells = tells_then _ _ _ c.loop.invariant.tells c.take_other.ensures.tells;
   over = let same : c.take_other.new.self ≡ c.loop.self = search rules in
       ended_same _ c.args.self.now c.loop.self c.take_other.new.self c.loop.invariant.over (ap (λ (a : Association). a.is_over) same);
+  still = λ all is. absurd (false≢true is);
 }
 
 pub returns-after-loop : goal.returns-after-loop
@@ -119,6 +131,7 @@ returns-after-loop c = record {
   tells = c.loop.invariant.tells;
   none = λ e. (refl, c.loop.invariant.idle e);
   over = ended_same _ c.args.self.now c.loop.self c.loop.self c.loop.invariant.over refl;
+  still = λ all is. inr (c.loop.invariant.still all).1;
 }
 
 pub returns-in_default : goal.returns-in_default
@@ -135,6 +148,7 @@ returns-in_default c = record {
   tells = c.loop.invariant.tells;
   none = λ e. (refl, c.loop.invariant.idle e);
   over = ended_same _ c.args.self.now c.loop.self c.loop.self c.loop.invariant.over refl;
+  still = λ all is. inr (c.loop.invariant.still all).1;
 }
 
 pub returns-in-Ok-Stop : goal.returns-in-Ok-Stop
@@ -156,6 +170,9 @@ returns-in-Ok-Stop c = record {
   none = λ e. absurd (omega (arith, c.left-end.ensures, ap length e, c.loop-test.true));
   over = ended_stop _ c.args.self.now c.loop.self c.take_other.new.self c.in-Some.chunk (next_own _ _ _ _ c.in-Some.ensures.place c.loop.invariant.own).0
       c.loop.invariant.over (if_ok (λ s. EndsOn c.in-Some.chunk c.args.datagram.now s c.loop.self c.take_other.new.self) c.take_other.result Stop (search rules) c.take_other.ensures.over);
+  still = λ all is. let h = c.loop.invariant.still all in
+      inl (if_ok (λ s. StillOn s c.loop.self c.take_other.new.self) c.take_other.result Stop (search rules)
+      (c.take_other.ensures.still (go_on_next _ _ _ c.in-Some.ensures.place h.0).0));
 }
 
 pub returns-in-Ok-Refused : goal.returns-in-Ok-Refused
@@ -178,4 +195,6 @@ returns-in-Ok-Refused c = record {
   none = λ e. absurd (omega (arith, c.left-end.ensures, ap length e, c.loop-test.true));
   over = ended_same _ c.args.self.now c.loop.self c.take_other.new.self c.loop.invariant.over
       (ap (λ (a : Association). a.is_over) (c.take_other.ensures.refused c.in-Ok-Refused.field-0-0 (c.in-Ok-Refused.is ∙ ap Ok c.in-Ok-Refused.field-0-is)));
+  still = λ all is. inr (still_then c.args.self.now c.loop.self c.take_other.new.self (c.loop.invariant.still all).1
+      (still_as _ _ (c.take_other.ensures.refused c.in-Ok-Refused.field-0-0 (c.in-Ok-Refused.is ∙ ap Ok c.in-Ok-Refused.field-0-is))));
 }

@@ -1,3 +1,5 @@
+use Rattle.sctp_association.proofs.Behind.{still_by}
+use Rattle.sctp_association.specs.Behind.{StillAs}
 use Rattle.sctp_association.proofs.Coming.{if_ok}
 use Rattle.sctp_association.proofs.Ends.{ends_by, skip_why}
 use Rattle.sctp_association.specs.Ends.{by_skip}
@@ -118,3 +120,13 @@ returns-clause-over c =
     (λ next. ap (λ (a : Association). a.is_over) (c.end_by.ensures.on next))
     (λ stop. by_skip _ c.end_by.ensures.halves.receiver (forward_tsn_of c.in-Some.skip) reads
     (skip_why (forward_tsn_of c.in-Some.skip) _ _ came (c.end_by.ensures.stops stop).0 (c.end_by.ensures.stops stop).1)) c.end_by.ensures.whole
+
+-- ## What it leaves
+
+pub returns-clause-still : goal.returns-clause-still
+returns-clause-still c =
+    let old = c.args.self.now in
+    still_by old c.end_by.new.self c.end_by.result (
+    λ next. subst (λ (x : Association). StillAs old x) (sym (c.end_by.ensures.on next))
+    (record { machine = refl; due = refl; shutdown = λ e. e; over = refl; wants = refl })
+    ) c.end_by.ensures.over
