@@ -119,6 +119,7 @@ pub mod BothWays
 pub mod Plain
 pub mod PlainStreams
 pub mod PlainFlights
+pub mod FewInFlight
 pub mod PlainSessions
 pub mod PlainCalls
 pub mod Besides

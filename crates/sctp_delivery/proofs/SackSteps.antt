@@ -72,6 +72,7 @@ pub record IsMoved (p n : ℕ) (kn : ℕ → Bool) (f g : Flight) : Type 0 where
 moved : (p n most : ℕ) (kn : ℕ → Bool) (f g : Flight) → most < 2 ^ 32 → IsNumbered p n f → Raises p most f g → IsMoved p n kn f g
 moved p n most kn f g short h r =
     let e = given p n most f g short h.next_is r in
+    let total = h.total in
     grind (arith, nat_tests)
 
 -- where none is given out
