@@ -50,6 +50,7 @@ pub mod EveryHeld
 pub mod EverySettled
 pub mod EveryKept
 pub mod EveryMessages
+pub mod Uses
 pub mod EveryExamples
 pub mod NamedExamples
 pub mod ReopenedExamples

@@ -25,3 +25,4 @@ pub mod EveryCall
 pub mod EveryOrder
 pub mod EveryEnd
 pub mod StandAny
+pub mod Uses
