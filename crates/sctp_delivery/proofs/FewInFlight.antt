@@ -6,8 +6,7 @@ use Rattle.sctp_delivery.proofs.Names.{after_sack, take_sack, is_outdated, sack_
 use Rattle.sctp_delivery.proofs.Names.{after_misses, abandoned_each, after_abandonment, with_inflight, with_room, expired_of, with_message, fragments_with_mode}
 use Rattle.sctp_delivery.proofs.Names.{can_miss, missed, started-inflight, next_pending, as_sent, option_map, ForwardTsn, Released}
 use Rattle.sctp_delivery.proofs.Names.{Session, SenderFollows, ReceiverFollows, SenderCall, ReceiverCall, Made, made_after, with_chunk, data_chunk, forward_tsn}
-use Rattle.sctp_delivery.proofs.Names.{data_of, reports_after, New, Repeat, is_stale, follow_forward_tsn, without_incomplete, preceding_tsn, Limits}
-use Rattle.sctp_sender.specs.declared.sender.refusal.SenderRefusal.{SenderRefusal}
+use Rattle.sctp_delivery.proofs.Names.{Outbound, data_of, reports_after, New, Repeat, is_stale, follow_forward_tsn, without_incomplete, preceding_tsn, Limits}
 use Rattle.sctp_outbound.specs.payload_queue.PayloadQueue as payload
 use Rattle.sctp_sender.specs.Flight.{count_acked, with_queue}
 use Rattle.sctp_sender.proofs.MarkedRuns.{part-run}
@@ -21,11 +20,11 @@ use Rattle.sctp_delivery.specs.Session.{Call, Follows, IsReported, RunsTo, at_st
 use Rattle.sctp_delivery.proofs.Cases.{at-test}
 use Rattle.sctp_delivery.proofs.Changes.{Change, Keeps, acknowledges, all_start, changes, each-call, each_leaves, flight_after, front_expires, more_room, nothing}
 use Rattle.sctp_delivery.proofs.Changes.{one_leaves, some_marked, some_missed}
-use Rattle.sctp_delivery.proofs.Every.{Every, every-contained, every-found, every-inserted, every-of, every-passing}
+use Rattle.sctp_delivery.proofs.Every.{Every, every-all, every-contained, every-found, every-inserted, every-of, every-passing}
 use Rattle.sctp_delivery.proofs.GivenTsns.{IsNumbered, Raises, flight-given, passable-end, passable-skip, raises-abandoned, raises-each, raises-sent, rebased}
 use Rattle.sctp_delivery.proofs.GivenTsns.{same-numbered, taken-numbered}
 use Rattle.sctp_delivery.proofs.PlainFlights.{IsFresh}
-use Rattle.sctp_delivery.proofs.QueueChunks.{EachIs, pushed}
+use Rattle.sctp_delivery.proofs.QueueChunks.{EachIs, pushed, started}
 use Rattle.sctp_delivery.proofs.SackLaws.{IsInStepBut}
 use Rattle.sctp_delivery.proofs.SackSteps.{message-inflight, known_or}
 use Rattle.sctp_delivery.proofs.ReportedTsns.{IsTruthful}
@@ -55,23 +54,26 @@ raised-run most f g r few h =
     let n = length f.queue.inflight.chunks in
     rebased f.acked_tsn (n + r.count) g (r.numbered n (omega (arith, few, long)) h)
 
+-- a SACK that is taken goes to a place in the run
+pub sack-place : (k : Sack) (f : Flight) → IsSmall k.cumulative_tsn_ack → sack_refusal k f ≡ None → IsInRun f → is_outdated k f ≡ false
+    → (count_acked k f ≤ length f.queue.inflight.chunks) × (k.cumulative_tsn_ack ≡ tsn f.acked_tsn (count_acked k f))
+unfolding distance
+sack-place k f small none h e =
+    let within : count_acked k f ≤ length f.queue.inflight.chunks = grind (arith, nat_tests) in
+    let a = h.acked_is in
+    (within, omega (arith, small, a))
+
 sacked-run : (k : Sack) (f : Flight) → IsSmall k.cumulative_tsn_ack → length f.queue.inflight.chunks < 2 ^ 31 → sack_refusal k f ≡ None → IsInRun f
     → IsInRun (after_sack k f)
-unfolding distance
-sacked-run k f small few none h = by (is_outdated k f) refl none
+sacked-run k f small few none h = by (is_outdated k f) refl
   where
-    n : ℕ
-    n = length f.queue.inflight.chunks
-
-    by : (b : Bool) → is_outdated k f ≡ b
-        → ◌≡◌ {A = Option SenderRefusal} (sack_refusal k f) None
-        → IsInRun (after_sack k f)
-    by true e x = subst IsInRun (ap (λ b. if b then f else take_sack k f) (sym e)) h
-    by false e x =
-        let within : count_acked k f ≤ n = grind (arith, nat_tests) in
-        let a = h.acked_is in
-        let is : k.cumulative_tsn_ack ≡ tsn f.acked_tsn (count_acked k f) = omega (arith, small, a) in
-        rebased f.acked_tsn n (after_sack k f) (taken-numbered f.acked_tsn n (count_acked k f) k f few within is h)
+    by : (b : Bool) → is_outdated k f ≡ b → IsInRun (if b then f else take_sack k f)
+    by true e = h
+    by false e =
+        let n = length f.queue.inflight.chunks in
+        let at = sack-place k f small none h e in
+        rebased f.acked_tsn n (take_sack k f) (subst (IsNumbered f.acked_tsn n) (ap (λ b. if b then f else take_sack k f) e)
+        (taken-numbered f.acked_tsn n (count_acked k f) k f few at.0 at.1 h))
 
 module _ (t : Transmission) (was : length t.flight.queue.inflight.chunks < 2 ^ 31) (h : IsInRun t.flight) where
   abbrev cs : List ChunkPayloadData
@@ -97,6 +99,14 @@ module _ (t : Transmission) (was : length t.flight.queue.inflight.chunks < 2 ^ 3
       still-run t.flight (with_queue t.flight (expired_of (Some c) t.flight.queue)) refl refl refl h
   change-run call small ok (acknowledges k gone e) few =
       sacked-run k t.flight (small k gone e) was (subst (λ c. IsAccepted c t) e ok) h
+
+-- ## What waits
+
+pub fresh-started : (now : ℕ) (q : Outbound) → IsFresh q → IsFresh (all_started now q)
+fresh-started now q h =
+    let e = started IsUnmarked (λ c. ⊤) now (λ c k. k) q
+    (record { ordered = h.ordered; unordered = h.unordered; inflight = every-all (λ (c : ChunkPayloadData). ⊤) (λ c. tt) q.inflight.chunks }) in
+    record { ordered = e.ordered; unordered = e.unordered }
 
 -- ## A call of the sender
 
@@ -157,12 +167,8 @@ module _ (call : SenderCall) (old new : Session) (f : SenderFollows call old new
     acknowledge = λ c h. tt;
   }
 
-  each-is : (xs : List ChunkPayloadData) → Every (λ (c : ChunkPayloadData). ⊤) xs
-  each-is [] = tt
-  each-is (c ∷ xs) = (tt, each-is xs)
-
   unmarked : EachIs IsUnmarked (λ c. ⊤) u.flight.queue
-  unmarked = record { ordered = i.regular.fresh.ordered; unordered = i.regular.fresh.unordered; inflight = each-is u.flight.queue.inflight.chunks }
+  unmarked = record { ordered = i.regular.fresh.ordered; unordered = i.regular.fresh.unordered; inflight = every-all (λ (c : ChunkPayloadData). ⊤) (λ c. tt) u.flight.queue.inflight.chunks }
 
   sender-fresh : (c : SenderCall) → SenderFollows c old new → EachIs IsUnmarked (λ c. ⊤) new.sending.sender.flight.queue
   sender-fresh (outgoing.writes stream ppi (b ∷ bs)) g =

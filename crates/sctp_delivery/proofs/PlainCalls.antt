@@ -37,7 +37,7 @@ use Rattle.sctp_delivery.proofs.Cases.{at-test}
 use Rattle.sctp_delivery.proofs.Changes.{expired-one, order-short}
 use Rattle.sctp_delivery.proofs.Delivered.{next_tsn}
 use Rattle.sctp_delivery.proofs.Every.{Every, every-contained}
-use Rattle.sctp_delivery.proofs.FewInFlight.{IsInRun, IsRegular}
+use Rattle.sctp_delivery.proofs.FewInFlight.{IsInRun, IsRegular, fresh-started}
 use Rattle.sctp_delivery.proofs.GivenTsns.{put-length}
 use Rattle.sctp_delivery.proofs.OneRead.{no-way}
 use Rattle.sctp_delivery.proofs.Plain.{AreLike, IsLike, are-changed, are-long, are-marked, are-part-marked, are-plain, blind-same, found-plain, plain, rest_of}
@@ -46,7 +46,6 @@ use Rattle.sctp_delivery.proofs.PlainFlights.{gone-same, named-same, refusal-sam
 use Rattle.sctp_delivery.proofs.PlainSessions.{Goes, IsThere, Others, as_plain, bound-there, calls-too, kept_of, room-of, small-next, regular-of, stays-so}
 use Rattle.sctp_delivery.proofs.PlainStreams.{AreAlike, bare, both-expired, both-lower, both-moded, both-opened, both-sized, both-wrote, found-alike, one-less}
 use Rattle.sctp_delivery.proofs.PlainStreams.{left-alike, open-alike, released-alike}
-use Rattle.sctp_delivery.proofs.QueueChunks.{started}
 use Rattle.sctp_delivery.proofs.SackSteps.{message-inflight}
 use Rattle.sctp_delivery.proofs.ValidMarks.{IsUnmarked}
 use Rattle.sctp_delivery.proofs.Writing.{accepted-stream}
@@ -447,7 +446,7 @@ module _ (first : ℕ) (others : Others first) (s v : Session) (n : ℕ) (gone :
       let u : Transmission = with_flight (record t.flight { queue = sent_next q next now; next_tsn = next_after_send t.flight }) t in
       let es = (sent_next (with_inflight q ds) next now).inflight.chunks in
       let same = next-same q ds next now in
-      let begun : IsFresh (all_started now q) = fresh-started now in
+      let begun : IsFresh (all_started now q) = fresh-started now q fresh in
       by-call (outgoing.sends now) f u f.exact (outgoing.sends now) ls es (
         bytes f.step.sender (ap held_by_sender f.exact),
         (
@@ -458,16 +457,6 @@ module _ (first : ℕ) (others : Others first) (s v : Session) (n : ℕ) (gone :
       (are-sent t.flight.acked_tsn (length ds) t.flight (kept_of t.kept) ds g.shadow.like short' numbered now begun)
       (λ ms. ap (λ (r : Outbound). with_chunk (option_map (as_sent next now) (next_pending r.pending)) ms) (started-same now q ds)) (λ ws. refl) refl refl
     where
-      fresh-started : (now : ℕ) → IsFresh (all_started now t.flight.queue)
-      fresh-started now =
-          let e = started IsUnmarked (λ c. Unit {0}) now (λ c k. k) t.flight.queue
-          (record { ordered = fresh.ordered; unordered = fresh.unordered; inflight = every-none t.flight.queue.inflight.chunks }) in
-          record { ordered = e.ordered; unordered = e.unordered }
-        where
-          every-none : (cs : List ChunkPayloadData) → Every (λ (c : ChunkPayloadData). Unit {0}) cs
-          every-none [] = tt
-          every-none (c ∷ cs) = (tt, every-none cs)
-
       bytes : held_by_sender v.sending.sender ≡ held_by_sender t
           → held_by_sender v.sending.sender ≡ total_bytes (sent_next t.flight.queue t.flight.next_tsn now)
           → total_bytes (with_inflight (sent_next t.flight.queue t.flight.next_tsn now)

@@ -131,6 +131,9 @@ AfterEachRunOfFewInFlight P =
     → tsn < 2 ^ 32 → 0 < size → (r : RunsTo (at_start tsn size max most limits) calls s)
     → AreFewInFlight (at_start tsn size max most limits) calls s r → P calls s
 
+abbrev pub WhileFewInFlight : (Session → Type 0) → Type 0
+WhileFewInFlight P = AfterEachRunOfFewInFlight (λ calls s. P s)
+
 -- ## Ordered and unordered
 
 -- the write at a place is unordered

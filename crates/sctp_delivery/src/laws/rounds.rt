@@ -3,13 +3,15 @@
 
 ghost use Rattle.sctp_delivery.specs.Ending.{AfterEachSessionWithTsnsLeft, ArrivalsAreDetermined, EachMakesOneStep, EndsWhereTaken, EndsWithAllRead, ReleasesAreDetermined};
 ghost use Rattle.sctp_delivery.specs.Messages.{WhileFewTsns};
+ghost use Rattle.sctp_delivery.specs.Modes.{WhileFewInFlight};
 ghost use Rattle.sctp_delivery.specs.Rounds.{AfterEachFitReliableSession, AfterEachFitSessionOfFewTsns, AllIsReadAfterRounds, CanBeAnswered, EachAnswerLeavesFewer, EachCanGoOn, EachRoundTakesOne, RoundsEnd, SkipsToPoint};
 ghost use Rattle.sctp_delivery.specs.Sacks.{AfterEachSessionOfFewTsns};
 
 /// Where the message of the first chunk in flight is abandoned, a FORWARD-TSN goes to the Advanced.Peer.Ack.Point: what is abandoned
-/// never stops the sender (RFC 3758 3.5). So it is in sessions that give out fewer than 2^31 TSNs.
+/// never stops the sender (RFC 3758 3.5). So it is while fewer than 2^31 chunks are in flight, as a `Sender` sees to it, however many TSNs it
+/// gives out.
 pub fn what_is_abandoned_can_be_passed()
-    ensures { WhileFewTsns SkipsToPoint }
+    ensures { WhileFewInFlight SkipsToPoint }
 {}
 
 /// Each chunk in flight that the receiver did not take, and whose message is not abandoned, can be sent again (RFC 4960 6.3.3): what
