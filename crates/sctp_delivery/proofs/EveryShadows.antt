@@ -50,7 +50,6 @@ use Rattle.sctp_delivery.proofs.PlainSessions.{Goes, IsThere, Others, Shadows, g
 use Rattle.sctp_delivery.proofs.PlainStreams.{AreAlike, bare, both-changed}
 use Rattle.sctp_delivery.proofs.Every.{Every, every-contained}
 use Rattle.sctp_delivery.proofs.SackLaws as sacks
-use Rattle.sctp_delivery.proofs.SackSteps.{came_in, passed_in}
 use Rattle.sctp_delivery.proofs.Senders.{IsHeldOn, renumbered}
 use Rattle.sctp_delivery.proofs.Sent.{Entry, Numbered}
 use Rattle.sctp_delivery.proofs.Sessions as made_in
@@ -388,7 +387,8 @@ module _ (on dropped calm : ℕ → Bool) (lost : Option (List ℕ)) (sub : (st 
         taken = made_in.sent-made call d e f i.taken;
         called = subst (IsCalled first) (sym same) i.called;
         apart = subst (λ (y : receiver_runs.Stand). are_apart (numbers_of y.receiver.streams) ≡ true) (sym same) i.apart;
-        marked = stays-marked more d e (came_in dropped d) (passed_in d.made) i.spread.step.valid
+        marked = stays-marked more d e
+            (record { ordered = i.spread.step.valid.ordered; unordered = i.spread.step.valid.unordered })
             (marked-later gone more (gone-left gone answered) chunks i.marked) call (gone-right gone answered) f;
         cut = stays-cut on more first d e i.numbered i.sent x.more i.spread.holds x.spread.holds.held.stands.counted
             (cut-later gone more (gone-left gone answered) i.sent i.cut) call (gone-right gone answered) f x.grown;

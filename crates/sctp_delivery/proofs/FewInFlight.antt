@@ -6,7 +6,7 @@ use Rattle.sctp_delivery.proofs.Names.{after_sack, take_sack, is_outdated, sack_
 use Rattle.sctp_delivery.proofs.Names.{after_misses, abandoned_each, after_abandonment, with_inflight, with_room, expired_of, with_message, fragments_with_mode}
 use Rattle.sctp_delivery.proofs.Names.{can_miss, missed, started-inflight, next_pending, as_sent, option_map, ForwardTsn, Released}
 use Rattle.sctp_delivery.proofs.Names.{Session, SenderFollows, ReceiverFollows, SenderCall, ReceiverCall, Made, made_after, with_chunk, data_chunk, forward_tsn}
-use Rattle.sctp_delivery.proofs.Names.{Outbound, data_of, reports_after, New, Repeat, is_stale, follow_forward_tsn, without_incomplete, preceding_tsn, Limits}
+use Rattle.sctp_delivery.proofs.Names.{data_of, reports_after, New, Repeat, is_stale, follow_forward_tsn, without_incomplete, preceding_tsn, Limits}
 use Rattle.sctp_outbound.specs.payload_queue.PayloadQueue as payload
 use Rattle.sctp_sender.specs.Flight.{count_acked, with_queue}
 use Rattle.sctp_sender.proofs.MarkedRuns.{part-run}
@@ -23,13 +23,12 @@ use Rattle.sctp_delivery.proofs.Changes.{one_leaves, some_marked, some_missed}
 use Rattle.sctp_delivery.proofs.Every.{Every, every-all, every-contained, every-found, every-inserted, every-of, every-passing}
 use Rattle.sctp_delivery.proofs.GivenTsns.{IsNumbered, Raises, flight-given, passable-end, passable-skip, raises-abandoned, raises-each, raises-sent, rebased}
 use Rattle.sctp_delivery.proofs.GivenTsns.{same-numbered, taken-numbered}
-use Rattle.sctp_delivery.proofs.PlainFlights.{IsFresh}
-use Rattle.sctp_delivery.proofs.QueueChunks.{EachIs, pushed, started}
+use Rattle.sctp_delivery.proofs.QueueChunks.{EachIs, pushed}
 use Rattle.sctp_delivery.proofs.SackLaws.{IsInStepBut}
 use Rattle.sctp_delivery.proofs.SackSteps.{message-inflight, known_or}
 use Rattle.sctp_delivery.proofs.ReportedTsns.{IsTruthful}
 use Rattle.sctp_delivery.proofs.TsnPlaces.{IsGiven, tsn-small}
-use Rattle.sctp_delivery.proofs.ValidMarks.{IsUnmarked, fragments-unmarked}
+use Rattle.sctp_delivery.proofs.ValidMarks.{IsFresh, IsUnmarked, fragments-unmarked}
 use Rattle.sctp_delivery.proofs.Writing.{accepted-stream}
 
 -- ## The sender's TSNs
@@ -99,14 +98,6 @@ module _ (t : Transmission) (was : length t.flight.queue.inflight.chunks < 2 ^ 3
       still-run t.flight (with_queue t.flight (expired_of (Some c) t.flight.queue)) refl refl refl h
   change-run call small ok (acknowledges k gone e) few =
       sacked-run k t.flight (small k gone e) was (subst (λ c. IsAccepted c t) e ok) h
-
--- ## What waits
-
-pub fresh-started : (now : ℕ) (q : Outbound) → IsFresh q → IsFresh (all_started now q)
-fresh-started now q h =
-    let e = started IsUnmarked (λ c. ⊤) now (λ c k. k) q
-    (record { ordered = h.ordered; unordered = h.unordered; inflight = every-all (λ (c : ChunkPayloadData). ⊤) (λ c. tt) q.inflight.chunks }) in
-    record { ordered = e.ordered; unordered = e.unordered }
 
 -- ## A call of the sender
 

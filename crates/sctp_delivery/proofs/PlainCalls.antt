@@ -37,17 +37,17 @@ use Rattle.sctp_delivery.proofs.Cases.{at-test}
 use Rattle.sctp_delivery.proofs.Changes.{expired-one, order-short}
 use Rattle.sctp_delivery.proofs.Delivered.{next_tsn}
 use Rattle.sctp_delivery.proofs.Every.{Every, every-contained}
-use Rattle.sctp_delivery.proofs.FewInFlight.{IsInRun, IsRegular, fresh-started}
+use Rattle.sctp_delivery.proofs.FewInFlight.{IsInRun, IsRegular}
 use Rattle.sctp_delivery.proofs.GivenTsns.{put-length}
 use Rattle.sctp_delivery.proofs.OneRead.{no-way}
 use Rattle.sctp_delivery.proofs.Plain.{AreLike, IsLike, are-changed, are-long, are-marked, are-part-marked, are-plain, blind-same, found-plain, plain, rest_of}
-use Rattle.sctp_delivery.proofs.PlainFlights.{IsFresh, abandon-same, are-gone, are-sacked, are-sent, can-same, chunks_of, end-same, fewer-bytes, flight_with}
+use Rattle.sctp_delivery.proofs.PlainFlights.{abandon-same, are-gone, are-sacked, are-sent, can-same, chunks_of, end-same, fewer-bytes, flight_with}
 use Rattle.sctp_delivery.proofs.PlainFlights.{gone-same, named-same, refusal-same, sack-same, send-same, next-same, settled-others, skip-same, started-same}
 use Rattle.sctp_delivery.proofs.PlainSessions.{Goes, IsThere, Others, as_plain, bound-there, calls-too, kept_of, room-of, small-next, regular-of, stays-so}
 use Rattle.sctp_delivery.proofs.PlainStreams.{AreAlike, bare, both-expired, both-lower, both-moded, both-opened, both-sized, both-wrote, found-alike, one-less}
 use Rattle.sctp_delivery.proofs.PlainStreams.{left-alike, open-alike, released-alike}
 use Rattle.sctp_delivery.proofs.SackSteps.{message-inflight}
-use Rattle.sctp_delivery.proofs.ValidMarks.{IsUnmarked}
+use Rattle.sctp_delivery.proofs.ValidMarks.{IsFresh, IsUnmarked, fresh-started}
 use Rattle.sctp_delivery.proofs.Writing.{accepted-stream}
 
 -- ## What is found

@@ -16,8 +16,8 @@ use Rattle.sctp_outbound.specs.payload_queue.PayloadQueue as payload
 use Rattle.sctp_outbound.proofs.lemmas.outbound_queue.SideBySide.{partial_before, partial_appended}
 use Rattle.sctp_delivery.proofs.Continued.{AreContinued, IsContinued, abandoned-continued, ended-continued, facts, facts-abandoned, facts_of, gone_at}
 use Rattle.sctp_delivery.proofs.Continued.{left-continued, sent-continued, facts-changed, facts-part-changed}
-use Rattle.sctp_delivery.proofs.FewInFlight.{IsInRun, IsRegular, IsSmall, fresh-started, sack-place}
-use Rattle.sctp_delivery.proofs.ValidMarks.{IsUnmarked}
+use Rattle.sctp_delivery.proofs.FewInFlight.{IsInRun, IsRegular, IsSmall, sack-place}
+use Rattle.sctp_delivery.proofs.ValidMarks.{IsUnmarked, fresh-started}
 use Rattle.sctp_sender.proofs.InLine.{put-behind}
 use Rattle.sctp_sender.specs.Flight.{count_acked, sack_refusal}
 use Rattle.sctp_delivery.specs.SenderCalls as outgoing
