@@ -102,7 +102,7 @@ module _ (t : Transmission) (was : length t.flight.queue.inflight.chunks < 2 ^ 3
 -- ## A call of the sender
 
 -- a chunk that was made has a TSN of 32 bits, or goes to one
-abbrev IsMadeSmall : Made → Type 0
+abbrev pub IsMadeSmall : Made → Type 0
 IsMadeSmall (data_chunk d) = IsSmall d.tsn
 IsMadeSmall (forward_tsn f) = IsSmall f.new_cumulative_tsn
 

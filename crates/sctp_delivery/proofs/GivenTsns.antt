@@ -57,7 +57,7 @@ pub put-length : (x : ChunkPayloadData) (cs : List ChunkPayloadData) → length 
 put-length x [] = omega arith
 put-length x (c ∷ cs) = grind (arith, nat_tests, put-length x cs)
 
-as-long : (xs ys : List ChunkPayloadData) → tsns xs ≡ tsns ys → length xs ≡ length ys
+pub as-long : (xs ys : List ChunkPayloadData) → tsns xs ≡ tsns ys → length xs ≡ length ys
 as-long xs ys same = sym (count xs) ∙ ap length same ∙ count ys
 
 -- a chunk with the next TSN, put behind chunks with the TSNs of those in flight

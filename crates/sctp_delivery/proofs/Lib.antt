@@ -133,3 +133,4 @@ pub mod PlainAmounts
 pub mod PlainEnds
 pub mod PlainRefused
 pub mod StandsSo
+pub mod Recent

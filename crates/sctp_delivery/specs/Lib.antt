@@ -26,3 +26,4 @@ pub mod EveryOrder
 pub mod EveryEnd
 pub mod StandAny
 pub mod Uses
+pub mod Recent
