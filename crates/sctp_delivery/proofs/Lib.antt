@@ -134,3 +134,4 @@ pub mod PlainEnds
 pub mod PlainRefused
 pub mod StandsSo
 pub mod Recent
+pub mod TakenAgain

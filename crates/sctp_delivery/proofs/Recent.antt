@@ -1,4 +1,5 @@
 -- Sessions of a whole life: what came at the receiver lies behind the acknowledged TSN, and before the next one, while nothing older is handed over.
+use Rattle.sctp_delivery.proofs.Names.{Option, Some, None, Limits, expired_of}
 use Rattle.sctp_delivery.proofs.Names.{◌≡◌, ℕ, ◌+◌, ◌-◌, ◌<◌, ◌≤◌, ◌^◌, Bool, true, false, not, List, [], ◌∷◌, length, None, refl, ap, sym}
 use Rattle.sctp_delivery.proofs.Names.{subst, ◌∙◌, arith, nat_tests, inl, inr, ◌⊎◌, cases_lt, filter, insert_before, not_both, both, if◌then◌else◌}
 use Rattle.sctp_delivery.proofs.Names.{tsn, Sack, Flight, ChunkPayloadData, Transmission, Reception, Released, after_sack, take_sack, is_outdated}
@@ -11,7 +12,7 @@ use Rattle.sctp_outbound.specs.payload_queue.PayloadQueue as payload
 use Rattle.sctp_sender.proofs.MarkedRuns.{part-run}
 use Rattle.sctp_delivery.proofs.Sessions.{neither}
 use Rattle.sctp_receiver.specs.TsnFilter.{rise_beyond}
-use Rattle.sctp_sender.specs.Flight.{count_acked, with_queue}
+use Rattle.sctp_sender.specs.Flight.{count_acked, with_queue, with_room}
 use Rattle.sctp_util.specs.Serial.{at_or_before, comes_before, distance}
 use Rattle.sctp_delivery.specs.Recent.{AreRecent, IsRecent, WhileRecent}
 use Rattle.sctp_delivery.specs.ReceiverCalls as incoming
@@ -33,7 +34,7 @@ use Rattle.sctp_delivery.proofs.Writing.{accepted-stream}
 
 -- ## Which TSNs may come
 
-abbrev any : ℕ → Bool
+abbrev pub any : ℕ → Bool
 any t = true
 
 abbrev none : ℕ → Bool
@@ -68,9 +69,9 @@ near-given p n t next few small is e =
 -- ## A call of the sender
 
 -- nothing more is acknowledged, and no less is in flight
-record IsLonger (f g : Flight) : Type 0 where
-  acked : g.acked_tsn ≡ f.acked_tsn
-  long : length f.queue.inflight.chunks ≤ length g.queue.inflight.chunks
+pub record IsLonger (f g : Flight) : Type 0 where
+  pub acked : g.acked_tsn ≡ f.acked_tsn
+  pub long : length f.queue.inflight.chunks ≤ length g.queue.inflight.chunks
 
 same-longer : (f g : Flight) → tsns g.queue.inflight.chunks ≡ tsns f.queue.inflight.chunks → g.acked_tsn ≡ f.acked_tsn → IsLonger f g
 same-longer f g same acked = record { acked = acked; long = let n = as-long g.queue.inflight.chunks f.queue.inflight.chunks same in omega (arith, n) }
@@ -149,32 +150,27 @@ sacked-arrived k f r few small fits recent run order h = by (is_outdated k f) re
         subst (λ a. IsArrived a (length (take_sack k f).queue.inflight.chunks) any r.cumulative_tsn r.beyond) (sym at.1)
         (subst (λ m. IsArrived (tsn p c) m any r.cumulative_tsn r.beyond) left (from-place p n c r.cumulative_tsn r.beyond few h le rise))
 
-module _ (t : Transmission) (r : Reception) (was : length t.flight.queue.inflight.chunks < 2 ^ 31) (run : IsInRun t.flight) (order : IsInOrder r)
-    (h : HasArrived t.flight r) where
-  abbrev cs : List ChunkPayloadData
-  cs = t.flight.queue.inflight.chunks
+-- or a SACK is taken
+abbrev pub IsLongerOrSacked : SenderCall → Flight → Flight → Type 0
+IsLongerOrSacked call f g = IsLonger f g ⊎ ((k : Sack) × (gone : List Released) × (call ≡ outgoing.takes_sack k gone) × (g ≡ after_sack k f))
 
-  arrived-by : (call : SenderCall) → ((k : Sack) (gone : List Released) → call ≡ outgoing.takes_sack k gone → IsSmall k.cumulative_tsn_ack
-      × (sack_refusal k t.flight ≡ None) × (at_or_before k.cumulative_tsn_ack r.cumulative_tsn ≡ true))
-      → (c : Change call t) → HasArrived (flight_after call t c) r
-  arrived-by call x nothing = h
-  arrived-by call x (all_start now) = longer-arrived t.flight (with_queue t.flight (all_started now t.flight.queue)) r
-      (same-longer t.flight (with_queue t.flight (all_started now t.flight.queue))
-      (ap (λ (w : payload.Payload). tsns w.chunks) (started-inflight now t.flight.queue)) refl) h
-  arrived-by call x (more_room count) = h
-  arrived-by call x (some_marked q g k) =
-      let f = with_queue t.flight (with_inflight t.flight.queue (change_where q g cs)) in
-      longer-arrived t.flight f r (same-longer t.flight f (changed-run q g (λ c. ap (λ (d : ChunkPayloadData). d.tsn) (k c)) cs) refl) h
-  arrived-by call x (some_missed count) = longer-arrived t.flight (after_misses count t.flight) r
-      (same-longer t.flight (after_misses count t.flight) (part-run can_miss missed (λ d. refl) cs count) refl) h
-  arrived-by call x (one_leaves o e found) = longer-arrived t.flight (after_abandonment o t.flight) r
-      (raised-longer 1 t.flight (after_abandonment o t.flight) (raises-abandoned t.flight.acked_tsn 1 o t.flight (omega arith))) h
-  arrived-by call x (each_leaves ts short e) = longer-arrived t.flight (abandoned_each ts t.flight) r
-      (raised-longer (length ts) t.flight (abandoned_each ts t.flight) (raises-each t.flight.acked_tsn ts t.flight)) h
-  arrived-by call x (front_expires now c found e) = h
-  arrived-by call x (acknowledges k gone e) =
-      let y = x k gone e in
-      sacked-arrived k t.flight r was y.0 y.1 y.2 run order h
+moves-by : (call : SenderCall) (t : Transmission) (c : Change call t) → IsLongerOrSacked call t.flight (flight_after call t c)
+moves-by call t nothing = inl (same-longer t.flight t.flight refl refl)
+moves-by call t (all_start now) = inl (same-longer t.flight (with_queue t.flight (all_started now t.flight.queue))
+    (ap (λ (w : payload.Payload). tsns w.chunks) (started-inflight now t.flight.queue)) refl)
+moves-by call t (more_room count) = inl (same-longer t.flight (with_queue t.flight (with_room count t.flight.queue)) refl refl)
+moves-by call t (some_marked q g k) =
+    let cs = t.flight.queue.inflight.chunks in
+    inl (same-longer t.flight (with_queue t.flight (with_inflight t.flight.queue (change_where q g cs)))
+    (changed-run q g (λ c. ap (λ (d : ChunkPayloadData). d.tsn) (k c)) cs) refl)
+moves-by call t (some_missed count) =
+    inl (same-longer t.flight (after_misses count t.flight) (part-run can_miss missed (λ d. refl) t.flight.queue.inflight.chunks count) refl)
+moves-by call t (one_leaves o e found) =
+    inl (raised-longer 1 t.flight (after_abandonment o t.flight) (raises-abandoned t.flight.acked_tsn 1 o t.flight (omega arith)))
+moves-by call t (each_leaves ts short e) =
+    inl (raised-longer (length ts) t.flight (abandoned_each ts t.flight) (raises-each t.flight.acked_tsn ts t.flight))
+moves-by call t (front_expires now c found e) = inl (same-longer t.flight (with_queue t.flight (expired_of (Some c) t.flight.queue)) refl refl)
+moves-by call t (acknowledges k gone e) = inr (k, gone, e, refl)
 
 module _ (old new : Session) (few : count_in_flight new < 2 ^ 31) (i : IsNear old) where
   abbrev u : Transmission
@@ -212,26 +208,37 @@ module _ (old new : Session) (few : count_in_flight new < 2 ^ 31) (i : IsNear ol
       (fragments-unmarked l.0 ppi (b ∷ bs)) i.valid)
   sender-valid c g = each-call IsUnmarked (IsRight any none) u keeps i.valid new.sending.sender c refl g.step.sender g.exact
 
-  sender-arrived : (c : SenderCall) → SenderFollows c old new → IsRecent (of_sender c) old → HasArrived new.sending.sender.flight r
-  sender-arrived (outgoing.writes stream ppi (b ∷ bs)) g q =
+  pub sender-moves : (c : SenderCall) → SenderFollows c old new → IsLongerOrSacked c u.flight new.sending.sender.flight
+  sender-moves (outgoing.writes stream ppi (b ∷ bs)) g =
       let l = accepted-stream stream (length (b ∷ bs)) u g.accepted in
       let cs = fragments_with_mode l.0 ppi (b ∷ bs) in
-      subst (λ (x : Transmission). HasArrived x.flight r) (sym (g.exact.1 (omega arith) l.0 l.1))
-      (longer-arrived u.flight (with_queue u.flight (with_message cs u.flight.queue)) r
-      (same-longer u.flight (with_queue u.flight (with_message cs u.flight.queue))
-      (ap (λ (w : payload.Payload). tsns w.chunks) (message-inflight cs u.flight.queue)) refl) i.arrived)
-  sender-arrived (outgoing.sends now) g q =
+      subst (λ (x : Transmission). IsLongerOrSacked (outgoing.writes stream ppi (b ∷ bs)) u.flight x.flight) (sym (g.exact.1 (omega arith) l.0 l.1))
+      (inl (same-longer u.flight (with_queue u.flight (with_message cs u.flight.queue))
+      (ap (λ (w : payload.Payload). tsns w.chunks) (message-inflight cs u.flight.queue)) refl))
+  sender-moves (outgoing.sends now) g =
       let f = record u.flight { queue = sent_next u.flight.queue u.flight.next_tsn now; next_tsn = next_after_send u.flight } in
-      subst (λ (x : Transmission). HasArrived x.flight r) (sym g.exact)
-      (longer-arrived u.flight f r (raised-longer 1 u.flight f (raises-sent u.flight.acked_tsn 1 now u.flight (omega arith))) i.arrived)
-  sender-arrived c g q =
+      subst (λ (x : Transmission). IsLongerOrSacked (outgoing.sends now) u.flight x.flight) (sym g.exact)
+      (inl (raised-longer 1 u.flight f (raises-sent u.flight.acked_tsn 1 now u.flight (omega arith))))
+  sender-moves c g =
       let x = changes u new.sending.sender c refl g.step.sender g.exact in
-      subst (λ (f : Flight). HasArrived f r) (sym x.flight)
-      (arrived-by u r i.few i.regular.regular.numbered i.order i.arrived c (λ k gone e. (
-        every-contained (λ (y : Sack). IsSmall y.cumulative_tsn_ack) old.sacks k (subst (λ d. IsReported d old) e g.handed) i.regular.regular.sacks,
-        subst (λ d. outgoing.IsAccepted d u) e g.accepted,
-        subst (λ d. IsRecent (of_sender d) old) e q,
-      )) x.change)
+      subst (IsLongerOrSacked c u.flight) (sym x.flight) (moves-by c u x.change)
+
+  -- a SACK that is taken has a TSN of 32 bits, and is not refused
+  pub sack-fits : (c : SenderCall) → SenderFollows c old new → (k : Sack) (gone : List Released) → c ≡ outgoing.takes_sack k gone
+      → IsSmall k.cumulative_tsn_ack × (sack_refusal k u.flight ≡ None)
+  sack-fits c g k gone e = (
+    every-contained (λ (y : Sack). IsSmall y.cumulative_tsn_ack) old.sacks k (subst (λ d. IsReported d old) e g.handed) i.regular.regular.sacks,
+    subst (λ d. outgoing.IsAccepted d u) e g.accepted,
+  )
+
+  sender-arrived : (c : SenderCall) → SenderFollows c old new → IsRecent (of_sender c) old → HasArrived new.sending.sender.flight r
+  sender-arrived c g q = elim (sender-moves c g) [
+    | inl l ↦ longer-arrived u.flight new.sending.sender.flight r l i.arrived
+    | inr x ↦
+        let fits = sack-fits c g x.0 x.1 x.2 in
+        subst (λ (f : Flight). HasArrived f r) (sym x.3)
+        (sacked-arrived x.0 u.flight r i.few fits.0 fits.1 (subst (λ d. IsRecent (of_sender d) old) x.2 q) i.regular.regular.numbered i.order i.arrived)
+  ]
 
   pub sender-near : (c : SenderCall) → SenderFollows c old new → IsRecent (of_sender c) old → IsNear new
   sender-near c g q =
@@ -259,7 +266,7 @@ module _ (old new : Session) (few : count_in_flight new < 2 ^ 31) (i : IsNear ol
   to q e h = subst Comes (sym e) h
 
   -- one that is handed over is in flight, or came
-  given : (t : ℕ) → IsSmall t → comes_before t u.flight.next_tsn ≡ true → at_or_before t r.cumulative_tsn ≡ false → IsGiven p n t
+  pub given : (t : ℕ) → IsSmall t → comes_before t u.flight.next_tsn ≡ true → at_or_before t r.cumulative_tsn ≡ false → IsGiven p n t
   given t small e past = elim (near-given p n t u.flight.next_tsn i.few small i.regular.regular.numbered.next_is e) [
     | inl g ↦ g
     | inr all ↦ absurd (not_both (sym past ∙ (ap (at_or_before t) i.arrived.is ∙ all i.arrived.place i.arrived.within)))
@@ -323,14 +330,17 @@ near-then [] s new run q i = subst IsNear (sym run) i
 near-then (of_sender call ∷ cs) s new run q i = near-then cs run.0 new run.1.1 q.2 (sender-near s run.0 q.1 i call run.1.0 q.0)
 near-then (of_receiver call ∷ cs) s new run q i = near-then cs run.0 new run.1.1 q.2 (receiver-near s run.0 q.1 i call run.1.0 q.0)
 
+pub near-first : (first size max most : ℕ) (limits : Option Limits) → first < 2 ^ 32 → IsNear (at_start first size max most limits)
+near-first first size max most limits small = record {
+  regular = regular-first first size max most limits small;
+  valid = record { ordered = tt; unordered = tt; inflight = tt };
+  arrived = record { place = 0; within = omega arith; is = omega arith; so_far = λ k pos le. refl; each = tt };
+  order = record { small = omega arith; rise = refl };
+  few = omega arith;
+}
+
 pub all-can : WhileRecent CanBeAnswered
 all-can first size max most limits cs s small run q =
-    let i = near-then cs (at_start first size max most limits) s run q (record {
-      regular = regular-first first size max most limits small;
-      valid = record { ordered = tt; unordered = tt; inflight = tt };
-      arrived = record { place = 0; within = omega arith; is = omega arith; so_far = λ k pos le. refl; each = tt };
-      order = record { small = omega arith; rise = refl };
-      few = omega arith;
-    }) in
+    let i = near-then cs (at_start first size max most limits) s run q (near-first first size max most limits small) in
     can-near any s.sending.sender.flight.acked_tsn (count_in_flight s) s i.few i.regular.regular.numbered i.arrived
     (settled any none s.sending.sender.flight.queue.inflight.chunks i.valid.inflight)
