@@ -214,9 +214,6 @@ passed_in ms t = list_any (passes t) ms
 abbrev pub IsValidBut : (ℕ → Bool) → Session → Type 0
 IsValidBut dropped s = IsValid (came_in dropped s) (passed_in s.made) s.sending.sender.flight.queue
 
-abbrev pub IsValidIn : Session → Type 0
-IsValidIn s = IsValidBut none_dropped s
-
 module _ (dropped : ℕ → Bool) (p n : ℕ) (old new : Session) (few : n < 2 ^ 31) (h : IsNumbered p n old.sending.sender.flight)
     (s : IsValidBut dropped old) where
   -- with what came and was passed before the call

@@ -2,7 +2,7 @@
 use Rattle.sctp_delivery.proofs.Names.{nat_tests, common_steps, ◌≡◌, ℕ, ◌+◌, ◌^◌, ◌<◌, Bool, true, List, [], ◌∷◌, refl, arith, suc, length, ap, sym, Result, Ok}
 use Rattle.sctp_delivery.proofs.Names.{Err, not_both, ChunkPayloadData, Sack, total_bytes, Reception, max_sack_entries, sack_entries, sack_of_entries, Released}
 use Rattle.sctp_delivery.proofs.Names.{after_sack, released_by, after_acked, with_lows, ReceiverCall, is_reporting, CanBeAnswered, IsAnswered}
-use Rattle.sctp_delivery.proofs.Names.{AfterEachSessionOfFewTsns, tsns_given, takes_sack, data_chunk, ReceiverFollows, SenderFollows, Session, at_start, IfOk}
+use Rattle.sctp_delivery.proofs.Names.{takes_sack, data_chunk, ReceiverFollows, SenderFollows, Session, IfOk}
 use Rattle.sctp_delivery.proofs.Names.{All, Contains, data_of, Arrival, ReceiverRefusal, accepted_after}
 use Rattle.sctp_receiver.specs.Receiver.{after_sack_within, without_duplicates, TakesEach}
 use Rattle.sctp_sender.specs.Totals.{AreSettled, bytes_in}
@@ -15,9 +15,8 @@ use Rattle.sctp_delivery.proofs.ArrivedTsns.{IsArrived}
 use Rattle.sctp_delivery.proofs.Every.{Every, every-of-all}
 use Rattle.sctp_delivery.proofs.GivenTsns.{IsNumbered}
 use Rattle.sctp_delivery.proofs.ReportedTsns.{not-refused, sack-truthful}
-use Rattle.sctp_delivery.proofs.SackLaws.{IsInStep, IsInStepBut, in-step}
+use Rattle.sctp_delivery.proofs.SackLaws.{IsInStep, IsInStepBut}
 use Rattle.sctp_delivery.proofs.SackSteps.{came_in, passed_in, known_or, none_dropped}
-use Rattle.sctp_delivery.proofs.TsnPlaces.{base}
 use Rattle.sctp_delivery.proofs.ValidMarks.{IsRight}
 
 -- what is acknowledged has no bytes
@@ -107,10 +106,6 @@ can-but dropped p n s few i = can-near (known_or dropped s) p n s few i.numbered
 
 pub can : (p n : ℕ) (s : Session) → n < 2 ^ 31 → IsInStep p n s → CanBeAnswered s
 can p n s few i = can-but none_dropped p n s few i
-
-pub all-can : AfterEachSessionOfFewTsns (λ first count s. CanBeAnswered s)
-all-can first size max most limits cs s run small few =
-    can (base first) (tsns_given (at_start first size max most limits) cs s run) s few (in-step first size max most limits cs s run small few)
 
 -- # Chunks that are taken together are taken one after another
 
