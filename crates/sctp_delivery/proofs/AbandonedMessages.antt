@@ -24,7 +24,7 @@ use Rattle.sctp_delivery.proofs.SackSteps.{message-inflight, sack-next}
 use Rattle.sctp_delivery.proofs.Senders.{IsMoreBy}
 use Rattle.sctp_delivery.proofs.Sending.{QueuedOn}
 use Rattle.sctp_delivery.proofs.Sent.{Entry, Numbered, fragment, terminal}
-use Rattle.sctp_delivery.proofs.ValidMarks.{IsUnmarked, IsValid, started-valid}
+use Rattle.sctp_delivery.proofs.ValidMarks.{IsFresh, IsUnmarked, fresh-started}
 use Rattle.sctp_delivery.proofs.Waiting.{between}
 use Rattle.sctp_delivery.proofs.Writing.{accepted-stream}
 use Rattle.sctp_delivery.proofs.QueueChunks.{peeked}
@@ -117,8 +117,7 @@ module _ (gone : List ℕ) where
   acked-marked k f h = grind (arith, nat_tests, every-passing, marked-changed)
 
 -- after a call
-module _ (gone : List ℕ) (old new : Session) (taken passed : ℕ → Bool) (valid : IsValid taken passed (flight_of old).queue)
-    (h : AreMarkedGone gone (flight_of old).queue.inflight.chunks) where
+module _ (gone : List ℕ) (old new : Session) (fresh : IsFresh (flight_of old).queue) (h : AreMarkedGone gone (flight_of old).queue.inflight.chunks) where
   marked-to : (t : Transmission) → new.sending.sender ≡ t → AreMarkedGone gone t.flight.queue.inflight.chunks
       → AreMarkedGone gone (flight_of new).queue.inflight.chunks
   marked-to t e m = subst (λ (u : Transmission). AreMarkedGone gone u.flight.queue.inflight.chunks) (sym e) m
@@ -146,7 +145,7 @@ module _ (gone : List ℕ) (old new : Session) (taken passed : ℕ → Bool) (va
       (sym (message-inflight (fragments_with_mode l.0 ppi (b ∷ bs)) (flight_of old).queue)) h)
   stays-marked (outgoing.sends now) a f =
       let q = all_started now (flight_of old).queue in
-      let v = started-valid taken passed now (flight_of old).queue valid in
+      let v = fresh-started now (flight_of old).queue fresh in
       marked-to _ f.exact
       (sent-marked gone (next_pending q.pending) q (flight_of old).next_tsn now
       (λ c e. (peeked IsUnmarked q.pending.selected q.pending c e (v.ordered, v.unordered)).1)

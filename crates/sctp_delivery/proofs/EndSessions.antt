@@ -1,10 +1,10 @@
 -- Each session can end: round after round leaves fewer chunks, and then all that is to be read is read.
 use Rattle.sctp_delivery.proofs.Names.{common_steps, ◌≡◌, ℕ, zero, suc, ◌+◌, ◌-◌, ◌%◌, ◌^◌, ◌<◌, ◌≤◌, Bool, true, false, List, [], ◌∷◌, length, Option, Some}
 use Rattle.sctp_delivery.proofs.Names.{None, is_some, inl, inr, refl, ap, subst, ◌∙◌, arith, ◌==◌, if◌then◌else◌, nat_le, cases_lt, nat_tests, and-none}
-use Rattle.sctp_delivery.proofs.Names.{same-yes, length-change_where, and, not_both, distance-tsn, insert_before, distance, ChunkPayloadData}
+use Rattle.sctp_delivery.proofs.Names.{same-yes, length-change_where, and, not_both, distance-tsn, distance, ChunkPayloadData}
 use Rattle.sctp_delivery.proofs.Names.{peeked_all_started, sendable-sent, Selected, Outbound, all_started, as_sent, sent_next, sent_of, Pending, chunk_count}
 use Rattle.sctp_delivery.proofs.Names.{front_of, list_of, list_to_pop, next_pending, next_pending_of, IsSendable, IsWhole, begun, free, stage_of, Limits}
-use Rattle.sctp_delivery.proofs.Names.{chunk_before, following_tsn, started-inflight, Flight, next_after_send, send_refusal, with_flight, Ledger}
+use Rattle.sctp_delivery.proofs.Names.{following_tsn, started-inflight, Flight, next_after_send, send_refusal, with_flight, Ledger}
 use Rattle.sctp_delivery.proofs.Names.{EachOtherIsReadOnce, abandoned_in, is_all_acknowledged, reads_nothing, chunks_waiting, chunks_left, in_flight}
 use Rattle.sctp_delivery.proofs.Names.{tsns_given, Made, made_after, sends, with_chunk, Call, RunsTo, SenderFollows, Session, at_start, of_sender}
 use Rattle.std.specs.Prelude.{◌*◌, slice_get}
@@ -15,6 +15,7 @@ use Rattle.sctp_delivery.proofs.Cases.{all_streams}
 use Rattle.sctp_delivery.proofs.Delivered.{next_tsn}
 use Rattle.sctp_delivery.proofs.EndDelivers.{ends-delivered, few-given, ends-answered, ends-caught-up}
 use Rattle.sctp_delivery.proofs.EndSteps.{ends-read, RoomIn, few-spent, spent, At, Ends, Setting, at-next, kept-at, numbered-at, sender-before}
+use Rattle.sctp_delivery.proofs.GivenTsns.{put-length}
 use Rattle.sctp_delivery.proofs.RefusedLaw.{fit-session}
 use Rattle.sctp_delivery.proofs.Numbers.{number_of}
 use Rattle.sctp_delivery.proofs.OthersOnce.{others-read}
@@ -46,10 +47,6 @@ next-there q xs n s some = by q.selected s.ordered s.unordered
         → is_some (next_pending_of o q) ≡ true
     by None w v = front q.unordered q.ordered some
     by (Some t) w v = kind t.message_id t.unordered w v
-
-put-length : (x : ChunkPayloadData) (cs : List ChunkPayloadData) → length (insert_before chunk_before x cs) ≡ length cs + 1
-put-length x [] = omega arith
-put-length x (c ∷ cs) = grind (arith, nat_tests, put-length x cs)
 
 started-count : (now : ℕ) (q : Outbound) → chunk_count (all_started now q).pending ≡ chunk_count q.pending
 started-count now q = grind (arith, nat_tests, length-change_where)

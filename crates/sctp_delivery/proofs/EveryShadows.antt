@@ -38,6 +38,7 @@ use Rattle.sctp_delivery.proofs.EveryKept.{IsDropOf, IsTold, drops-elsewhere, dr
 use Rattle.sctp_delivery.proofs.EveryKept.{sender-told, told-beside, told-first, whole-on}
 use Rattle.sctp_delivery.proofs.EveryRuns as runs
 use Rattle.sctp_delivery.proofs.EveryTurns.{open-after, open-after-other, opens-it, other-answered}
+use Rattle.sctp_delivery.proofs.FewInFlight.{regular-of-few}
 use Rattle.sctp_delivery.proofs.ModeSessions.{AreInModes, IsAsSaid, IsInModes, changed-in, said-after, said-beside, said-first}
 use Rattle.sctp_delivery.proofs.Numbers.{all-open, apart-changed, apart-closed, number-elsewhere, number_of, numbers-closed, sized-changed, sized-closed}
 use Rattle.sctp_delivery.proofs.Numbers.{there-changed, there-closed}
@@ -49,7 +50,6 @@ use Rattle.sctp_delivery.proofs.PlainSessions.{Goes, IsThere, Others, Shadows, g
 use Rattle.sctp_delivery.proofs.PlainStreams.{AreAlike, bare, both-changed}
 use Rattle.sctp_delivery.proofs.Every.{Every, every-contained}
 use Rattle.sctp_delivery.proofs.SackLaws as sacks
-use Rattle.sctp_delivery.proofs.SackSteps.{came_in, passed_in}
 use Rattle.sctp_delivery.proofs.Senders.{IsHeldOn, renumbered}
 use Rattle.sctp_delivery.proofs.Sent.{Entry, Numbered}
 use Rattle.sctp_delivery.proofs.Sessions as made_in
@@ -387,7 +387,8 @@ module _ (on dropped calm : ℕ → Bool) (lost : Option (List ℕ)) (sub : (st 
         taken = made_in.sent-made call d e f i.taken;
         called = subst (IsCalled first) (sym same) i.called;
         apart = subst (λ (y : receiver_runs.Stand). are_apart (numbers_of y.receiver.streams) ≡ true) (sym same) i.apart;
-        marked = stays-marked more d e (came_in dropped d) (passed_in d.made) i.spread.step.valid
+        marked = stays-marked more d e
+            (record { ordered = i.spread.step.valid.ordered; unordered = i.spread.step.valid.unordered })
             (marked-later gone more (gone-left gone answered) chunks i.marked) call (gone-right gone answered) f;
         cut = stays-cut on more first d e i.numbered i.sent x.more i.spread.holds x.spread.holds.held.stands.counted
             (cut-later gone more (gone-left gone answered) i.sent i.cut) call (gone-right gone answered) f x.grown;
@@ -424,10 +425,12 @@ module _ (on dropped calm : ℕ → Bool) (lost : Option (List ℕ)) (sub : (st 
 
   abbrev pub every : Others first
   every = record {
-    dropped = dropped;
+    Bound = λ n k. n < 2 ^ 31;
+    fewer = λ n k more few. omega (arith, few);
     Plays = λ d n gone m. n < 2 ^ 31 → IsPlayedSo d n gone m;
-    onward = onward;
-    step = λ d n gone m few p. (p few).spread.step;
+    onward = λ d e n gone m was few p c f. onward d e n gone m p c f;
+    regular = λ d n gone m few p. regular-of-few dropped (base first) n d (p few).spread.step;
+    room = λ d n gone m more few p. let total = (p (omega (arith, few))).spread.step.numbered.total in omega (arith, total, few);
     accounted = λ d n gone m few p. played-accounted d n gone m (p few);
   }
 
@@ -622,14 +625,14 @@ module _ (on dropped calm : ℕ → Bool) (lost : Option (List ℕ)) (sub : (st 
       → IsReady calm opened s → HasBesideSo s n gone m
       → HasBesideSo v (n + distance (next_tsn s) (next_tsn v)) (gone ++ gone_any c s) (modes_from m (plain_calls (c ∷ [])))
   one-any opened (makes (of_sender call)) s v n gone m f few short so off whole covers ready h =
-      sender-goes first every s v n gone m (omega (arith, few)) h call short few f
+      sender-goes first every s v n gone m (omega (arith, few)) few h call short f
   one-any opened (makes (of_receiver call)) s v n gone m f few short so off whole covers ready h =
-      unmoved first every s v n gone m (ap (λ (y : Session). next_tsn y) f.after) few h
+      unmoved first every s v n gone m (ap (λ (y : Session). next_tsn y) f.after) (omega (arith, few)) h
       (receives-too first every call s v n gone m (omega (arith, few)) h f)
   one-any opened (of_sending call) s v n gone m f few short so off whole covers ready h =
-      unmoved first every s v n gone m (runs.next-same call s v f) few h (other-goes s v n gone m h call off f)
+      unmoved first every s v n gone m (runs.next-same call s v f) (omega (arith, few)) h (other-goes s v n gone m h call off f)
   one-any opened (of_receiving call) s v n gone m f few short so off whole covers ready h =
-      unmoved first every s v n gone m (ap (λ (y : Session). next_tsn y) f.after) few h
+      unmoved first every s v n gone m (ap (λ (y : Session). next_tsn y) f.after) (omega (arith, few)) h
       (other-receives s v n gone m h opened ready call so whole covers f)
 
   all-any : (opened : ℕ → Bool) (cs : List AnyCall) (s new : Session) (n : ℕ) (gone : List ℕ) (m : Modes) (r : RunsAny s cs new)

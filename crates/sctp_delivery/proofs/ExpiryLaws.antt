@@ -4,12 +4,13 @@ use Rattle.sctp_delivery.proofs.Names.{Some, None, is_some, ◌++◌, inl, inr, 
 use Rattle.sctp_delivery.proofs.Names.{nat_tests, or-left, or-right, same-is, same-yes, fails, not_both, and, both, tsn, ChunkPayloadData, IsRunFrom, is_dcep}
 use Rattle.sctp_delivery.proofs.Names.{abandoned_of, expiring_tail, is_expired, is_expired_tail, is_late, late_tsns, message_of, passing, Pending, next_pending}
 use Rattle.sctp_delivery.proofs.Names.{Flight, message_to_abandon, abandoned_at, abandoned_with, late_order, leaving_each, worn_order, is_worn, worn_tsns}
-use Rattle.sctp_delivery.proofs.Names.{Transmission, found-passes, abandoned_by, abandoned_in, AfterEachFitRun, AfterEachRunOfFewTsns, Mode, Sending, at_first}
+use Rattle.sctp_delivery.proofs.Names.{Transmission, found-passes, abandoned_by, abandoned_in, AfterEachFitRun, Mode, Sending, at_first}
 use Rattle.sctp_delivery.proofs.Names.{deadline_of, modes_from, numbered_in, reliable_mode, Modes, modes_after, SenderCall, append_assoc, append-nil, distance}
 use Rattle.sctp_delivery.proofs.Names.{Reliable, tsns_given, Call, RunsTo, Session, at_start, of_receiver, of_sender}
 use Rattle.std.proofs.Common.{◌⊎◌}
 use Rattle.sctp_delivery.proofs.Every.{Every, every-of, every-passing, every-both, all-of-every, every-changed, every-found, every-inserted, every-joined}
 use Rattle.sctp_delivery.proofs.Every.{every-all}
+use Rattle.sctp_delivery.proofs.FewInFlight.{all-regular, regular-first}
 use Rattle.sctp_delivery.proofs.GivenTsns.{IsPast, rest-run, IsNumbered}
 use Rattle.sctp_delivery.proofs.TsnPlaces.{same-place, base}
 use Rattle.sctp_data.specs.Reliability.{is_past}
@@ -17,7 +18,7 @@ use Rattle.sctp_sender.specs.Late.{tail_first}
 use Rattle.sctp_sender.specs.Resending.{is_over, is_to_resend, limit_of, rexmit_limit}
 use Rattle.sctp_delivery.specs.Expiries.{EachDueExpires, IsReason, OnlyTheDueExpire, is_due_in_front, is_late_as_written, is_lifetime_over, is_limit_passed}
 use Rattle.sctp_delivery.specs.Expiries.{is_sent_too_often, is_worn_as_written, AfterEachRunOfAsked, IsEachReliableReadInTheEnd, asked_by, asked_in}
-use Rattle.sctp_delivery.specs.Modes.{deadline_from}
+use Rattle.sctp_delivery.specs.Modes.{AfterEachRunOfFewInFlight, deadline_from}
 use Rattle.sctp_delivery.specs.SenderCalls as outgoing
 use Rattle.sctp_delivery.proofs.AbandonedMessages.{numbers, numbers-append, gone-left, gone-right, by-below}
 use Rattle.sctp_delivery.proofs.FilledQueues.{IsFilled}
@@ -268,12 +269,14 @@ module _ (b most : ℕ) (few : most < 2 ^ 31) (ws : List Sending) (t : Transmiss
 
 -- ## The laws
 
-pub only-due : AfterEachRunOfFewTsns OnlyTheDueExpire
-only-due tsn size max most limits cs s small some r few call =
-    let u = said-of-few tsn size max most limits cs s small some r few in
+pub only-due : AfterEachRunOfFewInFlight OnlyTheDueExpire
+only-due first size max most limits cs s small some r few call =
+    let u = said-in first size max most limits cs s small some r in
+    let x = all-regular cs (at_start first size max most limits) s r (omega arith) few (regular-first first size max most limits small) in
     let ws = (modes_from at_first cs).of_writes in
-    all-of-every (λ n. IsReason call s.sending.sender n (numbered_in n ws)) (abandoned_by call s.sending.sender)
-    (each-reason (base tsn) _ few ws s.sending.sender u.said.sender.queue u.said.filled u.unwrapped.spread.step.numbered call)
+    let t = s.sending.sender in
+    all-of-every (λ n. IsReason call t n (numbered_in n ws)) (abandoned_by call t)
+    (each-reason t.flight.acked_tsn (length t.flight.queue.inflight.chunks) x.0 ws t u.said.sender.queue u.said.filled x.1.regular.numbered call)
 
 pub each-due-expires : AfterEachFitRun EachDueExpires
 each-due-expires tsn size max most limits cs s small some r now = grind (arith, nat_tests, front-goes, late-are, said-in, tail-goes, worn-are)

@@ -28,6 +28,21 @@ pub record IsNumbered (p n : ℕ) (f : Flight) : Type 0 where
 count : (xs : List ChunkPayloadData) → length (tsns xs) ≡ length xs
 count xs = length-map xs (λ c. c.tsn)
 
+-- as many as are in flight, behind the acknowledged one
+pub rebased : (p n : ℕ) (f : Flight) → IsNumbered p n f → IsNumbered f.acked_tsn (length f.queue.inflight.chunks) f
+rebased p n f h =
+    let a = h.acked_is in
+    let b = h.next_is in
+    let total = h.total in
+    let from : tsn p (h.acked + 1) ≡ tsn f.acked_tsn 1 = omega (arith, a) in
+    record {
+      acked = 0;
+      acked_is = omega (arith, a);
+      next_is = omega (arith, a, b, total);
+      run = subst (λ t. IsRunFrom t f.queue.inflight.chunks) from h.run;
+      total = omega arith;
+    }
+
 -- ## The same TSNs, and one more
 
 pub same-numbered : (p n : ℕ) (f g : Flight) → tsns g.queue.inflight.chunks ≡ tsns f.queue.inflight.chunks → g.next_tsn ≡ f.next_tsn
@@ -38,42 +53,53 @@ one-more : (t n : ℕ) → t < 2 ^ 32 → tsns_from t n ++ ((t + n) % 2 ^ 32) �
 one-more t zero small = ap (λ u. u ∷ []) {x = (t + 0) % 2 ^ 32} {y = t} (omega arith)
 one-more t (suc n) small = grind (arith, nat_tests, one-more (following_tsn t) n (omega arith))
 
+pub put-length : (x : ChunkPayloadData) (cs : List ChunkPayloadData) → length (insert_before chunk_before x cs) ≡ length cs + 1
+put-length x [] = omega arith
+put-length x (c ∷ cs) = grind (arith, nat_tests, put-length x cs)
+
+pub as-long : (xs ys : List ChunkPayloadData) → tsns xs ≡ tsns ys → length xs ≡ length ys
+as-long xs ys same = sym (count xs) ∙ ap length same ∙ count ys
+
 -- a chunk with the next TSN, put behind chunks with the TSNs of those in flight
 pub more-numbered : (p n : ℕ) (f g : Flight) (x : ChunkPayloadData) (cs : List ChunkPayloadData) → tsns cs ≡ tsns f.queue.inflight.chunks → x.tsn ≡ f.next_tsn
-    → g.queue.inflight.chunks ≡ insert_before chunk_before x cs → g.next_tsn ≡ following_tsn f.next_tsn → g.acked_tsn ≡ f.acked_tsn → n + 1 < 2 ^ 31
-    → IsNumbered p n f → IsNumbered p (n + 1) g
+    → g.queue.inflight.chunks ≡ insert_before chunk_before x cs → g.next_tsn ≡ following_tsn f.next_tsn → g.acked_tsn ≡ f.acked_tsn
+    → length f.queue.inflight.chunks < 2 ^ 31 → IsNumbered p n f → IsNumbered p (n + 1) g
 more-numbered p n f g x cs same is put next acked few h =
     let first = tsn p (h.acked + 1) in
-    let long : length cs ≡ length f.queue.inflight.chunks = sym (count cs) ∙ ap length same ∙ count f.queue.inflight.chunks in
+    let long : length cs ≡ length f.queue.inflight.chunks = as-long cs f.queue.inflight.chunks same in
     let at : x.tsn ≡ (first + length cs) % 2 ^ 32 = omega (arith, is, h.next_is, h.total, long) in
     let run : IsRunFrom first cs = same ∙ h.run ∙ ap (tsns_from first) (sym long) in
     let all : tsns g.queue.inflight.chunks ≡ tsns cs ++ x.tsn ∷ [] = ap tsns put ∙ put-last x cs first (tsn-small p (h.acked + 1))
-    (omega (arith, few, h.total, long)) run at in
+    (omega (arith, few, long)) run at in
     let more : length g.queue.inflight.chunks ≡ suc (length cs) = sym (count g.queue.inflight.chunks) ∙ ap length all ∙
     (let a = length-append (tsns cs) (x.tsn ∷ []) in let b = count cs in omega (arith, a, b)) in
     grind (arith, nat_tests, one-more, tsn-small)
 
 -- ## A call
 
--- so many more TSNs are given out, at most so many
+-- so many more TSNs are given out, at most so many, and are in flight
 pub record Raises (p most : ℕ) (f g : Flight) : Type 0 where
   pub count : ℕ
   pub few : count ≤ most
   pub acked : g.acked_tsn ≡ f.acked_tsn
   pub next : (n : ℕ) → f.next_tsn ≡ tsn p n → g.next_tsn ≡ tsn p (n + count)
-  pub numbered : (n : ℕ) → n + count < 2 ^ 31 → IsNumbered p n f → IsNumbered p (n + count) g
+  pub long : length g.queue.inflight.chunks ≡ length f.queue.inflight.chunks + count
+  pub numbered : (n : ℕ) → length f.queue.inflight.chunks + count < 2 ^ 31 → IsNumbered p n f → IsNumbered p (n + count) g
 
 none-more : (n : ℕ) → n ≡ n + 0
 none-more n = omega arith
 
 pub raises-none : (p most : ℕ) (f g : Flight) → tsns g.queue.inflight.chunks ≡ tsns f.queue.inflight.chunks → g.next_tsn ≡ f.next_tsn
     → g.acked_tsn ≡ f.acked_tsn → Raises p most f g
-raises-none p most f g same next acked = grind (arith, nat_tests, none-more, same-numbered)
+raises-none p most f g same next acked = grind (arith, nat_tests, none-more, same-numbered, as-long)
 
 raises-one : (p most : ℕ) (f g : Flight) (x : ChunkPayloadData) (cs : List ChunkPayloadData) → 1 ≤ most → tsns cs ≡ tsns f.queue.inflight.chunks
     → x.tsn ≡ f.next_tsn → g.queue.inflight.chunks ≡ insert_before chunk_before x cs → g.next_tsn ≡ following_tsn f.next_tsn → g.acked_tsn ≡ f.acked_tsn
     → Raises p most f g
-raises-one p most f g x cs some same is put next acked = grind (arith, nat_tests, more-numbered)
+raises-one p most f g x cs some same is put next acked =
+    let long = ap length put ∙ put-length x cs in
+    let before = as-long cs f.queue.inflight.chunks same in
+    grind (arith, nat_tests, more-numbered, long, before)
 
 pub raises-sent : (p most : ℕ) (now : ℕ) (f : Flight) → 1 ≤ most → Raises p most f
     (record f { queue = sent_next f.queue f.next_tsn now; next_tsn = next_after_send f })
@@ -92,11 +118,15 @@ raises-both p a b f g h x y =
       few = omega (arith, x.few, y.few);
       acked = y.acked ∙ x.acked;
       next = λ n e. y.next (n + x.count) (x.next n e) ∙ ap (tsn p) (sum n);
-      numbered = λ n few i. subst (λ m. IsNumbered p m h) (sum n) (y.numbered (n + x.count) (omega (arith, few)) (x.numbered n (omega (arith, few)) i));
+      long = omega (arith, x.long, y.long);
+      numbered = λ n few i.
+          let long = x.long in
+          subst (λ m. IsNumbered p m h) (sum n) (y.numbered (n + x.count) (omega (arith, few, long)) (x.numbered n (omega (arith, few)) i));
     }
 
 pub raises-fewer : (p a b : ℕ) (f g : Flight) → a ≤ b → Raises p a f g → Raises p b f g
-raises-fewer p a b f g le r = record { count = r.count; few = omega (arith, le, r.few); acked = r.acked; next = r.next; numbered = r.numbered }
+raises-fewer p a b f g le r =
+    record { count = r.count; few = omega (arith, le, r.few); acked = r.acked; next = r.next; long = r.long; numbered = r.numbered }
 
 pub raises-each : (p : ℕ) (ts : List ℕ) (f : Flight) → Raises p (length ts) f (abandoned_each ts f)
 raises-each p [] f = raises-none p 0 f f refl refl refl

@@ -50,6 +50,7 @@ pub mod EveryHeld
 pub mod EverySettled
 pub mod EveryKept
 pub mod EveryMessages
+pub mod Uses
 pub mod EveryExamples
 pub mod NamedExamples
 pub mod ReopenedExamples
@@ -119,6 +120,7 @@ pub mod BothWays
 pub mod Plain
 pub mod PlainStreams
 pub mod PlainFlights
+pub mod FewInFlight
 pub mod PlainSessions
 pub mod PlainCalls
 pub mod Besides
@@ -131,3 +133,5 @@ pub mod PlainAmounts
 pub mod PlainEnds
 pub mod PlainRefused
 pub mod StandsSo
+pub mod Recent
+pub mod TakenAgain

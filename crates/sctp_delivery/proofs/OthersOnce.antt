@@ -1,10 +1,10 @@
 -- In the end each write is read exactly once, but for those whose messages were abandoned; in a reliable session none was.
-use Rattle.sctp_delivery.proofs.Names.{length, ap, arith, ◌≡◌, ◌<◌, true, subst, sym, ◌∙◌, All, both, stream_of, EachOtherIsReadOnce, abandoned_in}
-use Rattle.sctp_delivery.proofs.Names.{AfterEachReliableSession, holds_nothing, is_all_acknowledged, reads_nothing, WhileFewTsns, was_passed, at_start}
+use Rattle.sctp_delivery.proofs.Names.{length, arith, ◌≡◌, ◌<◌, true, subst, sym, ◌∙◌, both, stream_of, EachOtherIsReadOnce, abandoned_in}
+use Rattle.sctp_delivery.proofs.Names.{AfterEachReliableSession, holds_nothing, is_all_acknowledged, reads_nothing, WhileFewTsns, was_passed, at_start, RunsTo, Session, Call, Limits, Option, List, [], ℕ, ◌^◌}
 use Rattle.sctp_delivery.specs.Abandoned.{AfterEachSessionOfMessages, AreOfWrites, IsEachOtherReadInTheEnd, IsHeldReadOrPassed, OnlyTheirsAreMarked}
 use Rattle.sctp_delivery.specs.Complete.{IsAllReadInTheEnd, IsAllReadWhereSettled}
-use Rattle.sctp_delivery.proofs.AbandonedMessages.{IsMarkedGone}
-use Rattle.sctp_delivery.proofs.Calls.{length-forgotten}
+use Rattle.sctp_delivery.specs.Modes.{AreFewInFlight}
+use Rattle.sctp_delivery.proofs.AbandonedMessages.{AreBelow, AreMarkedGone, IsMarkedGone}
 use Rattle.sctp_delivery.proofs.Cases.{all_streams}
 use Rattle.sctp_delivery.proofs.KeptSessions.{idle-of, none-held, others-once, read-whole, kept-in}
 use Rattle.sctp_delivery.proofs.Every.{all-of-every, every-of}
@@ -14,6 +14,7 @@ use Rattle.sctp_delivery.proofs.Kept.{held-weighs}
 use Rattle.sctp_delivery.proofs.KeptOrGone.{IsPassedBy}
 use Rattle.sctp_delivery.proofs.NoneAbandoned.{each-of-others, none-in}
 use Rattle.sctp_delivery.proofs.ReadOnce.{one}
+use Rattle.sctp_delivery.proofs.Reached.{lasted-first, lasts-gone}
 
 pub others-read : AfterEachSessionOfMessages (λ size gone s. 0 < size → IsEachOtherReadInTheEnd gone s)
 others-read first size max most limits cs s run small few some exhausted =
@@ -63,15 +64,16 @@ all-settled first size max most limits cs s run small few all some settled =
 
 -- ## What is abandoned
 
-pub of-writes : AfterEachSessionOfMessages (λ size gone s. 0 < size → AreOfWrites gone s)
-of-writes first size max most limits cs s run small few some =
-    let h = kept-in first size max most limits cs s small some run few in
-    let same : length h.numbered ≡ length s.written = omega (arith, ap length h.kept.unwrapped.spread.holds.writes, length-forgotten h.numbered) in
-    subst (λ n. All (λ m. m < n) (abandoned_in (at_start first size max most limits) cs s run)) same
-    (all-of-every (λ m. m < length h.numbered) (abandoned_in (at_start first size max most limits) cs s run) h.kept.passed.below)
+module _ (first size max most : ℕ) (limits : Option Limits) (cs : List Call) (s : Session) (small : first < 2 ^ 32) (some : 0 < size)
+    (run : RunsTo (at_start first size max most limits) cs s) (few : AreFewInFlight (at_start first size max most limits) cs s run) where
+  abbrev gone : List ℕ
+  gone = abandoned_in (at_start first size max most limits) cs s run
 
-pub theirs-marked : AfterEachSessionOfMessages (λ size gone s. 0 < size → OnlyTheirsAreMarked gone s)
-theirs-marked first size max most limits cs s run small few some =
-    let h = kept-in first size max most limits cs s small some run few in
-    all-of-every (IsMarkedGone (abandoned_in (at_start first size max most limits) cs s run)) s.sending.sender.flight.queue.inflight.chunks
-    h.kept.passed.marked
+  lasts : AreBelow (length s.written) gone × AreMarkedGone gone s.sending.sender.flight.queue.inflight.chunks
+  lasts = lasts-gone first cs (at_start first size max most limits) s run few (lasted-first first size max most limits small some) [] tt tt
+
+  pub of-writes : AreOfWrites gone s
+  of-writes = all-of-every (λ m. m < length s.written) gone lasts.0
+
+  pub theirs-marked : OnlyTheirsAreMarked gone s
+  theirs-marked = all-of-every (IsMarkedGone gone) s.sending.sender.flight.queue.inflight.chunks lasts.1

@@ -1,6 +1,6 @@
 -- In each session of few TSNs: each FORWARD-TSN passes abandoned messages, and what was taken, alone (RFC 3758 3.5).
 use Rattle.sctp_delivery.proofs.Names.{◌≡◌, ℕ, ◌+◌, ◌<◌, ◌≤◌, ◌^◌, Bool, true, not, List, [], ◌∷◌, ◌++◌, length, take, Option, Some, None, inl, inr, refl, ap, sym}
-use Rattle.sctp_delivery.proofs.Names.{subst, ◌∙◌, arith, suc, ◌||◌, if◌then◌else◌, nat_le, option_map, ◌==◌, filter, list_any, cases_lt, nat_tests, none-some}
+use Rattle.sctp_delivery.proofs.Names.{subst, ◌∙◌, arith, suc, ◌||◌, if◌then◌else◌, nat_le, option_map, ◌==◌, filter, cases_lt, nat_tests, none-some}
 use Rattle.sctp_delivery.proofs.Names.{common_steps, at_or_before, distance, or-left, or-right, or-split, same-is, some-same, both, not_both, tsn}
 use Rattle.sctp_delivery.proofs.Names.{ChunkPayloadData, ForwardTsn, Data, data_of, ends, has_tsn, Limits, ahead, can_skip_to, ends_in, is_end, last_end}
 use Rattle.sctp_delivery.proofs.Names.{skip_end, Flight, found-passes, IsRunFrom, abandoned_by, ReceiverCall, passes, was_passed, was_taken, IsAccepted, Made}
@@ -318,7 +318,7 @@ sender-passes first n gone call old new ns sent i few f x h =
     let marked = marked-later gone more later (flight_of old).queue.inflight.chunks h.marked in
     let before = passing-later (base first) gone more old old sent sent later (λ k e. e) (inl refl) old.made h.passing in
     record {
-      marked = stays-marked more old new (λ t. was_taken t old) (λ t. list_any (passes t) old.made) valid marked call among f;
+      marked = stays-marked more old new (record { ordered = valid.ordered; unordered = valid.unordered }) marked call among f;
       cut = stays-cut all_streams more first old new ns sent x.more i.holds x.spread.holds.held.stands.counted (cut-later gone more later sent h.cut) call
           among f x.grown;
       begun' =

@@ -12,8 +12,9 @@ use Rattle.sctp_sender.specs.Flight.{is_outdated}
 use Rattle.sctp_sender.specs.Keeping.{after_returns, answered_back, back_each, more_by, restored, takes_back as is_back}
 use Rattle.sctp_sender.specs.Sender.{back_by, stream_of, taken_back_by}
 use Rattle.sctp_delivery.specs.Amounts.{AmountsEnd, EachIsTold, told_by, told_on, written_by, written_on}
-use Rattle.sctp_delivery.specs.Returns.{AfterEachWithReturnsOfFewTsns, AmountsAreLeftSo, CallOrReturn, EachReturnIsTold, IsOfMade, RunsWithReturns, TakesBack}
+use Rattle.sctp_delivery.specs.Returns.{AfterEachWithReturnsOfFewInFlight, AmountsAreLeftSo, AreFewInFlightSo, CallOrReturn, EachReturnIsTold, IsOfMade, RunsWithReturns, TakesBack}
 use Rattle.sctp_delivery.specs.Returns.{abandoned_so, at_start_with, bytes_back_on, makes, other_calls, returned_by, returned_on, takes_back, tsns_given_so}
+use Rattle.sctp_delivery.specs.Session.{count_in_flight}
 use Rattle.sctp_delivery.proofs.AmountLaws.{AllOf, AreCounted, IsOf, WasMade, all-told, counted-in, counted-then, each-made, ends-of, made-in, moved}
 use Rattle.sctp_delivery.proofs.Cases.{at-if, at-test}
 use Rattle.sctp_delivery.proofs.Delivered.{next_tsn}
@@ -135,7 +136,7 @@ module _ (st : ℕ) where
 -- ## One session
 
 module _ (first size max most : ℕ) (limits : Option Limits) (small : first < 2 ^ 32) (some : 0 < size) where
-  module _ (s : Session) (n : ℕ) (gone : List ℕ) (m : Modes) (g : Goes first (plain first size max most limits small) s.sending.sender s n gone m) where
+  module _ (s : Session) (n : ℕ) (gone : List ℕ) (m : Modes) (g : Goes first (plain first size max most limits) s.sending.sender s n gone m) where
     abbrev beside : List ChunkPayloadData
     beside = g.shadow.chunks
 
@@ -157,7 +158,7 @@ module _ (first size max most : ℕ) (limits : Option Limits) (small : first < 2
           one : (r : TakenBack) → r.bytes ≤ weigh (only r.stream) g.shadow.chunks → 0 < r.bytes
               → is_some (find (has_number r.stream) s.sending.sender.streams) ≡ true
           one r le lt =
-              let d = (counted-in first size max most limits g.plays.calls g.other small some g.plays.run).counted.amounts r.stream in
+              let d = (counted-in first size max most limits g.plays.plain.calls g.other small some g.plays.plain.run).counted.amounts r.stream in
               let e = ap (λ (u : Transmission). amount r.stream u.streams) g.shadow.sender in
               let h = ap (λ (u : Transmission). held (only r.stream) u.flight.queue) g.shadow.sender in
               open-alike r.stream t.streams g.shadow.streams g.shadow.alike ∙ amount-open r.stream g.shadow.streams (omega (arith, d, e, h, le, lt))
@@ -210,17 +211,17 @@ module _ (first size max most : ℕ) (limits : Option Limits) (small : first < 2
         ≡ held (only st) old.sending.sender.flight.queue + (written_on st (other_calls cs) + returned_on st cs)
 
   counts : (cs : List CallOrReturn) (s new : Session) (r : RunsWithReturns s cs new) (n : ℕ) (gone : List ℕ) (m : Modes)
-      → n + tsns_given_so s cs new r < 2 ^ 31 → bytes_written new < 2 ^ 64
-      → Goes first (plain first size max most limits small) s.sending.sender s n gone m → AreCounted s
+      → count_in_flight s < 2 ^ 31 → AreFewInFlightSo s cs new r → bytes_written new < 2 ^ 64
+      → Goes first (plain first size max most limits) s.sending.sender s n gone m → AreCounted s
       → GoesSo cs s new
-  counts [] s new r n gone m few short g k = subst (GoesSo [] s) (sym r) (record { counted = k; balance = λ st. omega arith })
-  counts (makes (of_sender call) ∷ cs) s new r n gone m few short g k =
+  counts [] s new r n gone m was few short g k = subst (GoesSo [] s) (sym r) (record { counted = k; balance = λ st. omega arith })
+  counts (makes (of_sender call) ∷ cs) s new r n gone m was few short g k =
       let f = r.1.0 in
       let bytes = grows cs r.0 new r.1.1 in
-      let h = one-goes first (plain first size max most limits small) (makes (of_sender call)) s r.0 n gone m f (omega (arith, few))
+      let h = one-goes first (plain first size max most limits) (makes (of_sender call)) s r.0 n gone m f was few.0
       (omega (arith, bytes, short)) g in
       let x = has-made first size max most limits small some s n gone m g in
-      let rest = counts cs r.0 new r.1.1 (n + distance (next_tsn s) (next_tsn r.0)) _ _ (omega (arith, few)) short h
+      let rest = counts cs r.0 new r.1.1 (n + distance (next_tsn s) (next_tsn r.0)) _ _ few.0 few.1 short h
       (counted-then first call s r.0 x.numbered x.sent f x.holds k) in
       record {
         counted = rest.counted;
@@ -232,12 +233,12 @@ module _ (first size max most : ℕ) (limits : Option Limits) (small : first < 2
             let c = sum_by-cons (returned_by st) (makes (of_sender call)) cs in
             omega (arith, o, y, a, b, c);
       }
-  counts (makes (of_receiver call) ∷ cs) s new r n gone m few short g k =
+  counts (makes (of_receiver call) ∷ cs) s new r n gone m was few short g k =
       let f = r.1.0 in
       let bytes = grows cs r.0 new r.1.1 in
-      let h = one-goes first (plain first size max most limits small) (makes (of_receiver call)) s r.0 n gone m f (omega (arith, few))
+      let h = one-goes first (plain first size max most limits) (makes (of_receiver call)) s r.0 n gone m f was few.0
       (omega (arith, bytes, short)) g in
-      let rest = counts cs r.0 new r.1.1 (n + distance (next_tsn s) (next_tsn r.0)) _ _ (omega (arith, few)) short h
+      let rest = counts cs r.0 new r.1.1 (n + distance (next_tsn s) (next_tsn r.0)) _ _ few.0 few.1 short h
       (subst AreCounted (sym f.after) (record { all = k.all; amounts = k.amounts })) in
       record {
         counted = rest.counted;
@@ -249,14 +250,14 @@ module _ (first size max most : ℕ) (limits : Option Limits) (small : first < 2
             let c = sum_by-cons (returned_by st) (makes (of_receiver call)) cs in
             omega (arith, x, y, a, b, c);
       }
-  counts (takes_back sack back ∷ cs) s new r n gone m few short g k =
+  counts (takes_back sack back ∷ cs) s new r n gone m was few short g k =
       let f = r.1.0 in
       let bytes = grows cs r.0 new r.1.1 in
       let same = ap bytes_written f.after in
-      let h = one-goes first (plain first size max most limits small) (takes_back sack back) s r.0 n gone m f (omega (arith, few))
+      let h = one-goes first (plain first size max most limits) (takes_back sack back) s r.0 n gone m f was few.0
       (omega (arith, bytes, short)) g in
       let b = returned s n gone m g sack back r.0 f k (omega (arith, same, bytes, short)) in
-      let rest = counts cs r.0 new r.1.1 (n + distance (next_tsn s) (next_tsn r.0)) _ _ (omega (arith, few)) short h b.counted in
+      let rest = counts cs r.0 new r.1.1 (n + distance (next_tsn s) (next_tsn r.0)) _ _ few.0 few.1 short h b.counted in
       record {
         counted = rest.counted;
         balance = λ st.
@@ -270,12 +271,17 @@ module _ (first size max most : ℕ) (limits : Option Limits) (small : first < 2
 
 module _ (reported : Reported) (first size max most : ℕ) (limits : Option Limits) (calls : List CallOrReturn) (s : Session)
     (run : RunsWithReturns (at_start_with reported first size max most limits) calls s) (small : first < 2 ^ 32) (some : 0 < size)
-    (few : tsns_given_so (at_start_with reported first size max most limits) calls s run < 2 ^ 31) (short : bytes_written s < 2 ^ 64) where
+    (few : AreFewInFlightSo (at_start_with reported first size max most limits) calls s run) (short : bytes_written s < 2 ^ 64) where
   counts-all : GoesSo first size max most limits small some calls (at_start_with reported first size max most limits) s
   counts-all =
-      counts first size max most limits small some calls (at_start_with reported first size max most limits) s run 0 [] _ (omega (arith, few)) short
+      counts first size max most limits small some calls (at_start_with reported first size max most limits) s run 0 [] _ (none reported)
+      few short
       (at-start reported first size max most limits small) (by reported)
     where
+      none : (k : Reported) → count_in_flight (at_start_with k first size max most limits) < 2 ^ 31
+      none Drop = omega arith
+      none Keep = omega arith
+
       by : (k : Reported) → AreCounted (at_start_with k first size max most limits)
       by Drop = record { all = record { ordered = tt; unordered = tt; inflight = tt }; amounts = λ st. refl }
       by Keep = record { all = record { ordered = tt; unordered = tt; inflight = tt }; amounts = λ st. refl }
@@ -296,14 +302,14 @@ module _ (reported : Reported) (first size max most : ℕ) (limits : Option Limi
           let z = held-first st in
           omega (arith, a, h, b, z)
 
-pub are-left : AfterEachWithReturnsOfFewTsns (λ first n gone calls s. AmountsAreLeftSo calls s)
+pub are-left : AfterEachWithReturnsOfFewInFlight (λ calls s. AmountsAreLeftSo calls s)
 are-left reported first size max most limits calls s run small some few short = left-so reported first size max most limits calls s run small some few short
 
-pub end : AfterEachWithReturnsOfFewTsns (λ first n gone calls s. AmountsEnd s)
+pub end : AfterEachWithReturnsOfFewInFlight (λ calls s. AmountsEnd s)
 end reported first size max most limits calls s run small some few short =
     ends-of s (counts-all reported first size max most limits calls s run small some few short).counted
 
-pub each-told : AfterEachWithReturnsOfFewTsns (λ first n gone calls s. EachIsTold s)
+pub each-told : AfterEachWithReturnsOfFewInFlight (λ calls s. EachIsTold s)
 each-told reported first size max most limits calls s run small some few short k left t f =
     let g = goes reported first size max most limits calls s run small few short in
     let h = has-made first size max most limits small some s _ _ _ g in
@@ -332,11 +338,11 @@ each-there s ks (c ∷ cs) [] a e = absurd a
 each-there s ks (c ∷ cs) (d ∷ ds) a e =
     ((λ h. e.0 (ap₂ (λ x y. not x && not y) a.0.open' h)), each-there s (rest_of ks) cs ds a.1 e.1)
 
-pub each-return-told : AfterEachWithReturnsOfFewTsns (λ first n gone calls s. EachReturnIsTold s)
+pub each-return-told : AfterEachWithReturnsOfFewInFlight (λ calls s. EachReturnIsTold s)
 each-return-told reported first size max most limits calls s run small some few short sack back v f =
     all-of-every (IsOfMade s) back (subst (Every (IsOfMade s)) (sym f.answered) (by s.sending.sender.kept g.shadow.like))
   where
-    g : Goes first (plain first size max most limits small) s.sending.sender s (tsns_given_so (at_start_with reported first size max most limits) calls s run)
+    g : Goes first (plain first size max most limits) s.sending.sender s (tsns_given_so (at_start_with reported first size max most limits) calls s run)
         (abandoned_so (at_start_with reported first size max most limits) calls s run) (modes_from at_first (other_calls calls))
     g = goes reported first size max most limits calls s run small few short
 
@@ -345,7 +351,7 @@ each-return-told reported first size max most limits calls s run small some few 
 
     made : Every (WasMade s.made) g.shadow.chunks
     made =
-        let h = made-in first size max most limits g.plays.calls g.other small some g.plays.run in
+        let h = made-in first size max most limits g.plays.plain.calls g.other small some g.plays.plain.run in
         let w = each-made first h.sent g.other.made g.other.sending.sender.flight.queue.inflight.chunks h.made h.holds.held.stands.known in
         subst (λ ms. Every (WasMade ms) g.shadow.chunks) g.shadow.made
         (subst (λ (u : Transmission). Every (WasMade g.other.made) u.flight.queue.inflight.chunks) g.shadow.sender w)

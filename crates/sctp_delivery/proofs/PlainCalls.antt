@@ -12,7 +12,8 @@ use Rattle.sctp_delivery.proofs.Names.{held_by_sender, started-inflight, SenderF
 use Rattle.sctp_delivery.proofs.Names.{SenderCall, SenderMakes, made_after, with_chunk, written_after, Made, Write, PayloadProtocolIdentifier, SenderRefusal}
 use Rattle.sctp_delivery.proofs.Names.{all_marked, after_misses, resent_at, following_tsn, abandoned_at, abandoned_each, abandoned_with, after_abandoning}
 use Rattle.sctp_delivery.proofs.Names.{after_leaving, is_late, is_worn, late_order, late_tsns, leaving_at, leaving_each, map-append, to_abandon, worn_order}
-use Rattle.sctp_delivery.proofs.Names.{worn_tsns, ◌%◌}
+use Rattle.sctp_delivery.proofs.Names.{worn_tsns, ◌%◌, length-change_where, no_last, last_removed, waits, is_of, as_abandoned, terminal_chunk}
+use Rattle.sctp_delivery.proofs.Names.{with_terminal_chunk}
 use Rattle.sctp_outbound.specs.outbound_queue.OutboundQueue.{has_tail, sent_peeked}
 use Rattle.sctp_sender.specs.Late.{with_tail}
 use Rattle.sctp_sender.specs.Sender.{with_mode_on, is_open, open_stream, stream_of}
@@ -20,6 +21,7 @@ use Rattle.sctp_sender.specs.declared.sender.refusal.SenderRefusal.TheVariants.{
 use Rattle.sctp_serial.specs.Window.{is_held}
 use Rattle.sctp_util.specs.Serial.{distance}
 use Rattle.sctp_outbound.specs.payload_queue.PayloadQueue as payload
+use Rattle.sctp_outbound.proofs.lemmas.outbound_queue.Abandoned.{last_removed_none}
 use Rattle.sctp_sender.specs.Abandonment.{abandon_refusal}
 use Rattle.sctp_sender.specs.Flight.{has_tail_at, may_send, with_queue}
 use Rattle.sctp_sender.specs.Keeping.{kept_after}
@@ -30,23 +32,22 @@ use Rattle.sctp_sender.proofs.Settled.{sack-bytes}
 use Rattle.sctp_stream.specs.Stream.{new_stream}
 use Rattle.sctp_delivery.specs.SenderCalls as outgoing
 use Rattle.sctp_delivery.specs.SenderCalls.{Tells}
+use Rattle.sctp_delivery.specs.Session.{count_in_flight}
 use Rattle.sctp_delivery.proofs.Cases.{at-test}
 use Rattle.sctp_delivery.proofs.Changes.{expired-one, order-short}
 use Rattle.sctp_delivery.proofs.Delivered.{next_tsn}
 use Rattle.sctp_delivery.proofs.Every.{Every, every-contained}
-use Rattle.sctp_delivery.proofs.GivenTsns.{IsNumbered}
+use Rattle.sctp_delivery.proofs.FewInFlight.{IsInRun, IsRegular}
+use Rattle.sctp_delivery.proofs.GivenTsns.{put-length}
 use Rattle.sctp_delivery.proofs.OneRead.{no-way}
 use Rattle.sctp_delivery.proofs.Plain.{AreLike, IsLike, are-changed, are-long, are-marked, are-part-marked, are-plain, blind-same, found-plain, plain, rest_of}
-use Rattle.sctp_delivery.proofs.PlainFlights.{IsFresh, abandon-same, are-gone, are-sacked, are-sent, can-same, chunks_of, end-same, fewer-bytes, flight_with}
+use Rattle.sctp_delivery.proofs.PlainFlights.{abandon-same, are-gone, are-sacked, are-sent, can-same, chunks_of, end-same, fewer-bytes, flight_with}
 use Rattle.sctp_delivery.proofs.PlainFlights.{gone-same, named-same, refusal-same, sack-same, send-same, next-same, settled-others, skip-same, started-same}
-use Rattle.sctp_delivery.proofs.PlainSessions.{Goes, IsThere, Others, as_plain, calls-too, kept_of, small-next, stays-so, step-of}
+use Rattle.sctp_delivery.proofs.PlainSessions.{Goes, IsThere, Others, as_plain, bound-there, calls-too, kept_of, room-of, small-next, regular-of, stays-so}
 use Rattle.sctp_delivery.proofs.PlainStreams.{AreAlike, bare, both-expired, both-lower, both-moded, both-opened, both-sized, both-wrote, found-alike, one-less}
 use Rattle.sctp_delivery.proofs.PlainStreams.{left-alike, open-alike, released-alike}
-use Rattle.sctp_delivery.proofs.QueueChunks.{started}
-use Rattle.sctp_delivery.proofs.SackLaws.{IsInStepBut}
 use Rattle.sctp_delivery.proofs.SackSteps.{message-inflight}
-use Rattle.sctp_delivery.proofs.TsnPlaces.{base, tsn-small}
-use Rattle.sctp_delivery.proofs.ValidMarks.{IsUnmarked}
+use Rattle.sctp_delivery.proofs.ValidMarks.{IsFresh, IsUnmarked, fresh-started}
 use Rattle.sctp_delivery.proofs.Writing.{accepted-stream}
 
 -- ## What is found
@@ -122,6 +123,31 @@ one-end : (b : Bool) → (if b then 1 else 0) ≤ 1
 one-end true = omega arith
 one-end false = omega arith
 
+end-long : (o : Option ℕ) (f : Flight)
+    → length (chunks_of (after_abandonment o f)) ≡ length (chunks_of f) + (if has_tail o f.queue then 1 else 0)
+end-long None f = omega arith
+end-long (Some m) f = by (last_removed m f.queue.pending) refl (waits m f.queue.pending) refl
+  where
+    marked : length (change_where (is_of m) as_abandoned f.queue.inflight.chunks) ≡ length f.queue.inflight.chunks
+    marked = length-change_where (is_of m) as_abandoned f.queue.inflight.chunks
+
+    by : (o : Option ChunkPayloadData) → last_removed m f.queue.pending ≡ o → (b : Bool) → waits m f.queue.pending ≡ b
+        → length (with_terminal_chunk o f.next_tsn (payload.with_chunks f.queue.inflight (change_where (is_of m) as_abandoned f.queue.inflight.chunks))).chunks
+        ≡ length f.queue.inflight.chunks + (if b then 1 else 0)
+    by None e true w = absurd (no_last m f.queue.pending w e)
+    by None e false w = omega (arith, marked)
+    by (Some c) e true w =
+        let p = put-length (terminal_chunk f.next_tsn c) (change_where (is_of m) as_abandoned f.queue.inflight.chunks) in
+        omega (arith, marked, p)
+    by (Some c) e false w = absurd (none-some c (sym (last_removed_none m f.queue.pending w) ∙ e))
+
+ends-long : (xs : List ℕ) (f : Flight) → length (chunks_of (abandoned_each xs f)) ≡ length (chunks_of f) + ends xs f
+ends-long [] f = omega arith
+ends-long (x ∷ xs) f =
+    let a = end-long (message_to_abandon x f) f in
+    let b = ends-long xs (abandoned_at x f) in
+    omega (arith, a, b)
+
 ends-few : (xs : List ℕ) (f : Flight) → ends xs f ≤ length xs
 ends-few [] f = omega arith
 ends-few (x ∷ xs) f = let a = ends-few xs (abandoned_at x f) in let b = one-end (has_tail_at f x) in omega (arith, a, b)
@@ -142,21 +168,35 @@ told-one : (o : Option ChunkPayloadData) (bytes : ℕ) → map (λ (a : Abandone
 told-one h0 h1 = grind (arith, nat_tests, common_steps)
 
 module _ (first : ℕ) (others : Others first) where
-  module _ (t : Transmission) (s : Session) (n : ℕ) (gone : List ℕ) (m : Modes) (room : n < 2 ^ 31) (g : Goes first others t s n gone m) where
-    pub step-is : IsInStepBut others.dropped (base first) n g.other
-    step-is = step-of first others t s n gone m room g
+  module _ (t : Transmission) (s : Session) (n : ℕ) (gone : List ℕ) (m : Modes) (room : others.Bound n (length t.flight.queue.inflight.chunks))
+      (g : Goes first others t s n gone m) where
+    pub regular-is : IsRegular g.other
+    regular-is = regular-of first others t s n gone m room g
 
-    pub numbered-is : IsNumbered (base first) n (flight_with t.flight g.shadow.chunks)
-    numbered-is = subst (λ (u : Transmission). IsNumbered (base first) n u.flight) g.shadow.sender step-is.numbered
+    pub numbered-is : IsInRun (flight_with t.flight g.shadow.chunks)
+    numbered-is = subst (λ (u : Transmission). IsInRun u.flight) g.shadow.sender regular-is.numbered
 
     pub fresh-is : IsFresh t.flight.queue
     fresh-is = record {
-      ordered = subst (λ (u : Transmission). Every IsUnmarked u.flight.queue.pending.ordered) g.shadow.sender step-is.valid.ordered;
-      unordered = subst (λ (u : Transmission). Every IsUnmarked u.flight.queue.pending.unordered) g.shadow.sender step-is.valid.unordered;
+      ordered = subst (λ (u : Transmission). Every IsUnmarked u.flight.queue.pending.ordered) g.shadow.sender regular-is.fresh.ordered;
+      unordered = subst (λ (u : Transmission). Every IsUnmarked u.flight.queue.pending.unordered) g.shadow.sender regular-is.fresh.unordered;
     }
 
+    -- as many chunks are in flight there, and few
+    pub long-is : length t.flight.queue.inflight.chunks ≡ length g.shadow.chunks
+    long-is = are-long (kept_of t.kept) t.flight.queue.inflight.chunks g.shadow.chunks g.shadow.like
+
+    pub short-is : length g.shadow.chunks < 2 ^ 31
+    short-is =
+        let long = long-is in
+        let few = room-of first others t s n gone m 0
+        (subst (λ k. others.Bound k (length t.flight.queue.inflight.chunks + 0)) {x = n} {y = n + 0} (omega arith)
+        (subst (others.Bound n) {x = length t.flight.queue.inflight.chunks} {y = length t.flight.queue.inflight.chunks + 0} (omega arith) room)) g in
+        omega (arith, long, few)
+
     -- the message of a TSN leaves, if it has one
-    leave-one : (x : ℕ) → n + (if has_tail_at t.flight x then 1 else 0) < 2 ^ 31
+    leave-one : (x : ℕ) → others.Bound (n + (if has_tail_at t.flight x then 1 else 0))
+        (length t.flight.queue.inflight.chunks + (if has_tail_at t.flight x then 1 else 0))
         → Goes first others (record t { flight = abandoned_at x t.flight }) s (n + (if has_tail_at t.flight x then 1 else 0))
         (gone ++ option_to_list (message_to_abandon x t.flight)) m
     leave-one x few = by (message_to_abandon x t.flight) refl few
@@ -171,7 +211,8 @@ module _ (first : ℕ) (others : Others first) where
         same-message = abandon-same t.flight (kept_of t.kept) g.shadow.chunks g.shadow.like x
 
         some : (k : ℕ) (o : Option ChunkPayloadData) → find (has_tsn x) g.shadow.chunks ≡ o → to_abandon o ≡ Some k → message_to_abandon x t.flight ≡ Some k
-            → n + (if has_tail (Some k) t.flight.queue then 1 else 0) < 2 ^ 31
+            → others.Bound (n + (if has_tail (Some k) t.flight.queue then 1 else 0))
+            (length t.flight.queue.inflight.chunks + (if has_tail (Some k) t.flight.queue then 1 else 0))
             → Goes first others (record t { flight = after_abandonment (Some k) t.flight }) s
             (n + (if has_tail (Some k) t.flight.queue then 1 else 0)) (gone ++ k ∷ []) m
         some k None e is at short = absurd (none-some k is)
@@ -186,7 +227,11 @@ module _ (first : ℕ) (others : Others first) where
             let far = end-far (Some k) t.flight near in
             let there : is_held g.shadow.chunks x ≡ true = ap is_some e in
             let message : message_to_abandon x w.flight ≡ Some k = same-message ∙ at in
-            let after = calls-too first others t u s s n gone m g (outgoing.abandons x b) refl refl refl refl (outgoing.abandons x b)
+            let more = end-long (Some k) t.flight in
+            let few' : others.Bound (n + distance t.flight.next_tsn u.flight.next_tsn) (length u.flight.queue.inflight.chunks) =
+            subst (λ j. others.Bound (n + j) (length u.flight.queue.inflight.chunks)) (sym far)
+            (subst (others.Bound (n + (if has_tail (Some k) t.flight.queue then 1 else 0))) (sym more) short) in
+            let after = calls-too first others t u s s n gone m g (outgoing.abandons x b) room few' refl refl refl refl (outgoing.abandons x b)
             (change_where (has_number d.stream_identifier) (less_by left) g.shadow.streams) (chunks_of g') (
               omega (arith, less, total),
               (
@@ -203,28 +248,33 @@ module _ (first : ℕ) (others : Others first) where
               ),
             ) tt
             (g.shadow.alike ∙ sym (one-less d.stream_identifier left g.shadow.streams))
-            (are-gone (base first) n t.flight (kept_of t.kept) g.shadow.chunks g.shadow.like room numbered-is fresh-is (Some k)) (λ ms. refl) (λ ws. refl) refl
+            (are-gone t.flight.acked_tsn (length g.shadow.chunks) t.flight (kept_of t.kept) g.shadow.chunks g.shadow.like short-is numbered-is fresh-is
+            (Some k)) (λ ms. refl) (λ ws. refl) refl
             (ap option_to_list same-message) in
             subst (λ (j : ℕ). Goes first others u s (n + j) (gone ++ k ∷ []) m) far
             (subst (λ o. Goes first others u s (n + distance t.flight.next_tsn u.flight.next_tsn) (gone ++ option_to_list o) m) at after)
           where
-            refusal : (k : ℕ) → n + (if has_tail (Some k) t.flight.queue then 1 else 0) < 2 ^ 31 → is_held g.shadow.chunks x ≡ true
+            refusal : (k : ℕ) → others.Bound (n + (if has_tail (Some k) t.flight.queue then 1 else 0))
+                (length t.flight.queue.inflight.chunks + (if has_tail (Some k) t.flight.queue then 1 else 0)) → is_held g.shadow.chunks x ≡ true
                 → message_to_abandon x (flight_with t.flight g.shadow.chunks) ≡ Some k → abandon_refusal x (flight_with t.flight g.shadow.chunks) ≡ None
             refusal k short there message =
-                let total = numbered-is.total in
+                let same = long-is in
+                let fits = room-of first others t s n gone m (if has_tail (Some k) t.flight.queue then 1 else 0) short g in
                 let long = length g.shadow.chunks in
                 ap (λ b. if not b then Some NotInFlight else (if has_tail_at (flight_with t.flight g.shadow.chunks) x
                 && not (may_send (flight_with t.flight g.shadow.chunks)) then Some TsnsUsedUp else None)) there
                 ∙ ap (λ h. if h && not (may_send (flight_with t.flight g.shadow.chunks)) then Some TsnsUsedUp else None)
                 (ap (λ o. has_tail o (flight_with t.flight g.shadow.chunks).queue) message)
-                ∙ at-test (λ b. n + (if b then 1 else 0) < 2 ^ 31
+                ∙ at-test (λ b. length t.flight.queue.inflight.chunks + (if b then 1 else 0) < 2 ^ 31
                 → (if b && not (may_send (flight_with t.flight g.shadow.chunks)) then Some TsnsUsedUp else None) ≡ None)
                 (has_tail (Some k) t.flight.queue)
-                (λ _ lt. let ok : nat_lt (long + 1) (2 ^ 31) ≡ true = (let le : long + 1 < 2 ^ 31 = omega (arith, total, lt) in grind (arith, nat_tests, le)) in
+                (λ _ lt. let ok : nat_lt (long + 1) (2 ^ 31) ≡ true = (let le : long + 1 < 2 ^ 31 = omega (arith, same, lt) in grind (arith, nat_tests, le)) in
                 ap (λ b. if not b then Some TsnsUsedUp else None) ok)
-                (λ _ _. refl) short
+                (λ _ _. refl) fits
 
-        by : (o : Option ℕ) → message_to_abandon x t.flight ≡ o → n + (if has_tail (message_to_abandon x t.flight) t.flight.queue then 1 else 0) < 2 ^ 31
+        by : (o : Option ℕ) → message_to_abandon x t.flight ≡ o
+            → others.Bound (n + (if has_tail (message_to_abandon x t.flight) t.flight.queue then 1 else 0))
+            (length t.flight.queue.inflight.chunks + (if has_tail (message_to_abandon x t.flight) t.flight.queue then 1 else 0))
             → Goes first others (record t { flight = after_abandonment (message_to_abandon x t.flight) t.flight }) s
             (n + (if has_tail (message_to_abandon x t.flight) t.flight.queue then 1 else 0)) (gone ++ option_to_list (message_to_abandon x t.flight)) m
         by None e short =
@@ -236,9 +286,11 @@ module _ (first : ℕ) (others : Others first) where
             subst (λ o. Goes first others (record t { flight = after_abandonment o t.flight }) s
             (n + (if has_tail o t.flight.queue then 1 else 0)) (gone ++ option_to_list o) m)
             (sym e) (some k (find (has_tsn x) g.shadow.chunks) refl (same-message
-            ∙ e) e (subst (λ o. n + (if has_tail o t.flight.queue then 1 else 0) < 2 ^ 31) e short))
+            ∙ e) e (subst (λ o. others.Bound (n + (if has_tail o t.flight.queue then 1 else 0))
+            (length t.flight.queue.inflight.chunks + (if has_tail o t.flight.queue then 1 else 0))) e short))
 
-  leave-each : (xs : List ℕ) (t : Transmission) (s : Session) (n : ℕ) (gone : List ℕ) (m : Modes) → n + ends xs t.flight < 2 ^ 31
+  leave-each : (xs : List ℕ) (t : Transmission) (s : Session) (n : ℕ) (gone : List ℕ) (m : Modes)
+      → others.Bound (n + ends xs t.flight) (length t.flight.queue.inflight.chunks + ends xs t.flight)
       → Goes first others t s n gone m
       → Goes first others (record t { flight = abandoned_each xs t.flight }) s (n + ends xs t.flight)
       (gone ++ map (λ (a : AbandonedMessage). a.number) (leaving_each xs t.flight)) m
@@ -251,9 +303,16 @@ module _ (first : ℕ) (others : Others first) where
       let left = option_to_list (message_to_abandon x t.flight) in
       let number : AbandonedMessage → ℕ = λ a. a.number in
       let rest = map number (leaving_each xs u.flight) in
-      let now' = leave-one t s n gone m (omega (arith, few)) g x (omega (arith, few)) in
-      let then' = leave-each xs u s (n + one) (gone ++ left) m (omega (arith, few)) now' in
+      let long = length t.flight.queue.inflight.chunks in
       let sum : (n + one) + ends xs u.flight ≡ n + (one + ends xs u.flight) = omega arith in
+      let both' : others.Bound ((n + one) + ends xs u.flight) ((long + one) + ends xs u.flight) =
+      subst (λ k. others.Bound k ((long + one) + ends xs u.flight)) (sym sum)
+      (subst (others.Bound (n + (one + ends xs u.flight))) {x = long + (one + ends xs u.flight)} {y = (long + one) + ends xs u.flight} (omega arith) few) in
+      let here = others.fewer (n + one) (long + one) (ends xs u.flight) both' in
+      let now' = leave-one t s n gone m (others.fewer n long one here) g x here in
+      let more = end-long (message_to_abandon x t.flight) t.flight in
+      let then' = leave-each xs u s (n + one) (gone ++ left) m
+      (subst (λ k. others.Bound ((n + one) + ends xs u.flight) (k + ends xs u.flight)) (sym more) both') now' in
       let all : (gone ++ left) ++ rest ≡ gone ++ map number (leaving_at x t.flight ++ leaving_each xs u.flight) =
       append_assoc gone left rest ∙ ap (λ ys. gone ++ ys) (ap (λ ys. ys ++ rest) (sym (told-one (find (has_tsn x) t.flight.queue.inflight.chunks) _))
       ∙ sym (map-append number (leaving_at x t.flight) (leaving_each xs u.flight))) in
@@ -267,8 +326,8 @@ module _ (first : ℕ) (others : Others first) where
       → Goes first others (record t { streams = ks }) v n gone m
   restreamed t ks s v n gone m alike received reported made written g = grind (arith, nat_tests, common_steps)
 
-module _ (first : ℕ) (others : Others first) (s v : Session) (n : ℕ) (gone : List ℕ) (m : Modes) (room : n < 2 ^ 31)
-    (g : Goes first others s.sending.sender s n gone m) where
+module _ (first : ℕ) (others : Others first) (s v : Session) (n : ℕ) (gone : List ℕ) (m : Modes) (room : others.Bound n (count_in_flight s))
+    (few : others.Bound (n + distance (next_tsn s) (next_tsn v)) (count_in_flight v)) (g : Goes first others s.sending.sender s n gone m) where
   abbrev t : Transmission
   t = s.sending.sender
 
@@ -282,11 +341,14 @@ module _ (first : ℕ) (others : Others first) (s v : Session) (n : ℕ) (gone :
   abbrev w : Transmission
   w = as_plain s.sending.sender g.shadow.streams g.shadow.chunks
 
-  i : IsInStepBut others.dropped (base first) n g.other
-  i = step-is first others s.sending.sender s n gone m room g
+  i : IsRegular g.other
+  i = regular-is first others s.sending.sender s n gone m room g
 
-  numbered : IsNumbered (base first) n (flight_with s.sending.sender.flight g.shadow.chunks)
+  numbered : IsInRun (flight_with s.sending.sender.flight g.shadow.chunks)
   numbered = numbered-is first others s.sending.sender s n gone m room g
+
+  short' : length g.shadow.chunks < 2 ^ 31
+  short' = short-is first others s.sending.sender s n gone m room g
 
   fresh : IsFresh s.sending.sender.flight.queue
   fresh = fresh-is first others s.sending.sender s n gone m room g
@@ -298,13 +360,24 @@ module _ (first : ℕ) (others : Others first) (s v : Session) (n : ℕ) (gone :
   Result call = Goes first others v.sending.sender v (n + distance (next_tsn s) (next_tsn v)) (gone ++ abandoned_by call s.sending.sender)
       (modes_after call m)
 
+  few-of : (u : Transmission) → v.sending.sender ≡ u
+      → others.Bound (n + distance s.sending.sender.flight.next_tsn u.flight.next_tsn) (length u.flight.queue.inflight.chunks)
+  few-of u e =
+      subst (λ (y : Transmission). others.Bound (n + distance (next_tsn s) y.flight.next_tsn) (length y.flight.queue.inflight.chunks)) e few
+
   by-call : (call : SenderCall) → SenderFollows call s v → (u : Transmission) → v.sending.sender ≡ u → (c : SenderCall) (ls' : List OutboundStream)
       (ds' : List ChunkPayloadData) → SenderMakes c (as_plain s.sending.sender g.shadow.streams g.shadow.chunks) (as_plain u ls' ds') → IsReported c g.other
       → AreAlike u.streams ls' → AreLike (kept_of u.kept) u.flight.queue.inflight.chunks ds'
       → ((ms : List Made) → made_after c (as_plain s.sending.sender g.shadow.streams g.shadow.chunks) ms ≡ made_after call s.sending.sender ms)
       → ((ws : List Write) → written_after c ws ≡ written_after call ws) → modes_after c m ≡ modes_after call m
       → abandoned_by c (as_plain s.sending.sender g.shadow.streams g.shadow.chunks) ≡ abandoned_by call s.sending.sender → Result call
-  by-call call f u e c ls' ds' makes handed alike like made written modes left = grind (arith, nat_tests, common_steps, calls-too)
+  by-call call f u e c ls' ds' makes handed alike like made written modes left =
+      subst
+      (λ (y : Transmission). Goes first others y v (n + distance (next_tsn s) y.flight.next_tsn) (gone ++ abandoned_by call s.sending.sender)
+      (modes_after call m)) (sym e)
+      (calls-too first others s.sending.sender u s v n gone m g call room (few-of u e) (ap (λ (x : Session). x.receiving) f.after)
+      (ap (λ (x : Session). x.sacks) f.after) (ap (λ (x : Session). x.made) f.after) (ap (λ (x : Session). x.written) f.after)
+      c ls' ds' makes handed alike like made written modes left)
 
   by-none : (call : SenderCall) → SenderFollows call s v → (u : Transmission) → v.sending.sender ≡ u → AreAlike u.streams s.sending.sender.streams
       → AreLike (kept_of u.kept) u.flight.queue.inflight.chunks g.shadow.chunks
@@ -315,7 +388,7 @@ module _ (first : ℕ) (others : Others first) (s v : Session) (n : ℕ) (gone :
       subst
       (λ (y : Transmission). Goes first others y v (n + distance (next_tsn s) y.flight.next_tsn) (gone ++ abandoned_by call s.sending.sender)
       (modes_after call m)) (sym e)
-      (stays-so first others s.sending.sender u s v n gone m g call (ap (λ (x : Session). x.receiving) f.after)
+      (stays-so first others s.sending.sender u s v n gone m g call room (few-of u e) (ap (λ (x : Session). x.receiving) f.after)
       (ap (λ (x : Session). x.sacks) f.after)
       (ap (λ (x : Session). x.made) f.after) (ap (λ (x : Session). x.written) f.after) alike like same near made written modes left)
 
@@ -349,7 +422,7 @@ module _ (first : ℕ) (others : Others first) (s v : Session) (n : ℕ) (gone :
 
       fits : SenderFollows (outgoing.writes stream ppi (b ∷ bs)) s v → nat_lt (total_bytes (with_inflight t.flight.queue ds) + length (b ∷ bs)) (2 ^ 64) ≡ true
       fits f =
-          let all = others.accounted g.other n gone m room g.plays in
+          let all = others.accounted g.other n gone m (bound-there first others t s n gone m g room) g.plays in
           let held : held_by_sender g.other.sending.sender ≡ total_bytes (with_inflight t.flight.queue ds) = ap held_by_sender g.shadow.sender in
           let before : bytes_written g.other ≡ bytes_written s = ap (λ ws. sum_by (λ (x : Write). length x.bytes) ws) g.shadow.written in
           let after : bytes_written v ≡ bytes_written s + length (b ∷ bs) =
@@ -373,7 +446,7 @@ module _ (first : ℕ) (others : Others first) (s v : Session) (n : ℕ) (gone :
       let u : Transmission = with_flight (record t.flight { queue = sent_next q next now; next_tsn = next_after_send t.flight }) t in
       let es = (sent_next (with_inflight q ds) next now).inflight.chunks in
       let same = next-same q ds next now in
-      let begun : IsFresh (all_started now q) = fresh-started now in
+      let begun : IsFresh (all_started now q) = fresh-started now q fresh in
       by-call (outgoing.sends now) f u f.exact (outgoing.sends now) ls es (
         bytes f.step.sender (ap held_by_sender f.exact),
         (
@@ -381,19 +454,9 @@ module _ (first : ℕ) (others : Others first) (s v : Session) (n : ℕ) (gone :
           (send-same t.flight (kept_of t.kept) ds g.shadow.like ∙ f.accepted, tt),
         ),
       ) tt g.shadow.alike
-      (are-sent (base first) n t.flight (kept_of t.kept) ds g.shadow.like room numbered now begun)
+      (are-sent t.flight.acked_tsn (length ds) t.flight (kept_of t.kept) ds g.shadow.like short' numbered now begun)
       (λ ms. ap (λ (r : Outbound). with_chunk (option_map (as_sent next now) (next_pending r.pending)) ms) (started-same now q ds)) (λ ws. refl) refl refl
     where
-      fresh-started : (now : ℕ) → IsFresh (all_started now t.flight.queue)
-      fresh-started now =
-          let e = started IsUnmarked (λ c. Unit {0}) now (λ c k. k) t.flight.queue
-          (record { ordered = fresh.ordered; unordered = fresh.unordered; inflight = every-none t.flight.queue.inflight.chunks }) in
-          record { ordered = e.ordered; unordered = e.unordered }
-        where
-          every-none : (cs : List ChunkPayloadData) → Every (λ (c : ChunkPayloadData). Unit {0}) cs
-          every-none [] = tt
-          every-none (c ∷ cs) = (tt, every-none cs)
-
       bytes : held_by_sender v.sending.sender ≡ held_by_sender t
           → held_by_sender v.sending.sender ≡ total_bytes (sent_next t.flight.queue t.flight.next_tsn now)
           → total_bytes (with_inflight (sent_next t.flight.queue t.flight.next_tsn now)
@@ -430,7 +493,8 @@ module _ (first : ℕ) (others : Others first) (s v : Session) (n : ℕ) (gone :
         ),
       ) tt
       (one-less a.stream a.bytes t.streams ∙ g.shadow.alike ∙ sym (one-less a.stream left ls))
-      (are-gone (base first) n t.flight (kept_of t.kept) ds g.shadow.like room numbered fresh o) (λ ms. refl) (λ ws. refl) refl (ap option_to_list message)
+      (are-gone t.flight.acked_tsn (length ds) t.flight (kept_of t.kept) ds g.shadow.like short' numbered fresh o)
+      (λ ms. refl) (λ ws. refl) refl (ap option_to_list message)
     where
       found : option_map plain (find (has_tsn tsn) t.flight.queue.inflight.chunks) ≡ option_map plain (find (has_tsn tsn) ds)
       found =
@@ -480,7 +544,7 @@ module _ (first : ℕ) (others : Others first) (s v : Session) (n : ℕ) (gone :
         ),
       ) tt
       (one-less a.stream a.bytes t.streams ∙ g.shadow.alike ∙ sym (one-less a.stream left ls))
-      (are-gone (base first) n t.flight (kept_of t.kept) ds g.shadow.like room numbered fresh o) (λ ms. refl) (λ ws. refl) refl refl
+      (are-gone t.flight.acked_tsn (length ds) t.flight (kept_of t.kept) ds g.shadow.like short' numbered fresh o) (λ ms. refl) (λ ws. refl) refl refl
 
   tail-idle : (now : ℕ) → SenderFollows (outgoing.expires_tail now None) s v → Result (outgoing.expires_tail now None)
   tail-idle now f =
@@ -545,8 +609,7 @@ module _ (first : ℕ) (others : Others first) (s v : Session) (n : ℕ) (gone :
       let x = every-contained (IsThere g.other.sacks) s.sacks sack f.handed g.shadow.sacks in
       let k = x.bare in
       let fl = flight_with t.flight ds in
-      let truth = every-contained _ g.other.sacks sack x.itself i.sacks in
-      let fits : sack.cumulative_tsn_ack < 2 ^ 32 = let z = tsn-small (base first) truth.place in let is = truth.is in omega (arith, z, is) in
+      let fits : sack.cumulative_tsn_ack < 2 ^ 32 = every-contained (λ (y : Sack). y.cumulative_tsn_ack < 2 ^ 32) g.other.sacks sack x.itself i.sacks in
       let told = with_lows (released_by k fl) ls in
       by-call (outgoing.takes_sack sack left) f (after_acked sack t) f.exact (outgoing.takes_sack k told) (after_releases (released_by k fl) ls)
       (chunks_of (after_sack k fl)) (
@@ -560,24 +623,28 @@ module _ (first : ℕ) (others : Others first) (s v : Session) (n : ℕ) (gone :
         ),
       )
       x.other (released-alike (released_by sack t.flight) t.streams ∙ g.shadow.alike ∙ sym (released-alike (released_by k fl) ls))
-      (kept-sacked sack t.flight (chunks_of (after_sack k fl)) t.kept (are-sacked sack k x.is-bare (base first) n t.flight
-      (kept_of t.kept) ds g.shadow.like room numbered fits f.accepted)) (λ ms. refl) (λ ws. refl) refl refl
+      (kept-sacked sack t.flight (chunks_of (after_sack k fl)) t.kept (are-sacked sack k x.is-bare t.flight.acked_tsn (length ds) t.flight
+      (kept_of t.kept) ds g.shadow.like short' numbered fits f.accepted)) (λ ms. refl) (λ ws. refl) refl refl
 
   -- ## Several messages leave
 
   each-goes : (call : SenderCall) (xs : List ℕ) → SenderFollows call s v → v.sending.sender ≡ after_abandoning xs t
-      → length xs ≤ 1 + length t.flight.queue.inflight.chunks → n + distance (next_tsn s) (next_tsn v) < 2 ^ 31
+      → length xs ≤ 1 + length t.flight.queue.inflight.chunks
       → made_after call t s.made ≡ s.made → written_after call s.written ≡ s.written → modes_after call m ≡ m
       → abandoned_by call t ≡ map (λ (a : AbandonedMessage). a.number) (leaving_each xs t.flight) → Result call
-  each-goes call xs f e short few made written modes left =
+  each-goes call xs f e short made written modes left =
       let u = after_abandoning xs t in
-      let total = numbered.total in
+      let near' = short' in
       let long = are-long (kept_of t.kept) t.flight.queue.inflight.chunks ds g.shadow.like in
       let few-ends = ends-few xs t.flight in
       let far : distance t.flight.next_tsn u.flight.next_tsn ≡ ends xs t.flight =
-      far-along t.flight.next_tsn u.flight.next_tsn (ends xs t.flight) near (omega (arith, few-ends, short, long, total, room)) (ends-next xs t.flight near) in
+      far-along t.flight.next_tsn u.flight.next_tsn (ends xs t.flight) near (omega (arith, few-ends, short, long, near')) (ends-next xs t.flight near) in
       let all : distance (next_tsn s) (next_tsn v) ≡ ends xs t.flight = ap (λ (y : Transmission). distance (next_tsn s) y.flight.next_tsn) e ∙ far in
-      let after = leave-each first others xs t s n gone m (omega (arith, few, all)) g in
+      let more : length v.sending.sender.flight.queue.inflight.chunks ≡ length t.flight.queue.inflight.chunks + ends xs t.flight =
+      ap (λ (y : Transmission). length y.flight.queue.inflight.chunks) e ∙ ends-long xs t.flight in
+      let after = leave-each first others xs t s n gone m
+      (subst (λ k. others.Bound (n + k) (length t.flight.queue.inflight.chunks + ends xs t.flight)) all
+      (subst (others.Bound (n + distance (next_tsn s) (next_tsn v))) more few)) g in
       let there = restreamed first others (record t { flight = abandoned_each xs t.flight })
       (after_leaving (leaving_each xs t.flight) t.streams) s v
       (n + ends xs t.flight) (gone ++ map (λ (a : AbandonedMessage). a.number) (leaving_each xs t.flight)) m (left-alike (leaving_each xs t.flight) t.streams)
@@ -592,65 +659,65 @@ module _ (first : ℕ) (others : Others first) (s v : Session) (n : ℕ) (gone :
 
   -- ## Every call
 
-  pub sender-goes : (call : SenderCall) → bytes_written v < 2 ^ 64 → n + distance (next_tsn s) (next_tsn v) < 2 ^ 31 → SenderFollows call s v → Result call
-  sender-goes (outgoing.writes stream ppi []) bytes few f =
+  pub sender-goes : (call : SenderCall) → bytes_written v < 2 ^ 64 → SenderFollows call s v → Result call
+  sender-goes (outgoing.writes stream ppi []) bytes f =
       by-none (outgoing.writes stream ppi []) f t (f.exact.0 refl) refl g.shadow.like refl (λ ms. refl) (λ ws. refl) refl refl
-  sender-goes (outgoing.writes stream ppi (b ∷ bs)) bytes few f = writes-goes stream ppi b bs bytes f
-  sender-goes (outgoing.sends now) bytes few f = sends-goes now f
-  sender-goes (outgoing.abandons tsn a) bytes few f = abandons-goes tsn a f
-  sender-goes (outgoing.expires now None) bytes few f = expires-idle now f
-  sender-goes (outgoing.expires now (Some x)) bytes few f = expires-goes now x f
-  sender-goes (outgoing.expires_tail now None) bytes few f = tail-idle now f
-  sender-goes (outgoing.expires_tail now (Some a)) bytes few f = tail-goes now a f
-  sender-goes (outgoing.expires_late now left) bytes few f =
+  sender-goes (outgoing.writes stream ppi (b ∷ bs)) bytes f = writes-goes stream ppi b bs bytes f
+  sender-goes (outgoing.sends now) bytes f = sends-goes now f
+  sender-goes (outgoing.abandons tsn a) bytes f = abandons-goes tsn a f
+  sender-goes (outgoing.expires now None) bytes f = expires-idle now f
+  sender-goes (outgoing.expires now (Some x)) bytes f = expires-goes now x f
+  sender-goes (outgoing.expires_tail now None) bytes f = tail-idle now f
+  sender-goes (outgoing.expires_tail now (Some a)) bytes f = tail-goes now a f
+  sender-goes (outgoing.expires_late now left) bytes f =
       each-goes (outgoing.expires_late now left) (late_order now t.flight) f f.exact
-      (order-short (is_late now t.flight.queue.pending) t.flight (with_tail (late_tsns now t.flight.queue) t.flight)) few refl refl refl refl
-  sender-goes (outgoing.expires_rexmit left) bytes few f =
+      (order-short (is_late now t.flight.queue.pending) t.flight (with_tail (late_tsns now t.flight.queue) t.flight)) refl refl refl refl
+  sender-goes (outgoing.expires_rexmit left) bytes f =
       each-goes (outgoing.expires_rexmit left)
-      (worn_order t.flight) f f.exact (order-short is_worn t.flight (with_tail (worn_tsns t.flight) t.flight)) few refl refl refl refl
-  sender-goes (outgoing.resends tsn now c) bytes few f = resends-goes tsn now c f
-  sender-goes (outgoing.takes_sack sack left) bytes few f = sack-goes sack left f
-  sender-goes (outgoing.opens stream) bytes few f =
+      (worn_order t.flight) f f.exact (order-short is_worn t.flight (with_tail (worn_tsns t.flight) t.flight)) refl refl refl refl
+  sender-goes (outgoing.resends tsn now c) bytes f = resends-goes tsn now c f
+  sender-goes (outgoing.takes_sack sack left) bytes f = sack-goes sack left f
+  sender-goes (outgoing.opens stream) bytes f =
       by-call (outgoing.opens stream) f (open_stream stream t) f.step.sender (outgoing.opens stream) (ls ++ new_stream stream t.fragment_size ∷ []) ds
       (refl, (tt, (sym (open-alike stream t.streams ls g.shadow.alike) ∙ f.accepted, tt))) tt
       (both-opened (new_stream stream t.fragment_size) t.streams ls g.shadow.alike)
       g.shadow.like (λ ms. refl) (λ ws. refl) refl refl
-  sender-goes (outgoing.sets_mode stream unordered reliability value) bytes few f =
+  sender-goes (outgoing.sets_mode stream unordered reliability value) bytes f =
       by-call (outgoing.sets_mode stream unordered reliability value) f (with_mode_on stream unordered reliability value t) f.step.sender
       (outgoing.sets_mode stream unordered reliability value) (change_where (has_number stream) (with_mode unordered reliability value) ls) ds
       (refl, (tt, (sym (open-alike stream t.streams ls g.shadow.alike) ∙ f.accepted, tt))) tt
       (both-moded stream unordered reliability value t.streams ls g.shadow.alike)
       g.shadow.like (λ ms. refl) (λ ws. refl) refl refl
-  sender-goes (outgoing.sets_low stream low) bytes few f =
+  sender-goes (outgoing.sets_low stream low) bytes f =
       by-call (outgoing.sets_low stream low) f (with_low_on stream low t) f.step.sender (outgoing.sets_low stream low)
       (change_where (has_number stream) (with_low low) ls) ds
       (refl, (tt, (sym (open-alike stream t.streams ls g.shadow.alike) ∙ f.accepted, tt))) tt (both-lower stream low t.streams ls g.shadow.alike)
       g.shadow.like (λ ms. refl) (λ ws. refl) refl refl
-  sender-goes (outgoing.sets_size size') bytes few f =
+  sender-goes (outgoing.sets_size size') bytes f =
       by-call (outgoing.sets_size size') f (with_fragment_size size' t) f.step.sender (outgoing.sets_size size') (map (with_size size') ls) ds
       (refl, (tt, (f.accepted, tt))) tt (both-sized size' t.streams ls g.shadow.alike) g.shadow.like (λ ms. refl) (λ ws. refl) refl refl
-  sender-goes (outgoing.reserves more) bytes few f =
+  sender-goes (outgoing.reserves more) bytes f =
       by-call (outgoing.reserves more) f (with_flight (with_queue t.flight (with_room more t.flight.queue)) t) f.step.sender (outgoing.reserves more) ls ds
       (refl, (tt, (tt, tt))) tt g.shadow.alike g.shadow.like (λ ms. refl) (λ ws. refl) refl refl
-  sender-goes (outgoing.starts now) bytes few f =
+  sender-goes (outgoing.starts now) bytes f =
       let q = all_started now t.flight.queue in
       by-call (outgoing.starts now) f (with_flight (with_queue t.flight q) t) f.step.sender (outgoing.starts now) ls ds
       (ap (λ r. with_flight (with_queue t.flight r) w) (sym (started-same now t.flight.queue ds)), (tt, (tt, tt))) tt g.shadow.alike
       (subst (λ (p : payload.Payload). AreLike (kept_of t.kept) p.chunks ds) (sym (started-inflight now t.flight.queue)) g.shadow.like) (λ ms. refl)
       (λ ws. refl) refl refl
-  sender-goes outgoing.marks bytes few f =
+  sender-goes outgoing.marks bytes f =
       by-none outgoing.marks f (with_flight (all_marked t.flight) t) f.step.sender refl
       (are-marked IsLike is_outstanding (with_retransmit true)
       (λ k c d i. record { same = i.same; open' = i.open'; whole = i.whole; kept = i.kept; settled = i.settled })
       (kept_of t.kept) t.flight.queue.inflight.chunks ds g.shadow.like)
       refl (λ ms. refl) (λ ws. refl) refl refl
-  sender-goes (outgoing.misses count) bytes few f =
+  sender-goes (outgoing.misses count) bytes f =
       by-none (outgoing.misses count) f (with_flight (after_misses count t.flight) t) f.step.sender refl
       (are-part-marked IsLike can_miss missed
       (λ k c d i. record { same = i.same; open' = i.open'; whole = i.whole; kept = i.kept; settled = i.settled }) count
       (kept_of t.kept) t.flight.queue.inflight.chunks ds g.shadow.like)
       refl (λ ms. refl) (λ ws. refl) refl refl
-  sender-goes (outgoing.forwards tsn c) bytes few f =
+  sender-goes (outgoing.forwards tsn c) bytes f =
       let like = g.shadow.like in
       by-call (outgoing.forwards tsn c) f t f.exact (outgoing.forwards tsn c) ls ds (
         omega arith,
@@ -665,7 +732,7 @@ module _ (first : ℕ) (others : Others first) (s v : Session) (n : ℕ) (gone :
           ),
         ),
       ) tt g.shadow.alike like (λ ms. refl) (λ ws. refl) refl refl
-  sender-goes (outgoing.forwards_within room' c) bytes few f =
+  sender-goes (outgoing.forwards_within room' c) bytes f =
       let like = g.shadow.like in
       by-call (outgoing.forwards_within room' c) f t f.exact (outgoing.forwards_within room' c) ls ds (
         omega arith,

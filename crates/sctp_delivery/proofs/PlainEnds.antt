@@ -8,7 +8,7 @@ use Rattle.sctp_sender.specs.declared.sender.Reported.{Reported}
 use Rattle.sctp_receiver.specs.Credit.{cost_of_chunks}
 use Rattle.sctp_delivery.specs.Ending.{each_within, has_window, is_to_come, left_on, rest_cost}
 use Rattle.sctp_delivery.specs.ReturnEndings.{AfterEachWithReturnsAndTsnsLeft, EndsWhereTakenSo, EndsWithAllReadSo}
-use Rattle.sctp_delivery.specs.Returns.{CallOrReturn, RunsWithReturns, at_start_with, tsns_given_so}
+use Rattle.sctp_delivery.specs.Returns.{AreFewInFlightSo, CallOrReturn, RunsWithReturns, at_start_with, tsns_given_so}
 use Rattle.sctp_delivery.proofs.Besides.{IsBeside, IsCame}
 use Rattle.sctp_delivery.proofs.EndDelivers.{due-to-come}
 use Rattle.sctp_delivery.proofs.EndSessions.{ends-beside}
@@ -17,10 +17,10 @@ use Rattle.sctp_delivery.proofs.EndWindows.{grows-each, room-each}
 use Rattle.sctp_delivery.proofs.Every.{Every, every-of, every-of-all, one-of}
 use Rattle.sctp_delivery.proofs.NoneAbandoned.{each-of-others}
 use Rattle.sctp_delivery.proofs.Plain.{AreLike, are-long, rest_of}
-use Rattle.sctp_delivery.proofs.PlainRuns.{acknowledged-came, goes, other, shadow}
-use Rattle.sctp_delivery.proofs.PlainSessions.{as_plain, kept_of, plain, step-of}
+use Rattle.sctp_delivery.proofs.PlainRuns.{acknowledged-came, flying-of, goes, other, shadow}
+use Rattle.sctp_delivery.proofs.PlainSessions.{as_plain, kept_of}
 use Rattle.sctp_delivery.proofs.RefusedLaw.{limits-same}
-use Rattle.sctp_delivery.proofs.SackLaws.{IsInStep}
+use Rattle.sctp_delivery.proofs.SackLaws.{IsInStep, in-step}
 use Rattle.sctp_delivery.proofs.TakenCalls.{HasCome}
 use Rattle.sctp_delivery.proofs.TsnPlaces.{base}
 
@@ -37,6 +37,9 @@ same-to-come r ks (c ∷ cs) (d ∷ ds) a e = grind (arith, nat_tests, common_st
 module _ (reported : Reported) (first size max' most : ℕ) (limits : Option Limits) (calls : List CallOrReturn) (s : Session)
     (run : RunsWithReturns (at_start_with reported first size max' most limits) calls s) (small : first < 2 ^ 32) (some : 0 < size)
     (few : tsns_given_so (at_start_with reported first size max' most limits) calls s run < 2 ^ 31) (short : bytes_written s < 2 ^ 64) where
+  abbrev flying : AreFewInFlightSo (at_start_with reported first size max' most limits) calls s run
+  flying = flying-of reported first size max' most limits calls s run small few
+
   abbrev n : ℕ
   n = tsns_given_so (at_start_with reported first size max' most limits) calls s run
 
@@ -46,15 +49,15 @@ module _ (reported : Reported) (first size max' most : ℕ) (limits : Option Lim
   abbrev cs : List ChunkPayloadData
   cs = s.sending.sender.flight.queue.inflight.chunks
 
-  chunks-are : (other reported first size max' most limits calls s run small few short).sending.sender.flight.queue.inflight.chunks
-      ≡ (shadow reported first size max' most limits calls s run small few short).chunks
-  chunks-are = ap (λ (u : Transmission). u.flight.queue.inflight.chunks) (shadow reported first size max' most limits calls s run small few short).sender
+  chunks-are : (other reported first size max' most limits calls s run small flying short).sending.sender.flight.queue.inflight.chunks
+      ≡ (shadow reported first size max' most limits calls s run small flying short).chunks
+  chunks-are = ap (λ (u : Transmission). u.flight.queue.inflight.chunks) (shadow reported first size max' most limits calls s run small flying short).sender
 
   came : Every (IsCame s.receiving.accepted) s.sending.sender.flight.queue.inflight.chunks
   came = every-of-all (IsCame s.receiving.accepted) cs
       (λ k c lt a. acknowledged-came reported first size max' most limits calls s run small some few short k c lt (or-left _ _ a))
 
-  pub is-beside : IsBeside (other reported first size max' most limits calls s run small few short) s
+  pub is-beside : IsBeside (other reported first size max' most limits calls s run small flying short) s
   is-beside = grind (arith, nat_tests, common_steps, shadow, chunks-are, came)
 
   -- what is acknowledged is not to come
@@ -62,12 +65,16 @@ module _ (reported : Reported) (first size max' most : ℕ) (limits : Option Lim
   settled = every-of (IsCame s.receiving.accepted) (λ c. c.acked ≡ true → is_to_come s.receiving.receiver c ≡ false) one cs came
     where
       step : IsInStep (base first) (tsns_given_so (at_start_with reported first size max' most limits) calls s run)
-          (other reported first size max' most limits calls s run small few short)
-      step = step-of first (plain first size max' most limits small) t s n _ _ few (goes reported first size max' most limits calls s run small few short)
+          (other reported first size max' most limits calls s run small flying short)
+      step =
+          let p = (goes reported first size max' most limits calls s run small flying short).plays.plain in
+          let e = p.given in
+          subst (λ k. IsInStep (base first) k (other reported first size max' most limits calls s run small flying short)) e
+          (in-step first size max' most limits p.calls _ p.run small (omega (arith, e, few)))
 
       each : Every (HasCome (base first) n s.receiving.receiver) s.receiving.accepted
       each =
-          let same = (shadow reported first size max' most limits calls s run small few short).receiving in
+          let same = (shadow reported first size max' most limits calls s run small flying short).receiving in
           subst (λ (r : Stand). Every (HasCome (base first) n r.receiver) r.accepted) same step.taken.each
 
       has : (tsn : ℕ) → list_any (has_tsn tsn) s.receiving.accepted ≡ true → has_come tsn (filter_of s.receiving.receiver) ≡ true
@@ -86,25 +93,25 @@ module _ (reported : Reported) (first size max' most : ℕ) (limits : Option Lim
           by false e = ap not e
 
   pub same-window : (o : Option Limits)
-      → has_window o (other reported first size max' most limits calls s run small few short).sending.sender s.receiving.receiver
+      → has_window o (other reported first size max' most limits calls s run small flying short).sending.sender s.receiving.receiver
       ≡ has_window o s.sending.sender s.receiving.receiver
   same-window o =
-      let x = shadow reported first size max' most limits calls s run small few short in
+      let x = shadow reported first size max' most limits calls s run small flying short in
       let r = s.receiving.receiver in
       ap (λ u. has_window o u r) x.sender ∙ by o
     where
       x' : AreLike (kept_of s.sending.sender.kept) s.sending.sender.flight.queue.inflight.chunks
-          (shadow reported first size max' most limits calls s run small few short).chunks
-      x' = (shadow reported first size max' most limits calls s run small few short).like
+          (shadow reported first size max' most limits calls s run small flying short).chunks
+      x' = (shadow reported first size max' most limits calls s run small flying short).like
 
-      by : (o : Option Limits) → has_window o (as_plain s.sending.sender (shadow reported first size max' most limits calls s run small few short).streams
-          (shadow reported first size max' most limits calls s run small few short).chunks) s.receiving.receiver
+      by : (o : Option Limits) → has_window o (as_plain s.sending.sender (shadow reported first size max' most limits calls s run small flying short).streams
+          (shadow reported first size max' most limits calls s run small flying short).chunks) s.receiving.receiver
           ≡ has_window o s.sending.sender s.receiving.receiver
       by None = refl
       by (Some l) =
           let q = t.flight.queue.pending in
           let ks = kept_of t.kept in
-          let ds = (shadow reported first size max' most limits calls s run small few short).chunks in
+          let ds = (shadow reported first size max' most limits calls s run small flying short).chunks in
           ap₂ (λ m b. nat_le (max m (min 1 (chunks_waiting t))) l.reach && ((b == 0 || nat_le (sum_by left_on s.receiving.receiver.streams + b) l.window)
           && each_within l.window q)) (sym (are-long ks cs ds x'))
           (ap (λ b. b + rest_cost q.selected q) (same-to-come s.receiving.receiver ks cs ds x' settled))
@@ -115,9 +122,9 @@ pub all-end : AfterEachWithReturnsAndTsnsLeft EndsWhereTakenSo
 all-end reported first size max' most limits calls s run small some few short takes now =
     let start = at_start first size max' most limits in
     let given' : tsns_given_so (at_start_with reported first size max' most limits) calls s run < 2 ^ 31 = omega (arith, few) in
-    let g = goes reported first size max' most limits calls s run small given' short in
+    let g = goes reported first size max' most limits calls s run small (flying-of reported first size max' most limits calls s run small given') short in
     let d = g.other in
-    let p = g.plays in
+    let p = g.plays.plain in
     let x = is-beside reported first size max' most limits calls s run small some given' short in
     let e0 = p.given in
     let waiting = ap (λ (u : Transmission). chunks_waiting u) g.shadow.sender in

@@ -28,7 +28,7 @@ use Rattle.sctp_sender.proofs.InLine.{put-behind}
 use Rattle.sctp_delivery.proofs.Plain.{passing-plain, plain, take-plain}
 use Rattle.sctp_delivery.proofs.QueueChunks.{peeked, removed}
 use Rattle.sctp_delivery.proofs.TsnPlaces.{tsn-small}
-use Rattle.sctp_delivery.proofs.ValidMarks.{IsUnmarked}
+use Rattle.sctp_delivery.proofs.ValidMarks.{IsFresh, IsUnmarked}
 
 -- the same, with these chunks in flight
 abbrev pub flight_with : Flight → List ChunkPayloadData → Flight
@@ -104,11 +104,6 @@ put-same (Some c) t q xs ys = refl
 pub gone-same : (o : Option ℕ) (f : Flight) (ds : List ChunkPayloadData)
     → after_abandonment o (flight_with f ds) ≡ flight_with (after_abandonment o f) (chunks_of (after_abandonment o (flight_with f ds)))
 gone-same h0 h1 h2 = grind (arith, nat_tests, common_steps, put-same)
-
--- no chunk that waits is acknowledged, or of an abandoned message
-pub record IsFresh (q : Outbound) : Type 0 where
-  pub ordered : Every IsUnmarked q.pending.ordered
-  pub unordered : Every IsUnmarked q.pending.unordered
 
 module _ (p n : ℕ) (f : Flight) (ks : List (Option (List ℕ))) (ds : List ChunkPayloadData) (a : AreLike ks f.queue.inflight.chunks ds) (few : n < 2 ^ 31)
     (h : IsNumbered p n (flight_with f ds)) where

@@ -101,9 +101,9 @@ held-like on first t ls ds ns sent alike like h =
     }
 
 module _ (first size max most : ℕ) (limits : Option Limits) (small : first < 2 ^ 32) (some : 0 < size) (s : Session) (n : ℕ) (gone : List ℕ) (m : Modes)
-    (g : Goes first (plain first size max most limits small) s.sending.sender s n gone m) where
+    (g : Goes first (plain first size max most limits) s.sending.sender s n gone m) where
   there : HasMade first g.other
-  there = made-in first size max most limits g.plays.calls g.other small some g.plays.run
+  there = made-in first size max most limits g.plays.plain.calls g.other small some g.plays.plain.run
 
   abbrev t : Transmission
   t = s.sending.sender

@@ -6,16 +6,17 @@ use Rattle.sctp_delivery.proofs.Names.{OutboundStream, map, ⊤, Limits, Modes, 
 use Rattle.sctp_delivery.proofs.Names.{next_pending}
 use Rattle.sctp_delivery.proofs.Names.{modes_from, at_first}
 use Rattle.sctp_sender.specs.declared.sender.Reported.{Reported}
+use Rattle.sctp_sender.specs.declared.sender.Reported.TheVariants.{Drop, Keep}
 use Rattle.sctp_delivery.specs.Expiries.{EachDueExpires, OnlyTheDueExpire, IsReason}
 use Rattle.sctp_delivery.specs.Modes.{Sending, numbered_in}
 use Rattle.sctp_delivery.specs.EveryCall.{SenderDoes, takes_back}
-use Rattle.sctp_delivery.specs.Messages.{AreParts, AreSame}
+use Rattle.sctp_delivery.specs.Messages.{AreSame}
 use Rattle.sctp_delivery.specs.SenderCalls.{TakesBackAndSack}
-use Rattle.sctp_delivery.specs.Returns.{AfterEachWithReturnsOfFewTsns, CallOrReturn, EachAckedIsTwoCalls, NoneIsRefusedSo, RunsWithReturns, after_return}
+use Rattle.sctp_delivery.specs.Returns.{AfterEachWithReturnsOfFewInFlight, AfterEachWithReturnsOfFewTsns, AreFewInFlightSo, CallOrReturn, EachAckedIsTwoCalls, NoneIsRefusedSo, RunsWithReturns, after_return}
 use Rattle.sctp_delivery.specs.Returns.{at_start_with, other_calls}
 use Rattle.sctp_sender.specs.declared.sender.flight.Released.{Released}
 use Rattle.sctp_sender.specs.declared.sender.flight.kept.TakenBack.{TakenBack}
-use Rattle.sctp_delivery.specs.Returns.{tsns_given_so}
+use Rattle.sctp_delivery.specs.Session.{count_in_flight}
 use Rattle.sctp_delivery.proofs.Every.{Every, all-of-every, every-all, every-of, every-of-all}
 use Rattle.sctp_delivery.proofs.Plain.{IsLike, are-long, are-tsns, paired}
 use Rattle.sctp_delivery.proofs.EveryMessages as messages
@@ -28,15 +29,12 @@ use Rattle.sctp_delivery.proofs.CounterLaws as counters
 use Rattle.sctp_delivery.proofs.PlainStreams.{bare}
 use Rattle.sctp_delivery.proofs.ExpiryLaws.{each-reason, front-goes, late-are, tail-goes, worn-are}
 use Rattle.sctp_delivery.proofs.FilledQueues.{IsFilled}
+use Rattle.sctp_delivery.proofs.FewInFlight.{IsInRun}
 use Rattle.sctp_delivery.proofs.GivenTsns.{IsNumbered}
 use Rattle.sctp_delivery.proofs.ModeQueues.{AreModed, IsFlying, has-mode-kept}
-use Rattle.sctp_delivery.proofs.ModeSessions.{HasSaidOfFew, said-of-few}
-use Rattle.sctp_delivery.proofs.TsnPlaces.{base}
+use Rattle.sctp_delivery.proofs.ModeSessions.{HasSaid, said-in}
 
 -- ## Chunks, and what comes back
-
-pub parts : AfterEachWithReturnsOfFewTsns (λ first n gone cs s. AreParts s)
-parts = of-few-bytes (λ cs s. AreParts s) messages.parts
 
 pub same : AfterEachWithReturnsOfFewTsns (λ first n gone cs s. AreSame s)
 same = of-few-bytes (λ cs s. AreSame s) messages.same
@@ -67,10 +65,16 @@ two-calls reported first size max most limits cs s run small some few short sack
 flying-like : (ws : List Sending) (n : ℕ) (k : Option (List ℕ)) (c d : ChunkPayloadData) → IsLike k c d → IsFlying ws n d → IsFlying ws n c
 flying-like ws n k c d i j = grind (arith, nat_tests, common_steps, has-mode-kept)
 
+-- few are in flight in the end, where they were at first
+few-at : (cs : List CallOrReturn) (old new : Session) (r : RunsWithReturns old cs new) → count_in_flight old < 2 ^ 31 → AreFewInFlightSo old cs new r
+    → count_in_flight new < 2 ^ 31
+few-at [] old new r was few = subst (λ (s : Session). count_in_flight s < 2 ^ 31) (sym r) was
+few-at (c ∷ cs) old new r was few = few-at cs r.0 new r.1.1 few.0 few.1
+
 -- what the other session says of its queues this one says too
 module _ (reported : Reported) (first size max most : ℕ) (limits : Option Limits) (calls : List CallOrReturn) (s : Session)
     (run : RunsWithReturns (at_start_with reported first size max most limits) calls s) (small : first < 2 ^ 32) (some : 0 < size)
-    (few : tsns_given_so (at_start_with reported first size max most limits) calls s run < 2 ^ 31) (short : bytes_written s < 2 ^ 64) where
+    (few : AreFewInFlightSo (at_start_with reported first size max most limits) calls s run) (short : bytes_written s < 2 ^ 64) where
   abbrev Other : Session
   Other = (goes reported first size max most limits calls s run small few short).other
 
@@ -93,36 +97,43 @@ module _ (reported : Reported) (first size max most : ℕ) (limits : Option Limi
         unbegun = q.unbegun;
       }
 
-  said : HasSaidOfFew first (tsns_given_so (at_start_with reported first size max most limits) calls s run) (modes_from at_first (other_calls calls)) Other
-  said = grind (arith, nat_tests, common_steps, said-of-few)
+  said : HasSaid first (modes_from at_first (other_calls calls)) Other
+  said =
+      let p = (goes reported first size max most limits calls s run small few short).plays.plain in
+      subst (λ m. HasSaid first m Other) p.said (said-in first size max most limits p.calls Other small some p.run)
 
   filled : AllWait IsFilled t.flight.queue.pending
   filled = let x = shadow reported first size max most limits calls s run small few short in
       subst (λ (u : Transmission). AllWait IsFilled u.flight.queue.pending) x.sender said.said.filled
 
-  numbered : IsNumbered (base first) (tsns_given_so (at_start_with reported first size max most limits) calls s run) t.flight
+  numbered : IsInRun t.flight
   numbered =
       let x = shadow reported first size max most limits calls s run small few short in
-      let h = subst
-      (λ (u : Transmission). IsNumbered (base first) (tsns_given_so (at_start_with reported first size max most limits) calls s run) u.flight) x.sender
-      said.unwrapped.spread.step.numbered in
+      let g = goes reported first size max most limits calls s run small few short in
+      let h = subst (λ (u : Transmission). IsInRun u.flight) x.sender g.plays.regular.regular.numbered in
       let cs = t.flight.queue.inflight.chunks in
       let long = are-long (kept_of t.kept) cs x.chunks x.like in
       let total = h.total in
-      record {
+      subst (λ k. IsNumbered t.flight.acked_tsn k t.flight) (sym long) (record {
         acked = h.acked;
         acked_is = h.acked_is;
         next_is = h.next_is;
-        run = are-tsns (kept_of t.kept) cs x.chunks x.like ∙ h.run ∙ ap (tsns_from (tsn (base first) (h.acked + 1))) (sym long);
+        run = are-tsns (kept_of t.kept) cs x.chunks x.like ∙ h.run ∙ ap (tsns_from (tsn t.flight.acked_tsn (h.acked + 1))) (sym long);
         total = omega (arith, total, long);
-      }
+      })
+
+  flying-few : count_in_flight s < 2 ^ 31
+  flying-few = few-at calls (at_start_with reported first size max most limits) s run (none reported) few
+    where
+      none : (k : Reported) → count_in_flight (at_start_with k first size max most limits) < 2 ^ 31
+      none Drop = omega arith
+      none Keep = omega arith
 
   pub only-due-so : OnlyTheDueExpire (other_calls calls) s
   only-due-so call =
       let m = modes_from at_first (other_calls calls) in
       all-of-every (λ n. IsReason call t n (numbered_in n m.of_writes)) (abandoned_by call t)
-      (each-reason (base first) (tsns_given_so (at_start_with reported first size max most limits) calls s run) few m.of_writes t
-      (sent-so m said.said.sender.queue) filled numbered call)
+      (each-reason t.flight.acked_tsn (count_in_flight s) flying-few m.of_writes t (sent-so m said.said.sender.queue) filled numbered call)
 
   pub due-expires-so : EachDueExpires (other_calls calls) s
   due-expires-so now =
@@ -136,10 +147,10 @@ module _ (reported : Reported) (first size max most : ℕ) (limits : Option Limi
         ),
       )
 
-pub only-due : AfterEachWithReturnsOfFewTsns (λ first n gone cs s. OnlyTheDueExpire (other_calls cs) s)
+pub only-due : AfterEachWithReturnsOfFewInFlight (λ cs s. OnlyTheDueExpire (other_calls cs) s)
 only-due reported first size max most limits cs s run small some few short = only-due-so reported first size max most limits cs s run small some few short
 
-pub due-expires : AfterEachWithReturnsOfFewTsns (λ first n gone cs s. EachDueExpires (other_calls cs) s)
+pub due-expires : AfterEachWithReturnsOfFewInFlight (λ cs s. EachDueExpires (other_calls cs) s)
 due-expires reported first size max most limits cs s run small some few short = due-expires-so reported first size max most limits cs s run small some few short
 
 -- ## Counters
@@ -156,12 +167,12 @@ each-sum s (k ∷ ks) (l ∷ ls) e h =
     let rest : map bare ks ≡ map bare ls = cc in
     (sums-alike s l k one h.0, each-sum s ks ls rest h.1)
 
-pub sums : AfterEachWithReturnsOfFewTsns (λ first n gone cs s. AreSums s)
+pub sums : AfterEachWithReturnsOfFewInFlight (λ cs s. AreSums s)
 sums reported first size max most limits cs s run small some few short =
     let x = shadow reported first size max most limits cs s run small few short in
     let g = goes reported first size max most limits cs s run small few short in
     let law =
-    so reported first size max most limits cs s run small few short AreSums (λ ks r lt. counters.are-sums first size max most limits ks _ small some r) in
+    so reported first size max most limits cs s run small few short AreSums (λ ks r e. counters.are-sums first size max most limits ks _ small some r) in
     all-of-every (HasSums s) s.sending.sender.streams (each-sum s s.sending.sender.streams x.streams x.alike
     (subst (λ (u : Transmission). Every (HasSums s) u.streams) x.sender
     (every-of (HasSums _) (HasSums s) (λ l h. record { messages = h.messages; bytes = h.bytes }) g.other.sending.sender.streams

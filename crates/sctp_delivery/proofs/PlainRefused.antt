@@ -5,11 +5,11 @@ use Rattle.sctp_delivery.proofs.Names.{data_of, tsns_given, bytes_written, IsInF
 use Rattle.sctp_sender.specs.declared.sender.Reported.{Reported}
 use Rattle.sctp_delivery.specs.Refused.{IsInFlightSo, NoneInFlightIsRefused, NoneInFlightIsRefusedSo, NoneIsRefusedWhereRead, NoneIsRefusedWhereReadSo}
 use Rattle.sctp_delivery.specs.Refused.{NoneMadeIsRefused}
-use Rattle.sctp_delivery.specs.Returns.{AfterEachWithReturnsOfFewTsns, CallOrReturn, RunsWithReturns, at_start_with, tsns_given_so}
+use Rattle.sctp_delivery.specs.Returns.{AfterEachWithReturnsOfFewTsns, AreFewInFlightSo, CallOrReturn, RunsWithReturns, at_start_with, tsns_given_so}
 use Rattle.sctp_delivery.proofs.ForwardLaw.{none-made}
 use Rattle.sctp_delivery.proofs.Plain.{AreLike, IsLike, are-long, first_of, rest_of}
 use Rattle.sctp_delivery.proofs.PlainFlights.{can-same, end-same, named-same, skip-same}
-use Rattle.sctp_delivery.proofs.PlainRuns.{goes, shadow, so}
+use Rattle.sctp_delivery.proofs.PlainRuns.{flying-of, goes, shadow, so}
 use Rattle.sctp_delivery.proofs.PlainSessions.{kept_of}
 use Rattle.sctp_delivery.proofs.RefusedLaw.{limits-same, none-in-flight, none-where-read}
 
@@ -32,19 +32,22 @@ module _ (first size max most : ℕ) (cs : List Call) (d : Session) (small : fir
 module _ (reported : Reported) (first size max most : ℕ) (limits : Option Limits) (calls : List CallOrReturn) (s : Session)
     (run : RunsWithReturns (at_start_with reported first size max most limits) calls s) (small : first < 2 ^ 32) (some : 0 < size)
     (few : tsns_given_so (at_start_with reported first size max most limits) calls s run < 2 ^ 31) (short : bytes_written s < 2 ^ 64) where
+  abbrev flying : AreFewInFlightSo (at_start_with reported first size max most limits) calls s run
+  flying = flying-of reported first size max most limits calls s run small few
+
   abbrev there : Session
   there = record {
-    sending = (goes reported first size max most limits calls s run small few short).other.sending;
+    sending = (goes reported first size max most limits calls s run small flying short).other.sending;
     receiving = s.receiving;
     made = s.made;
-    sacks = (goes reported first size max most limits calls s run small few short).other.sacks;
+    sacks = (goes reported first size max most limits calls s run small flying short).other.sacks;
     written = s.written;
   }
 
   -- what is in flight here is there, too
   in-flight : (x : ChunkPayloadData) → IsInFlightSo x s → IsInFlight x there
   in-flight x h =
-      let w = shadow reported first size max most limits calls s run small few short in
+      let w = shadow reported first size max most limits calls s run small flying short in
       let t = s.sending.sender in
       let cs = t.flight.queue.inflight.chunks in
       let at = like-at (kept_of t.kept) cs w.chunks w.like h.sent.0 h.chunk h.sent.1 in
@@ -64,29 +67,33 @@ module _ (reported : Reported) (first size max most : ℕ) (limits : Option Limi
       }
 
   sizes : s.sending.sender.max_message_size ≡ there.sending.sender.max_message_size
-  sizes = sym (ap (λ (u : Transmission). u.max_message_size) (shadow reported first size max most limits calls s run small few short).sender)
+  sizes = sym (ap (λ (u : Transmission). u.max_message_size) (shadow reported first size max most limits calls s run small flying short).sender)
 
   without : s.receiving.receiver.limits ≡ None → limits ≡ None
   without e =
-      let g = goes reported first size max most limits calls s run small few short in
-      sym (limits-same g.plays.calls (at_start first size max most limits) g.other g.plays.run) ∙ ap (λ r. r.receiver.limits) g.shadow.receiving ∙ e
+      let g = goes reported first size max most limits calls s run small flying short in
+      sym (limits-same g.plays.plain.calls (at_start first size max most limits) g.other g.plays.plain.run) ∙ ap (λ r. r.receiver.limits) g.shadow.receiving ∙ e
 
   due-so : NoneInFlightIsRefusedSo s
   due-so none fits x h takable =
-      so reported first size max most limits calls s run small few short NoneInFlightIsRefused
-      (λ ks r lt. unlimited first size max most ks _ small some NoneInFlightIsRefused (none-in-flight first size max most ks _ small some) limits (without none) r lt)
+      so reported first size max most limits calls s run small flying short NoneInFlightIsRefused
+      (λ ks r e. unlimited first size max most ks _ small some NoneInFlightIsRefused (none-in-flight first size max most ks _ small some)
+      limits (without none) r
+      (omega (arith, e, few)))
       (let e = sizes in omega (arith, e, fits)) x (in-flight x h) takable
 
   read-so : NoneIsRefusedWhereReadSo s
   read-so none fits unread x h there' =
-      so reported first size max most limits calls s run small few short NoneIsRefusedWhereRead
-      (λ ks r lt. unlimited first size max most ks _ small some NoneIsRefusedWhereRead (none-where-read first size max most ks _ small some) limits (without none) r lt)
+      so reported first size max most limits calls s run small flying short NoneIsRefusedWhereRead
+      (λ ks r e. unlimited first size max most ks _ small some NoneIsRefusedWhereRead (none-where-read first size max most ks _ small some)
+      limits (without none) r
+      (omega (arith, e, few)))
       (let e = sizes in omega (arith, e, fits)) unread x (in-flight x h) there'
 
   -- the same FORWARD-TSNs may be made
   may-make : (f : ForwardTsn) → MayMake f s.sending.sender → MayMake f there.sending.sender
   may-make f h =
-      let w = shadow reported first size max most limits calls s run small few short in
+      let w = shadow reported first size max most limits calls s run small flying short in
       let t = s.sending.sender in
       let ks = kept_of t.kept in
       subst (MayMake f) (sym w.sender) (elim h [
@@ -103,8 +110,8 @@ module _ (reported : Reported) (first size max most : ℕ) (limits : Option Limi
 
   made-so : NoneMadeIsRefused s
   made-so f may due =
-      so reported first size max most limits calls s run small few short NoneMadeIsRefused
-      (λ ks r lt. none-made first size max most limits ks _ small some r lt) f (may-make f may) due
+      so reported first size max most limits calls s run small flying short NoneMadeIsRefused
+      (λ ks r e. none-made first size max most limits ks _ small some r (omega (arith, e, few))) f (may-make f may) due
 
 pub none-due : AfterEachWithReturnsOfFewTsns (λ first n gone calls s. NoneInFlightIsRefusedSo s)
 none-due reported first size max most limits calls s run small some few short = due-so reported first size max most limits calls s run small some few short

@@ -3,22 +3,21 @@ use Rattle.sctp_delivery.proofs.Names.{nat_tests, common_steps, ◌≡◌, ℕ, 
 use Rattle.sctp_delivery.proofs.Names.{append_assoc, Option, Some, None, Contains, ChunkPayloadData, Sack, Limits, OutboundStream, distance, Transmission, Call}
 use Rattle.sctp_delivery.proofs.Names.{Follows, ReceiverFollows, RunsTo, Session, IsReported, at_start, of_receiver, of_sender, abandoned_by, abandoned_in}
 use Rattle.sctp_delivery.proofs.Names.{tsns_given, Modes, at_first, modes_after, modes_from, SenderCall, SenderMakes, ReceiverCall, made_after, written_after}
-use Rattle.sctp_delivery.proofs.Names.{reports_after, Made, Write, IsAccounted, Bool}
-use Rattle.sctp_delivery.specs.Session.{IsSent}
+use Rattle.sctp_delivery.proofs.Names.{reports_after, Made, Write, IsAccounted, length}
+use Rattle.sctp_delivery.specs.Session.{IsSent, count_in_flight}
 use Rattle.sctp_delivery.specs.ReceiverCalls as incoming
 use Rattle.sctp_receiver.specs.ReceiverRuns as receiver_runs
 use Rattle.sctp_receiver.specs.Receiver.{sack_within}
 use Rattle.sctp_delivery.proofs.Delivered.{next_tsn}
 use Rattle.sctp_delivery.proofs.Every.{Every, every-of}
 use Rattle.sctp_delivery.proofs.OneRead.{given-then, no-way, run-then}
-use Rattle.sctp_delivery.proofs.Plain.{AreLike, IsBareSack}
+use Rattle.sctp_delivery.proofs.FewInFlight.{AreRegular, IsRegular, regular-then}
+use Rattle.sctp_delivery.proofs.Plain.{AreLike, IsBareSack, are-long}
 use Rattle.sctp_delivery.proofs.PlainFlights.{flight_with}
 use Rattle.sctp_delivery.proofs.PlainStreams.{AreAlike, bare}
-use Rattle.sctp_delivery.proofs.SackLaws.{IsInStep, IsInStepBut, in-step}
-use Rattle.sctp_delivery.proofs.SackSteps.{none_dropped}
 use Rattle.sctp_delivery.proofs.Sessions.{accounted}
 use Rattle.sctp_delivery.proofs.Stands.{contains-more, sender-follows, sender_after}
-use Rattle.sctp_delivery.proofs.TsnPlaces.{base, tsn-small}
+use Rattle.sctp_delivery.proofs.TsnPlaces.{tsn-small}
 
 -- ## Calls one after another, with what laws ask of them
 
@@ -106,25 +105,37 @@ module _ (first size max most : ℕ) (limits : Option Limits) where
         said = modes-then p.calls c at_first ∙ ap (modes_by c) p.said;
       }
 
--- sessions of a sender that keeps nothing, and what is so of each that gives out so many TSNs, abandons these messages and has these modes
+-- sessions of a sender that keeps nothing, and what is so of each that gives out so many TSNs, abandons these messages and has these modes; and
+-- what is asked of how many TSNs were given out, and how many chunks are in flight
 pub record Others (first : ℕ) : Type 1 where
-  pub dropped : ℕ → Bool
+  pub Bound : ℕ → ℕ → Type 0
+  pub fewer : (n k more : ℕ) → Bound (n + more) (k + more) → Bound n k
   pub Plays : Session → ℕ → List ℕ → Modes → Type 0
-  pub onward : (d e : Session) (n : ℕ) (gone : List ℕ) (m : Modes) → Plays d n gone m → (c : Call) → Follows c d e
+  pub onward : (d e : Session) (n : ℕ) (gone : List ℕ) (m : Modes) → Bound n (count_in_flight d)
+      → Bound (n + distance (next_tsn d) (next_tsn e)) (count_in_flight e) → Plays d n gone m → (c : Call) → Follows c d e
       → Plays e (n + distance (next_tsn d) (next_tsn e)) (gone ++ gone_by c d) (modes_by c m)
-  pub step : (d : Session) (n : ℕ) (gone : List ℕ) (m : Modes) → n < 2 ^ 31 → Plays d n gone m → IsInStepBut dropped (base first) n d
-  pub accounted : (d : Session) (n : ℕ) (gone : List ℕ) (m : Modes) → n < 2 ^ 31 → Plays d n gone m → IsAccounted d
+  pub regular : (d : Session) (n : ℕ) (gone : List ℕ) (m : Modes) → Bound n (count_in_flight d) → Plays d n gone m → IsRegular d
+  pub room : (d : Session) (n : ℕ) (gone : List ℕ) (m : Modes) (more : ℕ) → Bound (n + more) (count_in_flight d + more) → Plays d n gone m
+      → count_in_flight d + more < 2 ^ 31
+  pub accounted : (d : Session) (n : ℕ) (gone : List ℕ) (m : Modes) → Bound n (count_in_flight d) → Plays d n gone m → IsAccounted d
 
--- those without any other calls
-abbrev pub plain : (first size max most : ℕ) (limits : Option Limits) → first < 2 ^ 32 → Others first
-plain first size max most limits small = record {
-  dropped = none_dropped;
-  Plays = PlainPlays first size max most limits;
-  onward = plays-then first size max most limits;
-  step = λ d n gone m few p.
-      subst (λ k. IsInStep (base first) k d) p.given
-      (in-step first size max most limits p.calls d p.run small (let e = p.given in omega (arith, e, few)));
-  accounted = λ d n gone m few p. accounted first size max most limits p.calls d p.run;
+-- those without any other calls, in which fewer than 2^31 chunks are in flight after each call
+pub record PlaysOn (first size max most : ℕ) (limits : Option Limits) (d : Session) (n : ℕ) (gone : List ℕ) (m : Modes) : Type 0 where
+  pub plain : PlainPlays first size max most limits d n gone m
+  pub regular : AreRegular d
+
+abbrev pub plain : (first size max most : ℕ) (limits : Option Limits) → Others first
+plain first size max most limits = record {
+  Bound = λ n k. k < 2 ^ 31;
+  fewer = λ n k more b. omega (arith, b);
+  Plays = PlaysOn first size max most limits;
+  onward = λ d e n gone m was few p c f. record {
+    plain = plays-then first size max most limits d e n gone m p.plain c f;
+    regular = regular-then c d e was few f p.regular;
+  };
+  regular = λ d n gone m few p. p.regular.regular;
+  room = λ d n gone m more few p. few;
+  accounted = λ d n gone m few p. accounted first size max most limits p.plain.calls d p.plain.run;
 }
 
 module _ (first : ℕ) (others : Others first) where
@@ -134,22 +145,44 @@ module _ (first : ℕ) (others : Others first) where
     pub shadow : Shadows t s other
     pub plays : others.Plays other n gone m
 
-  abbrev pub step-of : (t : Transmission) (s : Session) (n : ℕ) (gone : List ℕ) (m : Modes) → n < 2 ^ 31 → (g : Goes t s n gone m)
-      → IsInStepBut others.dropped (base first) n g.other
-  step-of t s n gone m few g = others.step g.other n gone m few g.plays
+  -- as many chunks are in flight there
+  pub same-count : (t : Transmission) (s : Session) (n : ℕ) (gone : List ℕ) (m : Modes) (g : Goes t s n gone m)
+      → length t.flight.queue.inflight.chunks ≡ count_in_flight g.other
+  same-count t s n gone m g =
+      are-long (kept_of t.kept) t.flight.queue.inflight.chunks g.shadow.chunks g.shadow.like
+      ∙ ap (λ (u : Transmission). length u.flight.queue.inflight.chunks) (sym g.shadow.sender)
 
-  pub small-next : (t : Transmission) (s : Session) (n : ℕ) (gone : List ℕ) (m : Modes) → n < 2 ^ 31 → (g : Goes t s n gone m)
-      → t.flight.next_tsn < 2 ^ 32
+  -- so what is asked here is asked there
+  pub bound-there : (t : Transmission) (s : Session) (n : ℕ) (gone : List ℕ) (m : Modes) (g : Goes t s n gone m)
+      → others.Bound n (length t.flight.queue.inflight.chunks) → others.Bound n (count_in_flight g.other)
+  bound-there t s n gone m g b = subst (others.Bound n) (same-count t s n gone m g) b
+
+  pub regular-of : (t : Transmission) (s : Session) (n : ℕ) (gone : List ℕ) (m : Modes) → others.Bound n (length t.flight.queue.inflight.chunks)
+      → (g : Goes t s n gone m) → IsRegular g.other
+  regular-of t s n gone m few g = others.regular g.other n gone m (bound-there t s n gone m g few) g.plays
+
+  pub room-of : (t : Transmission) (s : Session) (n : ℕ) (gone : List ℕ) (m : Modes) (more : ℕ)
+      → others.Bound (n + more) (length t.flight.queue.inflight.chunks + more) → (g : Goes t s n gone m)
+      → length t.flight.queue.inflight.chunks + more < 2 ^ 31
+  room-of t s n gone m more few g =
+      let same = same-count t s n gone m g in
+      subst (λ k. k + more < 2 ^ 31) (sym same)
+      (others.room g.other n gone m more (subst (λ k. others.Bound (n + more) (k + more)) same few) g.plays)
+
+  pub small-next : (t : Transmission) (s : Session) (n : ℕ) (gone : List ℕ) (m : Modes) → others.Bound n (length t.flight.queue.inflight.chunks)
+      → (g : Goes t s n gone m) → t.flight.next_tsn < 2 ^ 32
   small-next t s n gone m few g =
-      let i = step-of t s n gone m few g in
+      let i = regular-of t s n gone m few g in
       let is = i.numbered.next_is in
-      let near = tsn-small (base first) (n + 1) in
+      let near = tsn-small g.other.sending.sender.flight.acked_tsn (count_in_flight g.other + 1) in
       let same : next_tsn g.other ≡ t.flight.next_tsn = ap (λ (u : Transmission). u.flight.next_tsn) g.shadow.sender in
       omega (arith, is, near, same)
 
   -- ## What the other session makes of a call
 
   module _ (t u : Transmission) (s v : Session) (n : ℕ) (gone : List ℕ) (m : Modes) (g : Goes t s n gone m) (call : SenderCall)
+      (was : others.Bound n (length t.flight.queue.inflight.chunks))
+      (few : others.Bound (n + distance t.flight.next_tsn u.flight.next_tsn) (length u.flight.queue.inflight.chunks))
       (received : v.receiving ≡ s.receiving) (reported : v.sacks ≡ s.sacks) (made : v.made ≡ made_after call t s.made)
       (wrote : v.written ≡ written_after call s.written) where
     abbrev pub After : Type 0
@@ -167,9 +200,12 @@ module _ (first : ℕ) (others : Others first) where
         let d = g.other in
         let e = sender_after c d (as_plain u ls ds) in
         let f = sender-follows c d (as_plain u ls ds) (subst (λ y. SenderMakes c y (as_plain u ls ds)) (sym x.sender) makes) handed in
-        let p = others.onward d e n gone m g.plays (of_sender c) f in
         let far : distance (next_tsn d) (next_tsn e) ≡ distance t.flight.next_tsn u.flight.next_tsn =
         ap (λ (y : Transmission). distance y.flight.next_tsn u.flight.next_tsn) x.sender in
+        let few' : others.Bound (n + distance (next_tsn d) (next_tsn e)) (count_in_flight e) =
+        subst (λ k. others.Bound (n + k) (length ds)) (sym far)
+        (subst (others.Bound (n + distance t.flight.next_tsn u.flight.next_tsn)) (are-long (kept_of u.kept) u.flight.queue.inflight.chunks ds like) few) in
+        let p = others.onward d e n gone m (bound-there t s n gone m g was) few' g.plays (of_sender c) f in
         let lost : gone_by (of_sender c) d ≡ abandoned_by call t = ap (abandoned_by c) x.sender ∙ same-gone in
         record {
           other = e;
@@ -216,7 +252,7 @@ module _ (first : ℕ) (others : Others first) where
   there-after h0 h1 h2 h3 h4 = grind (arith, nat_tests, common_steps, there-new, there-more)
 
   -- the receiver makes the same, and before it a SACK without blocks
-  pub receives-too : (call : ReceiverCall) (s v : Session) (n : ℕ) (gone : List ℕ) (m : Modes) → n < 2 ^ 31
+  pub receives-too : (call : ReceiverCall) (s v : Session) (n : ℕ) (gone : List ℕ) (m : Modes) → others.Bound n (count_in_flight s)
       → Goes s.sending.sender s n gone m → ReceiverFollows call s v → Goes v.sending.sender v n gone m
   receives-too call s v n gone m few g f =
       let x = g.shadow in
@@ -242,8 +278,14 @@ module _ (first : ℕ) (others : Others first) where
       let same : next_tsn d ≡ s.sending.sender.flight.next_tsn = ap (λ (u : Transmission). u.flight.next_tsn) x.sender in
       let a = small-next s.sending.sender s n gone m few g in omega (arith, same, a) in
       let zero = no-way (next_tsn d) near in
+      let was = bound-there s.sending.sender s n gone m g few in
+      let once : others.Bound (n + distance (next_tsn d) (next_tsn e)) (count_in_flight e) =
+      subst (λ k. others.Bound k (count_in_flight d)) {x = n} {y = n + distance (next_tsn d) (next_tsn e)} (omega (arith, zero)) was in
+      let twice : others.Bound (n + distance (next_tsn d) (next_tsn e) + distance (next_tsn e) (next_tsn w)) (count_in_flight w) =
+      subst (λ k. others.Bound k (count_in_flight d)) {x = n} {y = n + distance (next_tsn d) (next_tsn e) + distance (next_tsn e) (next_tsn w)}
+      (omega (arith, zero)) was in
       let p = others.onward e w (n + distance (next_tsn d) (next_tsn e))
-      (gone ++ []) m (others.onward d e n gone m g.plays (of_receiver (incoming.makes_sack 0 0)) one)
+      (gone ++ []) m once twice (others.onward d e n gone m was once g.plays (of_receiver (incoming.makes_sack 0 0)) one)
       (of_receiver call) two in
       let still : v.sending ≡ s.sending = ap (λ (y : Session). y.sending) f.after in
       record {

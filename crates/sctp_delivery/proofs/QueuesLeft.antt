@@ -16,15 +16,16 @@ use Rattle.sctp_outbound.specs.payload_queue.PayloadQueue as payload
 use Rattle.sctp_outbound.proofs.lemmas.outbound_queue.SideBySide.{partial_before, partial_appended}
 use Rattle.sctp_delivery.proofs.Continued.{AreContinued, IsContinued, abandoned-continued, ended-continued, facts, facts-abandoned, facts_of, gone_at}
 use Rattle.sctp_delivery.proofs.Continued.{left-continued, sent-continued, facts-changed, facts-part-changed}
-use Rattle.sctp_delivery.proofs.ValidMarks.{IsUnmarked, started-valid}
+use Rattle.sctp_delivery.proofs.FewInFlight.{IsInRun, IsRegular, IsSmall, sack-place}
+use Rattle.sctp_delivery.proofs.ValidMarks.{IsUnmarked, fresh-started}
 use Rattle.sctp_sender.proofs.InLine.{put-behind}
+use Rattle.sctp_sender.specs.Flight.{count_acked, sack_refusal}
 use Rattle.sctp_delivery.specs.SenderCalls as outgoing
+use Rattle.sctp_delivery.specs.Session.{count_in_flight}
 use Rattle.sctp_delivery.proofs.Cases.{all_streams}
-use Rattle.sctp_delivery.proofs.Every.{Every, every-contained}
+use Rattle.sctp_delivery.proofs.Every.{every-contained}
 use Rattle.sctp_delivery.proofs.GivenTsns.{IsNumbered}
 use Rattle.sctp_delivery.proofs.Queues.{Stands, abandoned, started}
-use Rattle.sctp_delivery.proofs.ReportedTsns.{IsTruthful}
-use Rattle.sctp_delivery.proofs.SackSteps.{IsValidIn, known}
 use Rattle.sctp_delivery.proofs.Senders.{IsHeld}
 use Rattle.sctp_delivery.proofs.Numbers.{number_of}
 use Rattle.sctp_delivery.proofs.Sent.{Entry, Numbered}
@@ -249,7 +250,7 @@ dropped-goes q cs k same = record {
       omega (arith, d, n, x, y);
 }
 
--- # What each call of a sender makes of the chunks in flight and of how many are left, in a session of few TSNs
+-- # What each call of a sender makes of the chunks in flight and of how many are left, while few are in flight
 
 -- ## A SACK
 
@@ -290,15 +291,18 @@ sack-leaves p n place s f few within is h e =
     ) in
     grind (arith, nat_tests, past-is)
 
-sack-goes : (p n : ℕ) (kn : ℕ → Bool) (k : Sack) (f : Flight) → n < 2 ^ 31 → IsNumbered p n f → IsTruthful p n kn k → Goes true f.queue (after_sack k f).queue
-sack-goes p n kn k f few h t = by (is_outdated k f) refl
+sack-goes : (k : Sack) (f : Flight) → IsSmall k.cumulative_tsn_ack → length f.queue.inflight.chunks < 2 ^ 31 → sack_refusal k f ≡ None → IsInRun f
+    → Goes true f.queue (after_sack k f).queue
+sack-goes k f small few none h = by (is_outdated k f) refl
   where
     by : (b : Bool) → is_outdated k f ≡ b → Goes true f.queue (if b then f else take_sack k f).queue
     by true e = goes-none true f.queue
     by false e =
         let cs = change_where (reports_anew k) as_acknowledged f.queue.inflight.chunks in
-        subst (λ ds. Goes true f.queue (with_inflight f.queue ds)) (sym (sack-leaves p n t.place k f few t.within t.is h e))
-        (dropped-goes f.queue cs (t.place - h.acked) (facts-changed (reports_anew k) as_acknowledged (λ c. refl) f.queue.inflight.chunks))
+        let at = sack-place k f small none h e in
+        subst (λ ds. Goes true f.queue (with_inflight f.queue ds))
+        (sym (sack-leaves f.acked_tsn (length f.queue.inflight.chunks) (count_acked k f) k f few at.0 at.1 h e))
+        (dropped-goes f.queue cs (count_acked k f - h.acked) (facts-changed (reports_anew k) as_acknowledged (λ c. refl) f.queue.inflight.chunks))
 
 -- ## Messages are abandoned
 
@@ -320,8 +324,11 @@ message-same cs q = grind (arith, nat_tests, goes-none, not_both, partial_append
 
 -- ## The calls
 
-module _ (p n : ℕ) (old new : Session) (few : n < 2 ^ 31) (h : IsNumbered p n old.sending.sender.flight) (v : IsValidIn old) (ws : List Numbered) (first : ℕ)
-    (sent : List Entry) (held : IsHeld ws first old.sending.sender sent) where
+module _ (old new : Session) (few : count_in_flight old < 2 ^ 31) (i : IsRegular old) (ws : List Numbered) (first : ℕ) (sent : List Entry)
+    (held : IsHeld ws first old.sending.sender sent) where
+  h : IsInRun old.sending.sender.flight
+  h = i.numbered
+
   abbrev queue : Outbound
   queue = old.sending.sender.flight.queue
 
@@ -339,13 +346,13 @@ module _ (p n : ℕ) (old new : Session) (few : n < 2 ^ 31) (h : IsNumbered p n 
       let q = all_started now queue in
       let next = old.sending.sender.flight.next_tsn in
       let s = started all_streams ws first (λ st. number_of st old.sending.sender.streams) now queue next sent held.stands in
-      let w = started-valid _ _ now queue v in
+      let w = fresh-started now queue i.fresh in
       goes-then queue q (sent_next queue next now) (started-goes now queue)
       (sent-goes q next now s.sendable (subst (λ (i : payload.Payload). CanPut i.chunks next) (sym (started-inflight now queue)) place)
       (next_pending q.pending) refl (λ c e. peeked IsUnmarked q.pending.selected q.pending c e (w.ordered, w.unordered)))
 
-  changed-goes : (call : SenderCall) → ((k : Sack) (gone : List Released) → call ≡ outgoing.takes_sack k gone → IsTruthful p n (known old) k)
-      → (c : Change call old.sending.sender) → Goes true queue (flight_after call old.sending.sender c).queue
+  changed-goes : (call : SenderCall) → ((k : Sack) (gone : List Released) → call ≡ outgoing.takes_sack k gone → IsSmall k.cumulative_tsn_ack
+      × (sack_refusal k (flight_of old) ≡ None)) → (c : Change call old.sending.sender) → Goes true queue (flight_after call old.sending.sender c).queue
   changed-goes call t nothing = goes-none true queue
   changed-goes call t (all_start now) = started-goes now queue
   changed-goes call t (more_room count) = same-goes true queue (with_room count queue) refl refl (λ _. omega arith)
@@ -357,15 +364,18 @@ module _ (p n : ℕ) (old new : Session) (few : n < 2 ^ 31) (h : IsNumbered p n 
   changed-goes call t (each_leaves ts short e) =
       gone-each ws first (λ s. number_of s old.sending.sender.streams) ts (flight_of old) sent held.stands (inr place)
   changed-goes call t (front_expires now c found e) = grind (arith, nat_tests, expired-goes, in-front)
-  changed-goes call t (acknowledges k gone e) = sack-goes p n (known old) k (flight_of old) few h (t k gone e)
+  changed-goes call t (acknowledges k gone e) = let x = t k gone e in sack-goes k (flight_of old) x.0 few x.1 h
 
-  pub calls-go : (call : SenderCall) → Every (IsTruthful p n (known old)) old.sacks → SenderFollows call old new → GoesBy (is_exchange (of_sender call))
-  calls-go (outgoing.writes stream ppi []) t f = goes-to false _ (f.exact.0 refl) (goes-none false queue)
-  calls-go (outgoing.writes stream ppi (b ∷ bs)) t f =
+  pub calls-go : (call : SenderCall) → SenderFollows call old new → GoesBy (is_exchange (of_sender call))
+  calls-go (outgoing.writes stream ppi []) f = goes-to false _ (f.exact.0 refl) (goes-none false queue)
+  calls-go (outgoing.writes stream ppi (b ∷ bs)) f =
       let l = accepted-stream stream (length (b ∷ bs)) old.sending.sender f.accepted in
       goes-to false _ (f.exact.1 (omega arith) l.0 l.1) (message-same (fragments_with_mode l.0 ppi (b ∷ bs)) queue)
-  calls-go (outgoing.sends now) t f = goes-to true _ f.exact (sends now)
-  calls-go call t f =
+  calls-go (outgoing.sends now) f = goes-to true _ f.exact (sends now)
+  calls-go call f =
       let x = changes old.sending.sender new.sending.sender call refl f.step.sender f.exact in
       subst (λ (g : Flight). Goes true queue g.queue) (sym x.flight)
-      (changed-goes call (λ k gone e. every-contained (IsTruthful p n (known old)) old.sacks k (subst (λ c. IsReported c old) e f.handed) t) x.change)
+      (changed-goes call (λ k gone e. (
+        every-contained (λ (k : Sack). IsSmall k.cumulative_tsn_ack) old.sacks k (subst (λ c. IsReported c old) e f.handed) i.sacks,
+        subst (λ c. outgoing.IsAccepted c old.sending.sender) e f.accepted,
+      )) x.change)

@@ -1,13 +1,21 @@
 -- Sessions that were reached from a start, call by call: the chunks in flight are continued, and no more are left in an exchange.
 use Rattle.sctp_delivery.proofs.Names.{◌≡◌, ℕ, ◌+◌, ◌^◌, ◌<◌, ◌≤◌, true, List, [], ◌∷◌, ◌++◌, Option, refl, ap, sym, subst, arith, list_all, nat_tests}
 use Rattle.sctp_delivery.proofs.Names.{common_steps, distance, and, both, Limits, Ledger, is_reliable, ReceiverCall, is_exchange, tsns_given, SenderCall, Call}
+use Rattle.sctp_delivery.proofs.Names.{length, append-nil, append_assoc, abandoned_by, abandoned_in}
 use Rattle.sctp_delivery.proofs.Names.{Follows, ReceiverFollows, RunsTo, SenderFollows, Session, at_start, of_receiver, of_sender}
-use Rattle.sctp_delivery.proofs.Calls.{numbered_after}
+use Rattle.sctp_delivery.specs.Modes.{AreFewInFlight}
+use Rattle.sctp_delivery.specs.Session.{count_in_flight}
+use Rattle.sctp_delivery.proofs.AbandonedMessages.{AreBelow, AreMarkedGone, below-after, by-below, gone-left, gone-right, marked-later, stays-marked}
+use Rattle.sctp_delivery.proofs.Calls.{length-forgotten, numbered_after}
 use Rattle.sctp_delivery.proofs.QueuesLeft.{calls-go, Goes, left}
 use Rattle.sctp_delivery.proofs.Continued.{IsContinued}
 use Rattle.sctp_delivery.proofs.Delivered as delivered
 use Rattle.sctp_delivery.proofs.Delivered.{Holds, next_tsn}
+use Rattle.sctp_delivery.proofs.Every.{every-joined}
+use Rattle.sctp_delivery.proofs.Numbers.{number_of}
+use Rattle.sctp_delivery.proofs.FewInFlight.{AreRegular, regular-first, regular-of-few, regular-then}
 use Rattle.sctp_delivery.proofs.SackLaws as sacks
+use Rattle.sctp_delivery.proofs.SackSteps.{none_dropped}
 use Rattle.sctp_delivery.proofs.SackLaws.{IsInStep}
 use Rattle.sctp_delivery.proofs.Sent.{Entry, Numbered}
 use Rattle.sctp_delivery.proofs.TsnPlaces.{base}
@@ -24,7 +32,8 @@ pub record IsKept (first n : ℕ) (s : Session) (ns : List Numbered) (sent : Lis
 pub goes : (first n : ℕ) (call : SenderCall) (old new : Session) (ns : List Numbered) (sent : List Entry) → n < 2 ^ 31 → SenderFollows call old new
     → IsKept first n old ns sent → Goes (is_exchange (of_sender call)) old.sending.sender.flight.queue new.sending.sender.flight.queue
 goes first n call old new ns sent few f i =
-    calls-go (base first) n old new few i.step.numbered i.step.valid ns first sent i.holds.held call i.step.sacks f
+    let total = i.step.numbered.total in
+    calls-go old new (omega (arith, total, few)) (regular-of-few none_dropped (base first) n old i.step) ns first sent i.holds.held call f
 
 sender-kept : (first n : ℕ) (call : SenderCall) (old new : Session) (ns : List Numbered) (sent : List Entry)
     → n + distance (next_tsn old) (next_tsn new) < 2 ^ 31 → SenderFollows call old new → IsKept first n old ns sent
@@ -70,6 +79,87 @@ kept-after first n (of_receiver call ∷ cs) old new ns sent r few i =
     let sum : n + tsns_given r.0 cs new r.1.1 ≡ n + (d + tsns_given r.0 cs new r.1.1) = omega (arith, none) in
     subst (λ k. HasKept first k new) sum
     (kept-after first n cs r.0 new ns sent r.1.1 (omega (arith, few)) (receiver-kept first n call old r.0 ns sent (omega (arith, few)) r.1.0 i))
+
+-- ## While few are in flight, however many TSNs were given out
+
+pub record HasLasted (first : ℕ) (s : Session) : Type 0 where
+  pub numbered : List Numbered
+  pub sent : List Entry
+  pub holds : Holds first s numbered sent
+  pub regular : AreRegular s
+  pub continued : IsContinued s.sending.sender.flight.queue
+  pub few : count_in_flight s < 2 ^ 31
+
+lasts-call : (first : ℕ) (call : SenderCall) (old new : Session) → SenderFollows call old new → count_in_flight new < 2 ^ 31 → HasLasted first old
+    → HasLasted first new
+lasts-call first call old new f few h =
+    let x = delivered.sender-step first call old new h.numbered h.sent f h.holds in
+    record {
+      numbered = numbered_after call h.numbered;
+      sent = x.more;
+      holds = x.holds;
+      regular = regular-then (of_sender call) old new h.few few f h.regular;
+      continued = (calls-go old new h.few h.regular.regular h.numbered first h.sent h.holds.held call f).continued h.continued;
+      few = few;
+    }
+
+lasts-answer : (first : ℕ) (call : ReceiverCall) (old new : Session) → ReceiverFollows call old new → count_in_flight new < 2 ^ 31 → HasLasted first old
+    → HasLasted first new
+lasts-answer first call old new f few h = record {
+  numbered = h.numbered;
+  sent = h.sent;
+  holds = delivered.receiver-step first call old new h.numbered h.sent f h.holds;
+  regular = regular-then (of_receiver call) old new h.few few f h.regular;
+  continued = subst (λ (l : Ledger). IsContinued l.sender.flight.queue) (sym (ap (λ (s : Session). s.sending) f.after)) h.continued;
+  few = few;
+}
+
+lasts : (first : ℕ) (cs : List Call) (old new : Session) (r : RunsTo old cs new) → AreFewInFlight old cs new r → HasLasted first old → HasLasted first new
+lasts first [] old new r few h = subst (HasLasted first) (sym r) h
+lasts first (of_sender call ∷ cs) old new r few h = lasts first cs r.0 new r.1.1 few.1 (lasts-call first call old r.0 r.1.0 few.0 h)
+lasts first (of_receiver call ∷ cs) old new r few h = lasts first cs r.0 new r.1.1 few.1 (lasts-answer first call old r.0 r.1.0 few.0 h)
+
+pub lasted-first : (first size max most : ℕ) (limits : Option Limits) → first < 2 ^ 32 → 0 < size → HasLasted first (at_start first size max most limits)
+lasted-first first size max most limits small some = record {
+  numbered = [];
+  sent = [];
+  holds = delivered.at-first first size max most limits small some;
+  regular = regular-first first size max most limits small;
+  continued = tt;
+  few = omega arith;
+}
+
+pub has-lasted : (first size max most : ℕ) (limits : Option Limits) (cs : List Call) (s : Session) → first < 2 ^ 32 → 0 < size
+    → (r : RunsTo (at_start first size max most limits) cs s) → AreFewInFlight (at_start first size max most limits) cs s r → HasLasted first s
+has-lasted first size max most limits cs s small some r few =
+    lasts first cs (at_start first size max most limits) s r few (lasted-first first size max most limits small some)
+
+-- each message that was abandoned is one that was written, and chunks in flight of such messages alone are marked so
+pub lasts-gone : (first : ℕ) (cs : List Call) (old new : Session) (r : RunsTo old cs new) → AreFewInFlight old cs new r → (h : HasLasted first old)
+    → (gone : List ℕ) → AreBelow (length h.numbered) gone → AreMarkedGone gone old.sending.sender.flight.queue.inflight.chunks
+    → AreBelow (length new.written) (gone ++ abandoned_in old cs new r)
+    × AreMarkedGone (gone ++ abandoned_in old cs new r) new.sending.sender.flight.queue.inflight.chunks
+unfolding lasts-call lasts-answer
+lasts-gone first [] old new r few h gone below marked =
+    let long = ap length h.holds.writes in
+    let same = length-forgotten h.numbered in
+    subst (λ (s : Session). AreBelow (length s.written) (gone ++ []) × AreMarkedGone (gone ++ []) s.sending.sender.flight.queue.inflight.chunks) (sym r)
+    (subst (λ xs. AreBelow (length old.written) xs × AreMarkedGone xs old.sending.sender.flight.queue.inflight.chunks) (sym (append-nil gone))
+    (subst (λ n. AreBelow n gone) {x = length h.numbered} {y = length old.written} (omega (arith, long, same)) below, marked))
+lasts-gone first (of_sender call ∷ cs) old new r few h gone below marked =
+    let next = lasts-call first call old r.0 r.1.0 few.0 h in
+    let answered = abandoned_by call old.sending.sender in
+    let more = gone ++ answered in
+    let chunks = old.sending.sender.flight.queue.inflight.chunks in
+    subst (λ xs. AreBelow (length new.written) xs × AreMarkedGone xs new.sending.sender.flight.queue.inflight.chunks)
+    (append_assoc gone answered (abandoned_in r.0 cs new r.1.1))
+    (lasts-gone first cs r.0 new r.1.1 few.1 next more
+    (below-after call h.numbered more (every-joined (λ m. m < length h.numbered) gone answered below
+    (by-below h.numbered first (λ s. number_of s old.sending.sender.streams) call old.sending.sender h.sent h.holds.held.stands)))
+    (stays-marked more old r.0 h.regular.regular.fresh (marked-later gone more (gone-left gone answered) chunks marked) call (gone-right gone answered) r.1.0))
+lasts-gone first (of_receiver call ∷ cs) old new r few h gone below marked =
+    lasts-gone first cs r.0 new r.1.1 few.1 (lasts-answer first call old r.0 r.1.0 few.0 h) gone below
+    (subst (λ (l : Ledger). AreMarkedGone gone l.sender.flight.queue.inflight.chunks) (sym (ap (λ (s : Session). s.sending) r.1.0.after)) marked)
 
 -- ## Reached from a start
 

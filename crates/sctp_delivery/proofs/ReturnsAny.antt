@@ -10,7 +10,7 @@ use Rattle.sctp_delivery.proofs.Delivered.{next_tsn}
 
 -- ## The calls
 
-abbrev as_any : CallOrReturn → AnyCall
+abbrev pub as_any : CallOrReturn → AnyCall
 as_any (returns.makes call) = any.makes call
 as_any (returns.takes_back sack back) = of_sending (any.takes_back sack back)
 

@@ -20,11 +20,14 @@ use Rattle.sctp_delivery.proofs.SackLaws.{IsInStep, acknowledged-came, in-step}
 use Rattle.sctp_delivery.proofs.TsnPlaces.{base, tsn-small, at-or-before, before, next-place, same-place}
 use Rattle.sctp_sender.specs.Resending.{next_within}
 use Rattle.sctp_sender.proofs.Skips.{can-go}
-use Rattle.sctp_delivery.proofs.Continued.{lead-ends}
+use Rattle.sctp_delivery.specs.Modes.{WhileFewInFlight}
+use Rattle.sctp_delivery.specs.Session.{count_in_flight}
+use Rattle.sctp_delivery.proofs.Continued.{IsContinued, lead-ends}
 use Rattle.sctp_delivery.proofs.Every.{Every, every-changed, every-of-all, every-passing}
-use Rattle.sctp_delivery.proofs.GivenTsns.{IsNumbered, taken-numbered, lead, lead-within, point-ahead, point-is, rest-run}
+use Rattle.sctp_delivery.proofs.FewInFlight.{IsInRun}
+use Rattle.sctp_delivery.proofs.GivenTsns.{IsNumbered, rebased, taken-numbered, lead, lead-within, point-ahead, point-is, rest-run}
 use Rattle.sctp_delivery.proofs.KeptSessions.{kept-in}
-use Rattle.sctp_delivery.proofs.Reached.{IsReached, kept, none-more, reach-on, IsReachedReliably, reliably-on}
+use Rattle.sctp_delivery.proofs.Reached.{IsReached, has-lasted, kept, none-more, reach-on, IsReachedReliably, reliably-on}
 use Rattle.sctp_delivery.proofs.TakenCalls.{next-untaken}
 use Rattle.sctp_delivery.proofs.SackSteps.{known}
 use Rattle.sctp_delivery.proofs.Delivered.{next_tsn}
@@ -134,25 +137,25 @@ some-lead (c ∷ cs) e = let n : lead (c ∷ cs) ≡ lead cs + 1 = ap (λ b. if 
 point : (p n : ℕ) (f : Flight) (h : IsNumbered p n f) → advanced_ack_point f ≡ tsn p (h.acked + lead f.queue.inflight.chunks)
 point p n f h = grind (arith, nat_tests, point-is)
 
-pub skips : (first n : ℕ) (s : Session) → n < 2 ^ 31 → IsReached first n s → SkipsToPoint s
-skips first n s few i e =
-    let k = (kept first n s few i).kept in
+pub skips : (s : Session) → count_in_flight s < 2 ^ 31 → IsInRun (flight_of s) → IsContinued (flight_of s).queue → SkipsToPoint s
+skips s few h continued e =
     let f = flight_of s in
     let cs = in_flight s in
-    let p = base first in
-    let h = k.step.numbered in
+    let p = f.acked_tsn in
+    let n = length cs in
     let some = some-lead cs e in
     let far = point-ahead p n f h few in
-    let l = lead-ends _ p h.acked cs k.continued h.run e in
+    let l = lead-ends _ p h.acked cs continued h.run e in
     let can : can_skip_to (advanced_ack_point f) f ≡ true = can-go f (advanced_ack_point f) (omega (arith, far, some)) (omega arith) in
     ap (λ b. if b then option_map (λ (c : ChunkPayloadData). c.tsn) (last_end (advanced_ack_point f) f) else None) can
     ∙ ap (λ j. option_map (λ (c : ChunkPayloadData). c.tsn) (last_of (filter ends (take j cs)))) far
     ∙ ap (option_map (λ (c : ChunkPayloadData). c.tsn)) l.last
     ∙ ap Some (l.is ∙ sym (point p n f h))
 
-pub all-skip : WhileFewTsns SkipsToPoint
+pub all-skip : WhileFewInFlight SkipsToPoint
 all-skip first size max most limits cs s small some r few =
-    skips first _ s few (record { size = size; max = max; most = most; limits = limits; calls = cs; small = small; some = some; run = r; given = refl })
+    let h = has-lasted first size max most limits cs s small some r few in
+    skips s h.few h.regular.regular.numbered h.continued
 
 -- ## A SACK of a receiver that is caught up
 
@@ -253,7 +256,10 @@ module _ (first n : ℕ) (s t : Session) (few : n < 2 ^ 31) (i : IsReached first
       by true g =
           let lead-first : is_first_abandoned (in_flight s) ≡ true = ap is_first_abandoned e ∙ g in
           let some = some-lead (in_flight s) lead-first in
-          let upto = c.followed (advanced_ack_point f) (skips first n s few i lead-first) in
+          let k = (kept first n s few i).kept in
+          let total = k.step.numbered.total in
+          let upto = c.followed (advanced_ack_point f)
+          (skips s (omega (arith, total, few)) (rebased (base first) n f k.step.numbered) k.continued lead-first) in
           let total = step.numbered.total in
           let most = lead-within (in_flight s) in
           let order : nat_le (acked + lead (in_flight s)) q ≡ true =

@@ -72,6 +72,7 @@ pub record IsMoved (p n : ℕ) (kn : ℕ → Bool) (f g : Flight) : Type 0 where
 moved : (p n most : ℕ) (kn : ℕ → Bool) (f g : Flight) → most < 2 ^ 32 → IsNumbered p n f → Raises p most f g → IsMoved p n kn f g
 moved p n most kn f g short h r =
     let e = given p n most f g short h.next_is r in
+    let total = h.total in
     grind (arith, nat_tests)
 
 -- where none is given out
@@ -212,9 +213,6 @@ passed_in ms t = list_any (passes t) ms
 -- what is acknowledged came, and what was passed is abandoned
 abbrev pub IsValidBut : (ℕ → Bool) → Session → Type 0
 IsValidBut dropped s = IsValid (came_in dropped s) (passed_in s.made) s.sending.sender.flight.queue
-
-abbrev pub IsValidIn : Session → Type 0
-IsValidIn s = IsValidBut none_dropped s
 
 module _ (dropped : ℕ → Bool) (p n : ℕ) (old new : Session) (few : n < 2 ^ 31) (h : IsNumbered p n old.sending.sender.flight)
     (s : IsValidBut dropped old) where

@@ -2,7 +2,7 @@
 use Rattle.sctp_delivery.proofs.Names.{nat_tests, common_steps, ◌≡◌, ℕ, ◌+◌, ◌^◌, ◌<◌, Bool, true, List, [], ◌∷◌, refl, arith, suc, length, ap, sym, Result, Ok}
 use Rattle.sctp_delivery.proofs.Names.{Err, not_both, ChunkPayloadData, Sack, total_bytes, Reception, max_sack_entries, sack_entries, sack_of_entries, Released}
 use Rattle.sctp_delivery.proofs.Names.{after_sack, released_by, after_acked, with_lows, ReceiverCall, is_reporting, CanBeAnswered, IsAnswered}
-use Rattle.sctp_delivery.proofs.Names.{AfterEachSessionOfFewTsns, tsns_given, takes_sack, data_chunk, ReceiverFollows, SenderFollows, Session, at_start, IfOk}
+use Rattle.sctp_delivery.proofs.Names.{takes_sack, data_chunk, ReceiverFollows, SenderFollows, Session, IfOk}
 use Rattle.sctp_delivery.proofs.Names.{All, Contains, data_of, Arrival, ReceiverRefusal, accepted_after}
 use Rattle.sctp_receiver.specs.Receiver.{after_sack_within, without_duplicates, TakesEach}
 use Rattle.sctp_sender.specs.Totals.{AreSettled, bytes_in}
@@ -11,21 +11,24 @@ use Rattle.sctp_sender.proofs.Settled.{sack-bytes}
 use Rattle.sctp_delivery.specs.ReceiverCalls as incoming
 use Rattle.sctp_delivery.specs.ReceiverCalls.{ReceiverMakesEach, as_run, takes_each}
 use Rattle.sctp_delivery.specs.Session.{GoesOnTo}
+use Rattle.sctp_delivery.proofs.ArrivedTsns.{IsArrived}
 use Rattle.sctp_delivery.proofs.Every.{Every, every-of-all}
+use Rattle.sctp_delivery.proofs.GivenTsns.{IsNumbered}
 use Rattle.sctp_delivery.proofs.ReportedTsns.{not-refused, sack-truthful}
-use Rattle.sctp_delivery.proofs.SackLaws.{IsInStep, IsInStepBut, in-step}
+use Rattle.sctp_delivery.proofs.SackLaws.{IsInStep, IsInStepBut}
 use Rattle.sctp_delivery.proofs.SackSteps.{came_in, passed_in, known_or, none_dropped}
-use Rattle.sctp_delivery.proofs.TsnPlaces.{base}
 use Rattle.sctp_delivery.proofs.ValidMarks.{IsRight}
 
 -- what is acknowledged has no bytes
-settled : (taken passed : ℕ → Bool) (cs : List ChunkPayloadData) → Every (IsRight taken passed) cs → AreSettled cs
+pub settled : (taken passed : ℕ → Bool) (cs : List ChunkPayloadData) → Every (IsRight taken passed) cs → AreSettled cs
 settled taken passed [] e = tt
 settled taken passed (c ∷ cs) e = (e.0.settled, settled taken passed cs e.1)
 
 -- ## The two calls
 
-module _ (dropped : ℕ → Bool) (p n : ℕ) (s : Session) (few : n < 2 ^ 31) (i : IsInStepBut dropped p n s) (credit entries : ℕ) (after : Reception) where
+module _ (known : ℕ → Bool) (p n : ℕ) (s : Session) (few : n < 2 ^ 31) (numbered : IsNumbered p n s.sending.sender.flight)
+    (arrived : IsArrived p n known s.receiving.receiver.cumulative_tsn s.receiving.receiver.beyond)
+    (bare : AreSettled s.sending.sender.flight.queue.inflight.chunks) (credit entries : ℕ) (after : Reception) where
   abbrev k : Sack
   k = sack_of_entries credit entries s.receiving.receiver
 
@@ -53,15 +56,14 @@ module _ (dropped : ℕ → Bool) (p n : ℕ) (s : Session) (few : n < 2 ^ 31) (
       sender =
           let f = s.sending.sender.flight in
           released-same (total_bytes f.queue) (total_bytes (after_sack k f).queue) s.sending.sender.streams (released_by k f) gone refl
-          (sack-bytes k f (settled (came_in dropped s) (passed_in s.made) f.queue.inflight.chunks i.valid.inflight));
+          (sack-bytes k f bare);
       written = omega arith;
       released = refl;
       taken_back = omega arith;
     };
     exact = refl;
     accepted =
-        not-refused p n (known_or dropped s) k s.sending.sender.flight few i.numbered
-        (sack-truthful p n (known_or dropped s) credit entries s.receiving.receiver few i.arrived);
+        not-refused p n known k s.sending.sender.flight few numbered (sack-truthful p n known credit entries s.receiving.receiver few arrived);
     answered = refl;
     after = refl;
   }
@@ -83,24 +85,27 @@ module _ (dropped : ℕ → Bool) (p n : ℕ) (s : Session) (few : n < 2 ^ 31) (
     refl,
   )
 
+pub can-near : (known : ℕ → Bool) (p n : ℕ) (s : Session) → n < 2 ^ 31 → IsNumbered p n s.sending.sender.flight
+    → IsArrived p n known s.receiving.receiver.cumulative_tsn s.receiving.receiver.beyond → AreSettled s.sending.sender.flight.queue.inflight.chunks
+    → CanBeAnswered s
+can-near known p n s few numbered arrived bare (incoming.reports credit) e =
+    can-by known p n s few numbered arrived bare credit max_sack_entries (without_duplicates s.receiving.receiver) (incoming.reports credit) e
+    (record { handed = tt; step = record { receiver = refl; accepted = refl; read = refl }; accepted = tt; after = refl })
+can-near known p n s few numbered arrived bare (incoming.reports_within credit bytes) e =
+    can-by known p n s few numbered arrived bare credit (sack_entries bytes) (after_sack_within bytes s.receiving.receiver)
+    (incoming.reports_within credit bytes) e
+    (record { handed = tt; step = record { receiver = refl; accepted = refl; read = refl }; accepted = tt; after = refl })
+can-near known p n s few numbered arrived bare (incoming.makes_sack credit bytes) e =
+    can-by known p n s few numbered arrived bare credit (sack_entries bytes) (after_sack_within 0 s.receiving.receiver) (incoming.makes_sack credit bytes) e
+    (record { handed = tt; step = record { receiver = refl; accepted = refl; read = refl }; accepted = tt; after = refl })
+can-near known p n s few numbered arrived bare call e = absurd (not_both e)
+
 pub can-but : (dropped : ℕ → Bool) (p n : ℕ) (s : Session) → n < 2 ^ 31 → IsInStepBut dropped p n s → CanBeAnswered s
-can-but dropped p n s few i (incoming.reports credit) e =
-    can-by dropped p n s few i credit max_sack_entries (without_duplicates s.receiving.receiver) (incoming.reports credit) e
-    (record { handed = tt; step = record { receiver = refl; accepted = refl; read = refl }; accepted = tt; after = refl })
-can-but dropped p n s few i (incoming.reports_within credit bytes) e =
-    can-by dropped p n s few i credit (sack_entries bytes) (after_sack_within bytes s.receiving.receiver) (incoming.reports_within credit bytes) e
-    (record { handed = tt; step = record { receiver = refl; accepted = refl; read = refl }; accepted = tt; after = refl })
-can-but dropped p n s few i (incoming.makes_sack credit bytes) e =
-    can-by dropped p n s few i credit (sack_entries bytes) (after_sack_within 0 s.receiving.receiver) (incoming.makes_sack credit bytes) e
-    (record { handed = tt; step = record { receiver = refl; accepted = refl; read = refl }; accepted = tt; after = refl })
-can-but dropped p n s few i call e = absurd (not_both e)
+can-but dropped p n s few i = can-near (known_or dropped s) p n s few i.numbered i.arrived
+    (settled (came_in dropped s) (passed_in s.made) s.sending.sender.flight.queue.inflight.chunks i.valid.inflight)
 
 pub can : (p n : ℕ) (s : Session) → n < 2 ^ 31 → IsInStep p n s → CanBeAnswered s
 can p n s few i = can-but none_dropped p n s few i
-
-pub all-can : AfterEachSessionOfFewTsns (λ first count s. CanBeAnswered s)
-all-can first size max most limits cs s run small few =
-    can (base first) (tsns_given (at_start first size max most limits) cs s run) s few (in-step first size max most limits cs s run small few)
 
 -- # Chunks that are taken together are taken one after another
 

@@ -1,9 +1,9 @@
 -- What is so of the chunks that wait and of those in flight, whatever a sender does: only what was taken is acknowledged.
-use Rattle.sctp_delivery.proofs.Names.{◌≡◌, ℕ, Bool, true, false, List, length, Option, refl, ap, sym, ◌∙◌, arith, ◌||◌, nat_tests, or-left, or-right, or-split}
+use Rattle.sctp_delivery.proofs.Names.{◌≡◌, ⊤, ℕ, Bool, true, false, List, length, Option, refl, ap, sym, ◌∙◌, arith, ◌||◌, nat_tests, or-left, or-right, or-split}
 use Rattle.sctp_delivery.proofs.Names.{both, not_both, change_where, ChunkPayloadData, PayloadProtocolIdentifier, Sack, as_abandoned, as_acknowledged, Outbound}
 use Rattle.sctp_delivery.proofs.Names.{abandoned_of, all_started, expired_of, sent_next, terminal_chunk, with_message, with_inflight, next_pending}
 use Rattle.sctp_delivery.proofs.Names.{OutboundStream, Flight, after_sack, reports, reports_anew, abandoned_each, fragments_with_mode, after_misses, missed}
-use Rattle.sctp_delivery.proofs.Every.{Every, every-of, every-pair}
+use Rattle.sctp_delivery.proofs.Every.{Every, every-all, every-of, every-pair}
 use Rattle.sctp_delivery.proofs.QueueChunks.{EachIs, abandoned, each-abandoned, each-fragment, expired, marked, missed-some, pushed, sacked, sent, started}
 use Rattle.sctp_delivery.proofs.Changes.{IsMark}
 
@@ -12,6 +12,17 @@ use Rattle.sctp_delivery.proofs.Changes.{IsMark}
 -- it waits, neither acknowledged nor abandoned
 abbrev pub IsUnmarked : ChunkPayloadData → Type 0
 IsUnmarked c = (c.acked ≡ false) × (c.abandoned ≡ false)
+
+-- each that waits does so
+pub record IsFresh (q : Outbound) : Type 0 where
+  pub ordered : Every IsUnmarked q.pending.ordered
+  pub unordered : Every IsUnmarked q.pending.unordered
+
+pub fresh-started : (now : ℕ) (q : Outbound) → IsFresh q → IsFresh (all_started now q)
+fresh-started now q h =
+    let e = started IsUnmarked (λ c. ⊤) now (λ c k. k) q
+    (record { ordered = h.ordered; unordered = h.unordered; inflight = every-all (λ (c : ChunkPayloadData). ⊤) (λ c. tt) q.inflight.chunks }) in
+    record { ordered = e.ordered; unordered = e.unordered }
 
 -- of a chunk in flight: acknowledged, it was taken or abandoned; passed, it was abandoned; and acknowledged or abandoned, it has no bytes
 pub record IsRight (taken passed : ℕ → Bool) (c : ChunkPayloadData) : Type 0 where

@@ -12,6 +12,7 @@ use Rattle.sctp_receiver.specs.ReceiverRuns.{fragments_read}
 use Rattle.sctp_serial.specs.DataChunks.{is_on}
 use Rattle.sctp_delivery.specs.Complete.{fragments_held, is_exhausted}
 use Rattle.sctp_delivery.specs.Messages.{StandAt}
+use Rattle.sctp_delivery.specs.Modes.{AreFewInFlight}
 use Rattle.sctp_delivery.specs.Sacks.{tsns_given, was_passed}
 use Rattle.sctp_delivery.specs.SenderCalls.{SenderCall, abandons, expires, expires_late, expires_rexmit, expires_tail}
 use Rattle.sctp_delivery.specs.Session.{Call, RunsTo, Session, at_start, of_receiver, of_sender}
@@ -47,6 +48,14 @@ AfterEachSessionOfMessages P =
     (run : RunsTo (at_start tsn size max most limits) calls s) → tsn < 2 ^ 32
     → tsns_given (at_start tsn size max most limits) calls s run < 2 ^ 31
     → P size (abandoned_in (at_start tsn size max most limits) calls s run) s
+
+-- and after each in which fewer than 2^31 chunks are in flight after each call, however many TSNs were given out
+abbrev pub AfterEachOfFewInFlight : (List ℕ → Session → Type 0) → Type 0
+AfterEachOfFewInFlight P =
+    (tsn size max most : ℕ) (limits : Option Limits) (calls : List Call) (s : Session)
+    → tsn < 2 ^ 32 → 0 < size → (r : RunsTo (at_start tsn size max most limits) calls s)
+    → AreFewInFlight (at_start tsn size max most limits) calls s r
+    → P (abandoned_in (at_start tsn size max most limits) calls s r) s
 
 -- each of these messages is a write
 abbrev pub AreOfWrites : List ℕ → Session → Type 0

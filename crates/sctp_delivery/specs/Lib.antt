@@ -25,3 +25,5 @@ pub mod EveryCall
 pub mod EveryOrder
 pub mod EveryEnd
 pub mod StandAny
+pub mod Uses
+pub mod Recent

@@ -1,6 +1,6 @@
 -- How each message is to be sent, as the calls of a session say it and not as the sender keeps it: ordered or not, and how far
 -- (RFC 8832 5.1, 6; RFC 3758 4.1).
-use Rattle.std.specs.Prelude.{◌≡◌, ◌≢◌, AllPairs, ℕ, ◌^◌, ◌<◌, ◌==◌, Bool, false, not, ◌&&◌, if◌then◌else◌, List, [], ◌∷◌, length, map, Contains}
+use Rattle.std.specs.Prelude.{◌≡◌, ◌≢◌, ⊤, AllPairs, ℕ, ◌^◌, ◌<◌, ◌==◌, Bool, false, not, ◌&&◌, if◌then◌else◌, List, [], ◌∷◌, length, map, Contains}
 use Rattle.std.specs.Prelude.{slice_index_or}
 use Rattle.std.specs.Prelude.{Option, Some, None}
 use Rattle.sctp_data.specs.declared.chunk.chunk_payload_data.PayloadProtocolIdentifier.{PayloadProtocolIdentifier}
@@ -15,7 +15,7 @@ use Rattle.sctp_delivery.specs.Messages.{IsPart, StandAt}
 use Rattle.sctp_delivery.specs.Order.{places_where}
 use Rattle.sctp_delivery.specs.Sacks.{tsns_given}
 use Rattle.sctp_delivery.specs.SenderCalls.{SenderCall, Write, data_chunk, opens, sends, sets_mode, starts, writes}
-use Rattle.sctp_delivery.specs.Session.{Call, RunsTo, Session, at_start, of_receiver, of_sender}
+use Rattle.sctp_delivery.specs.Session.{Call, RunsTo, Session, at_start, count_in_flight, of_receiver, of_sender}
 
 -- ## What the calls say
 
@@ -116,6 +116,23 @@ AfterEachRunOfFewTsns P =
     (tsn size max most : ℕ) (limits : Option Limits) (calls : List Call) (s : Session)
     → tsn < 2 ^ 32 → 0 < size → (r : RunsTo (at_start tsn size max most limits) calls s)
     → tsns_given (at_start tsn size max most limits) calls s r < 2 ^ 31 → P calls s
+
+-- fewer than 2^31 chunks are in flight after each call, as a `Sender` sees to it
+abbrev pub AreFewInFlight : (old : Session) (calls : List Call) (new : Session)
+    → RunsTo old calls new → Type 0
+AreFewInFlight old [] new run = ⊤
+AreFewInFlight old (c ∷ cs) new run =
+    (count_in_flight run.0 < 2 ^ 31) × AreFewInFlight run.0 cs new run.1.1
+
+-- and after each of these in which that is so, however many TSNs were given out
+abbrev pub AfterEachRunOfFewInFlight : (List Call → Session → Type 0) → Type 0
+AfterEachRunOfFewInFlight P =
+    (tsn size max most : ℕ) (limits : Option Limits) (calls : List Call) (s : Session)
+    → tsn < 2 ^ 32 → 0 < size → (r : RunsTo (at_start tsn size max most limits) calls s)
+    → AreFewInFlight (at_start tsn size max most limits) calls s r → P calls s
+
+abbrev pub WhileFewInFlight : (Session → Type 0) → Type 0
+WhileFewInFlight P = AfterEachRunOfFewInFlight (λ calls s. P s)
 
 -- ## Ordered and unordered
 

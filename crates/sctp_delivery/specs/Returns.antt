@@ -1,5 +1,5 @@
 -- Sessions of a sender that keeps what gap ack blocks report, so that a later SACK can take that back (RFC 9260 6.2.1 D iv).
-use Rattle.std.specs.Prelude.{◌≡◌, ℕ, ◌+◌, ◌^◌, ◌<◌, List, [], ◌∷◌, ◌++◌, length, All, Contains, Option, None, IfSome}
+use Rattle.std.specs.Prelude.{◌≡◌, ⊤, ℕ, ◌+◌, ◌^◌, ◌<◌, List, [], ◌∷◌, ◌++◌, length, All, Contains, Option, None, IfSome}
 use Rattle.std.specs.List.{sum_by}
 use Rattle.sctp_data.specs.PayloadData.{Data}
 use Rattle.sctp_data.specs.SelectiveAck.{Sack}
@@ -15,7 +15,7 @@ use Rattle.sctp_sender.specs.SenderRuns.{held_by_sender}
 use Rattle.sctp_delivery.specs.Abandoned.{abandoned_by}
 use Rattle.sctp_delivery.specs.Amounts.{bytes_for, told_on, written_on}
 use Rattle.sctp_delivery.specs.SenderCalls.{TakesBackAndSack, data_chunk, takes_sack}
-use Rattle.sctp_delivery.specs.Session.{Call, Follows, Session, at_start, bytes_written, of_receiver, of_sender}
+use Rattle.sctp_delivery.specs.Session.{Call, Follows, Session, at_start, bytes_written, count_in_flight, of_receiver, of_sender}
 
 -- ## One call
 
@@ -102,6 +102,24 @@ AfterEachWithReturnsOfFewTsns P =
     → bytes_written s < 2 ^ 64
     → P tsn (tsns_given_so (at_start_with reported tsn size max most limits) calls s run)
     (abandoned_so (at_start_with reported tsn size max most limits) calls s run) calls s
+
+-- after each call fewer than 2^31 are, as a `Sender` sees to it
+abbrev pub AreFewInFlightSo : (old : Session) (calls : List CallOrReturn) (new : Session)
+    → RunsWithReturns old calls new → Type 0
+AreFewInFlightSo old [] new run = ⊤
+AreFewInFlightSo old (c ∷ cs) new run =
+    (count_in_flight run.0 < 2 ^ 31) × AreFewInFlightSo run.0 cs new run.1.1
+
+-- P of the calls and of the session, after each in which so few are, however many TSNs were given out, and in which fewer than 2^64 bytes
+-- were written; the first TSN is a number of 32 bits, and fragments have some bytes
+abbrev pub AfterEachWithReturnsOfFewInFlight : (List CallOrReturn → Session → Type 0) → Type 0
+AfterEachWithReturnsOfFewInFlight P =
+    (reported : Reported) (tsn size max most : ℕ) (limits : Option Limits)
+    (calls : List CallOrReturn) (s : Session)
+    (run : RunsWithReturns (at_start_with reported tsn size max most limits) calls s)
+    → tsn < 2 ^ 32 → 0 < size
+    → AreFewInFlightSo (at_start_with reported tsn size max most limits) calls s run
+    → bytes_written s < 2 ^ 64 → P calls s
 
 -- ## Bytes
 

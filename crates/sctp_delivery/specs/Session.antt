@@ -103,6 +103,10 @@ at_start tsn size max most limits =
       written = [];
     }
 
+-- so many chunks are in flight
+abbrev pub count_in_flight : Session → ℕ
+count_in_flight s = length s.sending.sender.flight.queue.inflight.chunks
+
 -- P after each session, whatever is lost, delayed, repeated or reordered
 abbrev pub AfterEachSession : (Session → Type 0) → Type 0
 AfterEachSession P =

@@ -25,6 +25,8 @@ const LAST: Flags = (false, false, true);
 
 const ALONE: Flags = (false, true, true);
 
+const UNORDERED: Flags = (true, true, true);
+
 type Taken = Result<Arrival, ReceiverRefusal>;
 
 const PART: Taken = Ok(Arrival::New { complete: false });
@@ -62,7 +64,7 @@ const TWO: Option<Limits> = Some(Limits {
 });
 
 // Each case: what it shows, the first TSN, the maximum message size, the limits, and the steps.
-const CASES: [(&str, u32, u32, Option<Limits>, &[Step]); 26] = [
+const CASES: [(&str, u32, u32, Option<Limits>, &[Step]); 27] = [
     (
         // The example of RFC 4960 3.3.4: 13 and 16 are missing among 10 to 17.
         "the SACK of the RFC",
@@ -502,6 +504,25 @@ const CASES: [(&str, u32, u32, Option<Limits>, &[Step]); 26] = [
             Data(1, 1, 0, ALONE, b"a", REPEAT),
             Data(1, (1 << 31) + 1, 0, ALONE, b"a", OPPOSITE),
             Cumulative(1),
+            Read(b"a"),
+        ],
+    ),
+    (
+        // RFC 1982 3.2: what is 2^31 - 1 TSNs old is before the cumulative TSN, and what is 2^31 + 1 old is after it, so it is read twice.
+        "a chunk that comes again is a repeat while fewer than 2^31 TSNs old, and new where 2^31 + 1 old",
+        1,
+        100,
+        None,
+        &[
+            Open(&[1]),
+            Data(1, 1, 0, UNORDERED, b"a", WHOLE),
+            Read(b"a"),
+            Forward(Known, 1 << 31, &[], SKIPPED),
+            Data(1, 1, 0, UNORDERED, b"a", REPEAT),
+            Forward(Known, (1 << 31) + 1, &[], SKIPPED),
+            Data(1, 1, 0, UNORDERED, b"a", OPPOSITE),
+            Forward(Known, (1 << 31) + 2, &[], SKIPPED),
+            Data(1, 1, 0, UNORDERED, b"a", WHOLE),
             Read(b"a"),
         ],
     ),

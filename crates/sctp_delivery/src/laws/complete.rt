@@ -2,7 +2,7 @@
 //! is abandoned or expires; and where some are, each other write was read.
 
 ghost use Rattle.std.specs.Prelude.{◌<◌};
-ghost use Rattle.sctp_delivery.specs.Abandoned.{AfterEachSessionOfMessages, AreOfWrites, IsEachOtherReadInTheEnd, IsHeldReadOrPassed, OnlyTheirsAreMarked};
+ghost use Rattle.sctp_delivery.specs.Abandoned.{AfterEachOfFewInFlight, AfterEachSessionOfMessages, AreOfWrites, IsEachOtherReadInTheEnd, IsHeldReadOrPassed, OnlyTheirsAreMarked};
 ghost use Rattle.sctp_delivery.specs.Complete.{AfterEachReliableSession, IsAllReadInTheEnd, IsAllReadWhereSettled, IsHeldOrRead};
 ghost use Rattle.sctp_delivery.specs.Messages.{WhileFewTsns};
 
@@ -39,8 +39,9 @@ pub fn each_other_write_is_read_in_the_end()
 
 /// Each message that a call abandons or lets expire is a write; and of the chunks in flight none is marked as abandoned but those of
 /// such messages. So a FORWARD-TSN passes no chunk in flight of another message (RFC 3758 3.5;
-/// `sacks::what_is_acknowledged_came_or_was_abandoned`). So it is in sessions that give out fewer than 2^31 TSNs.
+/// `sacks::what_is_acknowledged_came_or_was_abandoned`). So it is while fewer than 2^31 chunks are in flight, as a `Sender` sees to it, however
+/// many TSNs it gives out.
 pub fn what_is_abandoned_was_written()
-    ensures written { AfterEachSessionOfMessages (λ size gone s. 0 < size → AreOfWrites gone s) }
-    ensures marked { AfterEachSessionOfMessages (λ size gone s. 0 < size → OnlyTheirsAreMarked gone s) }
+    ensures written { AfterEachOfFewInFlight AreOfWrites }
+    ensures marked { AfterEachOfFewInFlight OnlyTheirsAreMarked }
 {}

@@ -14,6 +14,7 @@ ghost use Rattle.sctp_delivery.specs.Returns.{IsAccountedSo, NoneIsRefusedSo};
 ghost use Rattle.sctp_delivery.specs.Rounds.{CanBeAnswered};
 ghost use Rattle.sctp_delivery.specs.Sacks.{AllReportedLeaves, EachSackTells, NoneIsRefused, NoneIsTakenTwice, PassAbandoned, StaysAcknowledged};
 ghost use Rattle.sctp_delivery.specs.Session.{AreMade, AreMessages};
+ghost use Rattle.sctp_delivery.specs.Uses.{AfterEachThatGoesOn, EachLaterUseReadsItsOwn};
 
 /// Each byte that was written, or came back, waits, is in flight, or was answered as gone: what of a stream waits or is in flight stays so
 /// where the stream is closed. And each message that is read is whole and of one message, and each of its fragments is a chunk that the
@@ -45,6 +46,13 @@ pub fn whatever_is_called_messages_are_read_in_order()
     ensures order { AfterEachAnyOfFewBytes AreSingleReadInOrder }
     ensures modes { AfterEachAnyOfFewBytes AreSingleReadAsWritten }
     ensures turn { AfterEachAnyOfFewBytes AreReadInTurnWhereUnbroken }
+{}
+
+/// With so few TSNs and bytes, of two uses of a stream, one after the other: where as many messages were read on the stream as were written on
+/// it, each that is read on it from then on was written from then on, whichever host closes, resets or opens the stream in between (RFC 6525
+/// 5.1.2, 5.2.2). It is said of messages of which no fragment but the first begins one.
+pub fn whatever_is_called_a_later_use_reads_its_own_writes()
+    ensures { AfterEachThatGoesOn EachLaterUseReadsItsOwn }
 {}
 
 /// With so few TSNs and bytes: where nothing waits to be sent, nothing is in flight, and on no stream is a message to read, take a stream that goes

@@ -2,6 +2,7 @@
 
 ghost use Rattle.sctp_delivery.specs.Messages.{AfterEachFitSession, AreParts, AreSame, AreWrites, AreWritesOfTheirOwn, NoneIsReadTwice, WhileFewTsns, WhileTsnsLast};
 ghost use Rattle.sctp_delivery.specs.Order.{AreReadInOrder};
+ghost use Rattle.sctp_delivery.specs.Recent.{EachIsTakenOnceWhereGiven};
 ghost use Rattle.sctp_delivery.specs.Sacks.{AfterEachSessionOfFewTsns};
 
 /// Each DATA chunk that a sender makes, for the first time or again, is a part of a write: on its stream, with its payload type, and its
@@ -30,4 +31,10 @@ pub fn no_message_is_read_twice()
 /// however many there are. So it is in sessions that give out fewer than 2^31 TSNs.
 pub fn messages_are_read_in_order()
     ensures { WhileFewTsns AreReadInOrder }
+{}
+
+/// Each time that a TSN is given out, at most one DATA chunk with it is taken as new, however often and in whatever order the network hands chunks
+/// over. So it is however many TSNs are given out, while fewer than 2^31 are in flight, and nothing is handed over that is 2^31 TSNs old.
+pub fn no_tsn_is_taken_more_often_than_given()
+    ensures { EachIsTakenOnceWhereGiven }
 {}

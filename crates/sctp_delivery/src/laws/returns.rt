@@ -1,8 +1,9 @@
 //! What holds of sessions of a sender that keeps what gap ack blocks report (`Reported::Keep`): a SACK that no longer reports a chunk takes
 //! that back, and the chunk is outstanding again (RFC 9260 6.2.1 D iv).
 //!
-//! `acked` of such a sender is two calls of these sessions: `take_back`, and then `acked` alone. In most laws fewer than 2^31 TSNs are
-//! given out, and fewer than 2^64 bytes written.
+//! `acked` of such a sender is two calls of these sessions: `take_back`, and then `acked` alone. In most laws fewer than 2^64 bytes are
+//! written. Those of what the receiver takes and reads hold while fewer than 2^31 TSNs are given out. Those of the sender alone hold
+//! while fewer than 2^31 chunks are in flight, as a `Sender` sees to it, however many TSNs it gives out.
 //!
 //! Not said here: what is noted of chunks in flight, and rounds.
 
@@ -15,7 +16,7 @@ ghost use Rattle.sctp_delivery.specs.Modes.{AreReadAsWritten, AreSentAsWritten};
 ghost use Rattle.sctp_delivery.specs.Order.{AreReadInOrder};
 ghost use Rattle.sctp_delivery.specs.Refused.{NoneInFlightIsRefusedSo, NoneIsRefusedWhereReadSo, NoneMadeIsRefused};
 ghost use Rattle.sctp_delivery.specs.ReturnEndings.{AfterEachWithReturnsAndTsnsLeft, EndsWhereTakenSo, EndsWithAllReadSo};
-ghost use Rattle.sctp_delivery.specs.Returns.{AfterEachWithReturns, AfterEachWithReturnsOfFewTsns, AmountsAreLeftSo, EachAckedIsTwoCalls, EachReturnIsTold, IsAccountedSo, NoneIsRefusedSo, other_calls};
+ghost use Rattle.sctp_delivery.specs.Returns.{AfterEachWithReturns, AfterEachWithReturnsOfFewInFlight, AfterEachWithReturnsOfFewTsns, AmountsAreLeftSo, EachAckedIsTwoCalls, EachReturnIsTold, IsAccountedSo, NoneIsRefusedSo, other_calls};
 ghost use Rattle.sctp_delivery.specs.Sacks.{AcknowledgedCame, EachSackTells, LeftCame, NoneIsRefused, NoneIsTakenTwice, ReportWhatCame};
 ghost use Rattle.sctp_delivery.specs.Session.{AreMade, AreMessages};
 
@@ -38,13 +39,13 @@ pub fn whatever_comes_back_messages_are_writes()
         (λ first given gone calls s. AreReadAsWritten (other_calls calls) s) }
 {}
 
-/// Each DATA chunk that the sender makes, for the first time or again, is a part of a write, also where its bytes came back. Two of one TSN
-/// are the same; and a chunk is unordered exactly where its write is.
+/// Each DATA chunk that the sender makes, for the first time or again, is a part of a write, also where its bytes came back, and is unordered
+/// exactly where its write is: however many TSNs are given out. Two of one TSN are the same, while fewer than 2^31 are.
 pub fn whatever_comes_back_chunks_are_parts()
-    ensures part { AfterEachWithReturnsOfFewTsns (λ first given gone calls s. AreParts s) }
+    ensures part { AfterEachWithReturnsOfFewInFlight (λ calls s. AreParts s) }
     ensures same { AfterEachWithReturnsOfFewTsns (λ first given gone calls s. AreSame s) }
-    ensures modes { AfterEachWithReturnsOfFewTsns
-        (λ first given gone calls s. AreSentAsWritten (other_calls calls) s) }
+    ensures modes { AfterEachWithReturnsOfFewInFlight
+        (λ calls s. AreSentAsWritten (other_calls calls) s) }
 {}
 
 /// Where nothing waits, is in flight or is readable, each write was read exactly once, unless a call abandoned its message, or let it
@@ -72,30 +73,29 @@ pub fn whatever_comes_back_sacks_tell_what_came()
 /// A message expires only where its lifetime is over, or its limit of retransmissions is passed, as it was written: none but `abandon`
 /// gives up a reliable one, or one of DCEP. And what is due expires.
 pub fn whatever_comes_back_only_what_may_expire_expires()
-    ensures only { AfterEachWithReturnsOfFewTsns
-        (λ first given gone calls s. OnlyTheDueExpire (other_calls calls) s) }
-    ensures due { AfterEachWithReturnsOfFewTsns
-        (λ first given gone calls s. EachDueExpires (other_calls calls) s) }
+    ensures only { AfterEachWithReturnsOfFewInFlight
+        (λ calls s. OnlyTheDueExpire (other_calls calls) s) }
+    ensures due { AfterEachWithReturnsOfFewInFlight
+        (λ calls s. EachDueExpires (other_calls calls) s) }
 {}
 
 /// The counters of each open stream of the sender are sums over what was written to it.
 pub fn whatever_comes_back_counters_are_sums_over_writes()
-    ensures { AfterEachWithReturnsOfFewTsns (λ first given gone calls s. AreSums s) }
+    ensures { AfterEachWithReturnsOfFewInFlight (λ calls s. AreSums s) }
 {}
 
 /// The buffered amount of each open stream is the bytes that calls wrote on it, less those that their answers told on it, and with those
 /// that came back. It is 0 once nothing of the stream waits, and each of its chunks in flight is acknowledged or abandoned.
 pub fn whatever_comes_back_amounts_are_what_is_left()
-    ensures left { AfterEachWithReturnsOfFewTsns
-        (λ first given gone calls s. AmountsAreLeftSo calls s) }
-    ensures end { AfterEachWithReturnsOfFewTsns (λ first given gone calls s. AmountsEnd s) }
+    ensures left { AfterEachWithReturnsOfFewInFlight AmountsAreLeftSo }
+    ensures end { AfterEachWithReturnsOfFewInFlight (λ calls s. AmountsEnd s) }
 {}
 
 /// What an answer tells of a chunk that a SACK releases is that chunk's, and its message is told to be acknowledged exactly where none of it
 /// is left. What it tells of one that comes back is that of a DATA chunk that was made.
 pub fn whatever_comes_back_what_is_told_is_of_the_chunk()
-    ensures gone { AfterEachWithReturnsOfFewTsns (λ first given gone calls s. EachIsTold s) }
-    ensures back { AfterEachWithReturnsOfFewTsns (λ first given gone calls s. EachReturnIsTold s) }
+    ensures gone { AfterEachWithReturnsOfFewInFlight (λ calls s. EachIsTold s) }
+    ensures back { AfterEachWithReturnsOfFewInFlight (λ calls s. EachReturnIsTold s) }
 {}
 
 /// A receiver without limits that is read refuses no DATA chunk that the sender still needs taken, as `no_chunk_in_flight_is_refused` says of a

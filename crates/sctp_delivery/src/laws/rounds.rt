@@ -3,13 +3,16 @@
 
 ghost use Rattle.sctp_delivery.specs.Ending.{AfterEachSessionWithTsnsLeft, ArrivalsAreDetermined, EachMakesOneStep, EndsWhereTaken, EndsWithAllRead, ReleasesAreDetermined};
 ghost use Rattle.sctp_delivery.specs.Messages.{WhileFewTsns};
+ghost use Rattle.sctp_delivery.specs.Modes.{WhileFewInFlight};
+ghost use Rattle.sctp_delivery.specs.Recent.{WhileRecent};
 ghost use Rattle.sctp_delivery.specs.Rounds.{AfterEachFitReliableSession, AfterEachFitSessionOfFewTsns, AllIsReadAfterRounds, CanBeAnswered, EachAnswerLeavesFewer, EachCanGoOn, EachRoundTakesOne, RoundsEnd, SkipsToPoint};
 ghost use Rattle.sctp_delivery.specs.Sacks.{AfterEachSessionOfFewTsns};
 
 /// Where the message of the first chunk in flight is abandoned, a FORWARD-TSN goes to the Advanced.Peer.Ack.Point: what is abandoned
-/// never stops the sender (RFC 3758 3.5). So it is in sessions that give out fewer than 2^31 TSNs.
+/// never stops the sender (RFC 3758 3.5). So it is while fewer than 2^31 chunks are in flight, as a `Sender` sees to it, however many TSNs it
+/// gives out.
 pub fn what_is_abandoned_can_be_passed()
-    ensures { WhileFewTsns SkipsToPoint }
+    ensures { WhileFewInFlight SkipsToPoint }
 {}
 
 /// Each chunk in flight that the receiver did not take, and whose message is not abandoned, can be sent again (RFC 4960 6.3.3): what
@@ -18,10 +21,10 @@ pub fn what_is_lost_can_be_sent_again()
     ensures { AfterEachSessionOfFewTsns (λ first given s. EachCanGoOn s) }
 {}
 
-/// The receiver can make a SACK at any time, by each call that makes one and with any credit, and the sender can take it. So it is in
-/// sessions that give out fewer than 2^31 TSNs.
+/// The receiver can make a SACK at any time, by each call that makes one and with any credit, and the sender can take it. So it is however many
+/// TSNs are given out, while fewer than 2^31 are in flight, and nothing is handed over that is 2^31 TSNs old.
 pub fn a_sack_can_be_made_and_taken()
-    ensures { AfterEachSessionOfFewTsns (λ first given s. CanBeAnswered s) }
+    ensures { WhileRecent CanBeAnswered }
 {}
 
 /// Where the receiver took each chunk in flight whose message is not abandoned, and followed the FORWARD-TSN that can be made, a SACK

@@ -1,12 +1,13 @@
 use Rattle.sctp_delivery.proofs.Names.{◌≡◌, ℕ, true, Option, Some, subst, ◌∙◌, Result, Ok, Err, IfOk, option_map, advanced_ack_point, skip_end, Transmission}
-use Rattle.sctp_delivery.proofs.Names.{SenderRefusal, WhileFewTsns, in_flight, is_first_abandoned}
+use Rattle.sctp_delivery.proofs.Names.{SenderRefusal, in_flight, is_first_abandoned}
+use Rattle.sctp_delivery.specs.Modes.{WhileFewInFlight}
 use Rattle.sctp_data.specs.declared.chunk.chunk_forward_tsn.ChunkForwardTsn.{ChunkForwardTsn}
 use Rattle.sctp_delivery.proofs.RoundsEnd.{all-skip}
 use Rattle.sctp_delivery.proofs.forwarded.forward.Goals as goal
 
 goes-there : (t : Transmission) (r : Result (Option ChunkForwardTsn) SenderRefusal)
     → IfOk r (λ o. option_map (λ c. c.new_cumulative_tsn) o ≡ skip_end (advanced_ack_point t.flight) t.flight)
-    → IfOk r (λ o. WhileFewTsns (λ s. s.sending.sender ≡ t → is_first_abandoned (in_flight s) ≡ true
+    → IfOk r (λ o. WhileFewInFlight (λ s. s.sending.sender ≡ t → is_first_abandoned (in_flight s) ≡ true
     → option_map (λ c. c.new_cumulative_tsn) o ≡ Some (advanced_ack_point t.flight)))
 goes-there t (Err e) answered = tt
 goes-there t (Ok o) answered = λ first size max most limits cs s small some run few same gone.
