@@ -7,6 +7,7 @@ ghost use Rattle.sctp_association.specs.Failing.{IsGuarded, farewell_to};
 ghost use Rattle.sctp_association.specs.Halves.{HalvesAlike, halves_of};
 ghost use Rattle.sctp_association.specs.Lasting.{LastsNoLonger};
 ghost use Rattle.sctp_association.specs.Leaving.{AsksNoMore, DueBy, OwesNothingNew, StaysDue, owed_of, replies_of};
+ghost use Rattle.sctp_association.specs.Most.{shutdowns_left};
 ghost use Rattle.sctp_association.specs.Sending.{holds_nothing};
 ghost use Rattle.sctp_association.specs.Telling.{PassesOn, TellsEnd};
 ghost use Rattle.sctp_association.specs.declared.event.Ending.TheVariants.{Aborted, Unanswered};
@@ -268,6 +269,9 @@ impl Association {
         ensures stays { StaysDue self.old self.new }
         ensures asks { OwesNothingNew (owed_of self.old) (owed_of self.new) }
         ensures moments { AsksNoMore now self.old self.new }
+        ensures alone { self.new.due.alone ≡ self.old.due.alone }
+        ensures shut { shutdowns_left self.old.machine.state ≡ 0
+            → self.new.machine.state ≡ self.old.machine.state }
     {
         if self.wants_shutdown && self.machine.state() == State::Established {
             self.wants_shutdown = false;
@@ -294,6 +298,9 @@ impl Association {
         ensures stays { StaysDue self.old self.new }
         ensures asks { OwesNothingNew (owed_of self.old) (owed_of self.new) }
         ensures moments { AsksNoMore now self.old self.new }
+        ensures alone { self.new.due.alone ≡ self.old.due.alone }
+        ensures shut { shutdowns_left self.old.machine.state ≡ 0
+            → self.new.machine.state ≡ self.old.machine.state }
     {
         if !self.outbound.is_drained() {
             return;
