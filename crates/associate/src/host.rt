@@ -8,7 +8,7 @@ use sctp_association::{
 };
 use std::alloc::Global;
 
-// More datagrams than a host sends at once, and more messages than it reads at once.
+// More events than a host takes at once, and more messages than it reads at once.
 const MOST: u32 = 10_000;
 
 /// A host.
@@ -79,10 +79,7 @@ impl Host {
 
     /// Gives the network all datagrams that are due.
     pub fn transmit(&mut self, network: &mut Network, to: usize, now: u64) -> Result<(), Fault> {
-        for _ in 0..MOST {
-            if !self.association.poll_transmit(now)? {
-                break;
-            }
+        while self.association.poll_transmit(now)? {
             network.send(to, self.association.datagram(), now)?;
         }
         Ok(())

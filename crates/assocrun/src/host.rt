@@ -7,7 +7,7 @@ use sctp_association::{Association, Fault};
 use std::alloc::Global;
 use std::io::{self, Write};
 
-// More than a command sends, tells or reads.
+// More than a command tells or reads.
 const MOST: u32 = 1_000_000;
 
 /// An association, if there is one, and whether a line was refused that was no command.
@@ -128,7 +128,7 @@ fn print_datagrams<W: Write>(
     now: u64,
     output: &mut W,
 ) -> io::Result<()> {
-    for _ in 0..MOST {
+    loop {
         match association.poll_transmit(now) {
             Ok(true) => print_datagram(association.datagram(), output)?,
             Ok(false) => break,

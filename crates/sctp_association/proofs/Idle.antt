@@ -201,7 +201,7 @@ data_put c room limit old new b fit is most fitting put head =
     let h = data_fits c (length old) limit (subst (λ r. fits r c ≡ true) is fit) most in
     put_longer (data_chunk (data_of c)) old new (put (fitting h.0 head h.1)) head
 
-draft-length : (p : Parts) (bytes : List ℕ) → IsDraft p bytes → length bytes ≡ 12 + length (body_of p.chunks)
+pub draft-length : (p : Parts) (bytes : List ℕ) → IsDraft p bytes → length bytes ≡ 12 + length (body_of p.chunks)
 draft-length p bytes draft = omega (
   arith,
   ap length draft.unsealed,

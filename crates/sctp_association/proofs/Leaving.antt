@@ -12,7 +12,7 @@ use Rattle.sctp_association.specs.declared.association.Association.{Association}
 use Rattle.sctp_association.specs.declared.due.Due.{Due}
 use Rattle.sctp_association.specs.Kept.{IsUnmoved}
 use Rattle.sctp_association.specs.Kept.{sack_waits, unknown_in}
-use Rattle.sctp_association.specs.Leaving.{AsksNoMore, IsDueOnce, IsReplyOnce, IsSentIn, IsTooLong, IsTooLongIn, Leaves, LeavesInto, Owed}
+use Rattle.sctp_association.specs.Leaving.{AsksNoMore, IsDueOrData, IsReplyOnce, IsSentIn, IsTooLong, IsTooLongIn, Leaves, LeavesInto, Owed}
 use Rattle.sctp_association.specs.Leaving.{OwesNothingNew, Reaches, Replies, Stands, beats, owed_at, owed_of, replies_of, requests_due, responses_due}
 use Rattle.sctp_association.specs.Packets.{Adds, IsPacketOf, put_where, sum_of, with_chunks}
 use Rattle.sctp_chunks.specs.Wire.{HasEncoding, Wire}
@@ -20,7 +20,7 @@ use Rattle.sctp_association.specs.Rows.{owed_by}
 use Rattle.sctp_association.specs.Still.{heartbeat_in}
 use Rattle.sctp_association.specs.declared.inbound.Inbound.{Inbound}
 use Rattle.sctp_association.specs.declared.outbound.Outbound.{Outbound}
-use Rattle.sctp_chunks.specs.Wire.{cookie_ack_chunk, cookie_echo_chunk, error_chunk, heartbeat_ack_chunk, heartbeat_chunk, init_chunk}
+use Rattle.sctp_chunks.specs.Wire.{cookie_ack_chunk, cookie_echo_chunk, data_chunk, error_chunk, forward_tsn_chunk, heartbeat_ack_chunk, heartbeat_chunk}
 use Rattle.sctp_chunks.specs.Wire.{reconfig_chunk, sack_chunk, shutdown_ack_chunk, shutdown_chunk}
 use Rattle.sctp_handshake.specs.Endings.{drained_row, on_drained, on_shutdown_asked, shutdown_asked_row}
 use Rattle.sctp_handshake.specs.Machines.{Takes}
@@ -202,7 +202,6 @@ due-or-reached x y z s same P Q f (inr r) = absurd (r.0 (sym same ∙ r.1))
 
 -- before that only what shuts down was made due
 once-before : (x y z : Owed) → OwesNothingNew x y → z.state ≡ y.state → (w : Wire) → IsReplyOnce y z w → IsReplyOnce x z w
-once-before x y z o s (init_chunk i) h = absurd h
 once-before x y z o s (cookie_echo_chunk k) h = (o.cookie_echo h.0, sym o.cookie ∙ h.1, h.2)
 once-before x y z o s cookie_ack_chunk h = (o.cookie_ack h.0, h.1)
 once-before x y z o s (shutdown_chunk n) h = (due-or-reached x y z ShutdownSent s (y.due.shutdown ≡ true) (x.due.shutdown ≡ true) o.shutdown h.0, h.1)
@@ -211,20 +210,21 @@ once-before x y z o s shutdown_ack_chunk h =
 once-before x y z o s (heartbeat_ack_chunk ps) h = (h.0, o.heartbeat h.0 h.1, h.2, h.3)
 once-before x y z o s (sack_chunk k) h = (was x.sack y.sack o.sack h.0, h.1)
 once-before x y z o s (error_chunk cs) h = both-so (λ r. (r.0, o.report r.0 r.1, r.2, r.3)) (λ u. (u.0, o.unknown u.0 u.1, u.2, u.3)) h
-once-before x y z o s (heartbeat_chunk ps) h = absurd h
-once-before x y z o s (reconfig_chunk r) h = absurd h
-once-before x y z o s _ h = tt
+once-before x y z o s _ h = absurd h
 
 due-before : (now : ℕ) (a b c : Association) → OwesNothingNew (owed_of a) (owed_of b) → AsksNoMore now a b → c.machine.state ≡ b.machine.state → (w : Wire)
-    → IsDueOnce (owed_at now b) (owed_at now c) w → IsDueOnce (owed_at now a) (owed_at now c) w
+    → IsDueOrData (owed_at now b) (owed_at now c) w → IsDueOrData (owed_at now a) (owed_at now c) w
+due-before now a b c o m s (data_chunk d) h = tt
+due-before now a b c o m s (forward_tsn_chunk f) h = tt
 due-before now a b c o m s (heartbeat_chunk ps) h = (was (beats now a) (beats now b) m.beat h.0, h.1)
-due-before now a b c o m s (reconfig_chunk r) h = (params_before now a b c m r.param_a h.0, params_before now a b c m r.param_b h.1)
+due-before now a b c o m s (reconfig_chunk r) h =
+    (h.0, (params_before now a b c m r.param_a h.1.0, params_before now a b c m r.param_b h.1.1))
 due-before now a b c o m s w h = once-before (owed_of a) (owed_of b) (owed_of c) o s w h
 
 pub once_after : (now : ℕ) (a b c : Association) (bytes : List ℕ) → OwesNothingNew (owed_of a) (owed_of b) → AsksNoMore now a b
-    → c.machine.state ≡ b.machine.state → IsPacketOf (IsDueOnce (owed_at now b) (owed_at now c)) bytes
-    → IsPacketOf (IsDueOnce (owed_at now a) (owed_at now c)) bytes
-once_after now a b c bytes o m s p = packet_so (IsDueOnce (owed_at now b) (owed_at now c)) (IsDueOnce (owed_at now a) (owed_at now c))
+    → c.machine.state ≡ b.machine.state → IsPacketOf (IsDueOrData (owed_at now b) (owed_at now c)) bytes
+    → IsPacketOf (IsDueOrData (owed_at now a) (owed_at now c)) bytes
+once_after now a b c bytes o m s p = packet_so (IsDueOrData (owed_at now b) (owed_at now c)) (IsDueOrData (owed_at now a) (owed_at now c))
     (due-before now a b c o m s) bytes p
 
 -- ## What is due as the shutdown goes on

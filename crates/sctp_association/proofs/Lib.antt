@@ -48,6 +48,8 @@ pub mod Counted
 pub mod Idle
 pub mod HostSteps
 pub mod Tsns
+pub mod Fewer
+pub mod Left
 pub mod Hosts
 pub mod HostCalls
 pub mod Sized

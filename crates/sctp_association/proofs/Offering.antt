@@ -7,10 +7,10 @@ use Rattle.sctp_association.proofs.Putting.{adds_none, adds_then, all_append, al
 use Rattle.sctp_association.specs.declared.association.Association.{Association}
 use Rattle.sctp_association.specs.declared.due.Alone.{Alone}
 use Rattle.sctp_association.specs.declared.due.AloneKind.{AloneKind}
-use Rattle.sctp_association.specs.Halves.{HalvesAlike, PutsOthers}
+use Rattle.sctp_association.specs.Halves.{HalvesAlike}
 use Rattle.sctp_association.specs.Kept.{IsUnmoved}
 use Rattle.sctp_association.specs.Offering.{HasFirst, IsInitDue, IsInitOf, IsInitWith, IsLonger, IsOffering, IsReplyOf, OffersAsDue, PutsReply}
-use Rattle.sctp_association.specs.Leaving.{IsDueOnce, IsReplyOnce, Owed, owed_at, owed_of}
+use Rattle.sctp_association.specs.Leaving.{IsDueOrData, owed_at}
 use Rattle.sctp_association.specs.Packets.{Adds, IsOf, IsPacketOf, put_where}
 use Rattle.sctp_chunks.specs.Init.{Init}
 use Rattle.sctp_chunks.specs.Wire.{Wire, init_chunk}
@@ -22,11 +22,7 @@ use Rattle.sctp_params.specs.ParamKind.{parameter_of}
 
 -- ## Chunk by chunk
 
-no-reply : (key : List ℕ) (m : Machine) (kind : AloneKind) (x y : Owed) (w : Wire) → IsReplyOnce x y w → IsReplyOf key m kind w
-no-reply key m kind x y (init_chunk i) h = absurd h
-no-reply key m kind x y _ h = tt
-
-no-offering : (now : ℕ) (a b c : Association) (w : Wire) → IsDueOnce (owed_at now b) (owed_at now c) w → IsOffering a w
+no-offering : (now : ℕ) (a b c : Association) (w : Wire) → IsDueOrData (owed_at now b) (owed_at now c) w → IsOffering a w
 no-offering now a b c (init_chunk i) h = absurd h
 no-offering now a b c _ h = tt
 
@@ -35,17 +31,6 @@ reply-offering a due e (init_chunk i) h = subst (λ (o : Option Alone). IsInitDu
 reply-offering a due e _ h = tt
 
 -- ## A reply
-
-pub reply_others : (kind : AloneKind) (a b : Association) → PutsOthers a b → PutsReply kind a b
-reply_others kind a b p = record {
-  halves = p.halves;
-  chunks = p.chunks;
-  added = p.added;
-  own = p.own;
-  replies = all_so (IsReplyOnce (owed_of a) (owed_of b)) (IsReplyOf a.key a.machine kind) (no-reply a.key a.machine kind (owed_of a) (owed_of b))
-      p.chunks p.plain;
-  kept = p.kept;
-}
 
 -- of the same key and machine
 reply-at : (kind : AloneKind) (a b : Association) → IsUnmoved a b → (w : Wire) → IsReplyOf b.key b.machine kind w → IsReplyOf a.key a.machine kind w
@@ -113,8 +98,8 @@ pub offers_reply : (a : Association) (due : Alone) (bytes : List ℕ) → a.due.
     → IsPacketOf (IsReplyOf a.key a.machine due.kind) bytes → OffersAsDue a bytes
 offers_reply a due bytes e p = packet_so (IsReplyOf a.key a.machine due.kind) (IsOffering a) (reply-offering a due e) bytes p
 
-pub offers_none : (now : ℕ) (a b c : Association) (bytes : List ℕ) → IsPacketOf (IsDueOnce (owed_at now b) (owed_at now c)) bytes → OffersAsDue a bytes
-offers_none now a b c bytes p = packet_so (IsDueOnce (owed_at now b) (owed_at now c)) (IsOffering a) (no-offering now a b c) bytes p
+pub offers_none : (now : ℕ) (a b c : Association) (bytes : List ℕ) → IsPacketOf (IsDueOrData (owed_at now b) (owed_at now c)) bytes → OffersAsDue a bytes
+offers_none now a b c bytes p = packet_so (IsDueOrData (owed_at now b) (owed_at now c)) (IsOffering a) (no-offering now a b c) bytes p
 
 -- ## The parameters of an INIT
 

@@ -7,20 +7,20 @@ use Rattle.std.specs.Prelude.{IfSome, ◌≤◌, is_some}
 use Rattle.std.specs.Result.{IsErr}
 use Rattle.sctp_association.proofs.Congested.{pace_same, pace_then, windows_same, windows_then}
 use Rattle.sctp_association.proofs.Known.{still_none, unmoved_same, unmoved_then, was}
-use Rattle.sctp_association.proofs.Putting.{shutdown_put, adds_none, adds_then, all_append, all_of_more, all_put, all_so, and_so, nothing, puts_so}
+use Rattle.sctp_association.proofs.Putting.{shutdown_put, adds_none, adds_then, all_append, all_of_more, all_put, all_so, all_where, and_so, nothing, puts_so}
 use Rattle.sctp_association.proofs.Running.{none_in, none_sent, reported_in, sent_then}
 use Rattle.sctp_association.specs.declared.association.Association.{Association}
 use Rattle.sctp_association.specs.declared.inbound.Inbound.{Inbound}
-use Rattle.sctp_association.specs.Halves.{HalvesAlike, IsAsTimed, PutsDue, PutsOnce, PutsOthers, is_sent, receiver_of, sides_of}
+use Rattle.sctp_association.specs.Halves.{HalvesAlike, IsAsTimed, PutsDue, PutsDueOrData, PutsOnce, PutsOthers, is_sent, receiver_of, sides_of}
 use Rattle.sctp_association.specs.Kept.{IsUnmoved, sack_waits, unknown_in}
 use Rattle.sctp_association.specs.declared.fault.Fault.{Fault}
-use Rattle.sctp_association.specs.Leaving.{AsksNoMore, IsDueOnce, IsParamOnce, IsReplyOnce, OwedAt, OwesNoMoreAt, Reaches, beats, owed_at}
+use Rattle.sctp_association.specs.Leaving.{AsksNoMore, IsDueOnce, IsDueOrData, IsParamOnce, IsReplyOnce, OwedAt, OwesNoMoreAt, Reaches, beats, owed_at}
 use Rattle.sctp_association.specs.Leaving.{owed_of, requests_due, responses_due}
 use Rattle.sctp_association.specs.Packets.{Adds, IsNoReply, IsOf, IsPacketOf, IsSackOnce, IsWritten, Puts, PutsIn, PutsOf, Sides, Transmits, put_where, sides}
 use Rattle.sctp_association.specs.Packets.{sum_of, with_chunks}
 use Rattle.sctp_association.specs.Runs.{ReportsIn, Sends}
-use Rattle.sctp_chunks.specs.Wire.{Wire, cookie_ack_chunk, cookie_echo_chunk, error_chunk, heartbeat_ack_chunk, heartbeat_chunk, init_chunk}
-use Rattle.sctp_chunks.specs.Wire.{reconfig_chunk, sack_chunk, shutdown_ack_chunk, shutdown_chunk}
+use Rattle.sctp_chunks.specs.Wire.{Wire, cookie_ack_chunk, cookie_echo_chunk, data_chunk, error_chunk, forward_tsn_chunk, heartbeat_ack_chunk}
+use Rattle.sctp_chunks.specs.Wire.{heartbeat_chunk, reconfig_chunk, sack_chunk, shutdown_ack_chunk, shutdown_chunk}
 use Rattle.sctp_data.specs.SelectiveAck.{Sack}
 use Rattle.sctp_delivery.specs.SenderCalls.{Made}
 use Rattle.sctp_handshake.specs.declared.machine.Machine.{Machine}
@@ -40,10 +40,11 @@ alike_then a b c h k = record {
   receiver = k.receiver ∙ h.receiver;
   windows = windows_then a.outbound b.outbound c.outbound h.windows k.windows;
   pace = pace_then a.outbound b.outbound c.outbound h.pace k.pace;
+  skip = k.skip ∙ h.skip;
 }
 
 pub alike_same : (a : Association) → HalvesAlike a a
-alike_same a = record { sender = refl; receiver = refl; windows = windows_same a.outbound; pace = pace_same a.outbound }
+alike_same a = record { sender = refl; receiver = refl; windows = windows_same a.outbound; pace = pace_same a.outbound; skip = refl }
 
 -- the same is due at the same moment
 pub timed_same : (a : Association) → IsAsTimed a a
@@ -104,7 +105,6 @@ module _ (a b c : Association) where
 
   -- what was due behind a step that makes nothing due was due before
   once-before : IsUnmoved a b → (w : Wire) → IsReplyOnce (owed_of b) (owed_of c) w → IsReplyOnce (owed_of a) (owed_of c) w
-  once-before u (init_chunk i) h = absurd h
   once-before u (cookie_echo_chunk k) h = (was a.due.cookie_echo b.due.cookie_echo u.due.cookie_echo h.0, sym u.cookie ∙ h.1, h.2)
   once-before u cookie_ack_chunk h = (was a.due.cookie_ack b.due.cookie_ack u.due.cookie_ack h.0, h.1)
   once-before u (shutdown_chunk n) h = (or-both (was a.due.shutdown b.due.shutdown u.due.shutdown) (reached-before u ShutdownSent) h.0, h.1)
@@ -113,13 +113,10 @@ module _ (a b c : Association) where
   once-before u (heartbeat_ack_chunk ps) h = (h.0, u.due.heartbeat h.0 h.1, h.2, h.3)
   once-before u (sack_chunk s) h = (was (sack_waits a.inbound) (sack_waits b.inbound) u.sack h.0, h.1)
   once-before u (error_chunk cs) h = or-both (λ r. (r.0, u.due.report r.0 r.1, r.2, r.3)) (λ s. (s.0, u.unknown s.0 s.1, s.2, s.3)) h
-  once-before u (heartbeat_chunk ps) h = absurd h
-  once-before u (reconfig_chunk r) h = absurd h
-  once-before u _ h = tt
+  once-before u _ h = absurd h
 
   -- and what is due no more is so behind one
   once-behind : IsUnmoved b c → (w : Wire) → IsReplyOnce (owed_of a) (owed_of b) w → IsReplyOnce (owed_of a) (owed_of c) w
-  once-behind u (init_chunk i) h = absurd h
   once-behind u (cookie_echo_chunk k) h = (h.0, h.1, u.due.cookie_echo h.2)
   once-behind u cookie_ack_chunk h = (h.0, u.due.cookie_ack h.1)
   once-behind u (shutdown_chunk n) h = (or-both (λ e. e) (reached-behind u ShutdownSent) h.0, u.due.shutdown h.1)
@@ -128,35 +125,30 @@ module _ (a b c : Association) where
   once-behind u (sack_chunk s) h = (h.0, u.sack h.1)
   once-behind u (error_chunk cs) h = or-both (λ r. (r.0, r.1, r.2, still_none b.due.report c.due.report u.due.report r.3))
       (λ s. (s.0, s.1, s.2, still_none (unknown_in b.inbound) (unknown_in c.inbound) u.unknown s.3)) h
-  once-behind u (heartbeat_chunk ps) h = absurd h
-  once-behind u (reconfig_chunk r) h = absurd h
-  once-behind u _ h = tt
+  once-behind u _ h = absurd h
 
   -- the same, of a HEARTBEAT and a RE-CONFIG too
   due-before : (now : ℕ) → IsUnmoved a b → AsksNoMore now a b → (w : Wire) → IsDueOnce (owed_at now b) (owed_at now c) w
       → IsDueOnce (owed_at now a) (owed_at now c) w
   due-before now u m (heartbeat_chunk ps) h = (was (beats now a) (beats now b) m.beat h.0, h.1)
-  due-before now u m (reconfig_chunk r) h = (params_before now a b c m r.param_a h.0, params_before now a b c m r.param_b h.1)
+  due-before now u m (reconfig_chunk r) h = (h.0, (params_before now a b c m r.param_a h.1.0, params_before now a b c m r.param_b h.1.1))
   due-before now u m w h = once-before u w h
 
   due-behind : (now : ℕ) → IsUnmoved b c → AsksNoMore now b c → (w : Wire) → IsDueOnce (owed_at now a) (owed_at now b) w
       → IsDueOnce (owed_at now a) (owed_at now c) w
   due-behind now u m (heartbeat_chunk ps) h = (h.0, m.beat h.1)
-  due-behind now u m (reconfig_chunk r) h = (params_behind now a b c m r.param_a h.0, params_behind now a b c m r.param_b h.1)
+  due-behind now u m (reconfig_chunk r) h = (h.0, (params_behind now a b c m r.param_a h.1.0, params_behind now a b c m r.param_b h.1.1))
   due-behind now u m w h = once-behind u w h
 
-no-reply-once : (now : ℕ) (a b : Association) (w : Wire) → IsNoReply w → IsDueOnce (owed_at now a) (owed_at now b) w
-no-reply-once now a b (init_chunk i) h = absurd h
-no-reply-once now a b (cookie_echo_chunk k) h = absurd h
-no-reply-once now a b cookie_ack_chunk h = absurd h
-no-reply-once now a b (shutdown_chunk n) h = absurd h
-no-reply-once now a b shutdown_ack_chunk h = absurd h
-no-reply-once now a b (heartbeat_ack_chunk ps) h = absurd h
-no-reply-once now a b (sack_chunk s) h = absurd h
-no-reply-once now a b (heartbeat_chunk ps) h = absurd h
-no-reply-once now a b (error_chunk cs) h = absurd h
-no-reply-once now a b (reconfig_chunk r) h = absurd h
-no-reply-once now a b _ h = tt
+no-reply-once : (now : ℕ) (a b : Association) (w : Wire) → IsNoReply w → IsDueOrData (owed_at now a) (owed_at now b) w
+no-reply-once now a b (data_chunk d) h = tt
+no-reply-once now a b (forward_tsn_chunk f) h = tt
+no-reply-once now a b _ h = absurd h
+
+due-or-data : (now : ℕ) (a b : Association) (w : Wire) → IsDueOnce (owed_at now a) (owed_at now b) w → IsDueOrData (owed_at now a) (owed_at now b) w
+due-or-data now a b (data_chunk d) h = tt
+due-or-data now a b (forward_tsn_chunk f) h = tt
+due-or-data now a b w h = h
 
 once-due : (now : ℕ) (a b : Association) (w : Wire) → IsReplyOnce (owed_of a) (owed_of b) w → IsDueOnce (owed_at now a) (owed_at now b) w
 once-due now a b (heartbeat_chunk ps) h = absurd h
@@ -240,9 +232,9 @@ module _ (a b : Association) where
       (sides b.outbound.sender (receiver_of b.inbound) x)
   alike_puts {P} h x = put_alike P x x h (nothing (sides a.outbound.sender (receiver_of a.inbound) x))
 
-  -- what is no reply
-  pub puts_due : (now : ℕ) → Puts (sides_of a) (sides_of b) → PutsDue now a b
-  puts_due now p = puts_so IsNoReply (IsDueOnce (owed_at now a) (owed_at now b)) (no-reply-once now a b) (sides_of a) (sides_of b) p
+  pub due_data : (now : ℕ) → PutsDue now a b → PutsDueOrData now a b
+  due_data now p = puts_so (IsDueOnce (owed_at now a) (owed_at now b)) (IsDueOrData (owed_at now a) (owed_at now b)) (due-or-data now a b)
+      (sides_of a) (sides_of b) p
 
   pub once_puts : (now : ℕ) → PutsOnce a b → PutsDue now a b
   once_puts now p = puts_so (IsReplyOnce (owed_of a) (owed_of b)) (IsDueOnce (owed_at now a) (owed_at now b)) (once-due now a b) (sides_of a) (sides_of b) p
@@ -253,6 +245,12 @@ pub due_then : (now : ℕ) (a b c : Association) → PutsDue now a b → IsUnmov
 due_then now a b c p u m q v n = and_so (IsDueOnce (owed_at now a) (owed_at now b)) (IsDueOnce (owed_at now b) (owed_at now c))
     (IsDueOnce (owed_at now a) (owed_at now c)) (sides_of a) (sides_of b) (sides_of c)
     (due-behind a b c now v n) (due-before a b c now u m) p q
+
+-- and DATA and FORWARD-TSN behind them
+pub data_then : (now : ℕ) (a b c : Association) → PutsDue now a b → Puts (sides_of b) (sides_of c) → IsUnmoved b c → AsksNoMore now b c
+    → PutsDueOrData now a c
+data_then now a b c p q v n = and_so (IsDueOnce (owed_at now a) (owed_at now b)) IsNoReply (IsDueOrData (owed_at now a) (owed_at now c))
+    (sides_of a) (sides_of b) (sides_of c) (λ w h. due-or-data now a c w (due-behind a b c now v n w h)) (no-reply-once now a c) p q
 
 pub due_others : (now : ℕ) (a b c : Association) → PutsDue now a b → IsUnmoved a b → AsksNoMore now a b → PutsOthers b c → PutsDue now a c
 due_others now a b c p u m q = due_then now a b c p u m (once_puts b c now (others_puts b c q)) q.kept (beats_same now b c q.timed)
@@ -270,7 +268,7 @@ others_once a b c p q v = once_then a b c (others_puts a b p) p.kept q v
 
 -- a chunk is put that neither half answers
 pub puts_one : {P : Wire → Type 0} (k : Bool) (w : Wire) (t : Transmission) (r : Option Reception) (x y : List ℕ) → Adds (put_where k w) x y
-    → IsOf [] [] w → P w → PutsOf P (sides t r x) (sides t r y)
+    → IsOf [] [] w → (k ≡ true → P w) → PutsOf P (sides t r x) (sides t r y)
 puts_one {P} k w t r x y added of plain = record {
   made = [];
   sacks = [];
@@ -279,7 +277,7 @@ puts_one {P} k w t r x y added of plain = record {
   reported = none_in r;
   added = added;
   own = all_put (IsOf [] []) k w of;
-  plain = all_put P k w plain;
+  plain = all_where P k w plain;
 }
 
 module _ {P : Wire → Type 0} where

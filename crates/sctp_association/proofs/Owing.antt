@@ -58,6 +58,7 @@ module _ (a m : Association) (i j : Inbound) (inbound : a.inbound ≡ Some i) (a
     receiver = ap receiver_of after ∙ ap (λ r. Some r) receiver ∙ sym (ap receiver_of inbound);
     windows = windows_so a.outbound m.outbound same.outbound;
     pace = pace_so a.outbound m.outbound same.outbound;
+    skip = ap (λ (o : Outbound). o.is_skip_due) same.outbound;
   }
 
   told-unmoved : (d : Draft) → IsUnmoved a (record m { draft = d })

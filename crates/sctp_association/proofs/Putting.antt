@@ -70,6 +70,11 @@ pub all_put : (P : Wire → Type 0) (b : Bool) (w : Wire) → P w → AllByRecur
 all_put P true w h = (h, tt)
 all_put P false w h = tt
 
+-- so it need be only of one that is put
+pub all_where : (P : Wire → Type 0) (b : Bool) (w : Wire) → (b ≡ true → P w) → AllByRecursion P (put_where b w)
+all_where P true w h = (h refl, tt)
+all_where P false w h = tt
+
 -- ## Puts
 
 pub nothing : {P : Wire → Type 0} (s : Sides) → PutsOf P s s

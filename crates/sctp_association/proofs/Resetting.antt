@@ -112,7 +112,7 @@ module _ (now : ℕ) (a d : Association) (responds asks : Bool) (p : PutsReconfi
   puts-so : (asks ≡ true → (requests_due now a.requests ≡ true) × (requests_due now d.requests ≡ false)) → PutsDue now a d
   puts-so f = put_alike a d (IsDueOnce (owed_at now a) (owed_at now d)) a.draft.bytes d.draft.bytes h (
       puts_one p.is_put (reconfig_chunk p.chunk) a.outbound.sender (receiver_of a.inbound) a.draft.bytes d.draft.bytes p.added tt
-      (params-once f p.chunk.param_a p.own.first, params-once f p.chunk.param_b p.own.second))
+      (λ is. (p.some is, (params-once f p.chunk.param_a p.own.first, params-once f p.chunk.param_b p.own.second))))
 
   puts-by : (asks ≡ true → requests_due now a.requests ≡ true) → (d.draft ≡ a.draft) ⊎ (requests_due now d.requests ≡ false) → PutsDue now a d
   puts-by due (inl same) = same_puts a d (ap (λ (x : Draft). x.bytes) same) h
@@ -129,6 +129,7 @@ puts_nothing responds asks d = record {
   is_put = false;
   chunk = record { param_a = None; param_b = None };
   own = record { first = tt; second = tt };
+  some = λ is. absurd (false≢true is);
   added = adds_none d.bytes;
 }
 
@@ -153,6 +154,7 @@ module _ (now : ℕ) (a d : Association) (rest : d ≡ record a { draft = d.draf
     receiver = refl;
     windows = record { peer_window = refl; congestion = refl };
     pace = record { used = refl; burst = refl; paused = refl };
+    skip = refl;
   })
 
   pub reset_unmoved : IsUnmoved a d

@@ -108,7 +108,7 @@ popped (Some true) os (u ∷ us) sel ro ru c e = omega arith
 popped (Some false) [] us sel ro ru c e = absurd (none-some c e)
 popped (Some false) (o ∷ os) us sel ro ru c e = omega arith
 
-sent-waits : (q : Outbound) (tsn now : ℕ) → IsSendable q.pending q.inflight.chunks q.next_message_id → (o : Option ChunkPayloadData)
+pub sent-waits : (q : Outbound) (tsn now : ℕ) → IsSendable q.pending q.inflight.chunks q.next_message_id → (o : Option ChunkPayloadData)
     → next_pending q.pending ≡ o → is_some o ≡ true → chunk_count (sent_of o q tsn now).pending + 1 ≤ chunk_count q.pending
 sent-waits q tsn now s None e some = absurd (not_both some)
 sent-waits q tsn now s (Some c) e some =
@@ -121,7 +121,7 @@ same-waits : (q : Outbound) (tsn now : ℕ) (o : Option ChunkPayloadData) → is
 same-waits q tsn now None e = omega arith
 same-waits q tsn now (Some c) e = absurd (not_both (sym e))
 
-started-waits : (now : ℕ) (q : Outbound) → chunk_count (all_started now q).pending ≡ chunk_count q.pending
+pub started-waits : (now : ℕ) (q : Outbound) → chunk_count (all_started now q).pending ≡ chunk_count q.pending
 started-waits now q = grind (arith, nat_tests, length-change_where)
 
 sends-uses : (now : ℕ) (f : Flight) → f.next_tsn < 2 ^ 32
@@ -150,10 +150,10 @@ fewer-without : (m : ℕ) (cs : List ChunkPayloadData) → list_any (is_of m) cs
 fewer-without m [] e = absurd (not_both e)
 fewer-without m (c ∷ cs) e = grind (arith, nat_tests, few-without, fewer-without m cs)
 
-waiting-gone : (m : ℕ) (p : Pending) → waits m p ≡ true → chunk_count (without m p) + 1 ≤ chunk_count p
+pub waiting-gone : (m : ℕ) (p : Pending) → waits m p ≡ true → chunk_count (without m p) + 1 ≤ chunk_count p
 waiting-gone m p w = grind (arith, nat_tests, few-without, fewer-without, or-split)
 
-waiting-less : (m : ℕ) (p : Pending) → chunk_count (without m p) ≤ chunk_count p
+pub waiting-less : (m : ℕ) (p : Pending) → chunk_count (without m p) ≤ chunk_count p
 waiting-less m p = grind (arith, nat_tests, few-without)
 
 abandons-uses : (o : Option ℕ) (f : Flight) → f.next_tsn < 2 ^ 32
@@ -177,7 +177,7 @@ each-uses (tsn ∷ tsns) f small =
     (each-uses tsns (abandoned_at tsn f) (small-then 0 f (abandoned_at tsn f) a))
 
 -- a message in front expires
-expired-waits : (c : ChunkPayloadData) (q : Outbound) → chunk_count (expired_of (Some c) q).pending ≤ chunk_count q.pending
+pub expired-waits : (c : ChunkPayloadData) (q : Outbound) → chunk_count (expired_of (Some c) q).pending ≤ chunk_count q.pending
 expired-waits c q = grind (arith, nat_tests, few-without, length-change_where)
 
 -- a SACK gives out none

@@ -8,7 +8,7 @@ use Rattle.sctp_association.specs.declared.inbound.Inbound.{Inbound}
 use Rattle.sctp_association.specs.Arrivals.{Halves, halves, new_sender}
 use Rattle.sctp_association.specs.Congested.{HasPaceOf, HasWindowsOf}
 use Rattle.sctp_association.specs.Kept.{IsUnmoved}
-use Rattle.sctp_association.specs.Leaving.{IsDueOnce, IsReplyOnce, owed_at, owed_of}
+use Rattle.sctp_association.specs.Leaving.{IsDueOnce, IsDueOrData, IsReplyOnce, owed_at, owed_of}
 use Rattle.sctp_association.specs.Packets.{Adds, IsOf, PutsOf, Sides, sides}
 use Rattle.sctp_association.specs.Still.{heartbeat_time}
 use Rattle.sctp_chunks.specs.Wire.{Wire}
@@ -28,17 +28,23 @@ sides_of a = sides a.outbound.sender (receiver_of a.inbound) a.draft.bytes
 abbrev pub halves_of : Association → Halves
 halves_of a = halves a.outbound.sender (receiver_of a.inbound)
 
--- neither half changes, nor a window of what is sent, nor when DATA left last, nor the burst
+-- neither half changes, nor a window of what is sent, nor when DATA left last, nor the burst, nor whether a FORWARD-TSN is due
 pub record HalvesAlike (old new : Association) : Type 0 where
   pub sender : new.outbound.sender ≡ old.outbound.sender
   pub receiver : receiver_of new.inbound ≡ receiver_of old.inbound
   pub windows : HasWindowsOf old.outbound new.outbound
   pub pace : HasPaceOf old.outbound new.outbound
+  pub skip : new.outbound.is_skip_due ≡ old.outbound.is_skip_due
 
 -- calls of both halves led on. What was put is no INIT, and each reply of it was due, and is due no more
 abbrev pub PutsDue : ℕ → Association → Association → Type 0
 PutsDue now old new =
     PutsOf (IsDueOnce (owed_at now old) (owed_at now new)) (sides_of old) (sides_of new)
+
+-- the same, and DATA and FORWARD-TSN
+abbrev pub PutsDueOrData : ℕ → Association → Association → Type 0
+PutsDueOrData now old new =
+    PutsOf (IsDueOrData (owed_at now old) (owed_at now new)) (sides_of old) (sides_of new)
 
 -- no HEARTBEAT among them
 abbrev pub PutsOnce : Association → Association → Type 0

@@ -12,7 +12,7 @@ use Rattle.sctp_association.specs.Reports.{one_cause}
 use Rattle.sctp_association.specs.Still.{comes, heartbeat_time}
 use Rattle.sctp_chunks.specs.Reconfig.{Reconfig}
 use Rattle.sctp_chunks.specs.Wire.{HasEncoding, Wire}
-use Rattle.sctp_chunks.specs.Wire.{cookie_ack_chunk, cookie_echo_chunk, error_chunk, heartbeat_ack_chunk, heartbeat_chunk, init_chunk}
+use Rattle.sctp_chunks.specs.Wire.{cookie_ack_chunk, cookie_echo_chunk, data_chunk, error_chunk, forward_tsn_chunk, heartbeat_ack_chunk, heartbeat_chunk}
 use Rattle.sctp_chunks.specs.Wire.{reconfig_chunk}
 use Rattle.sctp_chunks.specs.Wire.{sack_chunk, shutdown_ack_chunk, shutdown_chunk}
 use Rattle.sctp_chunks.specs.declared.chunk.error_cause.ErrorCause.{ErrorCause}
@@ -114,12 +114,9 @@ abbrev pub TellsStream : (old new : Owed) → List ErrorCause → Type 0
 TellsStream old new causes = (stream : ℕ) × (old.unknown ≡ Some stream)
     × (causes ≡ one_cause 1 (be16 stream ++ 0 ∷ 0 ∷ [])) × (new.unknown ≡ None)
 
--- Such a chunk was due, as it says, and is due no more. A SHUTDOWN or SHUTDOWN-ACK may be due just now, as the shutdown goes on (9.2). No INIT,
--- HEARTBEAT or RE-CONFIG is among these; of other chunks nothing is said.
+-- Such a chunk was due, as it says, and is due no more. A SHUTDOWN or SHUTDOWN-ACK may be due just now, as the shutdown goes on (9.2). No other
+-- chunk is among these.
 abbrev pub IsReplyOnce : (old new : Owed) → Wire → Type 0
-IsReplyOnce old new (init_chunk i) = ⊥
-IsReplyOnce old new (heartbeat_chunk ps) = ⊥
-IsReplyOnce old new (reconfig_chunk r) = ⊥
 IsReplyOnce old new (cookie_echo_chunk cookie) = (old.due.cookie_echo ≡ true)
     × (old.cookie ≡ Some cookie) × (new.due.cookie_echo ≡ false)
 IsReplyOnce old new cookie_ack_chunk =
@@ -133,7 +130,7 @@ IsReplyOnce old new (heartbeat_ack_chunk ps) = (info : List ℕ) × (old.due.hea
 IsReplyOnce old new (sack_chunk s) = (old.sack ≡ true) × (new.sack ≡ false)
 IsReplyOnce old new (error_chunk causes) =
     TellsReport old new causes ⊎ TellsStream old new causes
-IsReplyOnce old new _ = ⊤
+IsReplyOnce old new _ = ⊥
 
 -- a HEARTBEAT is due (8.3)
 abbrev pub beats : ℕ → Association → Bool
@@ -202,14 +199,21 @@ pub record PutsReconfig (responds asks : Bool) (old new : Draft) : Type 0 where
   pub is_put : Bool
   pub chunk : Reconfig
   pub own : IsReconfigOf responds asks chunk
+  pub some : is_put ≡ true → is_some chunk.param_a ≡ true
   pub added : Adds (put_where is_put (reconfig_chunk chunk)) old.bytes new.bytes
 
--- The same of a HEARTBEAT too: its moment had come, and the next one is later. So of the parameters of a RE-CONFIG.
+-- The same of a HEARTBEAT too: its moment had come, and the next one is later. So of the parameters of a RE-CONFIG, of which it has one or two.
 abbrev pub IsDueOnce : (old new : OwedAt) → Wire → Type 0
 IsDueOnce old new (heartbeat_chunk ps) = (old.beat ≡ true) × (new.beat ≡ false)
-IsDueOnce old new (reconfig_chunk r) =
-    IfSome r.param_a (IsParamOnce old new) × IfSome r.param_b (IsParamOnce old new)
+IsDueOnce old new (reconfig_chunk r) = (is_some r.param_a ≡ true)
+    × (IfSome r.param_a (IsParamOnce old new) × IfSome r.param_b (IsParamOnce old new))
 IsDueOnce old new w = IsReplyOnce old.owed new.owed w
+
+-- so it is of each chunk of a packet of what is due but DATA and FORWARD-TSN
+abbrev pub IsDueOrData : (old new : OwedAt) → Wire → Type 0
+IsDueOrData old new (data_chunk d) = ⊤
+IsDueOrData old new (forward_tsn_chunk f) = ⊤
+IsDueOrData old new w = IsDueOnce old new w
 
 -- Nothing is due that was not, but a SHUTDOWN or SHUTDOWN-ACK as the shutdown goes on (9.2).
 pub record OwesNothingNew (old new : Owed) : Type 0 where

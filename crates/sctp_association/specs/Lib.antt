@@ -30,6 +30,7 @@ pub mod Limited
 pub mod Links
 pub mod Lives
 pub mod Once
+pub mod Most
 pub mod Offering
 pub mod OneLife
 pub mod Openings

@@ -3,8 +3,7 @@ use Rattle.std.specs.Prelude.{◌≡◌, ⊤, ℕ, Bool, true, false, List, [], 
 use Rattle.std.specs.List.{AllByRecursion}
 use Rattle.crc32c.specs.Castagnoli.{crc32c_of}
 use Rattle.sctp_association.specs.Runs.{ReportsIn, Sends}
-use Rattle.sctp_chunks.specs.Wire.{Wire, cookie_ack_chunk, cookie_echo_chunk, data_chunk, error_chunk, forward_tsn_chunk, heartbeat_ack_chunk}
-use Rattle.sctp_chunks.specs.Wire.{heartbeat_chunk, i_forward_tsn_chunk, init_chunk, reconfig_chunk, sack_chunk, shutdown_ack_chunk, shutdown_chunk}
+use Rattle.sctp_chunks.specs.Wire.{Wire, data_chunk, forward_tsn_chunk, i_forward_tsn_chunk, sack_chunk, shutdown_chunk}
 use Rattle.sctp_data.specs.SelectiveAck.{Sack}
 use Rattle.sctp_delivery.specs.SenderCalls.{Made}
 use Rattle.sctp_delivery.specs.SenderCalls as made
@@ -49,20 +48,11 @@ IsOf ms sacks (shutdown_chunk tsn) = IsAcked sacks tsn
 IsOf ms sacks (i_forward_tsn_chunk f) = ⊥
 IsOf ms sacks _ = ⊤
 
--- none of those that are put only where they are due: no INIT, INIT ACK, COOKIE-ECHO, COOKIE-ACK, SHUTDOWN, SHUTDOWN-ACK, HEARTBEAT-ACK, SACK,
--- HEARTBEAT, ERROR or RE-CONFIG
+-- DATA or FORWARD-TSN, which are put as they may be sent; the others are put only where they are due
 abbrev pub IsNoReply : Wire → Type 0
-IsNoReply (init_chunk i) = ⊥
-IsNoReply (cookie_echo_chunk cookie) = ⊥
-IsNoReply cookie_ack_chunk = ⊥
-IsNoReply (shutdown_chunk tsn) = ⊥
-IsNoReply shutdown_ack_chunk = ⊥
-IsNoReply (heartbeat_ack_chunk ps) = ⊥
-IsNoReply (sack_chunk s) = ⊥
-IsNoReply (heartbeat_chunk ps) = ⊥
-IsNoReply (error_chunk cs) = ⊥
-IsNoReply (reconfig_chunk r) = ⊥
-IsNoReply _ = ⊤
+IsNoReply (data_chunk d) = ⊤
+IsNoReply (forward_tsn_chunk f) = ⊤
+IsNoReply _ = ⊥
 
 -- a SACK, where one waited before, and none waits after
 abbrev pub IsSackOnce : (old new : Bool) → Wire → Type 0

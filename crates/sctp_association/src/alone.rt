@@ -8,14 +8,11 @@ ghost use Rattle.sctp_association.specs.Lasting.{LastsNoLonger};
 use crate::association::Association;
 use crate::laws::{an_association_keeps_its_limits, an_unanswered_association_ends};
 
-// The most datagrams that leave at a moment.
-const MOST_LOST: u32 = 1000;
-
-// Datagrams leave at `now`, and are lost.
+// All datagrams that leave at `now` are lost. No more leave than `most_packets` says.
 fn lose(one: &mut Association, now: u64)
     ensures { LastsNoLonger one.old one.new }
 {
-    for _ in 0..MOST_LOST {
+    loop {
         let Ok(true) = one.poll_transmit(now) else {
             break;
         };

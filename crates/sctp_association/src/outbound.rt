@@ -1,12 +1,13 @@
 //! What is sent, and when (RFC 9260 6.1, 6.3, 7.2; RFC 3758 3.5; RFC 7496 3.1).
 
-ghost use Rattle.std.specs.Prelude.{◌≡◌, ◌⊎◌, ◌-◌, ◌<◌, ◌≤◌, ◌==◌, [], max, min, not, true, false, None, Some, OnOk, OnErr, IfOk, IfErr, IsOk, length};
+ghost use Rattle.std.specs.Prelude.{◌≡◌, ◌⊎◌, ◌-◌, ◌<◌, ◌≤◌, ◌==◌, ◌||◌, [], max, min, not, true, false, None, Some, OnOk, OnErr, IfOk, IfErr, IsOk, length};
 ghost use Rattle.sctp_association.specs.declared.fault.Fault.TheVariants.{OutOfMemory};
 ghost use Rattle.sctp_association.specs.Arrivals.{new_sender};
 ghost use Rattle.sctp_association.specs.Asked.{AsksOn};
 ghost use Rattle.sctp_association.specs.Beats.{after_beat};
 ghost use Rattle.sctp_association.specs.Counts.{CountsNone, HasLimitsOf};
 ghost use Rattle.sctp_association.specs.Halves.{fragment_size};
+ghost use Rattle.sctp_association.specs.Most.{most_data, tells_some};
 ghost use Rattle.sctp_association.specs.Runs.{Sends};
 ghost use Rattle.sctp_association.specs.Waiting.{IsRefusal, closed_where, fault_of, opened, waiting_fault};
 ghost use Rattle.sctp_sender.specs.Settings.{IsKeptWithin, with_fragment_size, with_low_on};
@@ -430,6 +431,7 @@ impl Outbound {
           sender = self.new.sender;
           is_skip_due = self.new.is_skip_due;
         } }
+        ensures fewer { most_data self.new ≤ most_data self.old }
     {
         if !self.is_partial || self.is_drained() {
             return Ok(());
@@ -440,12 +442,24 @@ impl Outbound {
                 break;
             }
             match self.sender.drop_expired(now)? {
-                Some(Dropped::Abandoned(_)) => self.is_skip_due = true,
-                Some(Dropped::Expired(_)) => {}
+                Some(dropped) => self.note_dropped(&dropped),
                 None => break,
             }
         }
         Ok(())
+    }
+
+    // A FORWARD-TSN is due where some message of which a part was sent is dropped (RFC 3758 3.5 A3).
+    fn note_dropped(&mut self, dropped: &Dropped)
+        ensures { self.new ≡ record self.old {
+          is_skip_due = tells_some dropped.now || self.old.is_skip_due;
+        } }
+    {
+        if let Dropped::Abandoned(gone) = dropped {
+            if !gone.is_empty() {
+                self.is_skip_due = true;
+            }
+        }
     }
 
     // Whether something is to be sent again, or the message in front is past its lifetime, and more of it waits than its last chunk.

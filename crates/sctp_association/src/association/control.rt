@@ -8,6 +8,7 @@ ghost use Rattle.sctp_association.specs.Halves.{HalvesAlike, halves_of};
 ghost use Rattle.sctp_association.specs.Lasting.{LastsNoLonger};
 ghost use Rattle.sctp_association.specs.Leaving.{AsksNoMore, OwesNothingNew, StaysDue, owed_of, replies_of};
 ghost use Rattle.sctp_association.specs.Rows.{FollowsAnswer, Settles, cause_code, drained_where, over_by, owed_by};
+ghost use Rattle.sctp_association.specs.Most.{shutdowns_left};
 ghost use Rattle.sctp_association.specs.Sending.{holds_nothing};
 ghost use Rattle.sctp_association.specs.Telling.{PassesOn, TellsEnd};
 ghost use Rattle.sctp_association.specs.declared.event.Ending.TheVariants.{Aborted, Unanswered};
@@ -287,6 +288,9 @@ impl Association {
         ensures asks { OwesNothingNew (owed_of self.old) (owed_of self.new) }
         ensures moments { AsksNoMore now self.old self.new }
         ensures settles { Settles self.old self.new }
+        ensures alone { self.new.due.alone ≡ self.old.due.alone }
+        ensures shut { shutdowns_left self.old.machine.state ≡ 0
+            → self.new.machine.state ≡ self.old.machine.state }
     {
         if self.wants_shutdown && self.machine.state() == State::Established {
             self.wants_shutdown = false;
@@ -315,6 +319,9 @@ impl Association {
         ensures moments { AsksNoMore now self.old self.new }
         ensures due { self.new.due ≡ owed_by (drained_where
             (holds_nothing self.old.outbound.sender) self.old.machine).answer.reply 0 self.old.due }
+        ensures alone { self.new.due.alone ≡ self.old.due.alone }
+        ensures shut { shutdowns_left self.old.machine.state ≡ 0
+            → self.new.machine.state ≡ self.old.machine.state }
     {
         if !self.outbound.is_drained() {
             return;

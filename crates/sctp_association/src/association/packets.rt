@@ -1,15 +1,16 @@
 //! What goes into a datagram (RFC 9260 6.10, 8.5).
 
-ghost use Rattle.std.specs.Prelude.{◌≡◌, ◌≢◌, ◌⊎◌, ℕ, ◌≤◌, ◌-◌, ◌∷◌, None, Ok, Some, IfOk, IfSome, OnErr, OnOk, [], map, true, false, length};
+ghost use Rattle.std.specs.Prelude.{◌≡◌, ◌≢◌, ◌⊎◌, ℕ, ◌<◌, ◌≤◌, ◌-◌, ◌∷◌, None, Ok, Some, IfOk, IfSome, OnErr, OnOk, [], map, true, false, length};
 ghost use Rattle.sctp_association.specs.Beginnings.{KeepsPeer};
 ghost use Rattle.sctp_association.specs.Congested.{IsAsFull, LeavesWithin, SendsWithin};
-ghost use Rattle.sctp_association.specs.Halves.{HalvesAlike, IsAsTimed, PutsDue, PutsOnce, PutsOthers, is_sent, sides_of};
+ghost use Rattle.sctp_association.specs.Halves.{HalvesAlike, IsAsTimed, PutsDue, PutsDueOrData, PutsOnce, PutsOthers, is_sent, sides_of};
 ghost use Rattle.sctp_association.specs.Entering.{usable_in};
 ghost use Rattle.sctp_association.specs.Filled.{IfNoneAdded, IfNonePut};
 ghost use Rattle.sctp_association.specs.Idle.{HasNoSackDue, IsIdle, MayReply, MaySend, OwesNoControl, OwesNone, WaitsForSacks, in_flight, sack_delay, sends};
 ghost use Rattle.sctp_association.specs.Kept.{IsUnmoved};
 ghost use Rattle.sctp_association.specs.Lasting.{LastsNoLonger};
-ghost use Rattle.sctp_association.specs.Leaving.{AsksNoMore, IsDueOnce, LeavesBy, LeavesInto, OwesNothingNew, beats, owed_at, owed_of, replies_of};
+ghost use Rattle.sctp_association.specs.Leaving.{AsksNoMore, IsDueOrData, LeavesBy, LeavesInto, OwesNothingNew, beats, owed_at, owed_of, replies_of};
+ghost use Rattle.sctp_association.specs.Most.{FewerWherePut, most_data, most_packets};
 ghost use Rattle.sctp_association.specs.Offering.{HasFirst, IsInitWith, IsReplyOf, OffersAsDue, PutsReply};
 ghost use Rattle.sctp_association.specs.declared.due.AloneKind.{AloneKind};
 ghost use Rattle.sctp_association.specs.Replying.{AddsReply, IsReply, LeavesAlone, PutsOne, header_to, host_name_causes};
@@ -100,10 +101,13 @@ impl Association {
         // Nothing else comes to be due, but a SHUTDOWN or SHUTDOWN-ACK where nothing waits or is in flight; no HEARTBEAT or RE-CONFIG (`moments`).
         ensures asks { OwesNothingNew (owed_of self.old) (owed_of self.new) }
         ensures moments { AsksNoMore now self.old self.new }
+        // Each call that writes a datagram leaves fewer that can leave at this moment: with the same `now` at most `most_packets` calls write one.
+        ensures fewer { result ≡ Ok true
+            → most_packets now self.new < most_packets now self.old }
         // What left is due no more: each COOKIE-ECHO, COOKIE-ACK, SHUTDOWN, SHUTDOWN-ACK, HEARTBEAT-ACK, SACK, HEARTBEAT, ERROR and parameter of a
-        // RE-CONFIG in a packet of what else is due was due, as it says.
+        // RE-CONFIG in a packet of what else is due was due, as it says. Beside these it has only DATA and FORWARD-TSN.
         ensures once { is_sent result ≡ true → self.old.due.alone ≡ None
-            → IsPacketOf (IsDueOnce (owed_at now self.old) (owed_at now self.new))
+            → IsPacketOf (IsDueOrData (owed_at now self.old) (owed_at now self.new))
             self.new.draft.bytes }
     {
         if let Some(alone) = self.due.alone {
@@ -128,7 +132,7 @@ impl Association {
     fn put_packet(&mut self, header: CommonHeader, is_zero: bool, now: u64) -> Result<bool, Fault>
         ensures made { Transmits (is_sent result) (sides_of self.old) (sides_of self.new) }
         ensures once { is_sent result ≡ true
-            → IsPacketOf (IsDueOnce (owed_at now self.old) (owed_at now self.new))
+            → IsPacketOf (IsDueOrData (owed_at now self.old) (owed_at now self.new))
             self.new.draft.bytes }
         ensures kept { IsUnmoved self.old self.new }
         ensures moments { AsksNoMore now self.old self.new }
@@ -138,6 +142,8 @@ impl Association {
             → IsIdle now self.new }
         ensures within { LeavesWithin now self.old.outbound self.new.outbound }
         ensures leaves { LeavesBy (is_sent result) self.old self.new }
+        ensures fewer { result ≡ Ok true
+            → most_packets now self.new < most_packets now self.old }
     {
         self.draft.begin(header)?;
         let filled = self.fill(now);
@@ -189,7 +195,7 @@ impl Association {
     }
 
     // Puts its chunks.
-    #[tactic(auto, using(crate::proofs::Others::others_one, crate::proofs::Others::others_none, crate::proofs::Offering::reply_others))]
+    #[tactic(auto, using(crate::proofs::Others::others_one, crate::proofs::Others::others_none))]
     fn put_reply(&mut self, kind: AloneKind, now: u64) -> Result<(), Fault>
         ensures reply { PutsReply kind self.old self.new }
         ensures timed { IsAsTimed self.old self.new }
@@ -302,9 +308,10 @@ impl Association {
     }
 
     // Puts an ABORT with one cause.
-    #[tactic(auto, using(crate::proofs::Others::others_one, crate::proofs::Others::others_none, crate::proofs::Others::others_then))]
+    #[tactic(auto, using(crate::proofs::Offering::reply_one, crate::proofs::Offering::reply_none))]
     fn put_abort(&mut self, code: u16, info: &[u8]) -> Result<(), Fault>
-        ensures others { PutsOthers self.old self.new }
+        ensures reply { (kind : AloneKind) → PutsReply kind self.old self.new }
+        ensures timed { IsAsTimed self.old self.new }
         ensures put { OnOk result
             (PutsOne (abort_chunk (one_cause code info.now)) self.old.draft self.new.draft) }
         ensures replies { replies_of self.new ≡ replies_of self.old }
@@ -317,9 +324,10 @@ impl Association {
     }
 
     // Puts an ABORT about a Host Name Address (RFC 9260 5.1.2).
-    #[tactic(auto, using(crate::proofs::Others::others_one, crate::proofs::Others::others_none, crate::proofs::Others::others_then))]
+    #[tactic(auto, using(crate::proofs::Offering::reply_one, crate::proofs::Offering::reply_none))]
     fn put_host_name(&mut self) -> Result<(), Fault>
-        ensures others { PutsOthers self.old self.new }
+        ensures reply { (kind : AloneKind) → PutsReply kind self.old self.new }
+        ensures timed { IsAsTimed self.old self.new }
         ensures put { OnOk result (PutsOne (abort_chunk (host_name_causes
             (self.old.draft.limit - length self.old.draft.bytes) self.old.due.unknown_params))
             self.old.draft self.new.draft) }
@@ -357,7 +365,7 @@ impl Association {
 
     // Puts what is due into a packet: control chunks first (RFC 9260 6.10).
     fn fill(&mut self, now: u64) -> Result<(), Fault>
-        ensures made { PutsDue now self.old self.new }
+        ensures made { PutsDueOrData now self.old self.new }
         ensures kept { IsUnmoved self.old self.new }
         ensures moments { AsksNoMore now self.old self.new }
         ensures owes { OnOk result (self.new.machine.state ≢ CookieEchoed
@@ -367,6 +375,9 @@ impl Association {
             → IsIdle now self.new) }
         ensures within { LeavesWithin now self.old.outbound self.new.outbound }
         ensures leaves { LeavesInto self.old self.new }
+        ensures fewer { (p : Parts) → IsDraft p self.old.draft.bytes
+            → FewerWherePut (most_packets now self.old) (most_packets now self.new)
+            self.old.draft.bytes self.new.draft.bytes }
     {
         self.put_cookies();
         if self.machine.state() == State::CookieEchoed {
@@ -392,6 +403,7 @@ impl Association {
         ensures acks { sack_delay self.new ≡ sack_delay self.old }
         ensures full { IsAsFull self.old.outbound self.new.outbound }
         ensures leaves { LeavesInto self.old self.new }
+        ensures skip { self.new.outbound.is_skip_due ≡ self.old.outbound.is_skip_due }
     {
         self.put_shutdown();
         self.put_heartbeats(now)?;
@@ -412,6 +424,8 @@ impl Association {
             × IsTimed (in_flight self.new.outbound.sender) self.new.outbound.timer.at)) }
         ensures within { LeavesWithin now self.old.outbound self.new.outbound }
         ensures replies { replies_of self.new ≡ replies_of self.old }
+        ensures fewer { FewerWherePut (most_data self.old.outbound) (most_data self.new.outbound)
+            self.old.draft.bytes self.new.draft.bytes }
     {
         if !self.machine.state().sends_data() {
             return Ok(());
@@ -488,6 +502,7 @@ impl Association {
             (HasNoSackDue now self.new)) }
         ensures full { IsAsFull self.old.outbound self.new.outbound }
         ensures replies { replies_of self.new ≡ replies_of self.old }
+        ensures skip { self.new.outbound.is_skip_due ≡ self.old.outbound.is_skip_due }
     {
         let has_data = self.outbound.has_data() && self.machine.state().sends_data();
         match &mut self.inbound {
@@ -507,6 +522,7 @@ impl Association {
         ensures acks { sack_delay self.new ≡ sack_delay self.old }
         ensures full { IsAsFull self.old.outbound self.new.outbound }
         ensures leaves { LeavesInto self.old self.new }
+        ensures skip { self.new.outbound.is_skip_due ≡ self.old.outbound.is_skip_due }
     {
         self.put_shutdown_asked();
         self.put_shutdown_ack();
@@ -523,6 +539,7 @@ impl Association {
         ensures acks { sack_delay self.new ≡ sack_delay self.old }
         ensures full { IsAsFull self.old.outbound self.new.outbound }
         ensures leaves { LeavesInto self.old self.new }
+        ensures skip { self.new.outbound.is_skip_due ≡ self.old.outbound.is_skip_due }
     {
         if !self.due.shutdown {
             return;

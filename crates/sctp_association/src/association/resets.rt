@@ -47,8 +47,9 @@ fn reconfig(
     response: Option<ParamReconfigResponse>,
     request: Option<ParamOutgoingResetRequest>,
 ) -> Option<ChunkReconfig>
-    ensures { IfSome result (λ c. IsReconfigOf (is_some response) (is_some request)
+    ensures own { IfSome result (λ c. IsReconfigOf (is_some response) (is_some request)
         (reconfig_of c)) }
+    ensures some { IfSome result (λ c. is_some (reconfig_of c).param_a ≡ true) }
 {
     let (param_a, param_b) = match (response, request) {
         (Some(response), Some(request)) => (

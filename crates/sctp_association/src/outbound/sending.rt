@@ -5,6 +5,7 @@ ghost use Rattle.sctp_association.specs.Congested.{BeginsNew, IsAsMany, LeavesWi
 ghost use Rattle.sctp_association.specs.Counts.{CountsNone, IsCountedAlong, IsCountedOn};
 ghost use Rattle.sctp_association.specs.Filled.{IfNonePut};
 ghost use Rattle.sctp_association.specs.Idle.{SendsNoneAgain, SendsNoneNew, WaitsBehind, WaitsForSacks, in_flight};
+ghost use Rattle.sctp_association.specs.Most.{FewerWherePut, most_data};
 ghost use Rattle.sctp_association.specs.Packets.{PutsOut};
 ghost use Rattle.sctp_association.specs.Sending.{EndsWithin, IsTimed, flight_of, idle_times, is_early, is_front_late, is_later, lowered_times, lowered, may_send_again, may_send_next, sent_at};
 ghost use Rattle.sctp_outbound.specs.pending_queue.PendingQueue.{chunk_count, next_pending};
@@ -49,6 +50,8 @@ impl Outbound {
         ensures idle { OnOk result (IfNonePut packet.old.bytes packet.new.bytes
             (WaitsForSacks packet.old.limit self.new.sender)) }
         ensures within { LeavesWithin now self.old self.new }
+        ensures fewer { FewerWherePut (most_data self.old) (most_data self.new)
+            packet.old.bytes packet.new.bytes }
     {
         let filled = self.put_all(packet, now);
         self.run_timer(now);
@@ -65,6 +68,8 @@ impl Outbound {
         ensures idle { OnOk result (IfNonePut packet.old.bytes packet.new.bytes
             (WaitsForSacks packet.old.limit self.new.sender)) }
         ensures within { LeavesWithin now self.old self.new }
+        ensures fewer { FewerWherePut (most_data self.old) (most_data self.new)
+            packet.old.bytes packet.new.bytes }
     {
         self.put_skip(packet)?;
         self.put_lost(packet, now)?;
@@ -78,6 +83,8 @@ impl Outbound {
         ensures rest { self.new ≡ record self.old { is_skip_due = self.new.is_skip_due } }
         ensures err { OnErr result (self.new ≡ self.old) }
         ensures grows { length packet.old.bytes ≤ length packet.new.bytes }
+        ensures fewer { FewerWherePut (most_data self.old) (most_data self.new)
+            packet.old.bytes packet.new.bytes }
     {
         if !self.is_skip_due {
             return Ok(());
@@ -99,6 +106,8 @@ impl Outbound {
         ensures idle { OnOk result (IfNonePut packet.old.bytes packet.new.bytes
             (SendsNoneAgain (packet.old.limit - length packet.old.bytes) self.old self.new)) }
         ensures many { IsAsMany now self.old self.new }
+        ensures fewer { FewerWherePut (most_data self.old) (most_data self.new)
+            packet.old.bytes packet.new.bytes }
     {
         let flight = self.flight();
         self.put_marked(packet, self.is_fast, flight, now)
@@ -121,6 +130,8 @@ impl Outbound {
             (flight ≡ flight_of (in_flight self.old.sender)
             → SendsNoneAgain (packet.old.limit - length packet.old.bytes) self.old self.new)) }
         ensures many { IsAsMany now self.old self.new }
+        ensures fewer { FewerWherePut (most_data self.old) (most_data self.new)
+            packet.old.bytes packet.new.bytes }
     {
         if !self.put_again(packet, is_fast, flight, now)? {
             return Ok(());
@@ -164,6 +175,8 @@ impl Outbound {
             → flight ≡ flight_of (in_flight self.old.sender)
             → SendsNoneAgain (packet.old.limit - length packet.old.bytes) self.old self.new) }
         ensures many { IsAsMany now self.old self.new }
+        ensures fewer { FewerWherePut (most_data self.old) (most_data self.new)
+            packet.old.bytes packet.new.bytes }
     {
         if !self.may_send_again(is_fast, flight, now) {
             return Ok(false);
@@ -231,6 +244,8 @@ impl Outbound {
         ensures none { IfOk result (λ sent. sent ≡ false → next_within
             (packet.old.limit - length packet.old.bytes) self.old.sender.flight ≡ None) }
         ensures many { IsAsMany now self.old self.new }
+        ensures fewer { FewerWherePut (most_data self.old) (most_data self.new)
+            packet.old.bytes packet.new.bytes }
     {
         let Some(chunk) = self.sender.resend_next(now, packet.room())? else {
             return Ok(false);
@@ -280,6 +295,7 @@ impl Outbound {
         ensures sender { self.new.sender ≡ self.old.sender }
         ensures counts { CountsNone self.old self.new }
         ensures lost { self.new.has_lost ≡ self.old.has_lost }
+        ensures skip { self.new.is_skip_due ≡ self.old.is_skip_due }
         ensures begins { BeginsNew now result self.old self.new }
         ensures none { result ≡ false → (self.old.has_lost ≡ true)
             ⊎ (chunk_count self.old.sender.flight.queue.pending ≡ 0) }
@@ -304,6 +320,8 @@ impl Outbound {
         ensures idle { OnOk result (IfNonePut packet.old.bytes packet.new.bytes
             (SendsNoneNew (packet.old.limit - length packet.old.bytes) self.old self.new)) }
         ensures within { LeavesWithin now self.old self.new }
+        ensures fewer { FewerWherePut (most_data self.old) (most_data self.new)
+            packet.old.bytes packet.new.bytes }
     {
         if !self.begin_new(now) {
             return Ok(());
@@ -386,6 +404,8 @@ impl Outbound {
         ensures limit { packet.new.limit ≡ packet.old.limit }
         ensures grows { length packet.old.bytes ≤ length packet.new.bytes }
         ensures within { StaysOrLeft now self.old self.new }
+        ensures fewer { FewerWherePut (most_data self.old) (most_data self.new)
+            packet.old.bytes packet.new.bytes }
     {
         if self.is_partial && self.is_front_late(now) {
             return Ok(false);
@@ -411,6 +431,8 @@ impl Outbound {
         ensures none { IfOk result (λ sent. sent ≡ false
             → WaitsBehind (packet.old.limit - length packet.old.bytes) self.old.sender) }
         ensures within { StaysOrLeft now self.old self.new }
+        ensures fewer { FewerWherePut (most_data self.old) (most_data self.new)
+            packet.old.bytes packet.new.bytes }
     {
         let Some(chunk) = self.sender.outbound().peek_pending() else {
             return Ok(false);
@@ -420,6 +442,7 @@ impl Outbound {
             return Ok(false);
         }
         let flight = self.flight();
+        self.sender.outbound().are_whole();
         let sent = match replay::send_next_tsn(&mut self.sender, now) {
             Ok(sent) => sent,
             Err(SenderRefusal::SsnsUsedUp) => return Ok(false),

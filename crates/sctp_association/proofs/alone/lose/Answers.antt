@@ -1,4 +1,4 @@
-use Rattle.std.proofs.Common.{arith, refl}
+use Rattle.std.proofs.Common.{Ok, ap, arith, refl, ◌∙◌}
 use Rattle.sctp_association.proofs.Lasting.{lasts_then}
 use Rattle.sctp_association.proofs.alone.lose.Goals as goal
 
@@ -10,3 +10,6 @@ loop-preserved c = lasts_then c.args.one.now c.loop.one c.poll_transmit.new.self
 
 pub returns-in_default : goal.returns-in_default
 returns-in_default c = lasts_then c.args.one.now c.loop.one c.poll_transmit.new.self c.loop.invariant c.poll_transmit.ensures.left
+
+pub loop-smaller : goal.loop-smaller
+loop-smaller c = c.poll_transmit.ensures.fewer (c.in-Ok-true.is ∙ ap (λ b. Ok b) c.in-Ok-true.field-0-test)

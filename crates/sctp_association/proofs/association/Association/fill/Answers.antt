@@ -1,3 +1,4 @@
+use Rattle.sctp_association.proofs.Fewer.{data_fewer, due_fewer, once_fewer, others_fewer, fewer_then}
 use Rattle.sctp_association.proofs.Leaving.{into_kept, into_then}
 use Rattle.std.proofs.Common.{◌≡◌, [], arith, false, subst, sym, ◌∙◌}
 use Rattle.std.specs.Prelude.{IfSome}
@@ -5,22 +6,25 @@ use Rattle.sctp_association.proofs.Congested.{full_of, full_then, within_behind,
 use Rattle.sctp_association.proofs.Idle.{added_longer, no_shutdown, on_ok, on_ok_so}
 use Rattle.sctp_association.proofs.Known.{still_none, unmoved_then}
 use Rattle.sctp_path.specs.Timers.{is_due}
-use Rattle.sctp_association.proofs.Others.{beats_same, beats_then, due_then, once_puts, others_once, others_puts, others_then, puts_due, timed_then}
+use Rattle.sctp_association.proofs.Others.{beats_same, beats_then, data_then, due_data, due_then, once_puts, others_once, others_puts, others_then, timed_then}
 use Rattle.sctp_association.proofs.association.Association.fill.Goals as goal
 
 pub returns-in_err-put_sack-clause-made : goal.returns-in_err-put_sack-clause-made
-returns-in_err-put_sack-clause-made c = once_puts c.args.self.now c.put_sack.new.self c.args.now
-    (others_once c.args.self.now c.put_cookies.new.self c.put_sack.new.self
+returns-in_err-put_sack-clause-made c = due_data c.args.self.now c.put_sack.new.self c.args.now (
+    once_puts c.args.self.now c.put_sack.new.self c.args.now (others_once c.args.self.now c.put_cookies.new.self c.put_sack.new.self
     c.put_cookies.ensures.others c.put_sack.ensures.made c.put_sack.ensures.kept)
+    )
 
 pub returns-in_err-put_control-clause-made : goal.returns-in_err-put_control-clause-made
 returns-in_err-put_control-clause-made c =
     let acked = once_puts c.args.self.now c.put_sack.new.self c.args.now (others_once c.args.self.now c.put_cookies.new.self c.put_sack.new.self
     c.put_cookies.ensures.others c.put_sack.ensures.made c.put_sack.ensures.kept) in
+    due_data c.args.self.now c.put_control.new.self c.args.now (
     due_then c.args.now c.args.self.now c.put_sack.new.self c.put_control.new.self acked
     (unmoved_then _ _ _ c.put_cookies.ensures.others.kept c.put_sack.ensures.kept)
     (beats_same c.args.now _ _ (timed_then _ _ _ c.put_cookies.ensures.others.timed c.put_sack.ensures.timed))
     c.put_control.ensures.made c.put_control.ensures.kept c.put_control.ensures.moments
+    )
 
 pub returns-clause-made : goal.returns-clause-made
 returns-clause-made c =
@@ -31,17 +35,19 @@ returns-clause-made c =
     (timed_then _ _ _ c.put_cookies.ensures.others.timed c.put_sack.ensures.timed) in
     let controlled = due_then c.args.now c.args.self.now c.put_sack.new.self c.put_control.new.self acked unmoved beats c.put_control.ensures.made
     c.put_control.ensures.kept c.put_control.ensures.moments in
-    due_then c.args.now c.args.self.now c.put_control.new.self c.put_data.new.self controlled (unmoved_then _ _ _ unmoved c.put_control.ensures.kept)
-    (beats_then c.args.now c.args.self.now c.put_sack.new.self c.put_control.new.self beats c.put_control.ensures.moments)
-    (puts_due c.put_control.new.self c.put_data.new.self c.args.now c.put_data.ensures.made) c.put_data.ensures.kept c.put_data.ensures.moments
+    data_then c.args.now c.args.self.now c.put_control.new.self c.put_data.new.self controlled c.put_data.ensures.made c.put_data.ensures.kept
+    c.put_data.ensures.moments
 
 pub returns-then-is_empty-clause-made : goal.returns-then-is_empty-clause-made
-returns-then-is_empty-clause-made c = once_puts c.args.self.now c.put_cookies.new.self c.args.now
-    (others_puts c.args.self.now c.put_cookies.new.self c.put_cookies.ensures.others)
+returns-then-is_empty-clause-made c = due_data c.args.self.now c.put_cookies.new.self c.args.now (
+    once_puts c.args.self.now c.put_cookies.new.self c.args.now (others_puts c.args.self.now c.put_cookies.new.self c.put_cookies.ensures.others)
+    )
 
 pub returns-else-is_empty-clause-made : goal.returns-else-is_empty-clause-made
-returns-else-is_empty-clause-made c = once_puts c.args.self.now c.put_report.new.self c.args.now
+returns-else-is_empty-clause-made c = due_data c.args.self.now c.put_report.new.self c.args.now (
+    once_puts c.args.self.now c.put_report.new.self c.args.now
     (others_puts c.args.self.now c.put_report.new.self (others_then _ _ _ c.put_cookies.ensures.others c.put_report.ensures.others))
+    )
 
 -- ## HEARTBEATs
 
@@ -164,3 +170,61 @@ returns-clause-leaves c =
     let controlled = into_then c.args.self.now c.put_sack.new.self c.put_control.new.self _ _ both.added c.put_control.ensures.made.added acked
     c.put_control.ensures.leaves in
     into_kept c.args.self.now c.put_control.new.self c.put_data.new.self [] _ c.put_data.ensures.made.added controlled c.put_data.ensures.replies
+
+-- ## What stays
+
+pub returns-clause-kept : goal.returns-clause-kept
+returns-clause-kept c =
+    let acked = unmoved_then c.args.self.now c.put_cookies.new.self c.put_sack.new.self c.put_cookies.ensures.others.kept c.put_sack.ensures.kept in
+    let controlled = unmoved_then c.args.self.now c.put_sack.new.self c.put_control.new.self acked c.put_control.ensures.kept in
+    unmoved_then c.args.self.now c.put_control.new.self c.put_data.new.self controlled c.put_data.ensures.kept
+
+-- ## What can still leave
+
+pub returns-then-is_empty-clause-fewer : goal.returns-then-is_empty-clause-fewer
+returns-then-is_empty-clause-fewer c p draft =
+    others_fewer c.args.now c.args.self.now c.put_cookies.new.self c.put_cookies.ensures.others p draft
+
+pub returns-else-is_empty-clause-fewer : goal.returns-else-is_empty-clause-fewer
+returns-else-is_empty-clause-fewer c p draft = others_fewer c.args.now c.args.self.now c.put_report.new.self
+    (others_then _ _ _ c.put_cookies.ensures.others c.put_report.ensures.others) p draft
+
+pub returns-in_err-put_sack-clause-fewer : goal.returns-in_err-put_sack-clause-fewer
+returns-in_err-put_sack-clause-fewer c p draft =
+    let cookies = c.put_cookies.ensures.others in
+    let one = others_fewer c.args.now c.args.self.now c.put_cookies.new.self cookies p draft in
+    let sack = c.put_sack.ensures in
+    let two = once_fewer c.args.now c.put_cookies.new.self c.put_sack.new.self sack.made sack.kept sack.timed sack.full.sender sack.skip _
+    (cookies.added.draft p draft) in
+    let acked = fewer_then _ _ _ _ _ _ one two in
+    acked
+
+pub returns-in_err-put_control-clause-fewer : goal.returns-in_err-put_control-clause-fewer
+returns-in_err-put_control-clause-fewer c p draft =
+    let cookies = c.put_cookies.ensures.others in
+    let one = others_fewer c.args.now c.args.self.now c.put_cookies.new.self cookies p draft in
+    let sack = c.put_sack.ensures in
+    let two = once_fewer c.args.now c.put_cookies.new.self c.put_sack.new.self sack.made sack.kept sack.timed sack.full.sender sack.skip _
+    (cookies.added.draft p draft) in
+    let acked = fewer_then _ _ _ _ _ _ one two in
+    let control = c.put_control.ensures in
+    let three = due_fewer c.args.now c.put_sack.new.self c.put_control.new.self control.kept control.moments control.made control.full.sender control.skip _
+    (sack.made.added.draft _ (cookies.added.draft p draft)) in
+    let controlled = fewer_then _ _ _ _ _ _ acked three in
+    controlled
+
+pub returns-clause-fewer : goal.returns-clause-fewer
+returns-clause-fewer c p draft =
+    let cookies = c.put_cookies.ensures.others in
+    let one = others_fewer c.args.now c.args.self.now c.put_cookies.new.self cookies p draft in
+    let sack = c.put_sack.ensures in
+    let two = once_fewer c.args.now c.put_cookies.new.self c.put_sack.new.self sack.made sack.kept sack.timed sack.full.sender sack.skip _
+    (cookies.added.draft p draft) in
+    let acked = fewer_then _ _ _ _ _ _ one two in
+    let control = c.put_control.ensures in
+    let three = due_fewer c.args.now c.put_sack.new.self c.put_control.new.self control.kept control.moments control.made control.full.sender control.skip _
+    (sack.made.added.draft _ (cookies.added.draft p draft)) in
+    let controlled = fewer_then _ _ _ _ _ _ acked three in
+    let last = c.put_data.ensures in
+    let four = data_fewer c.args.now c.put_control.new.self c.put_data.new.self last.kept last.moments last.fewer in
+    fewer_then _ _ _ _ _ _ controlled four

@@ -1,3 +1,6 @@
+use Rattle.sctp_handshake.specs.declared.machine.Machine.{Machine}
+use Rattle.std.proofs.Common.{ap, ◌∙◌}
+use Rattle.sctp_association.proofs.Fewer.{drained_alone, drained_shut}
 use Rattle.sctp_association.proofs.Known.{keeps_by, knows_drained}
 use Rattle.sctp_association.proofs.Going.{drained_told}
 use Rattle.sctp_association.proofs.Leaving.{drained_beats, drained_owes}
@@ -34,3 +37,14 @@ returns-clause-sending c = c.follow.ensures.sending (drained_told _ _ c.drained-
 
 pub returns-clause-heartbeat : goal.returns-clause-heartbeat
 returns-clause-heartbeat c = c.follow.ensures.heartbeat (drained_told _ _ c.drained-answer.ensures.answer)
+
+-- ## What may still come to be due
+
+pub returns-clause-alone : goal.returns-clause-alone
+returns-clause-alone c =
+    drained_alone c.args.self.now.machine _ _ c.args.self.now.due c.follow.new.self.due c.drained-answer.ensures
+    (c.follow.ensures.due (drained_told _ _ c.drained-answer.ensures.answer))
+
+pub returns-clause-shut : goal.returns-clause-shut
+returns-clause-shut c none = ap (λ (m : Machine). m.state) c.follow.ensures.kept.machine
+    ∙ drained_shut c.args.self.now.machine _ _ c.drained-answer.ensures none

@@ -1,3 +1,6 @@
+use Rattle.sctp_association.proofs.Fewer.{data_same, replies_few, settled_few, some_less}
+use Rattle.sctp_association.specs.Most.{most_data}
+use Rattle.std.proofs.Common.{None, arith, subst, ◌≤◌}
 use Rattle.std.proofs.Common.{Option, ap, refl, sym, ◌∙◌}
 use Rattle.sctp_association.proofs.Telling.{tells_kept, tells_peer, tells_same, tells_then, to_same, transmits_end, unmoved_end}
 use Rattle.std.proofs.lemmas.Option.{none-some}
@@ -283,3 +286,24 @@ returns-clause-moments c = at_then _ _ _
     (at_then _ _ _
     (rto_asks c.args.now c.args.self.now c.abandon.new.self (ap (λ (o : Outbound). o.rto) c.abandon.ensures.rest)) c.settle.ensures.moments)
     c.put_packet.ensures.moments
+
+-- ## What can still leave
+
+pub returns-in-Some-clause-fewer : goal.returns-in-Some-clause-fewer
+returns-in-Some-clause-fewer c _ =
+    let put = c.put_alone.ensures in
+    let beats = beats_same c.args.now c.args.self.now c.put_alone.new.self put.timed in
+    let replies = replies_few c.args.now c.args.self.now c.put_alone.new.self put.kept beats in
+    let half = data_same c.args.self.now.outbound c.put_alone.new.self.outbound put.halves.sender put.halves.skip in
+    let alone = some_less c.args.self.now.due.alone None c.in-Some.alone c.in-Some.is refl in
+    omega (arith, replies, half, alone)
+
+pub returns-clause-fewer : goal.returns-clause-fewer
+returns-clause-fewer c sent =
+    let settled = settled_few c.args.now c.args.self.now c.settle.new.self c.settle.ensures.asks
+    (at_then _ _ _
+    (rto_asks c.args.now c.args.self.now c.abandon.new.self (ap (λ (o : Outbound). o.rto) c.abandon.ensures.rest)) c.settle.ensures.moments)
+    c.settle.ensures.shut c.settle.ensures.alone
+    (subst (λ (o : Outbound). most_data o ≤ most_data c.args.self.now.outbound) (sym c.settle.ensures.sending) c.abandon.ensures.fewer) in
+    let less = c.put_packet.ensures.fewer sent in
+    omega (arith, settled, less)

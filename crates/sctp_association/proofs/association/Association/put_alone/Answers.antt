@@ -16,6 +16,7 @@ returns-in_err-put_reply-clause-halves c =
       receiver = c.put_reply.ensures.reply.halves.receiver;
       windows = record { peer_window = h.peer_window; congestion = h.congestion };
       pace = record { used = p.used; burst = p.burst; paused = p.paused };
+      skip = c.put_reply.ensures.reply.halves.skip;
     }
 
 pub returns-clause-halves : goal.returns-clause-halves
@@ -27,6 +28,7 @@ returns-clause-halves c =
       receiver = c.put_reply.ensures.reply.halves.receiver;
       windows = record { peer_window = h.peer_window; congestion = h.congestion };
       pace = record { used = p.used; burst = p.burst; paused = p.paused };
+      skip = c.put_reply.ensures.reply.halves.skip;
     }
 
 pub returns-clause-written : goal.returns-clause-written

@@ -160,3 +160,20 @@ returns-clause-full c =
     (others_then _ c.put_unknown_stream.new.self _ c.put_unknown_stream.ensures.others c.put_report.ensures.others) in
     full_then _ c.put_report.new.self.outbound _ told
     (full_of c.put_report.new.self c.put_resets.new.self c.put_resets.ensures.halves c.put_resets.ensures.kept.rto)
+
+-- ## A FORWARD-TSN that is due stays so
+
+pub returns-in_err-put_heartbeats-clause-skip : goal.returns-in_err-put_heartbeats-clause-skip
+returns-in_err-put_heartbeats-clause-skip c = c.put_heartbeats.ensures.halves.skip ∙ c.put_shutdown.ensures.skip
+
+pub returns-in_err-put_unknown_stream-clause-skip : goal.returns-in_err-put_unknown_stream-clause-skip
+returns-in_err-put_unknown_stream-clause-skip c =
+    c.put_unknown_stream.ensures.others.halves.skip ∙ c.put_heartbeats.ensures.halves.skip ∙ c.put_shutdown.ensures.skip
+
+pub returns-in_err-put_report-clause-skip : goal.returns-in_err-put_report-clause-skip
+returns-in_err-put_report-clause-skip c = c.put_report.ensures.others.halves.skip ∙ c.put_unknown_stream.ensures.others.halves.skip
+    ∙ c.put_heartbeats.ensures.halves.skip ∙ c.put_shutdown.ensures.skip
+
+pub returns-clause-skip : goal.returns-clause-skip
+returns-clause-skip c = c.put_resets.ensures.halves.skip ∙ c.put_report.ensures.others.halves.skip
+    ∙ c.put_unknown_stream.ensures.others.halves.skip ∙ c.put_heartbeats.ensures.halves.skip ∙ c.put_shutdown.ensures.skip

@@ -30,6 +30,7 @@ returns-then-is_put-clause-others c =
       receiver = refl;
       windows = record { peer_window = refl; congestion = refl };
       pace = record { used = refl; burst = refl; paused = refl };
+      skip = refl;
     })
     (record {
       config = refl;
@@ -62,6 +63,7 @@ returns-in_default-clause-others c = others_none c.args.self.now _
       receiver = refl;
       windows = record { peer_window = refl; congestion = refl };
       pace = record { used = refl; burst = refl; paused = refl };
+      skip = refl;
     })
     (record {
       config = refl;

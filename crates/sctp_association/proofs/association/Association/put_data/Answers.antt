@@ -1,3 +1,5 @@
+use Rattle.sctp_association.specs.Most.{FewerWherePut, most_data}
+use Rattle.sctp_association.proofs.Fewer.{fewer_same}
 use Rattle.std.proofs.Common.{refl, subst, sym}
 use Rattle.sctp_association.proofs.Congested.{within_same}
 use Rattle.sctp_association.proofs.Others.{at_then}
@@ -32,3 +34,16 @@ returns-in_err-put-clause-moments c = rto_asks c.args.now c.args.self.now c.put.
 pub returns-clause-moments : goal.returns-clause-moments
 returns-clause-moments c = at_then _ _ _
     (rto_asks c.args.now c.args.self.now c.put.new.self c.put.ensures.counted.rto) c.note_use.ensures.moments
+
+-- ## What can still leave
+
+pub returns-then-not-sends_data-clause-fewer : goal.returns-then-not-sends_data-clause-fewer
+returns-then-not-sends_data-clause-fewer c = fewer_same _ _ _ _ refl refl
+
+pub returns-in_err-put-clause-fewer : goal.returns-in_err-put-clause-fewer
+returns-in_err-put-clause-fewer c = c.put.ensures.fewer
+
+pub returns-clause-fewer : goal.returns-clause-fewer
+returns-clause-fewer c = subst (λ (a : Association).
+    FewerWherePut (most_data c.args.self.now.outbound) (most_data a.outbound) c.args.self.now.draft.bytes a.draft.bytes) (sym c.note_use.ensures.rest)
+    c.put.ensures.fewer

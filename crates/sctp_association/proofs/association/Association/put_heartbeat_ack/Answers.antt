@@ -39,6 +39,7 @@ returns-in_err-heartbeat_ack-clause-others c = others_none c.args.self.now _
       receiver = refl;
       windows = record { peer_window = refl; congestion = refl };
       pace = record { used = refl; burst = refl; paused = refl };
+      skip = refl;
     })
     (record {
       config = refl;

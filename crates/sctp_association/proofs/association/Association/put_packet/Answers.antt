@@ -1,3 +1,5 @@
+use Rattle.std.proofs.lemmas.Bool.{leb-false}
+use Rattle.std.proofs.Common.{arith}
 use Rattle.sctp_association.proofs.Leaving.{by_none, by_sealed, leaves_same, with_limit}
 use Rattle.std.proofs.Common.{[], ap, false, refl, subst, sym, ◌∙◌}
 use Rattle.sctp_association.specs.Leaving.{replies_of}
@@ -104,3 +106,11 @@ returns-then-is_empty-clause-moments c =
 pub returns-clause-moments : goal.returns-clause-moments
 returns-clause-moments c =
     let m = c.fill-filled.ensures.moments in record { beat = m.beat; request = m.request; responses = m.responses }
+
+-- ## What can still leave
+
+pub returns-clause-fewer : goal.returns-clause-fewer
+returns-clause-fewer c _ =
+    let long = leb-false _ 12 (sym c.is_empty.ensures ∙ c.if-is_empty.false) in
+    let filled = c.fill-filled.ensures.fewer (headed c.args.header) c.in_ok-begin.ensures.begun in
+    filled.fewer (omega (arith, c.in_ok-begin.ensures.head, long))

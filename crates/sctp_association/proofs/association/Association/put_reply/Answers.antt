@@ -18,6 +18,7 @@ returns-in-ShuttingDown-clause-reply c =
       receiver = refl;
       windows = record { peer_window = refl; congestion = refl };
       pace = record { used = refl; burst = refl; paused = refl };
+      skip = refl;
     })
     (record {
       config = refl;
@@ -35,6 +36,18 @@ returns-in-ShuttingDown-clause-reply c =
       unknown = λ s e. e;
     })
     ) (c.put_error-in-ShuttingDown.ensures.reply c.args.kind)
+
+pub returns-in-Abort-clause-reply : goal.returns-in-Abort-clause-reply
+returns-in-Abort-clause-reply c = c.put_abort.ensures.reply c.args.kind
+
+pub returns-in-NoCookie-clause-reply : goal.returns-in-NoCookie-clause-reply
+returns-in-NoCookie-clause-reply c = c.put_abort-in-NoCookie.ensures.reply c.args.kind
+
+pub returns-in-HostName-clause-reply : goal.returns-in-HostName-clause-reply
+returns-in-HostName-clause-reply c = c.put_host_name.ensures.reply c.args.kind
+
+pub returns-in-NoUserData-clause-reply : goal.returns-in-NoUserData-clause-reply
+returns-in-NoUserData-clause-reply c = c.put_abort-in-NoUserData.ensures.reply c.args.kind
 
 -- ## Exactly its chunks
 

@@ -29,3 +29,6 @@ pub returns-clause-full : goal.returns-clause-full
 returns-clause-full c =
     full_others c.args.self.now.outbound c.put_shutdown_asked.new.self c.put_shutdown_ack.new.self c.put_shutdown_asked.ensures.full
     c.put_shutdown_ack.ensures.others
+
+pub returns-clause-skip : goal.returns-clause-skip
+returns-clause-skip c = c.put_shutdown_ack.ensures.others.halves.skip ∙ c.put_shutdown_asked.ensures.skip

@@ -37,6 +37,7 @@ returns-then-put-clause-others c =
       receiver = refl;
       windows = record { peer_window = refl; congestion = refl };
       pace = record { used = refl; burst = refl; paused = refl };
+      skip = refl;
     })
     (record {
       config = refl;
@@ -70,6 +71,7 @@ returns-else-self-clause-others c = elim c.else-self.branch [
         receiver = refl;
         windows = record { peer_window = refl; congestion = refl };
         pace = record { used = refl; burst = refl; paused = refl };
+        skip = refl;
       })
       (record {
         config = refl;

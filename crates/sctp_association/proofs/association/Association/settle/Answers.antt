@@ -1,3 +1,6 @@
+use Rattle.sctp_association.specs.Most.{shutdowns_left}
+use Rattle.std.proofs.Common.{◌≡◌, ◌∙◌}
+use Rattle.sctp_association.proofs.Fewer.{asked_shut}
 use Rattle.sctp_association.specs.Telling.{TellsEnd}
 use Rattle.sctp_association.proofs.Telling.{end_same, end_then}
 use Rattle.std.proofs.Common.{ap}
@@ -49,3 +52,20 @@ returns-clause-moments c =
       })
     ] in
     beats_then c.args.now c.args.self.now c.if-self.self c.note_drained.new.self first c.note_drained.ensures.moments
+
+-- ## What may still come to be due
+
+pub returns-clause-alone : goal.returns-clause-alone
+returns-clause-alone c = c.note_drained.ensures.alone ∙ elim c.if-self.branch [
+  | then-self+then-eq w ↦ ap (λ (x : Association). x.due.alone) w.self-is
+  | else-self w ↦ ap (λ (x : Association). x.due.alone) w.self-is
+]
+
+pub returns-clause-shut : goal.returns-clause-shut
+returns-clause-shut c none =
+    let first : c.if-self.self.machine.state ≡ c.args.self.now.machine.state = elim c.if-self.branch [
+      | then-self+then-eq w ↦ ap (λ (x : Association). x.machine.state) w.self-is
+          ∙ asked_shut c.args.self.now.machine _ _ w.shutdown_asked-answer.ensures none
+      | else-self w ↦ ap (λ (x : Association). x.machine.state) w.self-is
+    ] in
+    c.note_drained.ensures.shut (ap shutdowns_left first ∙ none) ∙ first

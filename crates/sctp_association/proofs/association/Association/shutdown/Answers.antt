@@ -6,7 +6,11 @@ use Rattle.sctp_handshake.specs.declared.machine.Machine.{Machine}
 use Rattle.sctp_association.proofs.Telling.{tells_peer, tells_then}
 use Rattle.sctp_association.proofs.Begun.{asked_told}
 use Rattle.sctp_association.proofs.Others.{alike_then}
+use Rattle.sctp_association.proofs.Lasting.{asked_left, lasts_by, lasts_then}
+use Rattle.sctp_association.specs.declared.outbound.Outbound.{Outbound}
 use Rattle.sctp_association.specs.Halves.{HalvesAlike}
+use Rattle.sctp_association.specs.Lasting.{control_left}
+use Rattle.sctp_handshake.specs.declared.machine.Machine.{Machine}
 use Rattle.sctp_association.proofs.Known.{keeps_by, keeps_then, knows_asked}
 use Rattle.sctp_association.proofs.association.Association.shutdown.Goals as goal
 
@@ -20,6 +24,7 @@ returns-clause-halves c =
       receiver = first.receiver;
       windows = record { peer_window = first.windows.peer_window; congestion = first.windows.congestion };
       pace = record { used = first.pace.used; burst = first.pace.burst; paused = first.pace.paused };
+      skip = first.skip;
     } in
     alike_then _ c.follow.new.self _ begun c.settle.ensures.halves
 
@@ -44,10 +49,9 @@ returns-clause-inbound c =
 
 pub returns-clause-left : goal.returns-clause-left
 returns-clause-left c =
-    let old = c.args.self.now in
-    let quiet = asked_told old.machine _ (λ e. absurd (search rules)) c.shutdown_asked-answer.ensures.answer in
-    let fewer = asked_left old.machine _ _ (λ e. absurd (search rules)) c.shutdown_asked-answer.ensures in
-    lasts_then old c.follow.new.self _ (
-    lasts_by old c.follow.new.self (c.follow.ensures.over quiet) (ap (λ (o : Outbound). o.failures) (c.follow.ensures.sending quiet))
-    (subst (λ (m : Machine). control_left m ≤ control_left old.machine) (sym c.follow.ensures.kept.machine) fewer)
-    ) c.settle.ensures.left
+    let quiet = asked_told c.args.self.now.machine _ (λ e. absurd (search rules)) c.shutdown_asked-answer.ensures.answer in
+    let fewer = asked_left c.args.self.now.machine _ _ (λ e. absurd (search rules)) c.shutdown_asked-answer.ensures in
+    let machine = subst (λ (k : Machine). control_left k ≤ control_left c.args.self.now.machine) (sym c.follow.ensures.kept.machine) fewer in
+    lasts_then c.args.self.now c.follow.new.self c.settle.new.self
+    (lasts_by c.args.self.now c.follow.new.self (c.follow.ensures.over quiet) (ap (λ (o : Outbound). o.failures) (c.follow.ensures.sending quiet)) machine)
+    c.settle.ensures.left

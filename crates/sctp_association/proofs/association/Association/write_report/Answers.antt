@@ -23,6 +23,7 @@ returns-clause-others c = elim c.if-is_put.branch [
         receiver = refl;
         windows = record { peer_window = refl; congestion = refl };
         pace = record { used = refl; burst = refl; paused = refl };
+        skip = refl;
       })
       (record {
         config = refl;
@@ -54,6 +55,7 @@ returns-clause-others c = elim c.if-is_put.branch [
         receiver = refl;
         windows = record { peer_window = refl; congestion = refl };
         pace = record { used = refl; burst = refl; paused = refl };
+        skip = refl;
       })
       (record {
         config = refl;

@@ -1,40 +1,42 @@
-use Rattle.std.proofs.Common.{Ok, ◌≡◌, ℕ, true, sym, ap, ◌∙◌, inl, inr}
+use Rattle.std.proofs.Common.{Ok, ◌≡◌, ℕ, arith, refl, sym, ap, ◌∙◌, inl, inr}
+use Rattle.sctp_association.proofs.Fewer.{data_same}
+use Rattle.sctp_association.proofs.Left.{dropped_few, lifetimes_same, owed_few, told_less}
 use Rattle.sctp_association.proofs.Making.{dropped_in, dropped_on, none_dropped, started_on}
 use Rattle.sctp_association.proofs.outbound.Outbound.abandon.Goals as goal
-use Rattle.sctp_association.proofs.outbound.Outbound.abandon.Goals.{in-Some-Abandoned, in-Some-Expired}
 use Rattle.sctp_association.specs.declared.outbound.Outbound.{Outbound}
 use Rattle.sctp_delivery.proofs.Dropped.{answered}
+use Rattle.sctp_association.specs.Most.{tells_some}
 use Rattle.sctp_sender.specs.Drops.{with_lifetimes}
 use Rattle.sctp_sender.specs.Sender.{Transmission}
 
 pub loop-preserved : goal.loop-preserved
 loop-preserved c =
-    let drops = answered c.args.now c.loop.self.sender c.drop_expired.new.self (Ok c.in_ok-drop_expired.field-0) c.in_ok-drop_expired.ensures.run
-    c.in_ok-drop_expired.ensures.run_of_one c.in_ok-drop_expired.ensures.run_any c.in_ok-drop_expired.ensures.run_few c.in_ok-drop_expired.ensures.tail
-    c.in_ok-drop_expired.ensures.late c.in_ok-drop_expired.ensures.worn c.in_ok-drop_expired.ensures.released c.in_ok-drop_expired.ensures.none in
-    let sent = dropped_on c.args.now c.in_ok-drop_expired.field-0 _ _ _ c.loop.invariant.1 drops in
+    let drops = answered c.args.now c.loop.self.sender c.drop_expired.new.self (Ok c.in_ok-dropped.field-0) c.in_ok-dropped.ensures.run
+    c.in_ok-dropped.ensures.run_of_one c.in_ok-dropped.ensures.run_any c.in_ok-dropped.ensures.run_few c.in_ok-dropped.ensures.tail
+    c.in_ok-dropped.ensures.late c.in_ok-dropped.ensures.worn c.in_ok-dropped.ensures.released c.in_ok-dropped.ensures.none in
+    let sent = dropped_on c.args.now c.in_ok-dropped.field-0 _ _ _ c.loop.invariant.1 drops in
     let may = sym c.may_drop.ensures ∙ c.if-not-may_drop.false in
-    elim c.match-branch-3.branch [
-      | in-Some-Abandoned w ↦ let all = dropped_in c.args.self.now c.loop.self c.match-branch-3.self c.drop_expired.new.self true c.loop.invariant.0 w.self-is sent in
-          (all.0, all.1, λ h. absurd (none_dropped c.args.now c.args.self.now c.loop.self c.loop.invariant.2 may h))
-      | in-Some-Expired w ↦ let all = dropped_in c.args.self.now c.loop.self c.match-branch-3.self c.drop_expired.new.self c.loop.self.is_skip_due
-          c.loop.invariant.0 w.self-is sent in
-          (all.0, all.1, λ h. absurd (none_dropped c.args.now c.args.self.now c.loop.self c.loop.invariant.2 may h))
-    ]
+    let few = dropped_few c.args.now c.in_ok-dropped.field-0 c.loop.self.sender c.drop_expired.new.self c.in_ok-dropped.ensures.run
+    c.in_ok-dropped.ensures.tail c.in_ok-dropped.ensures.late c.in_ok-dropped.ensures.worn c.in_ok-dropped.ensures.none in
+    let less = told_less c.in_ok-dropped.field-0 c.in-Some.dropped _ _ c.in-Some.is few.1 in
+    let left = owed_few c.loop.self c.note_dropped.new.self c.drop_expired.new.self (tells_some c.in-Some.dropped) c.note_dropped.ensures few.0 less in
+    let all = dropped_in c.args.self.now c.loop.self c.note_dropped.new.self c.drop_expired.new.self _ c.loop.invariant.0 c.note_dropped.ensures sent in
+    let before = c.loop.invariant.3 in
+    (all.0, all.1, λ h. absurd (none_dropped c.args.now c.args.self.now c.loop.self c.loop.invariant.2 may h), omega (arith, before, left))
 
 pub returns-in-None-clause-dropped : goal.returns-in-None-clause-dropped
 returns-in-None-clause-dropped c =
-    let drops = answered c.args.now c.loop.self.sender c.drop_expired.new.self (Ok c.in_ok-drop_expired.field-0) c.in_ok-drop_expired.ensures.run
-    c.in_ok-drop_expired.ensures.run_of_one c.in_ok-drop_expired.ensures.run_any c.in_ok-drop_expired.ensures.run_few c.in_ok-drop_expired.ensures.tail
-    c.in_ok-drop_expired.ensures.late c.in_ok-drop_expired.ensures.worn c.in_ok-drop_expired.ensures.released c.in_ok-drop_expired.ensures.none in
-    dropped_on c.args.now c.in_ok-drop_expired.field-0 _ _ _ c.loop.invariant.1 drops
+    let drops = answered c.args.now c.loop.self.sender c.drop_expired.new.self (Ok c.in_ok-dropped.field-0) c.in_ok-dropped.ensures.run
+    c.in_ok-dropped.ensures.run_of_one c.in_ok-dropped.ensures.run_any c.in_ok-dropped.ensures.run_few c.in_ok-dropped.ensures.tail
+    c.in_ok-dropped.ensures.late c.in_ok-dropped.ensures.worn c.in_ok-dropped.ensures.released c.in_ok-dropped.ensures.none in
+    dropped_on c.args.now c.in_ok-dropped.field-0 _ _ _ c.loop.invariant.1 drops
 
 pub returns-in-None-clause-early : goal.returns-in-None-clause-early
 returns-in-None-clause-early c h =
     absurd (none_dropped c.args.now c.args.self.now c.loop.self c.loop.invariant.2 (sym c.may_drop.ensures ∙ c.if-not-may_drop.false) h)
 
-pub returns-in_err-drop_expired-clause-early : goal.returns-in_err-drop_expired-clause-early
-returns-in_err-drop_expired-clause-early c h =
+pub returns-in_err-dropped-clause-early : goal.returns-in_err-dropped-clause-early
+returns-in_err-dropped-clause-early c h =
     absurd (none_dropped c.args.now c.args.self.now c.loop.self c.loop.invariant.2 (sym c.may_drop.ensures ∙ c.if-not-may_drop.false) h)
 
 pub returns-after-loop-clause-early : goal.returns-after-loop-clause-early
@@ -52,3 +54,25 @@ started_in now a l u same e =
 pub returns-then-not-may_drop-clause-early : goal.returns-then-not-may_drop-clause-early
 returns-then-not-may_drop-clause-early c h =
     inr (started_in c.args.now c.args.self.now c.loop.self c.start.new.sender (c.loop.invariant.2 h) c.start.ensures)
+
+-- ## What can still leave
+
+pub returns-in-None-clause-fewer : goal.returns-in-None-clause-fewer
+returns-in-None-clause-fewer c =
+    let few = dropped_few c.args.now c.in_ok-dropped.field-0 c.loop.self.sender c.drop_expired.new.self c.in_ok-dropped.ensures.run
+    c.in_ok-dropped.ensures.tail c.in_ok-dropped.ensures.late c.in_ok-dropped.ensures.worn c.in_ok-dropped.ensures.none in
+    let less = few.0 in
+    let before = c.loop.invariant.3 in
+    omega (arith, less, before)
+
+pub returns-in_err-dropped-clause-fewer : goal.returns-in_err-dropped-clause-fewer
+returns-in_err-dropped-clause-fewer c =
+    let same = data_same c.loop.self (record c.loop.self { sender = c.drop_expired.new.self }) c.in_err-dropped.ensures.err refl in
+    let before = c.loop.invariant.3 in
+    omega (arith, same, before)
+
+pub returns-then-not-may_drop-clause-fewer : goal.returns-then-not-may_drop-clause-fewer
+returns-then-not-may_drop-clause-fewer c =
+    let same = lifetimes_same c.args.now c.loop.self.sender c.start.new.sender c.start.ensures in
+    let before = c.loop.invariant.3 in
+    omega (arith, same, before)

@@ -1,4 +1,5 @@
-use Rattle.std.proofs.Common.{◌≡◌, [], false}
+use Rattle.std.proofs.Common.{◌≡◌, ◌≤◌, [], false}
+use Rattle.sctp_association.specs.Most.{most_data}
 use Rattle.sctp_association.specs.Runs.{Sends}
 use Rattle.sctp_association.specs.Sending.{may_drop}
 use Rattle.sctp_association.proofs.outbound.Outbound.abandon.Given as goal
@@ -10,3 +11,4 @@ invariant-loop l = (l.self ≡ record l.initial.self {
   is_skip_due = l.self.is_skip_due;
 }) × Sends [] l.initial.self.sender l.self.sender
     × (may_drop l.now l.initial.self.sender ≡ false → l.self ≡ l.initial.self)
+    × (most_data l.self ≤ most_data l.initial.self)

@@ -1,3 +1,4 @@
+use Rattle.sctp_association.proofs.Fewer.{fewer_then}
 use Rattle.sctp_association.proofs.Congested.{skipped, within_after, within_again, within_behind, within_full}
 use Rattle.sctp_association.proofs.Putting.{out_then}
 use Rattle.sctp_association.proofs.outbound.Outbound.put_all.Goals as goal
@@ -21,3 +22,11 @@ pub returns-clause-within : goal.returns-clause-within
 returns-clause-within c =
     within_behind c.args.now c.args.self.now c.put_skip.new.self c.put_new.new.self (skipped c.args.self.now _ _ c.put_skip.ensures.rest)
     (within_after c.args.now c.put_skip.new.self c.put_lost.new.self c.put_new.new.self c.put_lost.ensures.many c.put_new.ensures.within)
+
+-- ## What can still leave
+
+pub returns-in_err-put_lost-clause-fewer : goal.returns-in_err-put_lost-clause-fewer
+returns-in_err-put_lost-clause-fewer c = fewer_then _ _ _ _ _ _ c.put_skip.ensures.fewer c.put_lost.ensures.fewer
+
+pub returns-clause-fewer : goal.returns-clause-fewer
+returns-clause-fewer c = fewer_then _ _ _ _ _ _ (fewer_then _ _ _ _ _ _ c.put_skip.ensures.fewer c.put_lost.ensures.fewer) c.put_new.ensures.fewer

@@ -1,3 +1,6 @@
+use Rattle.sctp_association.specs.Leaving.{one_where}
+use Rattle.sctp_association.proofs.Left.{again_none, again_fewer}
+use Rattle.sctp_association.proofs.Fewer.{data_same, fewer_same, fewer_to}
 use Rattle.std.proofs.Common.{ap, inl, inr, length, refl, sym, ◌∙◌}
 use Rattle.sctp_association.proofs.Congested.{again_many, resent_control, some_again}
 use Rattle.sctp_association.proofs.Idle.{data_put, resent_fits}
@@ -51,3 +54,24 @@ returns-clause-many c = record {
   paused = ap (λ (o : Outbound). o.paused) c.stop_where_first.ensures.rest;
   rto = ap (λ (o : Outbound). o.rto) c.stop_where_first.ensures.rest;
 }
+
+-- ## What can still leave
+
+pub returns-in_err-chunk-clause-fewer : goal.returns-in_err-chunk-clause-fewer
+returns-in_err-chunk-clause-fewer c = fewer_same _ _ _ _
+    (data_same c.args.self.now (record c.args.self.now { sender = c.resend_next.new.self }) c.in_err-chunk.ensures.err refl) refl
+
+pub returns-in_default-clause-fewer : goal.returns-in_default-clause-fewer
+returns-in_default-clause-fewer c = fewer_same _ _ _ _ (
+    data_same c.args.self.now (record c.args.self.now { sender = c.resend_next.new.self })
+    (again_none c.args.now c.room.result c.args.self.now.sender c.resend_next.new.self _ c.in_default.is c.in_ok-chunk.ensures.answer
+    c.in_ok-chunk.ensures.none) refl
+    ) refl
+
+pub returns-clause-fewer : goal.returns-clause-fewer
+returns-clause-fewer c =
+    let again = again_fewer _ (one_where c.args.self.now.is_skip_due) c.args.now c.room.result c.args.self.now.sender c.resend_next.new.self c.in-Some.chunk
+    c.args.packet.now.bytes c.put.new.self.bytes
+    (sym c.in-Some.is ∙ c.in_ok-chunk.ensures.answer) c.in_ok-chunk.ensures.ok c.in_ok-chunk.ensures.marked in
+    fewer_to _ _ _ _ _ (data_same (record c.args.self.now { sender = c.resend_next.new.self }) c.stop_where_first.new.self
+    (ap (λ (o : Outbound). o.sender) c.stop_where_first.ensures.rest) (ap (λ (o : Outbound). o.is_skip_due) c.stop_where_first.ensures.rest)) again

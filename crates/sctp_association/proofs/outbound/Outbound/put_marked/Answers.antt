@@ -1,3 +1,4 @@
+use Rattle.sctp_association.proofs.Fewer.{fewer_same, fewer_then}
 use Rattle.std.proofs.Common.{arith, refl, ◌∙◌}
 use Rattle.sctp_association.proofs.Congested.{many_same, many_then}
 use Rattle.sctp_association.proofs.Counted.{on_same, on_then}
@@ -5,7 +6,7 @@ use Rattle.sctp_association.proofs.Putting.{nothing, out_then}
 use Rattle.sctp_association.proofs.outbound.Outbound.put_marked.Goals as goal
 
 pub loop-init : goal.loop-init
-loop-init c = (refl, on_same _, (λ r. nothing _), omega arith, many_same _ _ _ refl)
+loop-init c = (refl, on_same _, (λ r. nothing _), omega arith, many_same _ _ _ refl, fewer_same _ _ _ _ refl refl)
 
 pub loop-preserved : goal.loop-preserved
 loop-preserved c = (
@@ -14,6 +15,7 @@ loop-preserved c = (
   out_then _ _ _ _ _ _ c.loop.invariant.2 c.put_again-in-loop.ensures.made,
   omega (arith, c.loop.invariant.3, c.put_again-in-loop.ensures.grows),
   many_then _ _ c.loop.self _ c.loop.invariant.4 c.put_again-in-loop.ensures.many,
+  fewer_then _ _ _ _ _ _ c.loop.invariant.5 c.put_again-in-loop.ensures.fewer,
 )
 
 pub returns-in_err-put_again-2-clause-made : goal.returns-in_err-put_again-2-clause-made
@@ -59,3 +61,16 @@ returns-after-loop-clause-many c = many_then c.args.now c.args.self.now c.put_ag
 pub returns-then-not-branch-2-clause-many : goal.returns-then-not-branch-2-clause-many
 returns-then-not-branch-2-clause-many c = many_then c.args.now c.args.self.now c.put_again.new.self _ c.put_again.ensures.many
     (many_then _ _ c.loop.self _ c.loop.invariant.4 c.put_again-in-loop.ensures.many)
+
+-- ## What can still leave
+
+pub returns-in_err-put_again-2-clause-fewer : goal.returns-in_err-put_again-2-clause-fewer
+returns-in_err-put_again-2-clause-fewer c = fewer_then _ _ _ _ _ _ c.put_again.ensures.fewer
+    (fewer_then _ _ _ _ _ _ c.loop.invariant.5 c.put_again-in-loop.ensures.fewer)
+
+pub returns-after-loop-clause-fewer : goal.returns-after-loop-clause-fewer
+returns-after-loop-clause-fewer c = fewer_then _ _ _ _ _ _ c.put_again.ensures.fewer c.loop.invariant.5
+
+pub returns-then-not-branch-2-clause-fewer : goal.returns-then-not-branch-2-clause-fewer
+returns-then-not-branch-2-clause-fewer c = fewer_then _ _ _ _ _ _ c.put_again.ensures.fewer
+    (fewer_then _ _ _ _ _ _ c.loop.invariant.5 c.put_again-in-loop.ensures.fewer)

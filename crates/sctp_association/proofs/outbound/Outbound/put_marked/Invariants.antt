@@ -1,6 +1,7 @@
 use Rattle.std.proofs.Common.{◌≡◌, ◌≤◌, length}
 use Rattle.sctp_association.specs.Congested.{IsAsMany}
 use Rattle.sctp_association.specs.Counts.{IsCountedOn}
+use Rattle.sctp_association.specs.Most.{FewerWherePut, most_data}
 use Rattle.sctp_association.specs.Packets.{PutsOut}
 use Rattle.sctp_association.proofs.outbound.Outbound.put_marked.Given as goal
 
@@ -10,3 +11,4 @@ invariant-loop l = (l.packet.limit ≡ l.initial.packet.limit) × IsCountedOn l.
     × PutsOut l.initial.self.sender l.self.sender l.initial.packet.bytes l.packet.bytes
     × (length l.initial.packet.bytes ≤ length l.packet.bytes)
     × IsAsMany l.now l.initial.self l.self
+    × FewerWherePut (most_data l.initial.self) (most_data l.self) l.initial.packet.bytes l.packet.bytes

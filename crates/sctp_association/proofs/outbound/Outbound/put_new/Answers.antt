@@ -1,3 +1,4 @@
+use Rattle.sctp_association.proofs.Fewer.{data_same, fewer_from, fewer_same, fewer_then}
 use Rattle.std.proofs.Common.{◌-◌, ap, arith, length, refl, subst, ◌∙◌}
 use Rattle.sctp_association.proofs.Counted.{none_same, none_then}
 use Rattle.sctp_association.proofs.Congested.{full_same, stays_then, within_from, within_none}
@@ -33,7 +34,7 @@ returns-then-not-branch-clause-idle c head short =
     }
 
 pub loop-init : goal.loop-init
-loop-init c = (refl, none_same _, (λ r. nothing _), omega arith, full_same _ _ _ refl)
+loop-init c = (refl, none_same _, (λ r. nothing _), omega arith, full_same _ _ _ refl, fewer_same _ _ _ _ refl refl)
 
 pub loop-preserved : goal.loop-preserved
 loop-preserved c = (
@@ -42,6 +43,7 @@ loop-preserved c = (
   out_then _ _ _ _ _ _ c.loop.invariant.2 c.put_timely.ensures.made,
   omega (arith, c.loop.invariant.3, c.put_timely.ensures.grows),
   stays_then _ _ _ _ c.loop.invariant.4 c.put_timely.ensures.within,
+  fewer_then _ _ _ _ _ _ c.loop.invariant.5 c.put_timely.ensures.fewer,
 )
 
 pub returns-in_err-put_timely-clause-made : goal.returns-in_err-put_timely-clause-made
@@ -106,3 +108,32 @@ pub returns-then-not-branch-2-clause-within : goal.returns-then-not-branch-2-cla
 returns-then-not-branch-2-clause-within c = within_from c.args.now _ c.args.self.now c.begin_new.new.self _
     c.if-not-begin_new.false c.begin_new.ensures.sender c.begin_new.ensures.begins
     (stays_then _ _ c.put_next.new.self _ c.put_next.ensures.within (stays_then _ _ c.loop.self _ c.loop.invariant.4 c.put_timely.ensures.within))
+
+-- ## What can still leave
+
+pub returns-then-not-begin_new-clause-fewer : goal.returns-then-not-begin_new-clause-fewer
+returns-then-not-begin_new-clause-fewer c = fewer_same _ _ _ _
+    (data_same c.args.self.now c.begin_new.new.self c.begin_new.ensures.sender c.begin_new.ensures.skip) refl
+
+pub returns-in_err-put_next-clause-fewer : goal.returns-in_err-put_next-clause-fewer
+returns-in_err-put_next-clause-fewer c = fewer_from _ _ _ _ _
+    (data_same c.args.self.now c.begin_new.new.self c.begin_new.ensures.sender c.begin_new.ensures.skip) c.put_next.ensures.fewer
+
+pub returns-then-not-branch-clause-fewer : goal.returns-then-not-branch-clause-fewer
+returns-then-not-branch-clause-fewer c = fewer_from _ _ _ _ _
+    (data_same c.args.self.now c.begin_new.new.self c.begin_new.ensures.sender c.begin_new.ensures.skip) c.put_next.ensures.fewer
+
+pub returns-in_err-put_timely-clause-fewer : goal.returns-in_err-put_timely-clause-fewer
+returns-in_err-put_timely-clause-fewer c = fewer_from _ _ _ _ _
+    (data_same c.args.self.now c.begin_new.new.self c.begin_new.ensures.sender c.begin_new.ensures.skip)
+    (fewer_then _ _ _ _ _ _ c.put_next.ensures.fewer (fewer_then _ _ _ _ _ _ c.loop.invariant.5 c.put_timely.ensures.fewer))
+
+pub returns-after-loop-clause-fewer : goal.returns-after-loop-clause-fewer
+returns-after-loop-clause-fewer c = fewer_from _ _ _ _ _
+    (data_same c.args.self.now c.begin_new.new.self c.begin_new.ensures.sender c.begin_new.ensures.skip)
+    (fewer_then _ _ _ _ _ _ c.put_next.ensures.fewer c.loop.invariant.5)
+
+pub returns-then-not-branch-2-clause-fewer : goal.returns-then-not-branch-2-clause-fewer
+returns-then-not-branch-2-clause-fewer c = fewer_from _ _ _ _ _
+    (data_same c.args.self.now c.begin_new.new.self c.begin_new.ensures.sender c.begin_new.ensures.skip)
+    (fewer_then _ _ _ _ _ _ c.put_next.ensures.fewer (fewer_then _ _ _ _ _ _ c.loop.invariant.5 c.put_timely.ensures.fewer))

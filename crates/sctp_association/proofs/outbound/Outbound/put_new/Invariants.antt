@@ -1,6 +1,7 @@
 use Rattle.std.proofs.Common.{◌≡◌, ◌≤◌, length}
 use Rattle.sctp_association.specs.Congested.{StaysOrLeft}
 use Rattle.sctp_association.specs.Counts.{CountsNone}
+use Rattle.sctp_association.specs.Most.{FewerWherePut, most_data}
 use Rattle.sctp_association.specs.Packets.{PutsOut}
 use Rattle.sctp_association.proofs.outbound.Outbound.put_new.Given as goal
 
@@ -10,3 +11,4 @@ invariant-loop l = (l.packet.limit ≡ l.initial.packet.limit) × CountsNone l.i
     × PutsOut l.initial.self.sender l.self.sender l.initial.packet.bytes l.packet.bytes
     × (length l.initial.packet.bytes ≤ length l.packet.bytes)
     × StaysOrLeft l.now l.initial.self l.self
+    × FewerWherePut (most_data l.initial.self) (most_data l.self) l.initial.packet.bytes l.packet.bytes

@@ -1,3 +1,7 @@
+use Rattle.sctp_outbound.specs.pending_queue.Whole.{IsSendable}
+use Rattle.sctp_association.specs.Leaving.{one_where}
+use Rattle.sctp_association.proofs.Left.{sent_fewer}
+use Rattle.sctp_association.proofs.Fewer.{data_same, fewer_same}
 use Rattle.std.proofs.Common.{ℕ, Option, Some, ap, arith, inl, inr, length, min, refl, subst, sym, true, ◌∙◌, ◌≡◌, ◌+◌, ◌-◌, ◌^◌}
 use Rattle.sctp_association.proofs.Congested.{full_same, left_behind}
 use Rattle.sctp_association.proofs.Idle.{data_put, fits_so, lent_fits}
@@ -36,6 +40,8 @@ returns-in-Err c = record {
   put = λ _. tt;
   none = tt;
   within = full_same _ _ _ (ap (λ (s : Transmission). let y : Outbound = record c.args.self.now { sender = s } in y) c.in-Err.ensures.err);
+  fewer = fewer_same _ _ _ _
+      (data_same c.args.self.now (record c.args.self.now { sender = c.send_next_tsn.new.sender }) c.in-Err.ensures.err refl) refl;
 }
 
 pub returns-in-Some-get-clause-made : goal.returns-in-Some-get-clause-made
@@ -92,3 +98,31 @@ returns-in-Some-get-clause-within c =
                 ∙ sym (ap (λ (o : Option ℕ). base_of (flight_of (in_flight t)) o) w.in_default-burst.is))
           ]) refl refl);
     }
+
+-- ## What can still leave
+
+pub returns-in_default-clause-fewer : goal.returns-in_default-clause-fewer
+returns-in_default-clause-fewer c = fewer_same _ _ _ _ refl refl
+
+pub returns-then-data_length-room-clause-fewer : goal.returns-then-data_length-room-clause-fewer
+returns-then-data_length-room-clause-fewer c = fewer_same _ _ _ _ refl refl
+
+pub returns-in-Err-SsnsUsedUp-clause-fewer : goal.returns-in-Err-SsnsUsedUp-clause-fewer
+returns-in-Err-SsnsUsedUp-clause-fewer c = fewer_same _ _ _ _
+    (data_same c.args.self.now (record c.args.self.now { sender = c.send_next_tsn.new.sender }) c.in-Err-SsnsUsedUp.ensures.err refl) refl
+
+pub returns-in-Some-get-clause-fewer : goal.returns-in-Some-get-clause-fewer
+returns-in-Some-get-clause-fewer c =
+    let t : Transmission = c.args.self.now.sender in
+    let e : next_pending t.flight.queue.pending ≡ Some c.in-Some.chunk.now =
+    sym (c.in-Some.ensures.value ∙ ap (λ (o : Queue). next_pending o.pending) c.outbound.ensures) in
+    sent_fewer (one_where c.args.self.now.is_skip_due) c.args.now t c.send_next_tsn.new.sender c.in-Some.chunk.now _ _
+    (subst (λ (o : Queue). IsSendable o.pending o.inflight.chunks o.next_message_id) c.outbound-2.ensures c.are_whole.ensures) e c.in-Ok.ensures.ok
+
+pub returns-in_default-sent-clause-fewer : goal.returns-in_default-sent-clause-fewer
+returns-in_default-sent-clause-fewer c =
+    let t : Transmission = c.args.self.now.sender in
+    let e : next_pending t.flight.queue.pending ≡ Some c.in-Some.chunk.now =
+    sym (c.in-Some.ensures.value ∙ ap (λ (o : Queue). next_pending o.pending) c.outbound.ensures) in
+    sent_fewer (one_where c.args.self.now.is_skip_due) c.args.now t c.send_next_tsn.new.sender c.in-Some.chunk.now _ _
+    (subst (λ (o : Queue). IsSendable o.pending o.inflight.chunks o.next_message_id) c.outbound-2.ensures c.are_whole.ensures) e c.in-Ok.ensures.ok
