@@ -8,12 +8,13 @@ use Rattle.std.specs.Prelude.{IfSome, is_some}
 use Rattle.std.specs.List.{AllByRecursion}
 use Rattle.sctp_association.proofs.Idle.{draft-length}
 use Rattle.sctp_association.proofs.Others.{beats_same, once_puts, others_puts}
+use Rattle.sctp_association.specs.Rows.{owed_by}
 use Rattle.sctp_association.specs.declared.association.Association.{Association}
 use Rattle.sctp_association.specs.declared.due.Due.{Due}
 use Rattle.sctp_association.specs.declared.outbound.Outbound.{Outbound}
 use Rattle.sctp_association.specs.Halves.{IsAsTimed, PutsDue, PutsOnce, PutsOthers}
 use Rattle.sctp_association.specs.Kept.{IsUnmoved, sack_waits, unknown_in}
-use Rattle.sctp_association.specs.Leaving.{AsksNoMore, DueBy, IsDueOnce, IsParamOnce, OwedAt, OwesNothingNew, beats, one_where, owed_at, owed_of}
+use Rattle.sctp_association.specs.Leaving.{AsksNoMore, IsDueOnce, IsParamOnce, OwedAt, OwesNothingNew, beats, one_where, owed_at, owed_of}
 use Rattle.sctp_association.specs.Leaving.{requests_due}
 use Rattle.sctp_association.specs.Most.{FewerWherePut, most_data, most_packets, most_replies, packets_in, shutdowns_left}
 use Rattle.sctp_association.specs.Packets.{Adds, with_chunks}
@@ -266,7 +267,7 @@ once_fewer now a b o u t sender skip p draft = due_fewer now a b u (beats_same n
 
 -- ## As the shutdown goes on
 
-alone-row : (s : State) (m : Machine) (d e : Due) → DueBy (drained_row s m).answer.reply d e → e.alone ≡ d.alone
+alone-row : (s : State) (m : Machine) (d e : Due) → e ≡ owed_by (drained_row s m).answer.reply 0 d → e.alone ≡ d.alone
 alone-row ShutdownPending m d e due = ap (λ (x : Due). x.alone) due
 alone-row ShutdownReceived m d e due = ap (λ (x : Due). x.alone) due
 alone-row _ m d e due = ap (λ (x : Due). x.alone) due
@@ -282,8 +283,8 @@ asked-row Established m is none = absurd (omega (arith, none))
 asked-row _ m is none = refl
 
 -- as the machine is told that nothing waits or is in flight
-pub drained_alone : (m n : Machine) (r : Answer) (d e : Due) → Takes (on_drained m) n r → DueBy r.reply d e → e.alone ≡ d.alone
-drained_alone m n r d e t due = alone-row m.state m d e (subst (λ (x : Answer). DueBy x.reply d e) t.answer due)
+pub drained_alone : (m n : Machine) (r : Answer) (d e : Due) → Takes (on_drained m) n r → e ≡ owed_by r.reply 0 d → e.alone ≡ d.alone
+drained_alone m n r d e t due = alone-row m.state m d e (subst (λ (x : Answer). e ≡ owed_by x.reply 0 d) t.answer due)
 
 pub drained_shut : (m n : Machine) (r : Answer) → Takes (on_drained m) n r → shutdowns_left m.state ≡ 0 → n.state ≡ m.state
 drained_shut m n r t none = ap (λ (x : Machine). x.state) t.machine ∙ shut-row m.state m refl none

@@ -6,11 +6,7 @@ use Rattle.sctp_handshake.specs.declared.machine.Machine.{Machine}
 use Rattle.sctp_association.proofs.Telling.{tells_peer, tells_then}
 use Rattle.sctp_association.proofs.Begun.{asked_told}
 use Rattle.sctp_association.proofs.Others.{alike_then}
-use Rattle.sctp_association.proofs.Lasting.{asked_left, lasts_by, lasts_then}
-use Rattle.sctp_association.specs.declared.outbound.Outbound.{Outbound}
 use Rattle.sctp_association.specs.Halves.{HalvesAlike}
-use Rattle.sctp_association.specs.Lasting.{control_left}
-use Rattle.sctp_handshake.specs.declared.machine.Machine.{Machine}
 use Rattle.sctp_association.proofs.Known.{keeps_by, keeps_then, knows_asked}
 use Rattle.sctp_association.proofs.association.Association.shutdown.Goals as goal
 
