@@ -71,7 +71,7 @@ none_again now room t u x a none answer same =
     kept t u x x (same (none-of (λ c. sent_again (count_again c) now c) (next_within room t.flight) (sym none ∙ answer))) refl
 
 -- what is sent again is marked
-fitting : (room : ℕ) (c : ChunkPayloadData) (o : Option ChunkPayloadData) → if_it_fits room o ≡ Some c → o ≡ Some c
+pub fitting : (room : ℕ) (c : ChunkPayloadData) (o : Option ChunkPayloadData) → if_it_fits room o ≡ Some c → o ≡ Some c
 fitting room c None e = absurd (cc)
 fitting room c (Some d) e = by (fits room d) e
   where

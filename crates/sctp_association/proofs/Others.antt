@@ -5,7 +5,6 @@ use Rattle.std.proofs.lemmas.List.Elements.{Contains-append_left}
 use Rattle.std.specs.List.{AllByRecursion}
 use Rattle.std.specs.Prelude.{IfSome, ◌≤◌, is_some}
 use Rattle.std.specs.Result.{IsErr}
-use Rattle.sctp_association.proofs.Congested.{pace_same, pace_then, windows_same, windows_then}
 use Rattle.sctp_association.proofs.Known.{still_none, unmoved_same, unmoved_then, was}
 use Rattle.sctp_association.proofs.Putting.{shutdown_put, adds_none, adds_then, all_append, all_of_more, all_put, all_so, and_so, nothing, puts_so}
 use Rattle.sctp_association.proofs.Running.{none_in, none_sent, reported_in, sent_then}
@@ -38,12 +37,11 @@ pub alike_then : (a b c : Association) → HalvesAlike a b → HalvesAlike b c �
 alike_then a b c h k = record {
   sender = k.sender ∙ h.sender;
   receiver = k.receiver ∙ h.receiver;
-  windows = windows_then a.outbound b.outbound c.outbound h.windows k.windows;
-  pace = pace_then a.outbound b.outbound c.outbound h.pace k.pace;
+  path = k.path ∙ h.path;
 }
 
 pub alike_same : (a : Association) → HalvesAlike a a
-alike_same a = record { sender = refl; receiver = refl; windows = windows_same a.outbound; pace = pace_same a.outbound }
+alike_same a = record { sender = refl; receiver = refl; path = refl }
 
 -- the same is due at the same moment
 pub timed_same : (a : Association) → IsAsTimed a a

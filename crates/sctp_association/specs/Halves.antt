@@ -6,7 +6,7 @@ use Rattle.sctp_association.specs.declared.association.Association.{Association}
 use Rattle.sctp_association.specs.declared.fault.Fault.{Fault}
 use Rattle.sctp_association.specs.declared.inbound.Inbound.{Inbound}
 use Rattle.sctp_association.specs.Arrivals.{Halves, halves, new_sender}
-use Rattle.sctp_association.specs.Congested.{HasPaceOf, HasWindowsOf}
+use Rattle.sctp_association.specs.Congested.{path_of}
 use Rattle.sctp_association.specs.Kept.{IsUnmoved}
 use Rattle.sctp_association.specs.Leaving.{IsDueOnce, IsReplyOnce, owed_at, owed_of}
 use Rattle.sctp_association.specs.Packets.{Adds, IsOf, PutsOf, Sides, sides}
@@ -32,8 +32,7 @@ halves_of a = halves a.outbound.sender (receiver_of a.inbound)
 pub record HalvesAlike (old new : Association) : Type 0 where
   pub sender : new.outbound.sender ≡ old.outbound.sender
   pub receiver : receiver_of new.inbound ≡ receiver_of old.inbound
-  pub windows : HasWindowsOf old.outbound new.outbound
-  pub pace : HasPaceOf old.outbound new.outbound
+  pub path : path_of new.outbound ≡ path_of old.outbound
 
 -- calls of both halves led on. What was put is no INIT, and each reply of it was due, and is due no more
 abbrev pub PutsDue : ℕ → Association → Association → Type 0

@@ -2,7 +2,7 @@
 
 ghost use Rattle.std.specs.Prelude.{◌≡◌, ◌≢◌, ◌⊎◌, ℕ, ◌≤◌, ◌-◌, ◌∷◌, None, Ok, Some, IfOk, IfSome, OnErr, OnOk, [], map, true, false, length};
 ghost use Rattle.sctp_association.specs.Beginnings.{KeepsPeer};
-ghost use Rattle.sctp_association.specs.Congested.{IsAsFull, LeavesWithin, SendsWithin};
+ghost use Rattle.sctp_association.specs.Congested.{IsAsFull, LeavesWithin, PausesWithin, SendsWithin, is_unsent, pauses};
 ghost use Rattle.sctp_association.specs.Halves.{HalvesAlike, IsAsTimed, PutsDue, PutsOnce, PutsOthers, is_sent, sides_of};
 ghost use Rattle.sctp_association.specs.Entering.{usable_in};
 ghost use Rattle.sctp_association.specs.Filled.{IfNoneAdded, IfNonePut};
@@ -91,9 +91,10 @@ impl Association {
         ensures owes { result ≡ Ok false → MayReply self.new → OwesNone self.new }
         // Where there is no datagram though DATA may leave: what waits or is to be sent again waits for a SACK, or for T3-rtx.
         ensures idle { result ≡ Ok false → MaySend self.new → IsIdle now self.new }
-        // New DATA leaves while nothing is outstanding; or less than cwnd is, the burst lasts, and the peer's window has room (RFC 9260 6.1 A, B, D).
-        // For each idle RTO cwnd falls once (7.2.1).
-        ensures within { SendsWithin now self.old.outbound self.new.outbound }
+        // Each chunk of new DATA leaves while nothing is outstanding; or less than cwnd is, the burst lasts, and the peer's window has room
+        // (RFC 9260 6.1 A, B, D). For each idle RTO cwnd falls once (7.2.1). The burst lasts until no datagram is due.
+        ensures within { SendsWithin now (pauses result self.new) self.old.outbound
+            self.new.outbound }
         // What else is due stays due, or leaves in the datagram: a COOKIE-ECHO with the cookie, a SHUTDOWN with the cumulative TSN, a
         // HEARTBEAT-ACK with what came. Only one that no packet has room for is dropped.
         ensures leaves { LeavesBy (is_sent result) self.old self.new }
@@ -136,7 +137,7 @@ impl Association {
             → OwesNone self.new }
         ensures idle { result ≡ Ok false → sends self.new.machine.state ≡ true
             → IsIdle now self.new }
-        ensures within { LeavesWithin now self.old.outbound self.new.outbound }
+        ensures within { PausesWithin now (is_unsent result) self.old.outbound self.new.outbound }
         ensures leaves { LeavesBy (is_sent result) self.old self.new }
     {
         self.draft.begin(header)?;

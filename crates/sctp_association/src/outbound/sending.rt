@@ -1,7 +1,7 @@
 //! What goes into a packet (RFC 9260 6.1, 6.10).
 
 ghost use Rattle.std.specs.Prelude.{◌≡◌, ◌⊎◌, ◌+◌, ◌-◌, ◌^◌, ◌<◌, ◌≤◌, [], min, true, false, None, Some, IfOk, IfSome, OnErr, OnOk, find, length};
-ghost use Rattle.sctp_association.specs.Congested.{BeginsNew, IsAsMany, LeavesWithin, StaysOrLeft, idle_at};
+ghost use Rattle.sctp_association.specs.Congested.{LeavesWithin, Resends, SendsNew, StaysOrAgain, StaysOrLeaves, begun, idle_at, may_again, path_of, used_after};
 ghost use Rattle.sctp_association.specs.Counts.{CountsNone, IsCountedAlong, IsCountedOn};
 ghost use Rattle.sctp_association.specs.Filled.{IfNonePut};
 ghost use Rattle.sctp_association.specs.Idle.{SendsNoneAgain, SendsNoneNew, WaitsBehind, WaitsForSacks, in_flight};
@@ -98,7 +98,8 @@ impl Outbound {
         ensures grows { length packet.old.bytes ≤ length packet.new.bytes }
         ensures idle { OnOk result (IfNonePut packet.old.bytes packet.new.bytes
             (SendsNoneAgain (packet.old.limit - length packet.old.bytes) self.old self.new)) }
-        ensures many { IsAsMany now self.old self.new }
+        ensures again { Resends now self.old.rto self.old.is_fast
+            (flight_of (in_flight self.old.sender)) (path_of self.old) (path_of self.new) }
     {
         let flight = self.flight();
         self.put_marked(packet, self.is_fast, flight, now)
@@ -120,7 +121,8 @@ impl Outbound {
         ensures idle { OnOk result (IfNonePut packet.old.bytes packet.new.bytes
             (flight ≡ flight_of (in_flight self.old.sender)
             → SendsNoneAgain (packet.old.limit - length packet.old.bytes) self.old self.new)) }
-        ensures many { IsAsMany now self.old self.new }
+        ensures again { Resends now self.old.rto is_fast flight (path_of self.old)
+            (path_of self.new) }
     {
         if !self.put_again(packet, is_fast, flight, now)? {
             return Ok(());
@@ -163,7 +165,9 @@ impl Outbound {
         ensures none { IfOk result (λ sent. sent ≡ false
             → flight ≡ flight_of (in_flight self.old.sender)
             → SendsNoneAgain (packet.old.limit - length packet.old.bytes) self.old self.new) }
-        ensures many { IsAsMany now self.old self.new }
+        ensures again { StaysOrAgain now
+            (may_again now self.old.rto is_fast flight (path_of self.old)) (path_of self.old)
+            (path_of self.new) }
     {
         if !self.may_send_again(is_fast, flight, now) {
             return Ok(false);
@@ -230,7 +234,7 @@ impl Outbound {
             → IfOk result (λ sent. sent ≡ true → 12 < length packet.new.bytes) }
         ensures none { IfOk result (λ sent. sent ≡ false → next_within
             (packet.old.limit - length packet.old.bytes) self.old.sender.flight ≡ None) }
-        ensures many { IsAsMany now self.old self.new }
+        ensures again { StaysOrAgain now true (path_of self.old) (path_of self.new) }
     {
         let Some(chunk) = self.sender.resend_next(now, packet.room())? else {
             return Ok(false);
@@ -280,7 +284,8 @@ impl Outbound {
         ensures sender { self.new.sender ≡ self.old.sender }
         ensures counts { CountsNone self.old self.new }
         ensures lost { self.new.has_lost ≡ self.old.has_lost }
-        ensures begins { BeginsNew now result self.old self.new }
+        ensures begins { path_of self.new ≡ begun now self.old.rto result (path_of self.old) }
+        ensures waits { result ≡ true → 0 < chunk_count self.old.sender.flight.queue.pending }
         ensures none { result ≡ false → (self.old.has_lost ≡ true)
             ⊎ (chunk_count self.old.sender.flight.queue.pending ≡ 0) }
     {
@@ -303,7 +308,7 @@ impl Outbound {
         ensures grows { length packet.old.bytes ≤ length packet.new.bytes }
         ensures idle { OnOk result (IfNonePut packet.old.bytes packet.new.bytes
             (SendsNoneNew (packet.old.limit - length packet.old.bytes) self.old self.new)) }
-        ensures within { LeavesWithin now self.old self.new }
+        ensures within { SendsNew now self.old.rto (path_of self.old) (path_of self.new) }
     {
         if !self.begin_new(now) {
             return Ok(());
@@ -337,8 +342,8 @@ impl Outbound {
           used = self.new.used;
         } }
         // These RTOs count no more.
-        ensures over { 0 < idle_at now self.old → self.new.used ≡ now }
-        ensures none { idle_at now self.old ≡ 0 → self.new.used ≡ self.old.used }
+        ensures over { self.new.used
+            ≡ used_after now (idle_at now self.old.rto (path_of self.old)) self.old.used }
     {
         let rto = self.rto.get().max(1);
         let times = (now.saturating_sub(self.used) / rto).min(MOST_HALVINGS);
@@ -385,7 +390,7 @@ impl Outbound {
         ensures counts { CountsNone self.old self.new }
         ensures limit { packet.new.limit ≡ packet.old.limit }
         ensures grows { length packet.old.bytes ≤ length packet.new.bytes }
-        ensures within { StaysOrLeft now self.old self.new }
+        ensures within { StaysOrLeaves now (path_of self.old) (path_of self.new) }
     {
         if self.is_partial && self.is_front_late(now) {
             return Ok(false);
@@ -410,7 +415,7 @@ impl Outbound {
             → IfOk result (λ sent. sent ≡ true → 12 < length packet.new.bytes) }
         ensures none { IfOk result (λ sent. sent ≡ false
             → WaitsBehind (packet.old.limit - length packet.old.bytes) self.old.sender) }
-        ensures within { StaysOrLeft now self.old self.new }
+        ensures within { StaysOrLeaves now (path_of self.old) (path_of self.new) }
     {
         let Some(chunk) = self.sender.outbound().peek_pending() else {
             return Ok(false);

@@ -21,8 +21,7 @@ returns-clause-others c = elim c.if-is_put.branch [
       (record {
         sender = refl;
         receiver = refl;
-        windows = record { peer_window = refl; congestion = refl };
-        pace = record { used = refl; burst = refl; paused = refl };
+        path = refl;
       })
       (record {
         config = refl;
@@ -52,8 +51,7 @@ returns-clause-others c = elim c.if-is_put.branch [
       others_none c.args.self.now _ (record {
         sender = refl;
         receiver = refl;
-        windows = record { peer_window = refl; congestion = refl };
-        pace = record { used = refl; burst = refl; paused = refl };
+        path = refl;
       })
       (record {
         config = refl;

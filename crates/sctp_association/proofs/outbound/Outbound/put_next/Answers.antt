@@ -1,5 +1,5 @@
-use Rattle.std.proofs.Common.{ℕ, Option, Some, ap, arith, inl, inr, length, min, refl, subst, sym, true, ◌∙◌, ◌≡◌, ◌+◌, ◌-◌, ◌^◌}
-use Rattle.sctp_association.proofs.Congested.{full_same, left_behind}
+use Rattle.std.proofs.Common.{ℕ, Some, ap, arith, inl, inr, length, min, refl, subst, sym, true, ◌∙◌, ◌≡◌, ◌+◌, ◌-◌, ◌^◌}
+use Rattle.sctp_association.proofs.Congested.{base_first, base_on, left_as}
 use Rattle.sctp_association.proofs.Idle.{data_put, fits_so, lent_fits}
 use Rattle.sctp_association.proofs.Making.{lent_put, none_put, sent_there}
 use Rattle.sctp_association.proofs.Putting.{kept, nothing}
@@ -7,7 +7,8 @@ use Rattle.sctp_association.proofs.outbound.Outbound.put_next.Goals as goal
 use Rattle.sctp_association.proofs.outbound.Outbound.put_next.Goals.{in-Some-burst, in_default-burst-2, in_default-burst}
 use Rattle.sctp_association.specs.declared.outbound.Outbound.{Outbound}
 use Rattle.sctp_association.specs.Idle.{in_flight}
-use Rattle.sctp_association.specs.Sending.{base_of, flight_of, may_send_next}
+use Rattle.sctp_association.specs.Congested.{path_of}
+use Rattle.sctp_association.specs.Sending.{flight_of, may_send_next}
 use Rattle.sctp_outbound.specs.outbound_queue.OutboundQueue.{Outbound as Queue}
 use Rattle.sctp_outbound.specs.pending_queue.PendingQueue.{next_pending}
 use Rattle.sctp_sender.specs.Sender.{Transmission}
@@ -35,7 +36,7 @@ returns-in-Err c = record {
   grows = omega arith;
   put = λ _. tt;
   none = tt;
-  within = full_same _ _ _ (ap (λ (s : Transmission). let y : Outbound = record c.args.self.now { sender = s } in y) c.in-Err.ensures.err);
+  within = inl (ap (λ (s : Transmission). path_of (record c.args.self.now { sender = s })) c.in-Err.ensures.err);
 }
 
 pub returns-in-Some-get-clause-made : goal.returns-in-Some-get-clause-made
@@ -72,23 +73,18 @@ returns-in-Some-get-clause-put c head _ =
     ) c.room.ensures.value c.room.ensures.most c.put.ensures.fits c.put.ensures.put head
 
 pub returns-in-Some-get-clause-within : goal.returns-in-Some-get-clause-within
-returns-in-Some-get-clause-within c =
-    let t : Transmission = c.args.self.now.sender in
-    let e : next_pending t.flight.queue.pending ≡ Some c.in-Some.chunk.now =
-    sym (c.in-Some.ensures.value ∙ ap (λ (o : Queue). next_pending o.pending) c.outbound.ensures) in
-    record {
-      windows = record { peer_window = refl; congestion = refl };
-      paused = refl;
-      left = inr (left_behind c.args.now _ c.args.self.now _ c.in-Some.chunk.now e (
-          subst (λ (n : ℕ). may_send_next n c.args.self.now.most_in_flight c.args.self.now.peer_window c.args.self.now.burst c.args.self.now.congestion
-          (in_flight t) ≡ true) c.len-bytes.ensures.value (sym c.may_send.ensures.value ∙ c.if-not-may_send.false)
-          ) c.in-Ok.ensures.ok refl refl (elim c.match-self.branch [
-            | in-Some-burst w ↦ inr (w.self-is ∙ sym (ap (λ (o : Option ℕ). base_of (flight_of (in_flight t)) o) w.in-Some-burst.is))
-            | in_default-burst-2 w ↦ inl (
-              omega (arith, c.flight-flight.ensures, w.if-flight-gt0.false),
-              omega (arith, w.self-is, w.if-flight-gt0.false),
-            )
-            | in_default-burst w ↦ inr (w.self-is ∙ c.flight-flight.ensures
-                ∙ sym (ap (λ (o : Option ℕ). base_of (flight_of (in_flight t)) o) w.in_default-burst.is))
-          ]) refl refl);
-    }
+returns-in-Some-get-clause-within c = inr (record {
+  chunk = c.in-Some.chunk.now;
+  front = sym (c.in-Some.ensures.value ∙ ap (λ (o : Queue). next_pending o.pending) c.outbound.ensures);
+  room = subst (λ (n : ℕ). may_send_next n c.args.self.now.most_in_flight c.args.self.now.peer_window c.args.self.now.burst
+      c.args.self.now.congestion (in_flight c.args.self.now.sender) ≡ true) c.len-bytes.ensures.value
+      (sym c.may_send.ensures.value ∙ c.if-not-may_send.false);
+  after = left_as c.args.now c.args.self.now c.send_next_tsn.new.sender _ c.in-Ok.ensures.ok (elim c.match-self.branch [
+    | in-Some-burst w ↦ w.self-is ∙ base_on (flight_of (in_flight c.args.self.now.sender)) _ c.args.self.now.burst
+        (omega (arith, c.flight-flight.ensures, w.if-flight-gt0.true)) w.in-Some-burst.is
+    | in_default-burst-2 w ↦ w.self-is ∙ base_first (flight_of (in_flight c.args.self.now.sender)) _ c.args.self.now.burst c.flight-flight.ensures
+        (inr (omega (arith, c.flight-flight.ensures, w.if-flight-gt0.false)))
+    | in_default-burst w ↦ w.self-is ∙ base_first (flight_of (in_flight c.args.self.now.sender)) _ c.args.self.now.burst c.flight-flight.ensures
+        (inl w.in_default-burst.is)
+  ]);
+})
