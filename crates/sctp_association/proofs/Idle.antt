@@ -214,6 +214,14 @@ draft-length p bytes draft = omega (
 body-append : (ws vs : List Wire) → body_of (ws ++ vs) ≡ body_of ws ++ body_of vs
 body-append ws vs = rw flat_map-append refl
 
+-- a DATA chunk that fits is put where the packet was begun
+pub data_is_put : (c : ChunkPayloadData) (room limit : ℕ) (old : List ℕ) (b : Bool) → fits room c ≡ true → room ≡ limit - length old → limit ≤ 65535
+    → (HasEncoding (data_chunk (data_of c)) → 12 ≤ length old → length old + length (padded_encoding (data_chunk (data_of c))) ≤ limit → b ≡ true)
+    → (p : Parts) → IsDraft p old → b ≡ true
+data_is_put c room limit old b fit is most fitting p draft =
+    let h = data_fits c (length old) limit (subst (λ r. fits r c ≡ true) is fit) most in
+    fitting h.0 (omega (arith, draft-length p old draft)) h.1
+
 -- a packet with a chunk is longer than its header
 pub longer_by_chunk : (before behind : List Wire) (w : Wire) (p : Parts) (bytes : List ℕ) → IsDraft (with_chunks (before ++ w ∷ behind) p) bytes
     → 12 < length bytes

@@ -1,13 +1,14 @@
 -- Chunks that neither half answers, and the datagram in the end.
-use Rattle.std.proofs.Common.{◌≡◌, ◌⊎◌, inl, inr, ℕ, List, [], ◌++◌, Bool, true, false, Option, None, Some, Result, Ok, Err, arith, refl, ap, sym, subst, ◌∙◌}
+use Rattle.std.proofs.Common.{◌≡◌, ◌⊎◌, inl, inr, ℕ, List, [], ◌∷◌, ◌++◌, length, Bool, true, false, Option, None, Some, Result, Ok, Err, arith, refl, ap, sym, subst, ◌∙◌}
 use Rattle.std.proofs.lemmas.Bool.{false≢true}
-use Rattle.std.proofs.lemmas.List.Elements.{Contains-append_left}
+use Rattle.std.proofs.lemmas.List.{append-nil}
 use Rattle.std.specs.List.{AllByRecursion}
 use Rattle.std.specs.Prelude.{IfSome, ◌≤◌, is_some}
 use Rattle.std.specs.Result.{IsErr}
 use Rattle.sctp_association.proofs.Known.{still_none, unmoved_same, unmoved_then, was}
-use Rattle.sctp_association.proofs.Putting.{shutdown_put, adds_none, adds_then, all_append, all_of_more, all_put, all_so, and_so, nothing, puts_so}
-use Rattle.sctp_association.proofs.Running.{none_in, none_sent, reported_in, sent_then}
+use Rattle.sctp_association.proofs.Idle.{longer_by_chunk}
+use Rattle.sctp_association.proofs.Putting.{shutdown_put, adds_none, adds_then, all_append, all_put, all_so, and_so, none_made, nothing, puts_so}
+use Rattle.sctp_association.proofs.Running.{none_in, none_sent, sent_then}
 use Rattle.sctp_association.specs.declared.association.Association.{Association}
 use Rattle.sctp_association.specs.declared.inbound.Inbound.{Inbound}
 use Rattle.sctp_association.specs.Halves.{HalvesAlike, IsAsTimed, PutsDue, PutsOnce, PutsOthers, is_sent, receiver_of, sides_of}
@@ -15,7 +16,7 @@ use Rattle.sctp_association.specs.Kept.{IsUnmoved, sack_waits, unknown_in}
 use Rattle.sctp_association.specs.declared.fault.Fault.{Fault}
 use Rattle.sctp_association.specs.Leaving.{AsksNoMore, IsDueOnce, IsParamOnce, IsReplyOnce, OwedAt, OwesNoMoreAt, Reaches, beats, owed_at}
 use Rattle.sctp_association.specs.Leaving.{owed_of, requests_due, responses_due}
-use Rattle.sctp_association.specs.Packets.{Adds, IsNoReply, IsOf, IsPacketOf, IsSackOnce, IsWritten, Puts, PutsIn, PutsOf, Sides, Transmits, put_where, sides}
+use Rattle.sctp_association.specs.Packets.{Adds, IsNoReply, IsOf, IsPacketOf, IsSackOnce, IsWritten, Puts, PutsIn, PutsOf, Sides, Transmits, made_in, put_where, sides}
 use Rattle.sctp_association.specs.Packets.{sum_of, with_chunks}
 use Rattle.sctp_association.specs.Runs.{ReportsIn, Sends}
 use Rattle.sctp_chunks.specs.Wire.{Wire, cookie_ack_chunk, cookie_echo_chunk, error_chunk, heartbeat_ack_chunk, heartbeat_chunk, init_chunk}
@@ -231,6 +232,7 @@ module _ (a b : Association) where
     added = p.added;
     own = p.own;
     plain = p.plain;
+    each = λ _ _. sym (none_made [] p.chunks p.own);
   })
 
   -- where nothing is put
@@ -278,6 +280,7 @@ puts_one {P} k w t r x y added of plain = record {
   added = added;
   own = all_put (IsOf [] []) k w of;
   plain = all_put P k w plain;
+  each = λ _ _. sym (none_made [] (put_where k w) (all_put (IsOf [] []) k w of));
 }
 
 module _ {P : Wire → Type 0} where
@@ -312,10 +315,6 @@ sack_side {P} t u o i j x y f h is same =
     let two = subst (λ v. PutsOf Q (sides t (receiver_of o) x) (sides v (Some j.receiver) y)) (sym same) one in
     puts_so Q P (sack-so P (is_some i.delay.due) (is_some j.delay.due) f) (sides t (receiver_of o) x) (sides u (Some j.receiver) y) two
 
--- what the sender puts
-pub sends_puts : (ms : List Made) (t u : Transmission) (r : Option Reception) (x : List ℕ) → Sends ms t u → Puts (sides t r x) (sides u r x)
-sends_puts ms t u r x s = record { made = ms; sacks = []; chunks = []; sent = s; reported = none_in r; added = adds_none x; own = tt; plain = tt }
-
 -- ## A datagram
 
 -- what was put behind a header, sealed
@@ -327,43 +326,58 @@ written h z P ws begun full sealed draft added own encoded =
 
 module _ {P : Wire → Type 0} (t u : Transmission) (r q : Option Reception) (x begun full : List ℕ) (p : PutsOf P (sides t r begun) (sides u q full)) where
   -- where nothing was put, or a call was refused
-  pub unsent_after : (y : List ℕ) → Transmits false (sides t r x) (sides u q y)
-  unsent_after y = record { made = p.made; sacks = p.sacks; sent = p.sent; reported = p.reported; written = λ e. absurd (false≢true e) }
-
-  pub sealed_after : (h : CommonHeader) (z : Bool) (sealed : List ℕ) → IsDraft (headed h) begun
-      → ((d : Parts) → IsDraft d full → sealed ≡ packet_encoding (sum_of z) d) → Transmits true (sides t r x) (sides u q sealed)
-  sealed_after h z sealed draft encoded = record {
+  pub unsent_after : (h : CommonHeader) → IsDraft (headed h) begun → length full ≤ 12 → (y : List ℕ) → Transmits false (sides t r x) (sides u q y)
+  unsent_after h draft short y = record {
     made = p.made;
     sacks = p.sacks;
     sent = p.sent;
     reported = p.reported;
-    written = λ e. written h z (IsOf p.made p.sacks) p.chunks begun full sealed draft p.added p.own encoded;
+    written = λ e. absurd (false≢true e);
+    each = λ e. absurd (false≢true e);
+    none = λ _. p.each (headed h) draft ∙ ap made_in (none p.chunks p.added);
   }
+    where
+      none : (ws : List Wire) → Adds ws begun full → ws ≡ []
+      none [] added = refl
+      none (w ∷ ws) added = absurd (omega (arith, short, longer_by_chunk [] ws w (headed h) full (added.draft (headed h) draft)))
+
+  pub sealed_after : (h : CommonHeader) (z : Bool) (sealed : List ℕ) → IsDraft (headed h) begun
+      → ((d : Parts) → IsDraft d full → sealed ≡ packet_encoding (sum_of z) d) → Transmits true (sides t r x) (sides u q sealed)
+  sealed_after h z sealed draft encoded =
+      let d = p.added.draft (headed h) draft in
+      record {
+        made = p.made;
+        sacks = p.sacks;
+        sent = p.sent;
+        reported = p.reported;
+        written = λ e. written h z (IsOf p.made p.sacks) p.chunks begun full sealed draft p.added p.own encoded;
+        each = λ e. record {
+          packet = with_chunks p.chunks (headed h);
+          is_zero = z;
+          encoded = encoded _ d;
+          encodings = d.encodings;
+          fits = d.fits;
+          each = sym (p.each (headed h) draft);
+        };
+        none = λ e. absurd (false≢true (sym e));
+      }
 
   -- each of its chunks is such
   pub plain_after : (h : CommonHeader) (z : Bool) (sealed : List ℕ) → IsDraft (headed h) begun
       → ((d : Parts) → IsDraft d full → sealed ≡ packet_encoding (sum_of z) d) → IsPacketOf P sealed
   plain_after h z sealed draft encoded = written h z P p.chunks begun full sealed draft p.added p.plain encoded
 
-more_written : (ms ns : List Made) (ss ts : List Sack) (b : List ℕ) → IsWritten ms ss b → IsWritten (ms ++ ns) (ss ++ ts) b
-more_written ms ns ss ts b w = record {
-  packet = w.packet;
-  is_zero = w.is_zero;
-  encoded = w.encoded;
-  encodings = w.encodings;
-  fits = w.fits;
-  own = all_of_more ms (ms ++ ns) ss (ss ++ ts) (λ m c. Contains-append_left ms ns m c) (λ m c. Contains-append_left ss ts m c) w.packet.chunks w.own;
-}
-
--- calls before
-pub before_then : (k : Bool) (s : Sides) (t : Transmission) (r : Option Reception) (x y : List ℕ) (z : Sides) → Puts s (sides t r x)
+-- behind calls that make no chunk
+pub before_then : (k : Bool) (s : Sides) (t : Transmission) (r : Option Reception) (y : List ℕ) (z : Sides) → Sends [] s.sender t → r ≡ s.receiver
     → Transmits k (sides t r y) z → Transmits k s z
-before_then k s t r x y z p f = record {
-  made = f.made ++ p.made;
-  sacks = f.sacks ++ p.sacks;
-  sent = sent_then p.made f.made s.sender t z.sender p.sent f.sent;
-  reported = reported_in p.sacks f.sacks s.receiver r z.receiver p.reported f.reported;
-  written = λ e. more_written f.made p.made f.sacks p.sacks z.bytes (f.written e);
+before_then k s t r y z sent same f = record {
+  made = f.made;
+  sacks = f.sacks;
+  sent = subst (λ (ms : List Made). Sends ms s.sender z.sender) (append-nil f.made) (sent_then [] f.made s.sender t z.sender sent f.sent);
+  reported = subst (λ (r : Option Reception). ReportsIn f.sacks r z.receiver) same f.reported;
+  written = f.written;
+  each = f.each;
+  none = f.none;
 }
 
 pub sent_same : (k : Bool) (s : Sides) (u v : Transmission) (q : Option Reception) (y : List ℕ) → v ≡ u → Transmits k s (sides u q y)
@@ -371,8 +385,21 @@ pub sent_same : (k : Bool) (s : Sides) (u v : Transmission) (q : Option Receptio
 sent_same k s u v q y e h = subst (λ w. Transmits k s (sides w q y)) (sym e) h
 
 -- no datagram
-pub unsent : (s : Sides) (t : Transmission) (r : Option Reception) (x y : List ℕ) → Puts s (sides t r x) → Transmits false s (sides t r y)
-unsent s t r x y p = record { made = p.made; sacks = p.sacks; sent = p.sent; reported = p.reported; written = λ e. absurd (false≢true e) }
+pub unsent : (s : Sides) (t : Transmission) (r : Option Reception) (y : List ℕ) → Sends [] s.sender t → r ≡ s.receiver → Transmits false s (sides t r y)
+unsent s t r y sent same = record {
+  made = [];
+  sacks = [];
+  sent = sent;
+  reported = subst (λ (r : Option Reception). ReportsIn [] s.receiver r) (sym same) (none_in s.receiver);
+  written = λ e. absurd (false≢true e);
+  each = λ e. absurd (false≢true e);
+  none = λ _. refl;
+}
+
+pub unsent_alike : (a b : Association) → HalvesAlike a b → (y : List ℕ)
+    → Transmits false (sides_of a) (sides b.outbound.sender (receiver_of b.inbound) y)
+unsent_alike a b h y = unsent (sides_of a) b.outbound.sender (receiver_of b.inbound) y
+    (subst (λ t. Sends [] a.outbound.sender t) (sym h.sender) (none_sent a.outbound.sender)) h.receiver
 
 -- nor where the call is refused
 refused : (o : Result Bool Fault) → IsErr o → is_sent o ≡ false
@@ -393,4 +420,13 @@ sent_alone a b h w = record {
   sent = subst (λ t. Sends [] a.outbound.sender t) (sym h.sender) (none_sent a.outbound.sender);
   reported = subst (λ r. ReportsIn [] (receiver_of a.inbound) r) (sym h.receiver) (none_in (receiver_of a.inbound));
   written = λ e. w;
+  each = λ e. record {
+    packet = w.packet;
+    is_zero = w.is_zero;
+    encoded = w.encoded;
+    encodings = w.encodings;
+    fits = w.fits;
+    each = none_made [] w.packet.chunks w.own;
+  };
+  none = λ e. absurd (false≢true (sym e));
 }

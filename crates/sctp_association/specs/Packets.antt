@@ -69,6 +69,17 @@ abbrev pub IsSackOnce : (old new : Bool) → Wire → Type 0
 IsSackOnce old new (sack_chunk s) = (old ≡ true) × (new ≡ false)
 IsSackOnce old new _ = ⊥
 
+-- what of a chunk the sender made: DATA, or a FORWARD-TSN
+abbrev pub made_of : Wire → List Made
+made_of (data_chunk d) = made.data_chunk d ∷ []
+made_of (forward_tsn_chunk f) = made.forward_tsn f ∷ []
+made_of _ = []
+
+-- and of several, the last one first
+abbrev pub made_in : List Wire → List Made
+made_in [] = []
+made_in (w ∷ ws) = made_in ws ++ made_of w
+
 -- the halves of an association, and the packet that it writes
 pub record Sides : Type 0 where
   pub sender : Transmission
@@ -78,7 +89,8 @@ pub record Sides : Type 0 where
 abbrev pub sides : Transmission → Option Reception → List ℕ → Sides
 sides t r bytes = record { sender = t; receiver = r; bytes = bytes }
 
--- calls of both halves led from old to new, and the chunks that were put meanwhile are such, and of what these calls answered
+-- calls of both halves led from old to new, and the chunks that were put meanwhile are such, and of what these calls answered. Where the packet was
+-- begun, what the sender made is put, each once and in order
 pub record PutsOf (P : Wire → Type 0) (old new : Sides) : Type 0 where
   pub made : List Made
   pub sacks : List Sack
@@ -88,6 +100,7 @@ pub record PutsOf (P : Wire → Type 0) (old new : Sides) : Type 0 where
   pub added : Adds chunks old.bytes new.bytes
   pub own : AllByRecursion (IsOf made sacks) chunks
   pub plain : AllByRecursion P chunks
+  pub each : (p : Parts) → IsDraft p old.bytes → made ≡ made_in chunks
 
 -- they are no replies
 abbrev pub Puts : Sides → Sides → Type 0
@@ -117,10 +130,22 @@ pub record IsPacketOf (P : Wire → Type 0) (bytes : List ℕ) : Type 0 where
 abbrev pub IsWritten : List Made → List Sack → List ℕ → Type 0
 IsWritten ms sacks bytes = IsPacketOf (IsOf ms sacks) bytes
 
--- calls of both halves led from old to new, and where there is a datagram it is a packet of what these calls answered
+-- the bytes are a packet, of which the sender made these, the last one first
+pub record HasEach (made : List Made) (bytes : List ℕ) : Type 0 where
+  pub packet : Parts
+  pub is_zero : Bool
+  pub encoded : bytes ≡ packet_encoding (sum_of is_zero) packet
+  pub encodings : HavePacketEncoding packet
+  pub fits : FitsParts packet
+  pub each : made_in packet.chunks ≡ made
+
+-- Calls of both halves led from old to new, and where there is a datagram it is a packet of what these calls answered. What the sender made leaves in
+-- it, each once and in order; where there is none it made nothing
 pub record Transmits (is_sent : Bool) (old new : Sides) : Type 0 where
   pub made : List Made
   pub sacks : List Sack
   pub sent : Sends made old.sender new.sender
   pub reported : ReportsIn sacks old.receiver new.receiver
   pub written : is_sent ≡ true → IsWritten made sacks new.bytes
+  pub each : is_sent ≡ true → HasEach made new.bytes
+  pub none : is_sent ≡ false → made ≡ []

@@ -8,8 +8,7 @@ use Rattle.sctp_association.proofs.Leaving.{leaves_later, leaves_same, new_then,
 use Rattle.sctp_association.proofs.Lasting.{lasts_same, lasts_then, lasts_unmoved}
 use Rattle.sctp_association.proofs.Offering.{offers_none, offers_reply}
 use Rattle.sctp_association.proofs.Owing.{rto_asks}
-use Rattle.sctp_association.proofs.Others.{alike_puts, at_then, beats_same, before_then, none_sent_so, sends_puts, sent_alone, unsent, unsent_err}
-use Rattle.sctp_association.proofs.Putting.{and_then, nothing}
+use Rattle.sctp_association.proofs.Others.{alike_same, at_then, beats_same, before_then, none_sent_so, sent_alone, unsent, unsent_alike, unsent_err}
 use Rattle.sctp_association.proofs.association.Association.poll_transmit.Goals as goal
 use Rattle.sctp_association.specs.Congested.{PausesWithin}
 use Rattle.sctp_association.specs.Entering.{usable_in}
@@ -22,30 +21,27 @@ use Rattle.sctp_handshake.specs.declared.machine.Machine.{Machine}
 
 pub returns-in_err-put_alone-clause-made : goal.returns-in_err-put_alone-clause-made
 returns-in_err-put_alone-clause-made c =
-    none_sent_so _ _ _ c.from_residual.ensures.0 (unsent _ _ _ _ _ (alike_puts _ _ c.put_alone.ensures.halves c.args.self.now.draft.bytes))
+    none_sent_so _ _ _ c.from_residual.ensures.0 (unsent_alike c.args.self.now c.put_alone.new.self c.put_alone.ensures.halves _)
 
 pub returns-in-Some-clause-made : goal.returns-in-Some-clause-made
 returns-in-Some-clause-made c = sent_alone _ _ c.put_alone.ensures.halves c.in_ok-put_alone.ensures.written
 
 pub returns-then-self-clause-made : goal.returns-then-self-clause-made
-returns-then-self-clause-made c = unsent _ _ _ _ _ (nothing (sides_of c.args.self.now))
+returns-then-self-clause-made c = unsent_alike c.args.self.now c.args.self.now (alike_same c.args.self.now) _
 
 pub returns-in_err-abandon-clause-made : goal.returns-in_err-abandon-clause-made
 returns-in_err-abandon-clause-made c = none_sent_so _ _ _ c.from_residual-in_err-abandon.ensures.0 (
-    unsent _ _ _ _ _ (sends_puts _ _ _ (receiver_of c.args.self.now.inbound) c.args.self.now.draft.bytes c.abandon.ensures.dropped)
+    unsent (sides_of c.args.self.now) _ (receiver_of c.args.self.now.inbound) _ c.abandon.ensures.dropped refl
     )
 
 pub returns-in_default-peer-clause-made : goal.returns-in_default-peer-clause-made
-returns-in_default-peer-clause-made c = unsent _ _ _ _ _ (
-    and_then _ _ _ (sends_puts _ _ _ (receiver_of c.args.self.now.inbound) c.args.self.now.draft.bytes c.abandon.ensures.dropped)
-    (alike_puts _ _ c.settle.ensures.halves c.args.self.now.draft.bytes)
-    )
+returns-in_default-peer-clause-made c = unsent (sides_of c.args.self.now) c.settle.new.self.outbound.sender (receiver_of c.settle.new.self.inbound) _
+    (subst (λ t. Sends [] c.args.self.now.outbound.sender t) (sym c.settle.ensures.halves.sender) c.abandon.ensures.dropped) c.settle.ensures.halves.receiver
 
 pub returns-clause-made : goal.returns-clause-made
-returns-clause-made c = before_then _ _ _ _ _ _ _ (
-    and_then _ _ _ (sends_puts _ _ _ (receiver_of c.args.self.now.inbound) c.args.self.now.draft.bytes c.abandon.ensures.dropped)
-    (alike_puts _ _ c.settle.ensures.halves c.args.self.now.draft.bytes)
-    ) c.put_packet.ensures.made
+returns-clause-made c = before_then _ (sides_of c.args.self.now) c.settle.new.self.outbound.sender (receiver_of c.settle.new.self.inbound) _ _
+    (subst (λ t. Sends [] c.args.self.now.outbound.sender t) (sym c.settle.ensures.halves.sender) c.abandon.ensures.dropped) c.settle.ensures.halves.receiver
+    c.put_packet.ensures.made
 
 -- ## What is offered
 

@@ -1,6 +1,6 @@
 use Rattle.std.proofs.Common.{ap, arith, inl, inr, refl, sym, ◌∙◌}
 use Rattle.sctp_association.proofs.Congested.{marked_first}
-use Rattle.sctp_association.proofs.Idle.{data_put, resent_fits}
+use Rattle.sctp_association.proofs.Idle.{data_is_put, data_put, resent_fits}
 use Rattle.sctp_association.proofs.Making.{again_put, none-of, none_again}
 use Rattle.sctp_association.proofs.Putting.{kept, to_same}
 use Rattle.sctp_association.proofs.outbound.Outbound.put_first.Goals as goal
@@ -16,7 +16,11 @@ returns-in_default-clause-made c =
 
 pub returns-clause-made : goal.returns-clause-made
 returns-clause-made c = to_same _ _ _ _ _ (ap (λ o. o.sender) c.stop_where_first.ensures.rest) (
-    again_put c.args.now c.room.result c.in-Some.chunk _ c.args.self.now.sender c.resend_next.new.self _ _ (sym c.in-Some.is ∙ c.in_ok-chunk.ensures.answer)
+    again_put c.args.now c.room.result c.in-Some.chunk _ c.args.self.now.sender c.resend_next.new.self _ _
+    (data_is_put c.in-Some.chunk c.room.result _ _ c.put.result
+    (resent_fits c.args.now c.room.result c.args.self.now.sender.flight c.in-Some.chunk (sym c.in-Some.is ∙ c.in_ok-chunk.ensures.answer))
+    c.room.ensures.value c.room.ensures.most c.put.ensures.fits)
+    (sym c.in-Some.is ∙ c.in_ok-chunk.ensures.answer)
     c.in_ok-chunk.ensures.ok c.in_ok-chunk.ensures.marked c.put.ensures.added
     )
 

@@ -1,7 +1,7 @@
 use Rattle.std.proofs.Common.{ℕ, Some, ap, arith, inl, inr, length, min, refl, subst, sym, true, ◌∙◌, ◌≡◌, ◌+◌, ◌-◌, ◌^◌}
 use Rattle.sctp_association.proofs.Congested.{base_first, base_on, left_as}
-use Rattle.sctp_association.proofs.Idle.{data_put, fits_so, lent_fits}
-use Rattle.sctp_association.proofs.Making.{lent_put, none_put, sent_there}
+use Rattle.sctp_association.proofs.Idle.{data_is_put, data_put, fits_so, lent_fits}
+use Rattle.sctp_association.proofs.Making.{lent_put, none-of, sent_there, some-none}
 use Rattle.sctp_association.proofs.Putting.{kept, nothing}
 use Rattle.sctp_association.proofs.outbound.Outbound.put_next.Goals as goal
 use Rattle.sctp_association.proofs.outbound.Outbound.put_next.Goals.{in-Some-burst, in_default-burst-2, in_default-burst}
@@ -41,9 +41,20 @@ returns-in-Err c = record {
 
 pub returns-in-Some-get-clause-made : goal.returns-in-Some-get-clause-made
 returns-in-Some-get-clause-made c =
-    let t = c.args.self.now.sender in
+    let t : Transmission = c.args.self.now.sender in
+    let e : next_pending t.flight.queue.pending ≡ Some c.in-Some.chunk.now =
+    sym (c.in-Some.ensures.value ∙ ap (λ (o : Queue). next_pending o.pending) c.outbound.ensures) in
+    let length : c.data_length.result ≡ min (16 + padded_length (length c.in-Some.chunk.now.user_data)) (2 ^ 64 - 1) =
+    c.data_length.ensures ∙ ap {B = ℕ} (λ (n : ℕ). min (16 + padded_length n) (2 ^ 64 - 1)) c.len-bytes.ensures.value in
+    let fit = fits_so c.data_length.result c.room.result c.in-Some.chunk.now length
+    (omega (arith, c.if-data_length-room.false)) (omega (arith, c.room.ensures.value, c.room.ensures.most)) in
     lent_put c.args.now t c.send_next_tsn.new.sender c.in-Some-sent.tsn (sym c.in-Some-sent.is ∙ c.in-Ok.ensures.answer) c.in-Ok.ensures.noted
     c.in-Ok.ensures.ok c.in-Ok.ensures.bytes (c.in-Ok.ensures.accepted refl) c.in-Some-get.chunk.now _ _ _
+    (data_is_put c.in-Some-get.chunk.now c.room.result _ _ c.put.result (
+    lent_fits c.args.now c.room.result t c.send_next_tsn.new.sender c.in-Some-sent.tsn c.in-Some.chunk.now c.in-Some-get.chunk.now
+    (sym c.in-Some-sent.is ∙ c.in-Ok.ensures.answer) c.in-Ok.ensures.noted
+    (c.in-Some-get.ensures ∙ ap (λ (o : Queue). find (has_tsn c.in-Some-sent.tsn) o.inflight.chunks) c.outbound-in-Some-sent.ensures) e fit
+    ) c.room.ensures.value c.room.ensures.most c.put.ensures.fits)
     (c.in-Some-get.ensures ∙ ap (λ (o : Queue). find (has_tsn c.in-Some-sent.tsn) o.inflight.chunks) c.outbound-in-Some-sent.ensures) c.put.ensures.added
 
 pub unreachable-requires : goal.unreachable-requires
@@ -55,7 +66,9 @@ unreachable-requires c =
 
 pub returns-in_default-sent-clause-made : goal.returns-in_default-sent-clause-made
 returns-in_default-sent-clause-made c =
-    none_put c.args.now c.args.self.now.sender c.send_next_tsn.new.sender c.in-Ok.ensures.ok c.in-Ok.ensures.bytes (c.in-Ok.ensures.accepted refl) _
+    let e : next_pending c.args.self.now.sender.flight.queue.pending ≡ Some c.in-Some.chunk.now =
+    sym (c.in-Some.ensures.value ∙ ap (λ (o : Queue). next_pending o.pending) c.outbound.ensures) in
+    absurd (some-none _ (sym e ∙ none-of _ _ (sym c.in_default-sent.is ∙ c.in-Ok.ensures.answer)))
 
 pub returns-in-Some-get-clause-put : goal.returns-in-Some-get-clause-put
 returns-in-Some-get-clause-put c head _ =
