@@ -2,21 +2,22 @@
 use Rattle.std.proofs.Common.{◌≡◌, inl, inr, ℕ, Bool, true, false, [], Option, Some, None, refl, ap, sym, subst, ◌∙◌, arith, ◌==◌, ◌<◌}
 use Rattle.std.proofs.lemmas.Bool.{false≢true}
 use Rattle.std.proofs.lemmas.Option.{none-some}
-use Rattle.std.specs.Prelude.{◌&&◌, ◌+◌, ◌⊎◌, IsErr, Ok, Err, Result, find, if◌then◌else◌, is_some, not, suc, zero}
+use Rattle.std.specs.Prelude.{◌&&◌, ◌||◌, ◌+◌, ◌⊎◌, IsErr, Ok, Err, Result, find, if◌then◌else◌, is_some, not, suc, zero}
 use Rattle.std.specs.Option.{option_map}
 use Rattle.sctp_association.proofs.Making.{fitting}
 use Rattle.sctp_association.proofs.Running.{none_sent}
-use Rattle.sctp_association.specs.Congested.{IsAsFull, LeavesAgain, LeavesFrom, LeavesNew, LeavesWithin, Path, PausesFrom, PausesWithin, Repeats, Resends, SendsNew, SendsWithin, StaysOrAgain, StaysOrLeaves, base_at, begun, ended, is_unsent, may_again, path_of, pauses}
+use Rattle.sctp_association.specs.Congested.{IsAsFull, LeavesAgain, LeavesFrom, LeavesNew, LeavesWithin, Path, PausesFrom, PausesWithin, Repeats, Resends, SendsNew, SendsWithin, StaysOrAgain, StaysOrLeaves, base_at, begun, ended, idle_at, idled, is_unsent, may_again, path_of, pauses, told_at, used_after, with_burst}
 use Rattle.sctp_association.specs.declared.association.Association.{Association}
 use Rattle.sctp_association.specs.declared.fault.Fault.{Fault}
 use Rattle.sctp_association.specs.declared.outbound.Outbound.{Outbound}
 use Rattle.sctp_association.specs.Halves.{HalvesAlike, PutsOthers}
 use Rattle.sctp_association.specs.Idle.{in_flight}
 use Rattle.sctp_association.specs.Runs.{Sends}
-use Rattle.sctp_association.specs.Sending.{base_of, flight_of}
+use Rattle.sctp_association.specs.Sending.{base_of, flight_of, is_later, is_none_of, lowered_times, may_drop}
 use Rattle.sctp_data.specs.declared.chunk.chunk_payload_data.ChunkPayloadData.{ChunkPayloadData}
 use Rattle.sctp_outbound.specs.pending_queue.PendingQueue.{chunk_count}
 use Rattle.sctp_path.specs.Rto.{Timeout}
+use Rattle.sctp_sender.specs.Drops.{with_lifetimes}
 use Rattle.sctp_sender.specs.Resending.{is_to_resend, next_within, resent_at}
 use Rattle.sctp_sender.specs.Sender.{Transmission, after_send, with_flight}
 
@@ -35,10 +36,7 @@ full_of a b h rto = record { path = h.path; rto = rto }
 pub full_others : (a : Outbound) (b c : Association) → IsAsFull a b.outbound → PutsOthers b c → IsAsFull a c.outbound
 full_others a b c f p = full_then a b.outbound c.outbound f (full_of b c p.halves p.kept.rto)
 
--- whether a FORWARD-TSN is due is none of it, nor is T3-rtx
-pub skipped : (a b : Outbound) (due : Bool) → b ≡ record a { is_skip_due = due } → IsAsFull a b
-skipped a b due e = record { path = ap path_of e; rto = ap (λ (o : Outbound). o.rto) e }
-
+-- T3-rtx is none of it
 pub timed : (a b : Outbound) → b ≡ record a { timer = b.timer } → IsAsFull a b
 timed a b e = record { path = ap path_of e; rto = ap (λ (o : Outbound). o.rto) e }
 
@@ -146,7 +144,7 @@ news_by now rto a b c waits e (n, f) = record {
 
 pub within_full : (now : ℕ) (a b : Outbound) → IsAsFull a b → LeavesWithin now a b
 within_full now a b f = record {
-  path = record { mid = path_of a; again = resends_none now a.rto _ _ (path_of a) (path_of a) refl; left = inl f.path };
+  path = record { told = false; mid = path_of a; again = resends_none now a.rto _ _ (path_of a) (path_of a) refl; left = inl f.path };
   rto = f.rto;
 }
 
@@ -168,14 +166,79 @@ within_before now a b c f g = record {
 }
 
 pub within_again : (now : ℕ) (a b : Outbound) → Resends now a.rto a.is_fast (flight_of (in_flight a.sender)) (path_of a) (path_of b) → b.rto ≡ a.rto → LeavesWithin now a b
-within_again now a b f rto = record { path = record { mid = path_of b; again = f; left = inl refl }; rto = rto }
+within_again now a b f rto = record { path = record { told = false; mid = path_of b; again = f; left = inl refl }; rto = rto }
 
 pub within_both : (now : ℕ) (a b c : Outbound) → Resends now a.rto a.is_fast (flight_of (in_flight a.sender)) (path_of a) (path_of b) → b.rto ≡ a.rto
     → SendsNew now b.rto (path_of b) (path_of c) → c.rto ≡ b.rto → LeavesWithin now a c
 within_both now a b c f rto g same = record {
-  path = record { mid = path_of b; again = f; left = inr (subst (λ (t : Timeout). SendsNew now t (path_of b) (path_of c)) rto g) };
+  path = record { told = false; mid = path_of b; again = f; left = inr (subst (λ (t : Timeout). SendsNew now t (path_of b) (path_of c)) rto g) };
   rto = same ∙ rto;
 }
+
+-- where a FORWARD-TSN was due before
+told-from : (now : ℕ) (rto : Timeout) (a b : Path) → LeavesFrom now rto (told_at true a) b → LeavesFrom now rto a b
+told-from now rto a b f = record { told = true; mid = f.mid; again = by f.told f.again; left = f.left }
+  where
+    by : (t : Bool) → Resends now rto a.fast (flight_of (in_flight a.sender)) (told_at t (told_at true a)) f.mid
+        → Resends now rto a.fast (flight_of (in_flight a.sender)) (told_at true a) f.mid
+    by true r = r
+    by false r = r
+
+pub within_told : (now : ℕ) (a b c : Outbound) → (b ≡ a) ⊎ (b ≡ record a { is_skip_due = false }) → LeavesWithin now b c → LeavesWithin now a c
+within_told now a b c (inl e) g = within_behind now a b c (as_full a b e) g
+within_told now a b c (inr e) g =
+    let rto : b.rto ≡ a.rto = ap (λ (o : Outbound). o.rto) e in
+    record {
+      path = told-from now a.rto (path_of a) (path_of c) (subst (λ (t : Timeout). LeavesFrom now t (told_at true (path_of a)) (path_of c)) rto
+          (subst (λ (p : Path). LeavesFrom now b.rto p (path_of c)) (ap path_of e) g.path));
+      rto = g.rto ∙ rto;
+    }
+
+-- ## Whether a FORWARD-TSN is due
+
+repeats-skip : (R : Path → Path → Type 0) → ((a b : Path) → R a b → b.skip ≡ a.skip) → (n : ℕ) (a b : Path) → Repeats R n a b → b.skip ≡ a.skip
+repeats-skip R each zero a b e = ap (λ (p : Path). p.skip) e
+repeats-skip R each (suc n) a b (mid, f, step) = each mid b step ∙ repeats-skip R each n a mid f
+
+pub resends_skip : (now : ℕ) (rto : Timeout) (fast : Bool) (flight : ℕ) (a b : Path) → Resends now rto fast flight a b → b.skip ≡ a.skip
+resends_skip now rto fast flight a b f = repeats-skip (LeavesAgain now) (λ p q step. ap (λ (r : Path). r.skip) step.after) f.count a b f.each
+
+burst-skip : (now : ℕ) (p : Path) → (with_burst now p).skip ≡ p.skip
+burst-skip now p = by (is_later now p.paused)
+  where
+    by : (b : Bool) → (if b then record p { burst = None; paused = None } else p).skip ≡ p.skip
+    by true = refl
+    by false = refl
+
+idled-skip : (now : ℕ) (rto : Timeout) (p : Path) → (idled now rto p).skip ≡ p.skip
+idled-skip now rto p = by (is_none_of (in_flight p.sender))
+  where
+    by : (b : Bool) → (if b then record p {
+      congestion = lowered_times (idle_at now rto p) p.congestion;
+      used = used_after now (idle_at now rto p) p.used;
+    } else p).skip ≡ p.skip
+    by true = refl
+    by false = refl
+
+begun-skip : (now : ℕ) (rto : Timeout) (goes : Bool) (p : Path) → (begun now rto goes p).skip ≡ p.skip
+begun-skip now rto true p = idled-skip now rto (with_burst now p) ∙ burst-skip now p
+begun-skip now rto false p = burst-skip now p
+
+pub news_skip : (now : ℕ) (rto : Timeout) (a b : Path) → SendsNew now rto a b → b.skip ≡ a.skip
+news_skip now rto a b f =
+    repeats-skip (LeavesNew now) (λ p q step. ap (λ (r : Path). r.skip) step.after) f.count (begun now rto f.goes a) b f.each ∙ begun-skip now rto f.goes a
+
+-- none comes to be due as chunks leave
+pub from_skip : (now : ℕ) (rto : Timeout) (a b : Path) → LeavesFrom now rto a b → a.skip ≡ false → b.skip ≡ false
+from_skip now rto a b f none = left f.left
+  where
+    told : (t : Bool) → (told_at t a).skip ≡ false
+    told true = refl
+    told false = none
+
+    left : (b ≡ f.mid) ⊎ SendsNew now rto f.mid b → b.skip ≡ false
+    left (inl e) = ap (λ (p : Path). p.skip) e ∙ resends_skip now rto _ _ (told_at f.told a) f.mid f.again ∙ told f.told
+    left (inr s) = news_skip now rto f.mid b s ∙ resends_skip now rto _ _ (told_at f.told a) f.mid f.again ∙ told f.told
 
 -- ## Where the time to send is over
 
@@ -221,29 +284,59 @@ stops o a going known = sym (ap (λ (x : Bool). not x && (is_some a.machine.peer
 
 -- ## Behind what is abandoned
 
+-- a FORWARD-TSN comes to be due only where something may be abandoned
+pub dropped_due : (now : ℕ) (a b : Outbound)
+    → (may_drop now a.sender ≡ false → (b ≡ a) ⊎ (b ≡ record a { sender = with_lifetimes now a.sender })) → b.is_skip_due ≡ true
+    → may_drop now a.sender || a.is_skip_due ≡ true
+dropped_due now a b early is = by (may_drop now a.sender) refl
+  where
+    same : (b ≡ a) ⊎ (b ≡ record a { sender = with_lifetimes now a.sender }) → a.is_skip_due ≡ true
+    same (inl e) = sym (ap (λ (o : Outbound). o.is_skip_due) e) ∙ is
+    same (inr e) = sym (ap (λ (o : Outbound). o.is_skip_due) e) ∙ is
+
+    by : (d : Bool) → may_drop now a.sender ≡ d → d || a.is_skip_due ≡ true
+    by true e = refl
+    by false e = same (early e)
+
+or-true : (x y : Bool) → y ≡ true → x || y ≡ true
+or-true true y e = refl
+or-true false y e = e
+
 -- what is abandoned is no part of the rest
 abandoned : (a b : Outbound) (t : Transmission) (due : Bool) → b ≡ record a { sender = t; is_skip_due = due }
-    → path_of b ≡ record (path_of a) { sender = b.sender }
-abandoned a b t due e = subst (λ (o : Outbound). path_of o ≡ record (path_of a) { sender = o.sender }) (sym e) refl
+    → path_of b ≡ record (path_of a) { sender = b.sender; skip = b.is_skip_due }
+abandoned a b t due e =
+    subst (λ (o : Outbound). path_of o ≡ record (path_of a) { sender = o.sender; skip = o.is_skip_due }) (sym e) refl
 
 pub sends_same : (now : ℕ) (ends : Bool) (a b : Outbound) → ends ≡ false → IsAsFull a b → SendsWithin now ends a b
 sends_same now ends a b went f =
     let g = pauses_not now ends a b went (within_full now a b f) in
-    record { kept = a.sender; dropped = none_sent a.sender; path = g.path; rto = g.rto }
+    record {
+      kept = a.sender;
+      skip = a.is_skip_due;
+      dropped = none_sent a.sender;
+      due = or-true (may_drop now a.sender) a.is_skip_due;
+      path = g.path;
+      rto = g.rto;
+    }
 
 pub sends_after : (now : ℕ) (ends : Bool) (a b c : Outbound) → Sends [] a.sender b.sender
-    → b ≡ record a { sender = b.sender; is_skip_due = b.is_skip_due } → PausesWithin now ends b c → SendsWithin now ends a c
-sends_after now ends a b c dropped e f =
+    → b ≡ record a { sender = b.sender; is_skip_due = b.is_skip_due } → (b.is_skip_due ≡ true → may_drop now a.sender || a.is_skip_due ≡ true)
+    → PausesWithin now ends b c → SendsWithin now ends a c
+sends_after now ends a b c dropped e due f =
     let rto : b.rto ≡ a.rto = ap (λ (o : Outbound). o.rto) e in
     record {
       kept = b.sender;
+      skip = b.is_skip_due;
       dropped = dropped;
-      path = subst (λ (t : Timeout). PausesFrom now ends t (record (path_of a) { sender = b.sender }) (path_of c)) rto
+      due = due;
+      path = subst (λ (t : Timeout). PausesFrom now ends t (record (path_of a) { sender = b.sender; skip = b.is_skip_due }) (path_of c)) rto
           (subst (λ (p : Path). PausesFrom now ends b.rto p (path_of c)) (abandoned a b b.sender b.is_skip_due e) f.path);
       rto = f.rto ∙ rto;
     }
 
 -- and nothing leaves behind it
 pub sends_alike : (now : ℕ) (ends : Bool) (a b c : Outbound) → ends ≡ false → Sends [] a.sender b.sender
-    → b ≡ record a { sender = b.sender; is_skip_due = b.is_skip_due } → IsAsFull b c → SendsWithin now ends a c
-sends_alike now ends a b c went dropped e f = sends_after now ends a b c dropped e (pauses_not now ends b c went (within_full now b c f))
+    → b ≡ record a { sender = b.sender; is_skip_due = b.is_skip_due } → (b.is_skip_due ≡ true → may_drop now a.sender || a.is_skip_due ≡ true)
+    → IsAsFull b c → SendsWithin now ends a c
+sends_alike now ends a b c went dropped e due f = sends_after now ends a b c dropped e due (pauses_not now ends b c went (within_full now b c f))

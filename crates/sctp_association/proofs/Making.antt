@@ -6,7 +6,7 @@ use Rattle.std.specs.Option.{option_map}
 use Rattle.sctp_association.proofs.Putting.{adds_none, and_so, kept, puts_made, puts_none, puts_reported, there}
 use Rattle.sctp_association.proofs.Running.{dropped_each, none_in, none_sent, reported_once, sent_by, sent_then}
 use Rattle.sctp_association.specs.declared.outbound.Outbound.{Outbound}
-use Rattle.sctp_association.specs.Packets.{Adds, IsSackOnce, PutsIn, PutsOut, made_in, put_where, sides}
+use Rattle.sctp_association.specs.Packets.{Adds, IsData, IsSackOnce, IsSkipOnce, PutsIn, PutsOut, PutsSkip, made_in, put_where, sides}
 use Rattle.sctp_association.specs.Runs.{Sends}
 use Rattle.sctp_association.specs.Sending.{may_drop}
 use Rattle.sctp_chunks.specs.Wire.{Wire, data_chunk, forward_tsn_chunk, sack_chunk}
@@ -45,21 +45,23 @@ of-some x y e = cc
 
 -- ## The sender
 
-pub skip_put : (room : ℕ) (c : ChunkForwardTsn) (b : Bool) (t : Transmission) (old new : List ℕ) → can_skip_to c.new_cumulative_tsn t.flight ≡ true
-    → is_end c.new_cumulative_tsn t.flight ≡ true → Name c.streams.items (named_up_to c.new_cumulative_tsn t.flight)
-    → Adds (put_where b (forward_tsn_chunk (forward_tsn_of c))) old new → PutsOut t t old new
-skip_put room c true t old new past ended names added =
-    puts_made (forwards_within room (forward_tsn_of c)) true (forward_tsn_chunk (forward_tsn_of c)) t t old new
-    (refl, (omega arith, (refl, ((past, ended, names), tt)))) (there (made.forward_tsn (forward_tsn_of c))) tt added (λ _ _. refl)
-skip_put room c false t old new past ended names added = puts_none t old new added
+skip-put : (due : Bool) (room : ℕ) (c : ChunkForwardTsn) (b : Bool) (t : Transmission) (old new : List ℕ) → due ≡ true
+    → can_skip_to c.new_cumulative_tsn t.flight ≡ true → is_end c.new_cumulative_tsn t.flight ≡ true
+    → Name c.streams.items (named_up_to c.new_cumulative_tsn t.flight)
+    → Adds (put_where b (forward_tsn_chunk (forward_tsn_of c))) old new → PutsSkip due false t t old new
+skip-put due room c true t old new was past ended names added =
+    puts_made (IsSkipOnce due false) (forwards_within room (forward_tsn_of c)) true (forward_tsn_chunk (forward_tsn_of c)) t t old new
+    (refl, (omega arith, (refl, ((past, ended, names), tt)))) (there (made.forward_tsn (forward_tsn_of c))) (was, refl) added (λ _ _. refl)
+skip-put due room c false t old new was past ended names added = puts_none t old new added
 
 -- the same, of what `forward_tsn` answers
-pub skip_put_where : (room : ℕ) (o : Option ChunkForwardTsn) (c : ChunkForwardTsn) (b : Bool) (t : Transmission) (old new : List ℕ) → o ≡ Some c
+pub skip_put_where : (due : Bool) (room : ℕ) (o : Option ChunkForwardTsn) (c : ChunkForwardTsn) (b : Bool) (t : Transmission) (old new : List ℕ)
+    → due ≡ true → o ≡ Some c
     → IfSome o (λ c. can_skip_to c.new_cumulative_tsn t.flight ≡ true) → IfSome o (λ c. is_end c.new_cumulative_tsn t.flight ≡ true)
     → IfSome o (λ c. Name c.streams.items (named_up_to c.new_cumulative_tsn t.flight))
-    → Adds (put_where b (forward_tsn_chunk (forward_tsn_of c))) old new → PutsOut t t old new
-skip_put_where room o c b t old new e past ended names added =
-    skip_put room c b t old new (subst (λ o. IfSome o (λ c. can_skip_to c.new_cumulative_tsn t.flight ≡ true)) e past)
+    → Adds (put_where b (forward_tsn_chunk (forward_tsn_of c))) old new → PutsSkip due false t t old new
+skip_put_where due room o c b t old new was e past ended names added =
+    skip-put due room c b t old new was (subst (λ o. IfSome o (λ c. can_skip_to c.new_cumulative_tsn t.flight ≡ true)) e past)
     (subst (λ o. IfSome o (λ c. is_end c.new_cumulative_tsn t.flight ≡ true)) e ended)
     (subst (λ o. IfSome o (λ c. Name c.streams.items (named_up_to c.new_cumulative_tsn t.flight))) e names) added
 
@@ -105,7 +107,7 @@ module _ (now room : ℕ) (chunk : ChunkPayloadData) (b : Bool) (t u : Transmiss
   again_of (Some c) is e exact marked added =
       let m = marked c is in
       let own : chunk ≡ sent_again (count_again c) now c = of-some chunk _ e in
-      puts_made (resends c.tsn now c) b (data_chunk (data_of chunk)) t u old new (meant room t.flight c is, (exact c is, (tt, ((m.1, m.0), tt))))
+      puts_made IsData (resends c.tsn now c) b (data_chunk (data_of chunk)) t u old new (meant room t.flight c is, (exact c is, (tt, ((m.1, m.0), tt))))
       (subst (λ (d : ChunkPayloadData). Contains (made.data_chunk (data_of d) ∷ []) (made.data_chunk (data_of chunk))) own
       (there (made.data_chunk (data_of chunk)))) tt added
       (λ p draft. sym (ap (λ (d : ChunkPayloadData). made.data_chunk (data_of d) ∷ []) own)
@@ -124,7 +126,7 @@ module _ (now : ℕ) (t u : Transmission) (exact : u ≡ after_send now t) (held
   pub next_put : (chunk : ChunkPayloadData) (b : Bool) (old new : List ℕ) → ((p : Parts) → IsDraft p old → b ≡ true) → Some chunk ≡ next_chunk now t
       → Adds (put_where b (data_chunk (data_of chunk))) old new → PutsOut t u old new
   next_put chunk b old new put answer added =
-      puts_made (sends now) b (data_chunk (data_of chunk)) t u old new (refl, (held, (exact, (accepted, tt))))
+      puts_made IsData (sends now) b (data_chunk (data_of chunk)) t u old new (refl, (held, (exact, (accepted, tt))))
       (subst (λ o. Contains (with_chunk o []) (made.data_chunk (data_of chunk))) answer (there (made.data_chunk (data_of chunk)))) tt added
       (λ p draft. sym (ap (λ (o : Option ChunkPayloadData). with_chunk o []) answer)
       ∙ ap (λ (k : Bool). made_in (put_where k (data_chunk (data_of chunk)))) (sym (put p draft)))

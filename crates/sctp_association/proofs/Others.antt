@@ -10,16 +10,17 @@ use Rattle.sctp_association.proofs.Idle.{longer_by_chunk}
 use Rattle.sctp_association.proofs.Putting.{shutdown_put, adds_none, adds_then, all_append, all_put, all_so, and_so, none_made, nothing, puts_so}
 use Rattle.sctp_association.proofs.Running.{none_in, none_sent, sent_then}
 use Rattle.sctp_association.specs.declared.association.Association.{Association}
+use Rattle.sctp_association.specs.Congested.{Path, path_of}
 use Rattle.sctp_association.specs.declared.inbound.Inbound.{Inbound}
-use Rattle.sctp_association.specs.Halves.{HalvesAlike, IsAsTimed, PutsDue, PutsOnce, PutsOthers, is_sent, receiver_of, sides_of}
+use Rattle.sctp_association.specs.Halves.{HalvesAlike, IsAsTimed, PutsDue, PutsOnce, PutsOthers, PutsSent, is_sent, receiver_of, sides_of}
 use Rattle.sctp_association.specs.Kept.{IsUnmoved, sack_waits, unknown_in}
 use Rattle.sctp_association.specs.declared.fault.Fault.{Fault}
 use Rattle.sctp_association.specs.Leaving.{AsksNoMore, IsDueOnce, IsParamOnce, IsReplyOnce, OwedAt, OwesNoMoreAt, Reaches, beats, owed_at}
 use Rattle.sctp_association.specs.Leaving.{owed_of, requests_due, responses_due}
-use Rattle.sctp_association.specs.Packets.{Adds, IsNoReply, IsOf, IsPacketOf, IsSackOnce, IsWritten, Puts, PutsIn, PutsOf, Sides, Transmits, made_in, put_where, sides}
+use Rattle.sctp_association.specs.Packets.{Adds, IsOf, IsPacketOf, IsSackOnce, IsSkipOnce, IsWritten, PutsIn, PutsOf, Sides, Transmits, made_in, put_where, sides}
 use Rattle.sctp_association.specs.Packets.{sum_of, with_chunks}
 use Rattle.sctp_association.specs.Runs.{ReportsIn, Sends}
-use Rattle.sctp_chunks.specs.Wire.{Wire, cookie_ack_chunk, cookie_echo_chunk, error_chunk, heartbeat_ack_chunk, heartbeat_chunk, init_chunk}
+use Rattle.sctp_chunks.specs.Wire.{Wire, cookie_ack_chunk, cookie_echo_chunk, data_chunk, error_chunk, forward_tsn_chunk, heartbeat_ack_chunk, heartbeat_chunk, init_chunk}
 use Rattle.sctp_chunks.specs.Wire.{reconfig_chunk, sack_chunk, shutdown_ack_chunk, shutdown_chunk}
 use Rattle.sctp_data.specs.SelectiveAck.{Sack}
 use Rattle.sctp_delivery.specs.SenderCalls.{Made}
@@ -90,6 +91,16 @@ module _ (now : ℕ) (a b c : Association) where
   params_behind m None h = tt
   params_behind m (Some p) h = param-behind m p h
 
+-- no FORWARD-TSN is due that was not
+abbrev pub SkipsNoMore : Association → Association → Type 0
+SkipsNoMore a b = a.outbound.is_skip_due ≡ false → b.outbound.is_skip_due ≡ false
+
+pub skip_kept : (a b : Association) → path_of b.outbound ≡ path_of a.outbound → SkipsNoMore a b
+skip_kept a b e none = ap (λ (p : Path). p.skip) e ∙ none
+
+pub skip_so : (a b c : Association) → SkipsNoMore a b → SkipsNoMore b c → SkipsNoMore a c
+skip_so a b c f g none = g (f none)
+
 or-both : {P Q R S : Type 0} → (P → R) → (Q → S) → P ⊎ Q → R ⊎ S
 or-both f g (inl p) = inl (f p)
 or-both f g (inr q) = inr (g q)
@@ -114,6 +125,7 @@ module _ (a b c : Association) where
   once-before u (error_chunk cs) h = or-both (λ r. (r.0, u.due.report r.0 r.1, r.2, r.3)) (λ s. (s.0, u.unknown s.0 s.1, s.2, s.3)) h
   once-before u (heartbeat_chunk ps) h = absurd h
   once-before u (reconfig_chunk r) h = absurd h
+  once-before u (forward_tsn_chunk f) h = absurd h
   once-before u _ h = tt
 
   -- and what is due no more is so behind one
@@ -129,37 +141,33 @@ module _ (a b c : Association) where
       (λ s. (s.0, s.1, s.2, still_none (unknown_in b.inbound) (unknown_in c.inbound) u.unknown s.3)) h
   once-behind u (heartbeat_chunk ps) h = absurd h
   once-behind u (reconfig_chunk r) h = absurd h
+  once-behind u (forward_tsn_chunk f) h = absurd h
   once-behind u _ h = tt
 
-  -- the same, of a HEARTBEAT and a RE-CONFIG too
-  due-before : (now : ℕ) → IsUnmoved a b → AsksNoMore now a b → (w : Wire) → IsDueOnce (owed_at now b) (owed_at now c) w
+  -- the same, of a HEARTBEAT, a RE-CONFIG and a FORWARD-TSN too
+  due-before : (now : ℕ) → IsUnmoved a b → AsksNoMore now a b → SkipsNoMore a b → (w : Wire) → IsDueOnce (owed_at now b) (owed_at now c) w
       → IsDueOnce (owed_at now a) (owed_at now c) w
-  due-before now u m (heartbeat_chunk ps) h = (was (beats now a) (beats now b) m.beat h.0, h.1)
-  due-before now u m (reconfig_chunk r) h = (params_before now a b c m r.param_a h.0, params_before now a b c m r.param_b h.1)
-  due-before now u m w h = once-before u w h
+  due-before now u m s (heartbeat_chunk ps) h = (was (beats now a) (beats now b) m.beat h.0, h.1)
+  due-before now u m s (reconfig_chunk r) h = (params_before now a b c m r.param_a h.0, params_before now a b c m r.param_b h.1)
+  due-before now u m s (forward_tsn_chunk f) h = (was a.outbound.is_skip_due b.outbound.is_skip_due s h.0, h.1)
+  due-before now u m s w h = once-before u w h
 
-  due-behind : (now : ℕ) → IsUnmoved b c → AsksNoMore now b c → (w : Wire) → IsDueOnce (owed_at now a) (owed_at now b) w
+  due-behind : (now : ℕ) → IsUnmoved b c → AsksNoMore now b c → SkipsNoMore b c → (w : Wire) → IsDueOnce (owed_at now a) (owed_at now b) w
       → IsDueOnce (owed_at now a) (owed_at now c) w
-  due-behind now u m (heartbeat_chunk ps) h = (h.0, m.beat h.1)
-  due-behind now u m (reconfig_chunk r) h = (params_behind now a b c m r.param_a h.0, params_behind now a b c m r.param_b h.1)
-  due-behind now u m w h = once-behind u w h
+  due-behind now u m s (heartbeat_chunk ps) h = (h.0, m.beat h.1)
+  due-behind now u m s (reconfig_chunk r) h = (params_behind now a b c m r.param_a h.0, params_behind now a b c m r.param_b h.1)
+  due-behind now u m s (forward_tsn_chunk f) h = (h.0, s h.1)
+  due-behind now u m s w h = once-behind u w h
 
-no-reply-once : (now : ℕ) (a b : Association) (w : Wire) → IsNoReply w → IsDueOnce (owed_at now a) (owed_at now b) w
-no-reply-once now a b (init_chunk i) h = absurd h
-no-reply-once now a b (cookie_echo_chunk k) h = absurd h
-no-reply-once now a b cookie_ack_chunk h = absurd h
-no-reply-once now a b (shutdown_chunk n) h = absurd h
-no-reply-once now a b shutdown_ack_chunk h = absurd h
-no-reply-once now a b (heartbeat_ack_chunk ps) h = absurd h
-no-reply-once now a b (sack_chunk s) h = absurd h
-no-reply-once now a b (heartbeat_chunk ps) h = absurd h
-no-reply-once now a b (error_chunk cs) h = absurd h
-no-reply-once now a b (reconfig_chunk r) h = absurd h
-no-reply-once now a b _ h = tt
+skip-due : (now : ℕ) (a b : Association) (w : Wire) → IsSkipOnce a.outbound.is_skip_due b.outbound.is_skip_due w → IsDueOnce (owed_at now a) (owed_at now b) w
+skip-due now a b (data_chunk d) h = tt
+skip-due now a b (forward_tsn_chunk f) h = h
+skip-due now a b _ h = absurd h
 
 once-due : (now : ℕ) (a b : Association) (w : Wire) → IsReplyOnce (owed_of a) (owed_of b) w → IsDueOnce (owed_at now a) (owed_at now b) w
 once-due now a b (heartbeat_chunk ps) h = absurd h
 once-due now a b (reconfig_chunk r) h = absurd h
+once-due now a b (forward_tsn_chunk f) h = absurd h
 once-due now a b w h = h
 
 pub at_most_same : {m n : ℕ} → m ≡ n → m ≤ n
@@ -240,22 +248,25 @@ module _ (a b : Association) where
       (sides b.outbound.sender (receiver_of b.inbound) x)
   alike_puts {P} h x = put_alike P x x h (nothing (sides a.outbound.sender (receiver_of a.inbound) x))
 
-  -- what is no reply
-  pub puts_due : (now : ℕ) → Puts (sides_of a) (sides_of b) → PutsDue now a b
-  puts_due now p = puts_so IsNoReply (IsDueOnce (owed_at now a) (owed_at now b)) (no-reply-once now a b) (sides_of a) (sides_of b) p
+  -- DATA, and a FORWARD-TSN
+  pub puts_due : (now : ℕ) → PutsSent a b → PutsDue now a b
+  puts_due now p = puts_so (IsSkipOnce a.outbound.is_skip_due b.outbound.is_skip_due) (IsDueOnce (owed_at now a) (owed_at now b)) (skip-due now a b)
+      (sides_of a) (sides_of b) p
 
   pub once_puts : (now : ℕ) → PutsOnce a b → PutsDue now a b
   once_puts now p = puts_so (IsReplyOnce (owed_of a) (owed_of b)) (IsDueOnce (owed_at now a) (owed_at now b)) (once-due now a b) (sides_of a) (sides_of b) p
 
 -- steps that make nothing due
-pub due_then : (now : ℕ) (a b c : Association) → PutsDue now a b → IsUnmoved a b → AsksNoMore now a b → PutsDue now b c → IsUnmoved b c
-    → AsksNoMore now b c → PutsDue now a c
-due_then now a b c p u m q v n = and_so (IsDueOnce (owed_at now a) (owed_at now b)) (IsDueOnce (owed_at now b) (owed_at now c))
+pub due_then : (now : ℕ) (a b c : Association) → PutsDue now a b → IsUnmoved a b → AsksNoMore now a b → SkipsNoMore a b → PutsDue now b c
+    → IsUnmoved b c → AsksNoMore now b c → SkipsNoMore b c → PutsDue now a c
+due_then now a b c p u m s q v n k = and_so (IsDueOnce (owed_at now a) (owed_at now b)) (IsDueOnce (owed_at now b) (owed_at now c))
     (IsDueOnce (owed_at now a) (owed_at now c)) (sides_of a) (sides_of b) (sides_of c)
-    (due-behind a b c now v n) (due-before a b c now u m) p q
+    (due-behind a b c now v n k) (due-before a b c now u m s) p q
 
-pub due_others : (now : ℕ) (a b c : Association) → PutsDue now a b → IsUnmoved a b → AsksNoMore now a b → PutsOthers b c → PutsDue now a c
-due_others now a b c p u m q = due_then now a b c p u m (once_puts b c now (others_puts b c q)) q.kept (beats_same now b c q.timed)
+pub due_others : (now : ℕ) (a b c : Association) → PutsDue now a b → IsUnmoved a b → AsksNoMore now a b → SkipsNoMore a b → PutsOthers b c
+    → PutsDue now a c
+due_others now a b c p u m s q =
+    due_then now a b c p u m s (once_puts b c now (others_puts b c q)) q.kept (beats_same now b c q.timed) (skip_kept b c q.halves.path)
 
 -- no HEARTBEAT is among them
 pub once_then : (a b c : Association) → PutsOnce a b → IsUnmoved a b → PutsOnce b c → IsUnmoved b c → PutsOnce a c

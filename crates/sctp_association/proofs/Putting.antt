@@ -1,11 +1,11 @@
 -- Chunks that are put behind others are of what calls answered.
-use Rattle.std.proofs.Common.{◌≡◌, ℕ, List, [], ◌∷◌, ◌++◌, Bool, true, false, Some, refl, ap, sym, subst, ◌∙◌, append_assoc, arith}
+use Rattle.std.proofs.Common.{◌≡◌, ℕ, List, [], ◌∷◌, ◌++◌, Bool, true, false, Option, Some, refl, ap, sym, subst, ◌∙◌, append_assoc, arith}
 use Rattle.std.proofs.lemmas.List.{append-nil}
 use Rattle.std.proofs.lemmas.List.Elements.{Contains-append_left, Contains-append_right}
 use Rattle.std.specs.Prelude.{Contains}
 use Rattle.std.specs.List.{AllByRecursion}
 use Rattle.sctp_association.proofs.Running.{none_in, none_sent, reported_in, reported_once, sent_by, sent_then}
-use Rattle.sctp_association.specs.Packets.{Adds, IsNoReply, IsOf, Puts, PutsOf, PutsOut, Sides, made_in, made_of, put_where, sides, with_chunks}
+use Rattle.sctp_association.specs.Packets.{Adds, IsData, IsOf, IsSkipOnce, Puts, PutsOf, PutsOut, PutsSkip, Sides, made_in, made_of, put_where, sides, with_chunks}
 use Rattle.sctp_association.specs.Runs.{AcksBy, SendsBy, made_by, reported_by}
 use Rattle.sctp_chunks.specs.Wire.{Wire, data_chunk, forward_tsn_chunk, i_forward_tsn_chunk, sack_chunk, shutdown_chunk}
 use Rattle.sctp_chunks.specs.Wire.{abort_chunk, cookie_ack_chunk, cookie_echo_chunk, error_chunk, heartbeat_ack_chunk, heartbeat_chunk, init_chunk}
@@ -134,7 +134,7 @@ puts_so P Q f a b p = record {
 }
 
 pub and_then : (a b c : Sides) → Puts a b → Puts b c → Puts a c
-and_then a b c p q = and_so IsNoReply IsNoReply IsNoReply a b c (λ w h. h) (λ w h. h) p q
+and_then a b c p q = and_so IsData IsData IsData a b c (λ w h. h) (λ w h. h) p q
 
 -- where neither half changes, nor the packet
 pub kept : (t u : Transmission) (x y : List ℕ) → u ≡ t → y ≡ x → PutsOut t u x y
@@ -151,10 +151,23 @@ to_same t u v x y e p = subst (λ w. PutsOut t w x y) (sym e) p
 pub out_then : (t u v : Transmission) (x y z : List ℕ) → PutsOut t u x y → PutsOut u v y z → PutsOut t v x z
 out_then t u v x y z p q r = and_then (sides t r x) (sides u r y) (sides v r z) (p r) (q r)
 
+-- DATA behind a FORWARD-TSN
+data-once : (due still : Bool) (w : Wire) → IsData w → IsSkipOnce due still w
+data-once due still (data_chunk d) h = tt
+data-once due still _ h = absurd h
+
+pub skip_then : (due still : Bool) (t u v : Transmission) (x y z : List ℕ) → PutsSkip due still t u x y → PutsOut u v y z → PutsSkip due still t v x z
+skip_then due still t u v x y z p q r = and_so (IsSkipOnce due still) IsData (IsSkipOnce due still) (sides t r x) (sides u r y) (sides v r z)
+    (λ w h. h) (data-once due still) (p r) (q r)
+
+pub still_so : (due one two : Bool) (t u : Transmission) (x y : List ℕ) → two ≡ one → PutsSkip due one t u x y → PutsSkip due two t u x y
+still_so due one two t u x y e p = subst (λ (b : Bool). PutsSkip due b t u x y) (sym e) p
+
 -- a chunk that a call of the sender answers
-pub puts_made : (c : SenderCall) (b : Bool) (w : Wire) (t u : Transmission) (old new : List ℕ) → SendsBy c t u → IsOf (made_by c t) [] w → IsNoReply w
-    → Adds (put_where b w) old new → ((p : Parts) → IsDraft p old → made_by c t ≡ made_in (put_where b w)) → PutsOut t u old new
-puts_made c b w t u old new m of plain added each r = record {
+pub puts_made : (P : Wire → Type 0) (c : SenderCall) (b : Bool) (w : Wire) (t u : Transmission) (old new : List ℕ) → SendsBy c t u
+    → IsOf (made_by c t) [] w → P w → Adds (put_where b w) old new → ((p : Parts) → IsDraft p old → made_by c t ≡ made_in (put_where b w))
+    → (r : Option Reception) → PutsOf P (sides t r old) (sides u r new)
+puts_made P c b w t u old new m of plain added each r = record {
   made = made_by c t;
   sacks = [];
   chunks = put_where b w;
@@ -162,12 +175,13 @@ puts_made c b w t u old new m of plain added each r = record {
   reported = none_in r;
   added = added;
   own = all_put (IsOf (made_by c t) []) b w of;
-  plain = all_put IsNoReply b w plain;
+  plain = all_put P b w plain;
   each = each;
 }
 
 -- nothing is put
-pub puts_none : (t : Transmission) (old new : List ℕ) → Adds [] old new → PutsOut t t old new
+pub puts_none : {P : Wire → Type 0} (t : Transmission) (old new : List ℕ) → Adds [] old new
+    → (r : Option Reception) → PutsOf P (sides t r old) (sides t r new)
 puts_none t old new added r = record {
   made = [];
   sacks = [];

@@ -1,12 +1,12 @@
 -- What leaves, and what that makes of cwnd and of a burst (RFC 9260 6.1 A, B, D, 6.3.3 E3, 7.2.1, 7.2.3, 7.2.4). Amounts are bytes.
-use Rattle.std.specs.Prelude.{◌≡◌, ◌⊎◌, ℕ, zero, suc, ◌<◌, ◌==◌, Bool, true, false, not, ◌&&◌, if◌then◌else◌, [], length, find, is_some}
+use Rattle.std.specs.Prelude.{◌≡◌, ◌⊎◌, ℕ, zero, suc, ◌<◌, ◌==◌, Bool, true, false, not, ◌&&◌, ◌||◌, if◌then◌else◌, [], length, find, is_some}
 use Rattle.std.specs.Prelude.{Option, None, Some, Result, Ok, Err}
 use Rattle.sctp_association.specs.declared.association.Association.{Association}
 use Rattle.sctp_association.specs.declared.fault.Fault.{Fault}
 use Rattle.sctp_association.specs.declared.outbound.Outbound.{Outbound}
 use Rattle.sctp_association.specs.Idle.{in_flight}
 use Rattle.sctp_association.specs.Runs.{Sends}
-use Rattle.sctp_association.specs.Sending.{base_of, flight_of, idle_times, is_early, is_later, is_none_of, lowered_times, may_send_again, may_send_next, sent_at}
+use Rattle.sctp_association.specs.Sending.{base_of, flight_of, idle_times, is_early, is_later, is_none_of, lowered_times, may_drop, may_send_again, may_send_next, sent_at}
 use Rattle.sctp_data.specs.declared.chunk.chunk_payload_data.ChunkPayloadData.{ChunkPayloadData}
 use Rattle.sctp_outbound.specs.pending_queue.PendingQueue.{chunk_count, next_pending}
 use Rattle.sctp_path.specs.Congestion.{Control, after_resending}
@@ -16,7 +16,8 @@ use Rattle.sctp_sender.specs.Sender.{Transmission, after_send, with_flight}
 use Rattle.sctp_stream.specs.Stats.{count_up}
 
 -- What is sent, cwnd, and the peer's window; and how many chunks may be in flight. When DATA left last, how often it left again, whether fast
--- retransmission begins, and when T3-rtx expired last. What the burst began with that is under way, and when nothing more left in it
+-- retransmission begins, whether a FORWARD-TSN is due, and when T3-rtx expired last. What the burst began with that is under way, and when nothing
+-- more left in it
 pub record Path : Type 0 where
   pub sender : Transmission
   pub congestion : Control
@@ -25,6 +26,7 @@ pub record Path : Type 0 where
   pub used : ℕ
   pub resent : ℕ
   pub fast : Bool
+  pub skip : Bool
   pub timed_out : ℕ
   pub burst : Option ℕ
   pub paused : Option ℕ
@@ -38,6 +40,7 @@ path_of o = record {
   used = o.used;
   resent = o.resent;
   fast = o.is_fast;
+  skip = o.is_skip_due;
   timed_out = o.timed_out;
   burst = o.burst;
   paused = o.paused;
@@ -141,10 +144,16 @@ pub record SendsNew (now : ℕ) (rto : Timeout) (old new : Path) : Type 0 where
 
 -- ## What a call sends
 
--- first what leaves again, then what waits
+-- what there was to skip was told, or nothing was
+abbrev pub told_at : Bool → Path → Path
+told_at true p = record p { skip = false }
+told_at false p = p
+
+-- first a FORWARD-TSN, then what leaves again, then what waits
 pub record LeavesFrom (now : ℕ) (rto : Timeout) (old new : Path) : Type 0 where
+  pub told : Bool
   pub mid : Path
-  pub again : Resends now rto old.fast (flight_of (in_flight old.sender)) old mid
+  pub again : Resends now rto old.fast (flight_of (in_flight old.sender)) (told_at told old) mid
   pub left : (new ≡ mid) ⊎ SendsNew now rto mid new
 
 -- and the RTO stays
@@ -179,6 +188,9 @@ pub record PausesWithin (now : ℕ) (ends : Bool) (old new : Outbound) : Type 0 
 -- so it is behind calls that abandon, and make no chunk
 pub record SendsWithin (now : ℕ) (ends : Bool) (old new : Outbound) : Type 0 where
   pub kept : Transmission
+  pub skip : Bool
   pub dropped : Sends [] old.sender kept
-  pub path : PausesFrom now ends old.rto (record (path_of old) { sender = kept }) (path_of new)
+  pub due : skip ≡ true → may_drop now old.sender || old.is_skip_due ≡ true
+  pub path : PausesFrom now ends old.rto (record (path_of old) { sender = kept; skip = skip })
+      (path_of new)
   pub rto : new.rto ≡ old.rto

@@ -9,7 +9,7 @@ use Rattle.sctp_association.specs.Arrivals.{Halves, halves, new_sender}
 use Rattle.sctp_association.specs.Congested.{path_of}
 use Rattle.sctp_association.specs.Kept.{IsUnmoved}
 use Rattle.sctp_association.specs.Leaving.{IsDueOnce, IsReplyOnce, owed_at, owed_of}
-use Rattle.sctp_association.specs.Packets.{Adds, IsOf, PutsOf, Sides, sides}
+use Rattle.sctp_association.specs.Packets.{Adds, IsOf, IsSkipOnce, PutsOf, Sides, sides}
 use Rattle.sctp_association.specs.Still.{heartbeat_time}
 use Rattle.sctp_chunks.specs.Wire.{Wire}
 use Rattle.sctp_path.specs.Congestion.{pmdcs_of}
@@ -38,6 +38,11 @@ pub record HalvesAlike (old new : Association) : Type 0 where
 abbrev pub PutsDue : ℕ → Association → Association → Type 0
 PutsDue now old new =
     PutsOf (IsDueOnce (owed_at now old) (owed_at now new)) (sides_of old) (sides_of new)
+
+-- DATA is put; or a FORWARD-TSN, that was due, and is due no more
+abbrev pub PutsSent : Association → Association → Type 0
+PutsSent old new = PutsOf (IsSkipOnce old.outbound.is_skip_due new.outbound.is_skip_due)
+    (sides_of old) (sides_of new)
 
 -- no HEARTBEAT among them
 abbrev pub PutsOnce : Association → Association → Type 0

@@ -3,8 +3,8 @@ use Rattle.std.specs.Prelude.{◌≡◌, ⊤, ℕ, Bool, true, false, List, [], 
 use Rattle.std.specs.List.{AllByRecursion}
 use Rattle.crc32c.specs.Castagnoli.{crc32c_of}
 use Rattle.sctp_association.specs.Runs.{ReportsIn, Sends}
-use Rattle.sctp_chunks.specs.Wire.{Wire, cookie_ack_chunk, cookie_echo_chunk, data_chunk, error_chunk, forward_tsn_chunk, heartbeat_ack_chunk}
-use Rattle.sctp_chunks.specs.Wire.{heartbeat_chunk, i_forward_tsn_chunk, init_chunk, reconfig_chunk, sack_chunk, shutdown_ack_chunk, shutdown_chunk}
+use Rattle.sctp_chunks.specs.Wire.{Wire, data_chunk, forward_tsn_chunk}
+use Rattle.sctp_chunks.specs.Wire.{i_forward_tsn_chunk, sack_chunk, shutdown_chunk}
 use Rattle.sctp_data.specs.SelectiveAck.{Sack}
 use Rattle.sctp_delivery.specs.SenderCalls.{Made}
 use Rattle.sctp_delivery.specs.SenderCalls as made
@@ -49,20 +49,16 @@ IsOf ms sacks (shutdown_chunk tsn) = IsAcked sacks tsn
 IsOf ms sacks (i_forward_tsn_chunk f) = ⊥
 IsOf ms sacks _ = ⊤
 
--- none of those that are put only where they are due: no INIT, INIT ACK, COOKIE-ECHO, COOKIE-ACK, SHUTDOWN, SHUTDOWN-ACK, HEARTBEAT-ACK, SACK,
--- HEARTBEAT, ERROR or RE-CONFIG
-abbrev pub IsNoReply : Wire → Type 0
-IsNoReply (init_chunk i) = ⊥
-IsNoReply (cookie_echo_chunk cookie) = ⊥
-IsNoReply cookie_ack_chunk = ⊥
-IsNoReply (shutdown_chunk tsn) = ⊥
-IsNoReply shutdown_ack_chunk = ⊥
-IsNoReply (heartbeat_ack_chunk ps) = ⊥
-IsNoReply (sack_chunk s) = ⊥
-IsNoReply (heartbeat_chunk ps) = ⊥
-IsNoReply (error_chunk cs) = ⊥
-IsNoReply (reconfig_chunk r) = ⊥
-IsNoReply _ = ⊤
+-- DATA
+abbrev pub IsData : Wire → Type 0
+IsData (data_chunk d) = ⊤
+IsData _ = ⊥
+
+-- DATA; or a FORWARD-TSN, where one was due before, and none is after
+abbrev pub IsSkipOnce : (old new : Bool) → Wire → Type 0
+IsSkipOnce old new (data_chunk d) = ⊤
+IsSkipOnce old new (forward_tsn_chunk f) = (old ≡ true) × (new ≡ false)
+IsSkipOnce old new _ = ⊥
 
 -- a SACK, where one waited before, and none waits after
 abbrev pub IsSackOnce : (old new : Bool) → Wire → Type 0
@@ -102,13 +98,18 @@ pub record PutsOf (P : Wire → Type 0) (old new : Sides) : Type 0 where
   pub plain : AllByRecursion P chunks
   pub each : (p : Parts) → IsDraft p old.bytes → made ≡ made_in chunks
 
--- they are no replies
+-- they are DATA
 abbrev pub Puts : Sides → Sides → Type 0
-Puts old new = PutsOf IsNoReply old new
+Puts old new = PutsOf IsData old new
 
 -- the same of the sender, whatever the receiver is
 abbrev pub PutsOut : Transmission → Transmission → List ℕ → List ℕ → Type 0
 PutsOut t u old new = (r : Option Reception) → Puts (sides t r old) (sides u r new)
+
+-- and a FORWARD-TSN may be put
+abbrev pub PutsSkip : (due still : Bool) → Transmission → Transmission → List ℕ → List ℕ → Type 0
+PutsSkip due still t u old new = (r : Option Reception)
+    → PutsOf (IsSkipOnce due still) (sides t r old) (sides u r new)
 
 -- and of the receiver: they are such
 abbrev pub PutsIn : (Wire → Type 0) → Reception → Reception → List ℕ → List ℕ → Type 0

@@ -3,13 +3,13 @@
 ghost use Rattle.std.specs.Prelude.{◌≡◌, ◌≢◌, ◌⊎◌, ℕ, ◌≤◌, ◌-◌, ◌∷◌, None, Ok, Some, IfOk, IfSome, OnErr, OnOk, [], map, true, false, length};
 ghost use Rattle.sctp_association.specs.Beginnings.{KeepsPeer};
 ghost use Rattle.sctp_association.specs.Congested.{IsAsFull, LeavesWithin, PausesWithin, SendsWithin, is_unsent, pauses};
-ghost use Rattle.sctp_association.specs.Halves.{HalvesAlike, IsAsTimed, PutsDue, PutsOnce, PutsOthers, is_sent, sides_of};
+ghost use Rattle.sctp_association.specs.Halves.{HalvesAlike, IsAsTimed, PutsDue, PutsOnce, PutsOthers, PutsSent, is_sent, sides_of};
 ghost use Rattle.sctp_association.specs.Entering.{usable_in};
 ghost use Rattle.sctp_association.specs.Filled.{IfNoneAdded, IfNonePut};
 ghost use Rattle.sctp_association.specs.Idle.{HasNoSackDue, IsIdle, MayReply, MaySend, OwesNoControl, OwesNone, WaitsForSacks, in_flight, sack_delay, sends};
 ghost use Rattle.sctp_association.specs.Kept.{IsUnmoved};
 ghost use Rattle.sctp_association.specs.Lasting.{LastsNoLonger};
-ghost use Rattle.sctp_association.specs.Leaving.{AsksNoMore, IsDueOnce, LeavesBy, LeavesInto, OwesNothingNew, beats, owed_at, owed_of, replies_of};
+ghost use Rattle.sctp_association.specs.Leaving.{AsksNoMore, IsDueOnce, LeavesBy, LeavesInto, OwesNothingNew, beats, owed_at, owed_before, owed_of, replies_of};
 ghost use Rattle.sctp_association.specs.Offering.{HasFirst, IsInitWith, IsReplyOf, OffersAsDue, PutsReply};
 ghost use Rattle.sctp_association.specs.declared.due.AloneKind.{AloneKind};
 ghost use Rattle.sctp_association.specs.Replying.{AddsReply, IsReply, LeavesAlone, PutsOne, header_to, host_name_causes};
@@ -17,7 +17,7 @@ ghost use Rattle.sctp_association.specs.Reports.{one_cause};
 ghost use Rattle.sctp_association.specs.Sending.{IsTimed};
 ghost use Rattle.sctp_association.specs.Still.{IsLater, heartbeat_time};
 ghost use Rattle.sctp_association.specs.Telling.{Tells};
-ghost use Rattle.sctp_association.specs.Packets.{IsPacketOf, IsWritten, Puts, Transmits};
+ghost use Rattle.sctp_association.specs.Packets.{IsPacketOf, IsWritten, Transmits};
 ghost use Rattle.sctp_chunks.specs.Init.{init_of};
 ghost use Rattle.sctp_chunks.specs.Wire.{abort_chunk, error_chunk};
 ghost use Rattle.sctp_cookie.specs.Cookie.{sealed};
@@ -101,10 +101,10 @@ impl Association {
         // Nothing else comes to be due, but a SHUTDOWN or SHUTDOWN-ACK where nothing waits or is in flight; no HEARTBEAT or RE-CONFIG (`moments`).
         ensures asks { OwesNothingNew (owed_of self.old) (owed_of self.new) }
         ensures moments { AsksNoMore now self.old self.new }
-        // What left is due no more: each COOKIE-ECHO, COOKIE-ACK, SHUTDOWN, SHUTDOWN-ACK, HEARTBEAT-ACK, SACK, HEARTBEAT, ERROR and parameter of a
-        // RE-CONFIG in a packet of what else is due was due, as it says.
+        // What left is due no more: each COOKIE-ECHO, COOKIE-ACK, SHUTDOWN, SHUTDOWN-ACK, HEARTBEAT-ACK, SACK, HEARTBEAT, ERROR, FORWARD-TSN and
+        // parameter of a RE-CONFIG in a packet of what else is due was due, as it says.
         ensures once { is_sent result ≡ true → self.old.due.alone ≡ None
-            → IsPacketOf (IsDueOnce (owed_at now self.old) (owed_at now self.new))
+            → IsPacketOf (IsDueOnce (owed_before now self.old) (owed_at now self.new))
             self.new.draft.bytes }
     {
         if let Some(alone) = self.due.alone {
@@ -403,7 +403,7 @@ impl Association {
 
     // Puts FORWARD-TSN and DATA, in the states in which they may be sent.
     fn put_data(&mut self, now: u64) -> Result<(), Fault>
-        ensures made { Puts (sides_of self.old) (sides_of self.new) }
+        ensures made { PutsSent self.old self.new }
         ensures kept { IsUnmoved self.old self.new }
         ensures moments { AsksNoMore now self.old self.new }
         ensures acks { sack_delay self.new ≡ sack_delay self.old }

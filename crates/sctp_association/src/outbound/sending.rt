@@ -5,7 +5,7 @@ ghost use Rattle.sctp_association.specs.Congested.{LeavesWithin, Resends, SendsN
 ghost use Rattle.sctp_association.specs.Counts.{CountsNone, IsCountedAlong, IsCountedOn};
 ghost use Rattle.sctp_association.specs.Filled.{IfNonePut};
 ghost use Rattle.sctp_association.specs.Idle.{SendsNoneAgain, SendsNoneNew, WaitsBehind, WaitsForSacks, in_flight};
-ghost use Rattle.sctp_association.specs.Packets.{PutsOut};
+ghost use Rattle.sctp_association.specs.Packets.{PutsOut, PutsSkip};
 ghost use Rattle.sctp_association.specs.Sending.{EndsWithin, IsTimed, flight_of, idle_times, is_early, is_front_late, is_later, lowered_times, lowered, may_send_again, may_send_next, sent_at};
 ghost use Rattle.sctp_outbound.specs.pending_queue.PendingQueue.{chunk_count, next_pending};
 ghost use Rattle.sctp_path.specs.Rto.{smoothed_of};
@@ -37,7 +37,8 @@ impl Outbound {
     /// Puts the FORWARD-TSN that is due, what is to be sent again, and what waits, as far as they fit and may be sent. T3-rtx runs then, after
     /// a refusal too, while something is in flight.
     pub(crate) fn put(&mut self, packet: &mut Draft, now: u64) -> Result<(), Fault>
-        ensures made { PutsOut self.old.sender self.new.sender packet.old.bytes packet.new.bytes }
+        ensures made { PutsSkip self.old.is_skip_due self.new.is_skip_due self.old.sender
+            self.new.sender packet.old.bytes packet.new.bytes }
         ensures timed { IsTimed self.new.sender.flight.queue.inflight.chunks self.new.timer.at }
         ensures counted { IsCountedAlong self.old self.new }
         // T3-rtx runs out as it did, or after the RTO at the latest.
@@ -58,7 +59,8 @@ impl Outbound {
     // The same, but the timer stays as it is.
     #[tactic(auto, using(crate::proofs::Counted::on_then, crate::proofs::Counted::on_none, crate::proofs::Counted::on_same))]
     fn put_all(&mut self, packet: &mut Draft, now: u64) -> Result<(), Fault>
-        ensures made { PutsOut self.old.sender self.new.sender packet.old.bytes packet.new.bytes }
+        ensures made { PutsSkip self.old.is_skip_due self.new.is_skip_due self.old.sender
+            self.new.sender packet.old.bytes packet.new.bytes }
         ensures counts { IsCountedOn self.old self.new }
         ensures limit { packet.new.limit ≡ packet.old.limit }
         ensures grows { length packet.old.bytes ≤ length packet.new.bytes }
@@ -73,9 +75,11 @@ impl Outbound {
 
     // Puts the FORWARD-TSN that is due (RFC 3758 3.5 C3, F2), before any DATA.
     fn put_skip(&mut self, packet: &mut Draft) -> Result<(), Fault>
-        ensures made { PutsOut self.old.sender self.new.sender packet.old.bytes packet.new.bytes }
+        ensures made { PutsSkip self.old.is_skip_due self.new.is_skip_due self.old.sender
+            self.new.sender packet.old.bytes packet.new.bytes }
         ensures limit { packet.new.limit ≡ packet.old.limit }
-        ensures rest { self.new ≡ record self.old { is_skip_due = self.new.is_skip_due } }
+        ensures rest { self.new ≡ self.old
+            ⊎ self.new ≡ record self.old { is_skip_due = false } }
         ensures err { OnErr result (self.new ≡ self.old) }
         ensures grows { length packet.old.bytes ≤ length packet.new.bytes }
     {

@@ -1,11 +1,11 @@
 use Rattle.sctp_association.proofs.Leaving.{into_kept, into_then}
 use Rattle.std.proofs.Common.{◌≡◌, [], arith, false, subst, sym, ◌∙◌}
 use Rattle.std.specs.Prelude.{IfSome}
-use Rattle.sctp_association.proofs.Congested.{full_of, full_then, within_behind, within_full}
+use Rattle.sctp_association.proofs.Congested.{from_skip, full_of, full_then, within_behind, within_full}
 use Rattle.sctp_association.proofs.Idle.{added_longer, no_shutdown, on_ok, on_ok_so}
 use Rattle.sctp_association.proofs.Known.{still_none, unmoved_then}
 use Rattle.sctp_path.specs.Timers.{is_due}
-use Rattle.sctp_association.proofs.Others.{beats_same, beats_then, due_then, once_puts, others_once, others_puts, others_then, puts_due, timed_then}
+use Rattle.sctp_association.proofs.Others.{beats_same, beats_then, due_then, once_puts, others_once, others_puts, others_then, puts_due, skip_kept, skip_so, timed_then}
 use Rattle.sctp_association.proofs.association.Association.fill.Goals as goal
 
 pub returns-in_err-put_sack-clause-made : goal.returns-in_err-put_sack-clause-made
@@ -20,7 +20,9 @@ returns-in_err-put_control-clause-made c =
     due_then c.args.now c.args.self.now c.put_sack.new.self c.put_control.new.self acked
     (unmoved_then _ _ _ c.put_cookies.ensures.others.kept c.put_sack.ensures.kept)
     (beats_same c.args.now _ _ (timed_then _ _ _ c.put_cookies.ensures.others.timed c.put_sack.ensures.timed))
+    (skip_kept c.args.self.now c.put_sack.new.self (c.put_sack.ensures.full.path ∙ c.put_cookies.ensures.others.halves.path))
     c.put_control.ensures.made c.put_control.ensures.kept c.put_control.ensures.moments
+    (skip_kept c.put_sack.new.self c.put_control.new.self c.put_control.ensures.full.path)
 
 pub returns-clause-made : goal.returns-clause-made
 returns-clause-made c =
@@ -29,11 +31,15 @@ returns-clause-made c =
     let unmoved = unmoved_then _ _ _ c.put_cookies.ensures.others.kept c.put_sack.ensures.kept in
     let beats = beats_same c.args.now c.args.self.now c.put_sack.new.self
     (timed_then _ _ _ c.put_cookies.ensures.others.timed c.put_sack.ensures.timed) in
-    let controlled = due_then c.args.now c.args.self.now c.put_sack.new.self c.put_control.new.self acked unmoved beats c.put_control.ensures.made
-    c.put_control.ensures.kept c.put_control.ensures.moments in
+    let early = skip_kept c.args.self.now c.put_sack.new.self (c.put_sack.ensures.full.path ∙ c.put_cookies.ensures.others.halves.path) in
+    let late = skip_kept c.put_sack.new.self c.put_control.new.self c.put_control.ensures.full.path in
+    let controlled = due_then c.args.now c.args.self.now c.put_sack.new.self c.put_control.new.self acked unmoved beats early
+    c.put_control.ensures.made c.put_control.ensures.kept c.put_control.ensures.moments late in
     due_then c.args.now c.args.self.now c.put_control.new.self c.put_data.new.self controlled (unmoved_then _ _ _ unmoved c.put_control.ensures.kept)
     (beats_then c.args.now c.args.self.now c.put_sack.new.self c.put_control.new.self beats c.put_control.ensures.moments)
+    (skip_so c.args.self.now c.put_sack.new.self c.put_control.new.self early late)
     (puts_due c.put_control.new.self c.put_data.new.self c.args.now c.put_data.ensures.made) c.put_data.ensures.kept c.put_data.ensures.moments
+    (from_skip c.args.now _ _ _ c.put_data.ensures.within.path)
 
 pub returns-then-is_empty-clause-made : goal.returns-then-is_empty-clause-made
 returns-then-is_empty-clause-made c = once_puts c.args.self.now c.put_cookies.new.self c.args.now

@@ -2,7 +2,7 @@ use Rattle.std.proofs.Common.{Bool, Option, [], ap, false, refl, subst, sym, tru
 use Rattle.std.specs.Prelude.{Ok, is_some}
 use Rattle.sctp_association.proofs.Telling.{tells_kept, tells_peer, tells_same, tells_then, to_same, transmits_end, unmoved_end}
 use Rattle.std.proofs.lemmas.Option.{none-some}
-use Rattle.sctp_association.proofs.Congested.{as_full, full_of, goes_on, over_not, sends_after, sends_alike, sends_same, stops, unknown_not, unsent_of}
+use Rattle.sctp_association.proofs.Congested.{as_full, dropped_due, full_of, goes_on, over_not, sends_after, sends_alike, sends_same, stops, unknown_not, unsent_of}
 use Rattle.sctp_association.proofs.Known.{keeps_then, knows_same, unmoved_keeps, unmoved_within}
 use Rattle.sctp_association.proofs.Leaving.{leaves_later, leaves_same, new_then, new_unmoved, once_after, stays_leave}
 use Rattle.sctp_association.proofs.Lasting.{lasts_same, lasts_then, lasts_unmoved}
@@ -170,11 +170,13 @@ returns-then-self-clause-within c = sends_same c.args.now _ c.args.self.now.outb
 
 pub returns-in_err-abandon-clause-within : goal.returns-in_err-abandon-clause-within
 returns-in_err-abandon-clause-within c = sends_alike c.args.now _ c.args.self.now.outbound c.abandon.new.self c.abandon.new.self
-    (goes_on _ c.args.self.now (unsent_of _ c.from_residual-in_err-abandon.ensures.0)) c.abandon.ensures.dropped c.abandon.ensures.rest (as_full _ _ refl)
+    (goes_on _ c.args.self.now (unsent_of _ c.from_residual-in_err-abandon.ensures.0)) c.abandon.ensures.dropped c.abandon.ensures.rest
+    (dropped_due c.args.now c.args.self.now.outbound c.abandon.new.self c.abandon.ensures.early) (as_full _ _ refl)
 
 pub returns-in_default-peer-clause-within : goal.returns-in_default-peer-clause-within
 returns-in_default-peer-clause-within c = sends_alike c.args.now _ c.args.self.now.outbound c.abandon.new.self c.settle.new.self.outbound
     (unknown_not (Ok false) c.settle.new.self (sym c.peer.ensures ∙ c.in_default-peer.is)) c.abandon.ensures.dropped c.abandon.ensures.rest
+    (dropped_due c.args.now c.args.self.now.outbound c.abandon.new.self c.abandon.ensures.early)
     (full_of _ c.settle.new.self c.settle.ensures.halves (ap (λ (o : Outbound). o.rto) c.settle.ensures.sending))
 
 pub returns-clause-within : goal.returns-clause-within
@@ -184,6 +186,8 @@ returns-clause-within c =
     (subst (λ (o : Outbound). Sends [] c.args.self.now.outbound.sender o.sender) (sym c.settle.ensures.sending) c.abandon.ensures.dropped)
     (subst (λ (o : Outbound). o ≡ record c.args.self.now.outbound { sender = o.sender; is_skip_due = o.is_skip_due }) (sym c.settle.ensures.sending)
     c.abandon.ensures.rest)
+    (λ is. dropped_due c.args.now c.args.self.now.outbound c.abandon.new.self c.abandon.ensures.early
+    (ap (λ (o : Outbound). o.is_skip_due) (sym c.settle.ensures.sending) ∙ is))
     (subst (λ (b : Bool). PausesWithin c.args.now b c.settle.new.self.outbound c.put_packet.new.self.outbound)
     (stops _ c.put_packet.new.self (kept.over ∙ c.settle.ensures.over ∙ c.if-self.false)
     (ap (λ (m : Machine). is_some m.peer) kept.machine ∙ ap is_some (sym c.peer.ensures ∙ c.in-Some-peer.is))) c.put_packet.ensures.within)
@@ -223,6 +227,8 @@ pub returns-clause-once : goal.returns-clause-once
 returns-clause-once c sent _ = once_after c.args.now c.args.self.now c.settle.new.self c.put_packet.new.self _ c.settle.ensures.asks
     (at_then _ _ _
     (rto_asks c.args.now c.args.self.now c.abandon.new.self (ap (λ (o : Outbound). o.rto) c.abandon.ensures.rest)) c.settle.ensures.moments)
+    (λ is. dropped_due c.args.now c.args.self.now.outbound c.abandon.new.self c.abandon.ensures.early
+    (ap (λ (o : Outbound). o.is_skip_due) (sym c.settle.ensures.sending) ∙ is))
     (ap (λ (m : Machine). m.state) c.put_packet.ensures.kept.machine) (c.put_packet.ensures.once sent)
 
 pub returns-in_err-put_alone-clause-asks : goal.returns-in_err-put_alone-clause-asks
