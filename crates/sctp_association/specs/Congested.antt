@@ -9,9 +9,9 @@ use Rattle.sctp_association.specs.Runs.{Sends}
 use Rattle.sctp_association.specs.Sending.{base_of, flight_of, idle_times, is_early, is_later, is_none_of, lowered_times, may_drop, may_send_again, may_send_next, sent_at}
 use Rattle.sctp_data.specs.declared.chunk.chunk_payload_data.ChunkPayloadData.{ChunkPayloadData}
 use Rattle.sctp_outbound.specs.pending_queue.PendingQueue.{chunk_count, next_pending}
-use Rattle.sctp_path.specs.Congestion.{Control, after_resending}
+use Rattle.sctp_path.specs.Congestion.{Control, after_resending, after_timeout}
 use Rattle.sctp_path.specs.Rto.{Timeout, smoothed_of}
-use Rattle.sctp_sender.specs.Resending.{is_to_resend, resent_at}
+use Rattle.sctp_sender.specs.Resending.{all_marked, is_to_resend, resent_at}
 use Rattle.sctp_sender.specs.Sender.{Transmission, after_send, with_flight}
 use Rattle.sctp_stream.specs.Stats.{count_up}
 
@@ -55,6 +55,17 @@ pub record IsAsFull (old new : Outbound) : Type 0 where
 abbrev pub Repeats : (Path → Path → Type 0) → ℕ → Path → Path → Type 0
 Repeats Step zero old new = new ≡ old
 Repeats Step (suc n) old new = (mid : Path) × Repeats Step n old mid × Step mid new
+
+-- where T3-rtx expires all that is in flight is to be sent again, and a FORWARD-TSN is due. cwnd is one packet, and a burst is over (6.3.3 E1, E3)
+abbrev pub expired_at : (now : ℕ) → (expired : Bool) → Path → Path
+expired_at now false p = p
+expired_at now true p = record p {
+  sender = with_flight (all_marked p.sender.flight) p.sender;
+  congestion = after_timeout p.congestion;
+  skip = true;
+  timed_out = now;
+  burst = None;
+}
 
 -- ## What leaves again
 
