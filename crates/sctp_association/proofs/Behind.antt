@@ -4,7 +4,7 @@ use Rattle.std.proofs.lemmas.Bool.{and_parts}
 use Rattle.std.specs.Prelude.{Result, Ok}
 use Rattle.sctp_association.specs.Behind.{FirstBy, FirstOf, FirstOn, StillAs, StillOn}
 use Rattle.sctp_association.specs.Coming.{goes_on}
-use Rattle.sctp_association.specs.Heard.{IsHeard}
+use Rattle.sctp_association.specs.Expected.{IsExpected}
 use Rattle.sctp_association.specs.Paths.{all_go_on}
 use Rattle.sctp_association.specs.Rows.{Settles, owed_by}
 use Rattle.sctp_association.specs.Tags.{is_admitted}
@@ -86,18 +86,18 @@ go_on_next c cs l is all = and_parts (goes_on c.typ) (all_go_on cs) (sym (ap all
 
 -- ## The first chunk
 
--- what is refused since it is not expected is not heard
-pub not_heard : (c : ChunkPlace) (tag count : ℕ) (d : List ℕ) (now : ℕ) (a : Association) (r : Result Step Fault) (why other : Reason)
+-- what is refused since it is not expected is not expected
+pub not_expected : (c : ChunkPlace) (tag count : ℕ) (d : List ℕ) (now : ℕ) (a : Association) (r : Result Step Fault) (why other : Reason)
     → (is_admitted c tag count a.machine ≡ false → r ≡ Ok (Refused other)) → (other ≡ why → ⊥)
-    → (is_admitted c tag count a.machine ≡ true → IsHeard c tag d now a → (k : Reason) → r ≡ Ok (Refused k) → ⊥) → r ≡ Ok (Refused why)
-    → IsHeard c tag d now a → ⊥
-not_heard c tag count d now a r why other foreign differ due is heard = by (is_admitted c tag count a.machine) refl
+    → (is_admitted c tag count a.machine ≡ true → IsExpected c tag d now a → (k : Reason) → r ≡ Ok (Refused k) → ⊥) → r ≡ Ok (Refused why)
+    → IsExpected c tag d now a → ⊥
+not_expected c tag count d now a r why other foreign differ due is expected = by (is_admitted c tag count a.machine) refl
   where
     same : (r : Result Step Fault) (x y : Reason) → r ≡ Ok (Refused x) → r ≡ Ok (Refused y) → x ≡ y
     same r x y e f = cc
 
     by : (b : Bool) → is_admitted c tag count a.machine ≡ b → ⊥
-    by true e = due e heard why is
+    by true e = due e expected why is
     by false e = differ (same r other why (foreign e) is)
 
 pub behind_stop : (c : ChunkPlace) (cs l : List ChunkPlace) (d : List ℕ) (now : ℕ) (a b : Association) → l ≡ c ∷ cs

@@ -1,4 +1,5 @@
 -- Each packet that is written leaves fewer packets that can leave at the same moment.
+use Rattle.sctp_association.specs.Congested.{Path}
 use Rattle.std.proofs.Common.{◌≡◌, ◌⊎◌, inl, inr, ℕ, ◌+◌, ◌<◌, ◌≤◌, Bool, true, false, List, [], ◌∷◌, length, Option, Some, None, refl, sym, ap, subst, ◌∙◌}
 use Rattle.std.proofs.Common.{arith}
 use Rattle.std.proofs.lemmas.Bool.{cases_lt, false≢true}
@@ -18,7 +19,7 @@ use Rattle.sctp_association.specs.Leaving.{AsksNoMore, IsDueOnce, IsParamOnce, O
 use Rattle.sctp_association.specs.Leaving.{requests_due}
 use Rattle.sctp_association.specs.Most.{FewerWherePut, most_data, most_packets, most_replies, packets_in, shutdowns_left}
 use Rattle.sctp_association.specs.Packets.{Adds, with_chunks}
-use Rattle.sctp_chunks.specs.Wire.{Wire, cookie_ack_chunk, cookie_echo_chunk, error_chunk, heartbeat_ack_chunk, heartbeat_chunk, reconfig_chunk, sack_chunk}
+use Rattle.sctp_chunks.specs.Wire.{Wire, cookie_ack_chunk, cookie_echo_chunk, error_chunk, heartbeat_ack_chunk, heartbeat_chunk, reconfig_chunk, sack_chunk, forward_tsn_chunk}
 use Rattle.sctp_chunks.specs.Wire.{shutdown_ack_chunk, shutdown_chunk}
 use Rattle.sctp_handshake.specs.declared.answer.Answer.{Answer}
 use Rattle.sctp_handshake.specs.declared.machine.Machine.{Machine}
@@ -156,21 +157,21 @@ module _ (now : ℕ) (a b : Association) (u : IsUnmoved a b) (m : AsksNoMore now
   reconfig-less (Some p) some h = param-less p h
 
   -- what is put was due
-  pub reply_less : (w : Wire) → IsDueOnce (owed_at now a) (owed_at now b) w → most_replies (owed_at now b) < most_replies (owed_at now a)
-  reply_less (heartbeat_chunk ps) h =
+  pub reply_less : b.outbound.is_skip_due ≡ a.outbound.is_skip_due → (w : Wire) → IsDueOnce (owed_at now a) (owed_at now b) w → most_replies (owed_at now b) < most_replies (owed_at now a)
+  reply_less skip (heartbeat_chunk ps) h =
       let f = few-each in
       let less = one-less (beats now a) (beats now b) h.0 h.1 in
       omega (arith, less, f.cookie_echo, f.cookie_ack, f.shutdown, f.shutdown_ack, f.heartbeat, f.report, f.sack, f.unknown, f.state, f.request, f.responses)
-  reply_less (reconfig_chunk r) h = reconfig-less r.param_a h.0 h.1.0
-  reply_less (cookie_echo_chunk k) h =
+  reply_less skip (reconfig_chunk r) h = reconfig-less r.param_a h.0 h.1.0
+  reply_less skip (cookie_echo_chunk k) h =
       let f = few-each in
       let less = one-less a.due.cookie_echo b.due.cookie_echo h.0 h.2 in
       omega (arith, less, f.cookie_ack, f.shutdown, f.shutdown_ack, f.heartbeat, f.report, f.sack, f.unknown, f.state, f.beat, f.request, f.responses)
-  reply_less cookie_ack_chunk h =
+  reply_less skip cookie_ack_chunk h =
       let f = few-each in
       let less = one-less a.due.cookie_ack b.due.cookie_ack h.0 h.1 in
       omega (arith, less, f.cookie_echo, f.shutdown, f.shutdown_ack, f.heartbeat, f.report, f.sack, f.unknown, f.state, f.beat, f.request, f.responses)
-  reply_less (shutdown_chunk n) h = by h.0
+  reply_less skip (shutdown_chunk n) h = by h.0
     where
       same : b.machine.state ≡ a.machine.state
       same = ap (λ (x : Machine). x.state) u.machine
@@ -182,7 +183,7 @@ module _ (now : ℕ) (a b : Association) (u : IsUnmoved a b) (m : AsksNoMore now
           let less = one-less a.due.shutdown b.due.shutdown due h.1 in
           omega (arith, less, f.cookie_echo, f.cookie_ack, f.shutdown_ack, f.heartbeat, f.report, f.sack, f.unknown, f.state, f.beat, f.request, f.responses)
       by (inr r) = absurd (r.0 (sym same ∙ r.1))
-  reply_less shutdown_ack_chunk h = by h.0
+  reply_less skip shutdown_ack_chunk h = by h.0
     where
       same : b.machine.state ≡ a.machine.state
       same = ap (λ (x : Machine). x.state) u.machine
@@ -194,23 +195,24 @@ module _ (now : ℕ) (a b : Association) (u : IsUnmoved a b) (m : AsksNoMore now
           let less = one-less a.due.shutdown_ack b.due.shutdown_ack due h.1 in
           omega (arith, less, f.cookie_echo, f.cookie_ack, f.shutdown, f.heartbeat, f.report, f.sack, f.unknown, f.state, f.beat, f.request, f.responses)
       by (inr r) = absurd (r.0 (sym same ∙ r.1))
-  reply_less (heartbeat_ack_chunk ps) h =
+  reply_less skip (heartbeat_ack_chunk ps) h =
       let f = few-each in
       let less = some_less a.due.heartbeat b.due.heartbeat h.0 h.1 h.3 in
       omega (arith, less, f.cookie_echo, f.cookie_ack, f.shutdown, f.shutdown_ack, f.report, f.sack, f.unknown, f.state, f.beat, f.request, f.responses)
-  reply_less (sack_chunk s) h =
+  reply_less skip (sack_chunk s) h =
       let f = few-each in
       let less = one-less (sack_waits a.inbound) (sack_waits b.inbound) h.0 h.1 in
       omega (arith, less, f.cookie_echo, f.cookie_ack, f.shutdown, f.shutdown_ack, f.heartbeat, f.report, f.unknown, f.state, f.beat, f.request, f.responses)
-  reply_less (error_chunk cs) (inl r) =
+  reply_less skip (error_chunk cs) (inl r) =
       let f = few-each in
       let less = some_less a.due.report b.due.report r.0 r.1 r.3 in
       omega (arith, less, f.cookie_echo, f.cookie_ack, f.shutdown, f.shutdown_ack, f.heartbeat, f.sack, f.unknown, f.state, f.beat, f.request, f.responses)
-  reply_less (error_chunk cs) (inr s) =
+  reply_less skip (error_chunk cs) (inr s) =
       let f = few-each in
       let less = some_less (unknown_in a.inbound) (unknown_in b.inbound) s.0 s.1 s.3 in
       omega (arith, less, f.cookie_echo, f.cookie_ack, f.shutdown, f.shutdown_ack, f.heartbeat, f.report, f.sack, f.state, f.beat, f.request, f.responses)
-  reply_less _ h = absurd h
+  reply_less skip (forward_tsn_chunk f) h = absurd (false≢true (sym h.1 ∙ skip ∙ h.0))
+  reply_less skip _ h = absurd h
 
 -- ## A packet
 
@@ -223,10 +225,10 @@ none-longer p old new added draft =
     omega (arith, before, after, same)
 
 module _ (now : ℕ) (a b : Association) (u : IsUnmoved a b) (m : AsksNoMore now a b) where
-  chunks-less : (ws : List Wire) → Adds ws a.draft.bytes b.draft.bytes → AllByRecursion (IsDueOnce (owed_at now a) (owed_at now b)) ws → (p : Parts)
+  chunks-less : b.outbound.is_skip_due ≡ a.outbound.is_skip_due → (ws : List Wire) → Adds ws a.draft.bytes b.draft.bytes → AllByRecursion (IsDueOnce (owed_at now a) (owed_at now b)) ws → (p : Parts)
       → IsDraft p a.draft.bytes → length a.draft.bytes < length b.draft.bytes → most_replies (owed_at now b) < most_replies (owed_at now a)
-  chunks-less [] added each p draft more = let same = none-longer p a.draft.bytes b.draft.bytes added draft in absurd (omega (arith, more, same))
-  chunks-less (w ∷ ws) added each p draft more = reply_less now a b u m w each.0
+  chunks-less skip [] added each p draft more = let same = none-longer p a.draft.bytes b.draft.bytes added draft in absurd (omega (arith, more, same))
+  chunks-less skip (w ∷ ws) added each p draft more = reply_less now a b u m skip w each.0
 
   alone-same : one_where (is_some b.due.alone) ≡ one_where (is_some a.due.alone)
   alone-same = ap (λ o. one_where (is_some o)) u.alone
@@ -240,7 +242,7 @@ module _ (now : ℕ) (a b : Association) (u : IsUnmoved a b) (m : AsksNoMore now
       let same = data_same a.outbound b.outbound sender skip in
       record {
         most = omega (arith, alone, few, same);
-        fewer = λ more. let less = chunks-less put.chunks put.added put.plain p draft more in omega (arith, alone, less, same);
+        fewer = λ more. let less = chunks-less skip put.chunks put.added put.plain p draft more in omega (arith, alone, less, same);
       }
 
   -- DATA and FORWARD-TSN are put
@@ -258,7 +260,7 @@ module _ (now : ℕ) (a b : Association) (u : IsUnmoved a b) (m : AsksNoMore now
 pub others_fewer : (now : ℕ) (a b : Association) → PutsOthers a b → (p : Parts) → IsDraft p a.draft.bytes
     → FewerWherePut (most_packets now a) (most_packets now b) a.draft.bytes b.draft.bytes
 others_fewer now a b o p draft =
-    due_fewer now a b o.kept (beats_same now a b o.timed) (once_puts a b now (others_puts a b o)) o.halves.sender o.halves.skip p draft
+    due_fewer now a b o.kept (beats_same now a b o.timed) (once_puts a b now (others_puts a b o)) o.halves.sender (ap (λ (p : Path). p.skip) o.halves.path) p draft
 
 pub once_fewer : (now : ℕ) (a b : Association) → PutsOnce a b → IsUnmoved a b → IsAsTimed a b → b.outbound.sender ≡ a.outbound.sender
     → b.outbound.is_skip_due ≡ a.outbound.is_skip_due → (p : Parts) → IsDraft p a.draft.bytes

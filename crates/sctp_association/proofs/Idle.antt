@@ -9,7 +9,8 @@ use Rattle.std.proofs.lemmas.Bool.{false≢true, leb-true, le-leb}
 use Rattle.std.proofs.lemmas.List.Concat.{flat_map-append, flat_map-cons}
 use Rattle.std.proofs.lemmas.List.Sums.{sum_by-cons}
 use Rattle.sctp_association.proofs.Making.{of-some, some-none, told-once}
-use Rattle.sctp_association.specs.Idle.{IsMarkedBehind, WaitsBehind, in_flight}
+use Rattle.sctp_association.specs.declared.outbound.Outbound.{Outbound}
+use Rattle.sctp_association.specs.Idle.{IsMarkedBehind, SendsNoneAgain, SendsNoneNew, WaitsBehind, WaitsForSacks, in_flight}
 use Rattle.sctp_association.specs.Packets.{Adds, with_chunks}
 use Rattle.sctp_association.specs.Sending.{flight_of}
 use Rattle.sctp_chunks.proofs.Lengths.{length_data_value, length_sack_value}
@@ -213,6 +214,14 @@ draft-length p bytes draft = omega (
 body-append : (ws vs : List Wire) → body_of (ws ++ vs) ≡ body_of ws ++ body_of vs
 body-append ws vs = rw flat_map-append refl
 
+-- a DATA chunk that fits is put where the packet was begun
+pub data_is_put : (c : ChunkPayloadData) (room limit : ℕ) (old : List ℕ) (b : Bool) → fits room c ≡ true → room ≡ limit - length old → limit ≤ 65535
+    → (HasEncoding (data_chunk (data_of c)) → 12 ≤ length old → length old + length (padded_encoding (data_chunk (data_of c))) ≤ limit → b ≡ true)
+    → (p : Parts) → IsDraft p old → b ≡ true
+data_is_put c room limit old b fit is most fitting p draft =
+    let h = data_fits c (length old) limit (subst (λ r. fits r c ≡ true) is fit) most in
+    fitting h.0 (omega (arith, draft-length p old draft)) h.1
+
 -- a packet with a chunk is longer than its header
 pub longer_by_chunk : (before behind : List Wire) (w : Wire) (p : Parts) (bytes : List ℕ) → IsDraft (with_chunks (before ++ w ∷ behind) p) bytes
     → 12 < length bytes
@@ -252,3 +261,22 @@ on_ok (Err e) h = tt
 pub on_ok_so : {X E P Q : Type 0} (r : Result X E) → (Q → P) → OnOk r Q → OnOk r P
 on_ok_so (Ok x) f h = f h
 on_ok_so (Err e) f h = tt
+
+-- what waits does so behind what is in flight, where it does while nothing is in flight
+waits-so : (room : ℕ) (t : Transmission) → (in_flight t ≡ [] → WaitsBehind room t) → WaitsBehind room t
+waits-so room t f = by (next_pending t.flight.queue.pending) f
+  where
+    by : (o : Option ChunkPayloadData) → (in_flight t ≡ [] → IfSome o (λ c. fits room c ≡ true → in_flight t ≢ []))
+        → IfSome o (λ c. fits room c ≡ true → in_flight t ≢ [])
+    by None f = tt
+    by (Some c) f = λ fit none. f none fit none
+
+-- nothing was sent again, and nothing that waits
+pub both_wait : (limit room rest : ℕ) (a b c : Outbound) → SendsNoneAgain room a b → SendsNoneNew rest b c → room ≡ limit - 12 → rest ≡ limit - 12
+    → WaitsForSacks limit c.sender
+both_wait limit room rest a b c f g e is = record {
+  waiting = subst (λ (n : ℕ). WaitsBehind n c.sender) is (subst (λ (t : Transmission). WaitsBehind rest t) (sym g.sender)
+      (waits-so rest b.sender (λ none. g.waiting (f.clear (ap in_flight (sym f.sender) ∙ none)))));
+  marked = subst (λ (n : ℕ). IsMarkedBehind n c.sender) e
+      (subst (λ (t : Transmission). IsMarkedBehind room t) (sym (g.sender ∙ f.sender)) f.marked);
+}

@@ -1,6 +1,6 @@
 -- What is due stays due, or leaves.
-use Rattle.std.proofs.Common.{◌≡◌, ◌⊎◌, inl, inr, ℕ, ◌+◌, ◌≤◌, ◌<◌, Bool, true, false, List, [], ◌∷◌, ◌++◌, Option, refl, ap, sym, subst, ◌∙◌}
-use Rattle.std.proofs.Common.{append_assoc, arith, length}
+use Rattle.std.proofs.Common.{◌≡◌, ◌⊎◌, inl, inr, ℕ, ◌+◌, ◌≤◌, ◌<◌, Bool, true, false, List, [], ◌∷◌, ◌++◌, None, Option, Some, refl, ap, sym, subst, ◌∙◌}
+use Rattle.std.proofs.Common.{IfSome, append_assoc, arith, length}
 use Rattle.std.proofs.lemmas.Bool.{false≢true}
 use Rattle.std.proofs.lemmas.List.Elements.{Contains-append_right}
 use Rattle.sctp_association.proofs.Idle.{added_longer, longer_by_chunk}
@@ -12,15 +12,14 @@ use Rattle.sctp_association.specs.declared.association.Association.{Association}
 use Rattle.sctp_association.specs.declared.due.Due.{Due}
 use Rattle.sctp_association.specs.Kept.{IsUnmoved}
 use Rattle.sctp_association.specs.Kept.{sack_waits, unknown_in}
-use Rattle.sctp_association.specs.Leaving.{AsksNoMore, IsDueOrData, IsReplyOnce, IsSentIn, IsTooLong, IsTooLongIn, Leaves, LeavesInto, Owed}
-use Rattle.sctp_association.specs.Leaving.{OwesNothingNew, Reaches, Replies, Stands, beats, owed_at, owed_of, replies_of, requests_due, responses_due}
+use Rattle.sctp_association.specs.Leaving.{AsksNoMore, IsParamOnce, IsReplyOnce, IsSentIn, IsTooLong, IsTooLongIn, Leaves, LeavesInto, Owed, OwesNothingNew, Reaches, Replies, Stands, beats, owed_at, owed_before, owed_of, replies_of, requests_due, responses_due, IsDueOrData}
 use Rattle.sctp_association.specs.Packets.{Adds, IsPacketOf, put_where, sum_of, with_chunks}
 use Rattle.sctp_chunks.specs.Wire.{HasEncoding, Wire}
 use Rattle.sctp_association.specs.Rows.{owed_by}
 use Rattle.sctp_association.specs.Still.{heartbeat_in}
 use Rattle.sctp_association.specs.declared.inbound.Inbound.{Inbound}
 use Rattle.sctp_association.specs.declared.outbound.Outbound.{Outbound}
-use Rattle.sctp_chunks.specs.Wire.{cookie_ack_chunk, cookie_echo_chunk, data_chunk, error_chunk, forward_tsn_chunk, heartbeat_ack_chunk, heartbeat_chunk}
+use Rattle.sctp_chunks.specs.Wire.{cookie_ack_chunk, cookie_echo_chunk, error_chunk, forward_tsn_chunk, heartbeat_ack_chunk, heartbeat_chunk, data_chunk}
 use Rattle.sctp_chunks.specs.Wire.{reconfig_chunk, sack_chunk, shutdown_ack_chunk, shutdown_chunk}
 use Rattle.sctp_handshake.specs.Endings.{drained_row, on_drained, on_shutdown_asked, shutdown_asked_row}
 use Rattle.sctp_handshake.specs.Machines.{Takes}
@@ -33,6 +32,7 @@ use Rattle.sctp_path.specs.Timers.{is_due}
 use Rattle.sctp_packets.specs.Draft.{Draft, IsDraft, headed}
 use Rattle.sctp_packets.specs.declared.packet.CommonHeader.{CommonHeader}
 use Rattle.sctp_packets.specs.Packet.{Parts, packet_encoding, padded_encoding}
+use Rattle.sctp_params.specs.Param.{Parameter, outgoing_reset_request, reconfig_response}
 
 -- ## A chunk that was put
 
@@ -212,20 +212,31 @@ once-before x y z o s (sack_chunk k) h = (was x.sack y.sack o.sack h.0, h.1)
 once-before x y z o s (error_chunk cs) h = both-so (λ r. (r.0, o.report r.0 r.1, r.2, r.3)) (λ u. (u.0, o.unknown u.0 u.1, u.2, u.3)) h
 once-before x y z o s _ h = absurd h
 
-due-before : (now : ℕ) (a b c : Association) → OwesNothingNew (owed_of a) (owed_of b) → AsksNoMore now a b → c.machine.state ≡ b.machine.state → (w : Wire)
-    → IsDueOrData (owed_at now b) (owed_at now c) w → IsDueOrData (owed_at now a) (owed_at now c) w
-due-before now a b c o m s (data_chunk d) h = tt
-due-before now a b c o m s (forward_tsn_chunk f) h = tt
-due-before now a b c o m s (heartbeat_chunk ps) h = (was (beats now a) (beats now b) m.beat h.0, h.1)
-due-before now a b c o m s (reconfig_chunk r) h =
-    (h.0, (params_before now a b c m r.param_a h.1.0, params_before now a b c m r.param_b h.1.1))
-due-before now a b c o m s w h = once-before (owed_of a) (owed_of b) (owed_of c) o s w h
+-- a parameter is no FORWARD-TSN
+param-alike : (now : ℕ) (a c : Association) (p : Option Parameter) → IfSome p (IsParamOnce (owed_at now a) (owed_at now c))
+    → IfSome p (IsParamOnce (owed_before now a) (owed_at now c))
+param-alike now a c None h = tt
+param-alike now a c (Some (outgoing_reset_request r)) h = h
+param-alike now a c (Some (reconfig_response r)) h = h
+param-alike now a c (Some _) h = h
+
+due-before : (now : ℕ) (a b c : Association) → OwesNothingNew (owed_of a) (owed_of b) → AsksNoMore now a b
+    → (b.outbound.is_skip_due ≡ true → (owed_before now a).skip ≡ true) → c.machine.state ≡ b.machine.state → (w : Wire)
+    → IsDueOrData (owed_at now b) (owed_at now c) w → IsDueOrData (owed_before now a) (owed_at now c) w
+due-before now a b c o m f s (data_chunk d) h = tt
+due-before now a b c o m f s (heartbeat_chunk ps) h = (was (beats now a) (beats now b) m.beat h.0, h.1)
+due-before now a b c o m f s (reconfig_chunk r) h = (h.0, (before r.param_a h.1.0, before r.param_b h.1.1))
+  where
+    before : (p : Option Parameter) → IfSome p (IsParamOnce (owed_at now b) (owed_at now c)) → IfSome p (IsParamOnce (owed_before now a) (owed_at now c))
+    before p h = param-alike now a c p (params_before now a b c m p h)
+due-before now a b c o m f s (forward_tsn_chunk k) h = (f h.0, h.1)
+due-before now a b c o m f s w h = once-before (owed_of a) (owed_of b) (owed_of c) o s w h
 
 pub once_after : (now : ℕ) (a b c : Association) (bytes : List ℕ) → OwesNothingNew (owed_of a) (owed_of b) → AsksNoMore now a b
-    → c.machine.state ≡ b.machine.state → IsPacketOf (IsDueOrData (owed_at now b) (owed_at now c)) bytes
-    → IsPacketOf (IsDueOrData (owed_at now a) (owed_at now c)) bytes
-once_after now a b c bytes o m s p = packet_so (IsDueOrData (owed_at now b) (owed_at now c)) (IsDueOrData (owed_at now a) (owed_at now c))
-    (due-before now a b c o m s) bytes p
+    → (b.outbound.is_skip_due ≡ true → (owed_before now a).skip ≡ true) → c.machine.state ≡ b.machine.state
+    → IsPacketOf (IsDueOrData (owed_at now b) (owed_at now c)) bytes → IsPacketOf (IsDueOrData (owed_before now a) (owed_at now c)) bytes
+once_after now a b c bytes o m f s p = packet_so (IsDueOrData (owed_at now b) (owed_at now c)) (IsDueOrData (owed_before now a) (owed_at now c))
+    (due-before now a b c o m f s) bytes p
 
 -- ## What is due as the shutdown goes on
 

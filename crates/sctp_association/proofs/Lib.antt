@@ -56,7 +56,7 @@ pub mod Sized
 pub mod Rows
 pub mod Behind
 pub mod Ends
-pub mod Heard
+pub mod Expected
 pub mod Openings
 pub mod Single
 pub mod Rules

@@ -6,7 +6,7 @@ use Rattle.std.specs.Option.{option_map}
 use Rattle.sctp_association.proofs.Putting.{adds_none, and_so, kept, puts_made, puts_none, puts_reported, there}
 use Rattle.sctp_association.proofs.Running.{dropped_each, none_in, none_sent, reported_once, sent_by, sent_then}
 use Rattle.sctp_association.specs.declared.outbound.Outbound.{Outbound}
-use Rattle.sctp_association.specs.Packets.{Adds, IsSackOnce, PutsIn, PutsOut, put_where, sides}
+use Rattle.sctp_association.specs.Packets.{Adds, IsData, IsSackOnce, IsSkipOnce, PutsIn, PutsOut, PutsSkip, made_in, put_where, sides}
 use Rattle.sctp_association.specs.Runs.{Sends}
 use Rattle.sctp_association.specs.Sending.{may_drop}
 use Rattle.sctp_chunks.specs.Wire.{Wire, data_chunk, forward_tsn_chunk, sack_chunk}
@@ -23,6 +23,8 @@ use Rattle.sctp_delivery.specs.SenderCalls as made
 use Rattle.sctp_outbound.proofs.lemmas.outbound_queue.Outbounds.{peeked_all_started}
 use Rattle.sctp_outbound.specs.outbound_queue.OutboundQueue.{all_started}
 use Rattle.sctp_outbound.specs.pending_queue.PendingQueue.{next_pending}
+use Rattle.sctp_packets.specs.Draft.{IsDraft}
+use Rattle.sctp_packets.specs.Packet.{Parts}
 use Rattle.sctp_path.specs.Timers.{is_due}
 use Rattle.sctp_receiver.specs.Receiver.{Reception, sack_within, without_duplicates}
 use Rattle.sctp_sender.specs.Abandonment.{Name, can_skip_to, is_end, named_up_to}
@@ -43,20 +45,23 @@ of-some x y e = cc
 
 -- ## The sender
 
-pub skip_put : (room : ℕ) (c : ChunkForwardTsn) (b : Bool) (t : Transmission) (old new : List ℕ) → can_skip_to c.new_cumulative_tsn t.flight ≡ true
-    → is_end c.new_cumulative_tsn t.flight ≡ true → Name c.streams.items (named_up_to c.new_cumulative_tsn t.flight)
-    → Adds (put_where b (forward_tsn_chunk (forward_tsn_of c))) old new → PutsOut t t old new
-skip_put room c b t old new past ended names added =
-    puts_made (forwards_within room (forward_tsn_of c)) b (forward_tsn_chunk (forward_tsn_of c)) t t old new
-    (refl, (omega arith, (refl, ((past, ended, names), tt)))) (there (made.forward_tsn (forward_tsn_of c))) tt added
+skip-put : (due : Bool) (room : ℕ) (c : ChunkForwardTsn) (b : Bool) (t : Transmission) (old new : List ℕ) → due ≡ true
+    → can_skip_to c.new_cumulative_tsn t.flight ≡ true → is_end c.new_cumulative_tsn t.flight ≡ true
+    → Name c.streams.items (named_up_to c.new_cumulative_tsn t.flight)
+    → Adds (put_where b (forward_tsn_chunk (forward_tsn_of c))) old new → PutsSkip due false t t old new
+skip-put due room c true t old new was past ended names added =
+    puts_made (IsSkipOnce due false) (forwards_within room (forward_tsn_of c)) true (forward_tsn_chunk (forward_tsn_of c)) t t old new
+    (refl, (omega arith, (refl, ((past, ended, names), tt)))) (there (made.forward_tsn (forward_tsn_of c))) (was, refl) added (λ _ _. refl)
+skip-put due room c false t old new was past ended names added = puts_none t old new added
 
 -- the same, of what `forward_tsn` answers
-pub skip_put_where : (room : ℕ) (o : Option ChunkForwardTsn) (c : ChunkForwardTsn) (b : Bool) (t : Transmission) (old new : List ℕ) → o ≡ Some c
+pub skip_put_where : (due : Bool) (room : ℕ) (o : Option ChunkForwardTsn) (c : ChunkForwardTsn) (b : Bool) (t : Transmission) (old new : List ℕ)
+    → due ≡ true → o ≡ Some c
     → IfSome o (λ c. can_skip_to c.new_cumulative_tsn t.flight ≡ true) → IfSome o (λ c. is_end c.new_cumulative_tsn t.flight ≡ true)
     → IfSome o (λ c. Name c.streams.items (named_up_to c.new_cumulative_tsn t.flight))
-    → Adds (put_where b (forward_tsn_chunk (forward_tsn_of c))) old new → PutsOut t t old new
-skip_put_where room o c b t old new e past ended names added =
-    skip_put room c b t old new (subst (λ o. IfSome o (λ c. can_skip_to c.new_cumulative_tsn t.flight ≡ true)) e past)
+    → Adds (put_where b (forward_tsn_chunk (forward_tsn_of c))) old new → PutsSkip due false t t old new
+skip_put_where due room o c b t old new was e past ended names added =
+    skip-put due room c b t old new was (subst (λ o. IfSome o (λ c. can_skip_to c.new_cumulative_tsn t.flight ≡ true)) e past)
     (subst (λ o. IfSome o (λ c. is_end c.new_cumulative_tsn t.flight ≡ true)) e ended)
     (subst (λ o. IfSome o (λ c. Name c.streams.items (named_up_to c.new_cumulative_tsn t.flight))) e names) added
 
@@ -71,7 +76,7 @@ none_again now room t u x a none answer same =
     kept t u x x (same (none-of (λ c. sent_again (count_again c) now c) (next_within room t.flight) (sym none ∙ answer))) refl
 
 -- what is sent again is marked
-fitting : (room : ℕ) (c : ChunkPayloadData) (o : Option ChunkPayloadData) → if_it_fits room o ≡ Some c → o ≡ Some c
+pub fitting : (room : ℕ) (c : ChunkPayloadData) (o : Option ChunkPayloadData) → if_it_fits room o ≡ Some c → o ≡ Some c
 fitting room c None e = absurd (cc)
 fitting room c (Some d) e = by (fits room d) e
   where
@@ -91,7 +96,8 @@ meant : (room : ℕ) (f : Flight) (c : ChunkPayloadData) → next_within room f 
 meant room f c e =
     found-holds is_to_resend f.queue.inflight.chunks c (fitting room c (find is_to_resend f.queue.inflight.chunks) e)
 
-module _ (now room : ℕ) (chunk : ChunkPayloadData) (b : Bool) (t u : Transmission) (old new : List ℕ) where
+module _ (now room : ℕ) (chunk : ChunkPayloadData) (b : Bool) (t u : Transmission) (old new : List ℕ)
+    (put : (p : Parts) → IsDraft p old → b ≡ true) where
   again_of : (o : Option ChunkPayloadData) → next_within room t.flight ≡ o → Some chunk ≡ option_map (λ c. sent_again (count_again c) now c) o
       → ((c : ChunkPayloadData) → next_within room t.flight ≡ Some c → u ≡ with_flight (resent_at c.tsn now c t.flight) t)
       → ((c : ChunkPayloadData) → next_within room t.flight ≡ Some c
@@ -101,9 +107,11 @@ module _ (now room : ℕ) (chunk : ChunkPayloadData) (b : Bool) (t u : Transmiss
   again_of (Some c) is e exact marked added =
       let m = marked c is in
       let own : chunk ≡ sent_again (count_again c) now c = of-some chunk _ e in
-      puts_made (resends c.tsn now c) b (data_chunk (data_of chunk)) t u old new (meant room t.flight c is, (exact c is, (tt, ((m.1, m.0), tt))))
+      puts_made IsData (resends c.tsn now c) b (data_chunk (data_of chunk)) t u old new (meant room t.flight c is, (exact c is, (tt, ((m.1, m.0), tt))))
       (subst (λ (d : ChunkPayloadData). Contains (made.data_chunk (data_of d) ∷ []) (made.data_chunk (data_of chunk))) own
       (there (made.data_chunk (data_of chunk)))) tt added
+      (λ p draft. sym (ap (λ (d : ChunkPayloadData). made.data_chunk (data_of d) ∷ []) own)
+      ∙ ap (λ (k : Bool). made_in (put_where k (data_chunk (data_of chunk)))) (sym (put p draft)))
 
   pub again_put : Some chunk ≡ option_map (λ c. sent_again (count_again c) now c) (next_within room t.flight)
       → ((c : ChunkPayloadData) → next_within room t.flight ≡ Some c → u ≡ with_flight (resent_at c.tsn now c t.flight) t)
@@ -115,14 +123,13 @@ module _ (now room : ℕ) (chunk : ChunkPayloadData) (b : Bool) (t u : Transmiss
 -- a sending, and its chunk; where nothing waits there is none
 module _ (now : ℕ) (t u : Transmission) (exact : u ≡ after_send now t) (held : held_by_sender u ≡ held_by_sender t)
     (accepted : send_refusal t.flight ≡ None) where
-  pub next_put : (chunk : ChunkPayloadData) (b : Bool) (old new : List ℕ) → Some chunk ≡ next_chunk now t
+  pub next_put : (chunk : ChunkPayloadData) (b : Bool) (old new : List ℕ) → ((p : Parts) → IsDraft p old → b ≡ true) → Some chunk ≡ next_chunk now t
       → Adds (put_where b (data_chunk (data_of chunk))) old new → PutsOut t u old new
-  next_put chunk b old new answer added =
-      puts_made (sends now) b (data_chunk (data_of chunk)) t u old new (refl, (held, (exact, (accepted, tt))))
+  next_put chunk b old new put answer added =
+      puts_made IsData (sends now) b (data_chunk (data_of chunk)) t u old new (refl, (held, (exact, (accepted, tt))))
       (subst (λ o. Contains (with_chunk o []) (made.data_chunk (data_of chunk))) answer (there (made.data_chunk (data_of chunk)))) tt added
-
-  pub none_put : (x : List ℕ) → PutsOut t u x x
-  none_put x = puts_none (sends now) t u x (refl, (held, (exact, (accepted, tt))))
+      (λ p draft. sym (ap (λ (o : Option ChunkPayloadData). with_chunk o []) answer)
+      ∙ ap (λ (k : Bool). made_in (put_where k (data_chunk (data_of chunk)))) (sym (put p draft)))
 
 pub told-once : {X : Type 0} (n tsn : ℕ) (o : Option X) → Some tsn ≡ option_map (λ _. n) o → (tsn ≡ n) × (o ≢ None)
 told-once n tsn None e = absurd (cc)
@@ -132,11 +139,12 @@ told-once n tsn (Some x) e = (of-some tsn n e, λ none. some-none x none)
 pub lent_put : (now : ℕ) (t u : Transmission) (tsn : ℕ) → Some tsn ≡ option_map (λ _. t.flight.next_tsn) (next_pending t.flight.queue.pending)
     → (next_pending t.flight.queue.pending ≢ None → find (has_tsn t.flight.next_tsn) u.flight.queue.inflight.chunks ≡ next_chunk now t)
     → u ≡ after_send now t → held_by_sender u ≡ held_by_sender t → send_refusal t.flight ≡ None
-    → (chunk : ChunkPayloadData) (b : Bool) (old new : List ℕ) → Some chunk ≡ find (has_tsn tsn) u.flight.queue.inflight.chunks
+    → (chunk : ChunkPayloadData) (b : Bool) (old new : List ℕ) → ((p : Parts) → IsDraft p old → b ≡ true)
+    → Some chunk ≡ find (has_tsn tsn) u.flight.queue.inflight.chunks
     → Adds (put_where b (data_chunk (data_of chunk))) old new → PutsOut t u old new
-lent_put now t u tsn answer noted exact held accepted chunk b old new lent added =
+lent_put now t u tsn answer noted exact held accepted chunk b old new put lent added =
     let told = told-once t.flight.next_tsn tsn (next_pending t.flight.queue.pending) answer in
-    next_put now t u exact held accepted chunk b old new
+    next_put now t u exact held accepted chunk b old new put
     (lent ∙ ap (λ n. find (has_tsn n) u.flight.queue.inflight.chunks) told.0 ∙ noted told.1) added
 
 is-none : {X : Type 0} (o : Option X) → is_some o ≡ false → o ≡ None
@@ -192,6 +200,7 @@ module _ (credit room : ℕ) (c : ChunkSelectiveAck) (r : Reception) (old new : 
     added = adds_none new;
     own = tt;
     plain = tt;
+    each = λ _ _. refl;
   }
 
   pub sack_put : (s : Reception) (waits none : Bool) → s ≡ without_duplicates r → waits ≡ true → none ≡ false
@@ -216,4 +225,5 @@ sack_kept P r w old new added t = record {
   added = added;
   own = tt;
   plain = tt;
+  each = λ _ _. refl;
 }

@@ -5,7 +5,7 @@ use Rattle.std.specs.Prelude.{◌↔◌, ◌<◌, ◌-◌, ◌||◌, IsTrue, Ok,
 use Rattle.sctp_association.proofs.Rows.{follows_step}
 use Rattle.sctp_association.specs.Cookies.{IsSealedAt}
 use Rattle.sctp_association.specs.Openings.{Echoes, echo_step}
-use Rattle.sctp_association.specs.Heard.{speaks}
+use Rattle.sctp_association.specs.Expected.{speaks}
 use Rattle.sctp_association.specs.Rows.{FollowsAnswer}
 use Rattle.sctp_association.specs.declared.association.Association.{Association}
 use Rattle.sctp_handshake.specs.Cookies.{on_cookie_echo}
@@ -32,7 +32,7 @@ echoes_by tag cookie now a b moment made stale old n r takes kept h = record {
   follows = follows_step (on_cookie_echo made.ticket stale a.machine) made.ticket.peer.tag a b n r takes.machine takes.answer kept h;
 }
 
--- ## What is heard is not refused
+-- ## What is expected is not refused
 
 -- where neither is answered the machine does not speak
 silent-none : (r : Answer) → r.reply ≡ None → r.told ≡ None → speaks r ≡ true → ⊥
@@ -40,9 +40,9 @@ silent-none r reply told e = false≢true (sym (ap (λ o. is_some o || is_some r
 
 module _ (now : ℕ) (a : Association) (moment : ℕ) (ticket : Ticket) (stale : Bool) (old : IsTrue stale ↔ (a.config.cookie_life < now - moment)) where
   -- the step was taken, and the machine spoke
-  pub echo_heard : (n : Machine) (r : Answer) → Takes (on_cookie_echo ticket stale a.machine) n r → (k : ℕ) (t : Ticket) → moment ≡ k → ticket ≡ t
+  pub echo_expected : (n : Machine) (r : Answer) → Takes (on_cookie_echo ticket stale a.machine) n r → (k : ℕ) (t : Ticket) → moment ≡ k → ticket ≡ t
       → speaks (echo_step now k t a).answer ≡ true → r.reply ≡ None → r.told ≡ None → ⊥
-  echo_heard n r takes k t same one e reply told = silent-none r reply told (
+  echo_expected n r takes k t same one e reply told = silent-none r reply told (
       ap speaks takes.answer ∙ ap (λ (s : Bool). speaks (on_cookie_echo ticket s a.machine).answer) (old-is stale a.config.cookie_life (now - moment) old)
       ∙ ap (λ m. speaks (echo_step now m ticket a).answer) same ∙ ap (λ (t : Ticket). speaks (echo_step now k t a).answer) one ∙ e
       )

@@ -1,26 +1,26 @@
 -- Chunks that neither half answers, and the datagram in the end.
-use Rattle.std.proofs.Common.{◌≡◌, ◌⊎◌, inl, inr, ℕ, List, [], ◌++◌, Bool, true, false, Option, None, Some, Result, Ok, Err, arith, refl, ap, sym, subst, ◌∙◌}
+use Rattle.std.proofs.Common.{◌≡◌, ◌⊎◌, inl, inr, ℕ, List, [], ◌∷◌, ◌++◌, length, Bool, true, false, Option, None, Some, Result, Ok, Err, arith, refl, ap, sym, subst, ◌∙◌}
 use Rattle.std.proofs.lemmas.Bool.{false≢true}
-use Rattle.std.proofs.lemmas.List.Elements.{Contains-append_left}
+use Rattle.std.proofs.lemmas.List.{append-nil}
 use Rattle.std.specs.List.{AllByRecursion}
 use Rattle.std.specs.Prelude.{IfSome, ◌≤◌, is_some}
 use Rattle.std.specs.Result.{IsErr}
-use Rattle.sctp_association.proofs.Congested.{pace_same, pace_then, windows_same, windows_then}
 use Rattle.sctp_association.proofs.Known.{still_none, unmoved_same, unmoved_then, was}
-use Rattle.sctp_association.proofs.Putting.{shutdown_put, adds_none, adds_then, all_append, all_of_more, all_put, all_so, all_where, and_so, nothing, puts_so}
-use Rattle.sctp_association.proofs.Running.{none_in, none_sent, reported_in, sent_then}
+use Rattle.sctp_association.proofs.Idle.{longer_by_chunk}
+use Rattle.sctp_association.proofs.Putting.{shutdown_put, adds_none, adds_then, all_append, all_put, all_so, and_so, none_made, nothing, puts_so, all_where}
+use Rattle.sctp_association.proofs.Running.{none_in, none_sent, sent_then}
 use Rattle.sctp_association.specs.declared.association.Association.{Association}
+use Rattle.sctp_association.specs.Congested.{Path, path_of}
 use Rattle.sctp_association.specs.declared.inbound.Inbound.{Inbound}
-use Rattle.sctp_association.specs.Halves.{HalvesAlike, IsAsTimed, PutsDue, PutsDueOrData, PutsOnce, PutsOthers, is_sent, receiver_of, sides_of}
+use Rattle.sctp_association.specs.Halves.{HalvesAlike, IsAsTimed, PutsDue, PutsOnce, PutsOthers, PutsSent, is_sent, receiver_of, sides_of, PutsDueOrData}
 use Rattle.sctp_association.specs.Kept.{IsUnmoved, sack_waits, unknown_in}
 use Rattle.sctp_association.specs.declared.fault.Fault.{Fault}
 use Rattle.sctp_association.specs.Leaving.{AsksNoMore, IsDueOnce, IsDueOrData, IsParamOnce, IsReplyOnce, OwedAt, OwesNoMoreAt, Reaches, beats, owed_at}
 use Rattle.sctp_association.specs.Leaving.{owed_of, requests_due, responses_due}
-use Rattle.sctp_association.specs.Packets.{Adds, IsNoReply, IsOf, IsPacketOf, IsSackOnce, IsWritten, Puts, PutsIn, PutsOf, Sides, Transmits, put_where, sides}
+use Rattle.sctp_association.specs.Packets.{Adds, IsOf, IsPacketOf, IsSackOnce, IsSkipOnce, IsWritten, PutsIn, PutsOf, Sides, Transmits, made_in, put_where, sides}
 use Rattle.sctp_association.specs.Packets.{sum_of, with_chunks}
 use Rattle.sctp_association.specs.Runs.{ReportsIn, Sends}
-use Rattle.sctp_chunks.specs.Wire.{Wire, cookie_ack_chunk, cookie_echo_chunk, data_chunk, error_chunk, forward_tsn_chunk, heartbeat_ack_chunk}
-use Rattle.sctp_chunks.specs.Wire.{heartbeat_chunk, reconfig_chunk, sack_chunk, shutdown_ack_chunk, shutdown_chunk}
+use Rattle.sctp_chunks.specs.Wire.{Wire, cookie_ack_chunk, cookie_echo_chunk, data_chunk, error_chunk, forward_tsn_chunk, heartbeat_ack_chunk, heartbeat_chunk, reconfig_chunk, sack_chunk, shutdown_ack_chunk, shutdown_chunk}
 use Rattle.sctp_data.specs.SelectiveAck.{Sack}
 use Rattle.sctp_delivery.specs.SenderCalls.{Made}
 use Rattle.sctp_handshake.specs.declared.machine.Machine.{Machine}
@@ -38,13 +38,11 @@ pub alike_then : (a b c : Association) → HalvesAlike a b → HalvesAlike b c �
 alike_then a b c h k = record {
   sender = k.sender ∙ h.sender;
   receiver = k.receiver ∙ h.receiver;
-  windows = windows_then a.outbound b.outbound c.outbound h.windows k.windows;
-  pace = pace_then a.outbound b.outbound c.outbound h.pace k.pace;
-  skip = k.skip ∙ h.skip;
+  path = k.path ∙ h.path;
 }
 
 pub alike_same : (a : Association) → HalvesAlike a a
-alike_same a = record { sender = refl; receiver = refl; windows = windows_same a.outbound; pace = pace_same a.outbound; skip = refl }
+alike_same a = record { sender = refl; receiver = refl; path = refl }
 
 -- the same is due at the same moment
 pub timed_same : (a : Association) → IsAsTimed a a
@@ -92,6 +90,16 @@ module _ (now : ℕ) (a b c : Association) where
   params_behind m None h = tt
   params_behind m (Some p) h = param-behind m p h
 
+-- no FORWARD-TSN is due that was not
+abbrev pub SkipsNoMore : Association → Association → Type 0
+SkipsNoMore a b = a.outbound.is_skip_due ≡ false → b.outbound.is_skip_due ≡ false
+
+pub skip_kept : (a b : Association) → path_of b.outbound ≡ path_of a.outbound → SkipsNoMore a b
+skip_kept a b e none = ap (λ (p : Path). p.skip) e ∙ none
+
+pub skip_so : (a b c : Association) → SkipsNoMore a b → SkipsNoMore b c → SkipsNoMore a c
+skip_so a b c f g none = g (f none)
+
 or-both : {P Q R S : Type 0} → (P → R) → (Q → S) → P ⊎ Q → R ⊎ S
 or-both f g (inl p) = inl (f p)
 or-both f g (inr q) = inr (g q)
@@ -127,32 +135,44 @@ module _ (a b c : Association) where
       (λ s. (s.0, s.1, s.2, still_none (unknown_in b.inbound) (unknown_in c.inbound) u.unknown s.3)) h
   once-behind u _ h = absurd h
 
-  -- the same, of a HEARTBEAT and a RE-CONFIG too
-  due-before : (now : ℕ) → IsUnmoved a b → AsksNoMore now a b → (w : Wire) → IsDueOnce (owed_at now b) (owed_at now c) w
+  -- the same, of a HEARTBEAT, a RE-CONFIG and a FORWARD-TSN too
+  due-before : (now : ℕ) → IsUnmoved a b → AsksNoMore now a b → SkipsNoMore a b → (w : Wire) → IsDueOnce (owed_at now b) (owed_at now c) w
       → IsDueOnce (owed_at now a) (owed_at now c) w
-  due-before now u m (heartbeat_chunk ps) h = (was (beats now a) (beats now b) m.beat h.0, h.1)
-  due-before now u m (reconfig_chunk r) h = (h.0, (params_before now a b c m r.param_a h.1.0, params_before now a b c m r.param_b h.1.1))
-  due-before now u m w h = once-before u w h
+  due-before now u m s (heartbeat_chunk ps) h = (was (beats now a) (beats now b) m.beat h.0, h.1)
+  due-before now u m s (reconfig_chunk r) h =
+      (h.0, (params_before now a b c m r.param_a h.1.0, params_before now a b c m r.param_b h.1.1))
+  due-before now u m s (forward_tsn_chunk f) h = (was a.outbound.is_skip_due b.outbound.is_skip_due s h.0, h.1)
+  due-before now u m s w h = once-before u w h
 
-  due-behind : (now : ℕ) → IsUnmoved b c → AsksNoMore now b c → (w : Wire) → IsDueOnce (owed_at now a) (owed_at now b) w
+  due-behind : (now : ℕ) → IsUnmoved b c → AsksNoMore now b c → SkipsNoMore b c → (w : Wire) → IsDueOnce (owed_at now a) (owed_at now b) w
       → IsDueOnce (owed_at now a) (owed_at now c) w
-  due-behind now u m (heartbeat_chunk ps) h = (h.0, m.beat h.1)
-  due-behind now u m (reconfig_chunk r) h = (h.0, (params_behind now a b c m r.param_a h.1.0, params_behind now a b c m r.param_b h.1.1))
-  due-behind now u m w h = once-behind u w h
+  due-behind now u m s (heartbeat_chunk ps) h = (h.0, m.beat h.1)
+  due-behind now u m s (reconfig_chunk r) h =
+      (h.0, (params_behind now a b c m r.param_a h.1.0, params_behind now a b c m r.param_b h.1.1))
+  due-behind now u m s (forward_tsn_chunk f) h = (h.0, s h.1)
+  due-behind now u m s w h = once-behind u w h
 
-no-reply-once : (now : ℕ) (a b : Association) (w : Wire) → IsNoReply w → IsDueOrData (owed_at now a) (owed_at now b) w
-no-reply-once now a b (data_chunk d) h = tt
-no-reply-once now a b (forward_tsn_chunk f) h = tt
-no-reply-once now a b _ h = absurd h
+skip-due : (now : ℕ) (a b : Association) (w : Wire) → IsSkipOnce a.outbound.is_skip_due b.outbound.is_skip_due w
+    → IsDueOrData (owed_at now a) (owed_at now b) w
+skip-due now a b (data_chunk d) h = tt
+skip-due now a b (forward_tsn_chunk f) h = h
+skip-due now a b _ h = absurd h
+
+-- so it is of one that is put behind what makes no FORWARD-TSN due
+skip-behind : (now : ℕ) (a b c : Association) → SkipsNoMore a b → (w : Wire) → IsSkipOnce b.outbound.is_skip_due c.outbound.is_skip_due w
+    → IsDueOrData (owed_at now a) (owed_at now c) w
+skip-behind now a b c s (data_chunk d) h = tt
+skip-behind now a b c s (forward_tsn_chunk f) h = (was a.outbound.is_skip_due b.outbound.is_skip_due s h.0, h.1)
+skip-behind now a b c s _ h = absurd h
 
 due-or-data : (now : ℕ) (a b : Association) (w : Wire) → IsDueOnce (owed_at now a) (owed_at now b) w → IsDueOrData (owed_at now a) (owed_at now b) w
 due-or-data now a b (data_chunk d) h = tt
-due-or-data now a b (forward_tsn_chunk f) h = tt
 due-or-data now a b w h = h
 
 once-due : (now : ℕ) (a b : Association) (w : Wire) → IsReplyOnce (owed_of a) (owed_of b) w → IsDueOnce (owed_at now a) (owed_at now b) w
 once-due now a b (heartbeat_chunk ps) h = absurd h
 once-due now a b (reconfig_chunk r) h = absurd h
+once-due now a b (forward_tsn_chunk f) h = absurd h
 once-due now a b w h = h
 
 pub at_most_same : {m n : ℕ} → m ≡ n → m ≤ n
@@ -225,6 +245,7 @@ module _ (a b : Association) where
     added = p.added;
     own = p.own;
     plain = p.plain;
+    each = λ _ _. sym (none_made [] p.chunks p.own);
   })
 
   -- where nothing is put
@@ -240,20 +261,23 @@ module _ (a b : Association) where
   once_puts now p = puts_so (IsReplyOnce (owed_of a) (owed_of b)) (IsDueOnce (owed_at now a) (owed_at now b)) (once-due now a b) (sides_of a) (sides_of b) p
 
 -- steps that make nothing due
-pub due_then : (now : ℕ) (a b c : Association) → PutsDue now a b → IsUnmoved a b → AsksNoMore now a b → PutsDue now b c → IsUnmoved b c
-    → AsksNoMore now b c → PutsDue now a c
-due_then now a b c p u m q v n = and_so (IsDueOnce (owed_at now a) (owed_at now b)) (IsDueOnce (owed_at now b) (owed_at now c))
+pub due_then : (now : ℕ) (a b c : Association) → PutsDue now a b → IsUnmoved a b → AsksNoMore now a b → SkipsNoMore a b → PutsDue now b c
+    → IsUnmoved b c → AsksNoMore now b c → SkipsNoMore b c → PutsDue now a c
+due_then now a b c p u m s q v n k = and_so (IsDueOnce (owed_at now a) (owed_at now b)) (IsDueOnce (owed_at now b) (owed_at now c))
     (IsDueOnce (owed_at now a) (owed_at now c)) (sides_of a) (sides_of b) (sides_of c)
-    (due-behind a b c now v n) (due-before a b c now u m) p q
+    (due-behind a b c now v n k) (due-before a b c now u m s) p q
+
+pub due_others : (now : ℕ) (a b c : Association) → PutsDue now a b → IsUnmoved a b → AsksNoMore now a b → SkipsNoMore a b → PutsOthers b c
+    → PutsDue now a c
+due_others now a b c p u m s q =
+    due_then now a b c p u m s (once_puts b c now (others_puts b c q)) q.kept (beats_same now b c q.timed) (skip_kept b c q.halves.path)
 
 -- and DATA and FORWARD-TSN behind them
-pub data_then : (now : ℕ) (a b c : Association) → PutsDue now a b → Puts (sides_of b) (sides_of c) → IsUnmoved b c → AsksNoMore now b c
-    → PutsDueOrData now a c
-data_then now a b c p q v n = and_so (IsDueOnce (owed_at now a) (owed_at now b)) IsNoReply (IsDueOrData (owed_at now a) (owed_at now c))
-    (sides_of a) (sides_of b) (sides_of c) (λ w h. due-or-data now a c w (due-behind a b c now v n w h)) (no-reply-once now a c) p q
-
-pub due_others : (now : ℕ) (a b c : Association) → PutsDue now a b → IsUnmoved a b → AsksNoMore now a b → PutsOthers b c → PutsDue now a c
-due_others now a b c p u m q = due_then now a b c p u m (once_puts b c now (others_puts b c q)) q.kept (beats_same now b c q.timed)
+pub data_then : (now : ℕ) (a b c : Association) → PutsDue now a b → SkipsNoMore a b → PutsSent b c → IsUnmoved b c → AsksNoMore now b c
+    → SkipsNoMore b c → PutsDueOrData now a c
+data_then now a b c p s q v n k = and_so (IsDueOnce (owed_at now a) (owed_at now b))
+    (IsSkipOnce b.outbound.is_skip_due c.outbound.is_skip_due) (IsDueOrData (owed_at now a) (owed_at now c))
+    (sides_of a) (sides_of b) (sides_of c) (λ w h. due-or-data now a c w (due-behind a b c now v n k w h)) (skip-behind now a b c s) p q
 
 -- no HEARTBEAT is among them
 pub once_then : (a b c : Association) → PutsOnce a b → IsUnmoved a b → PutsOnce b c → IsUnmoved b c → PutsOnce a c
@@ -278,6 +302,7 @@ puts_one {P} k w t r x y added of plain = record {
   added = added;
   own = all_put (IsOf [] []) k w of;
   plain = all_where P k w plain;
+  each = λ _ _. sym (none_made [] (put_where k w) (all_put (IsOf [] []) k w of));
 }
 
 module _ {P : Wire → Type 0} where
@@ -312,10 +337,6 @@ sack_side {P} t u o i j x y f h is same =
     let two = subst (λ v. PutsOf Q (sides t (receiver_of o) x) (sides v (Some j.receiver) y)) (sym same) one in
     puts_so Q P (sack-so P (is_some i.delay.due) (is_some j.delay.due) f) (sides t (receiver_of o) x) (sides u (Some j.receiver) y) two
 
--- what the sender puts
-pub sends_puts : (ms : List Made) (t u : Transmission) (r : Option Reception) (x : List ℕ) → Sends ms t u → Puts (sides t r x) (sides u r x)
-sends_puts ms t u r x s = record { made = ms; sacks = []; chunks = []; sent = s; reported = none_in r; added = adds_none x; own = tt; plain = tt }
-
 -- ## A datagram
 
 -- what was put behind a header, sealed
@@ -327,43 +348,58 @@ written h z P ws begun full sealed draft added own encoded =
 
 module _ {P : Wire → Type 0} (t u : Transmission) (r q : Option Reception) (x begun full : List ℕ) (p : PutsOf P (sides t r begun) (sides u q full)) where
   -- where nothing was put, or a call was refused
-  pub unsent_after : (y : List ℕ) → Transmits false (sides t r x) (sides u q y)
-  unsent_after y = record { made = p.made; sacks = p.sacks; sent = p.sent; reported = p.reported; written = λ e. absurd (false≢true e) }
-
-  pub sealed_after : (h : CommonHeader) (z : Bool) (sealed : List ℕ) → IsDraft (headed h) begun
-      → ((d : Parts) → IsDraft d full → sealed ≡ packet_encoding (sum_of z) d) → Transmits true (sides t r x) (sides u q sealed)
-  sealed_after h z sealed draft encoded = record {
+  pub unsent_after : (h : CommonHeader) → IsDraft (headed h) begun → length full ≤ 12 → (y : List ℕ) → Transmits false (sides t r x) (sides u q y)
+  unsent_after h draft short y = record {
     made = p.made;
     sacks = p.sacks;
     sent = p.sent;
     reported = p.reported;
-    written = λ e. written h z (IsOf p.made p.sacks) p.chunks begun full sealed draft p.added p.own encoded;
+    written = λ e. absurd (false≢true e);
+    each = λ e. absurd (false≢true e);
+    none = λ _. p.each (headed h) draft ∙ ap made_in (none p.chunks p.added);
   }
+    where
+      none : (ws : List Wire) → Adds ws begun full → ws ≡ []
+      none [] added = refl
+      none (w ∷ ws) added = absurd (omega (arith, short, longer_by_chunk [] ws w (headed h) full (added.draft (headed h) draft)))
+
+  pub sealed_after : (h : CommonHeader) (z : Bool) (sealed : List ℕ) → IsDraft (headed h) begun
+      → ((d : Parts) → IsDraft d full → sealed ≡ packet_encoding (sum_of z) d) → Transmits true (sides t r x) (sides u q sealed)
+  sealed_after h z sealed draft encoded =
+      let d = p.added.draft (headed h) draft in
+      record {
+        made = p.made;
+        sacks = p.sacks;
+        sent = p.sent;
+        reported = p.reported;
+        written = λ e. written h z (IsOf p.made p.sacks) p.chunks begun full sealed draft p.added p.own encoded;
+        each = λ e. record {
+          packet = with_chunks p.chunks (headed h);
+          is_zero = z;
+          encoded = encoded _ d;
+          encodings = d.encodings;
+          fits = d.fits;
+          each = sym (p.each (headed h) draft);
+        };
+        none = λ e. absurd (false≢true (sym e));
+      }
 
   -- each of its chunks is such
   pub plain_after : (h : CommonHeader) (z : Bool) (sealed : List ℕ) → IsDraft (headed h) begun
       → ((d : Parts) → IsDraft d full → sealed ≡ packet_encoding (sum_of z) d) → IsPacketOf P sealed
   plain_after h z sealed draft encoded = written h z P p.chunks begun full sealed draft p.added p.plain encoded
 
-more_written : (ms ns : List Made) (ss ts : List Sack) (b : List ℕ) → IsWritten ms ss b → IsWritten (ms ++ ns) (ss ++ ts) b
-more_written ms ns ss ts b w = record {
-  packet = w.packet;
-  is_zero = w.is_zero;
-  encoded = w.encoded;
-  encodings = w.encodings;
-  fits = w.fits;
-  own = all_of_more ms (ms ++ ns) ss (ss ++ ts) (λ m c. Contains-append_left ms ns m c) (λ m c. Contains-append_left ss ts m c) w.packet.chunks w.own;
-}
-
--- calls before
-pub before_then : (k : Bool) (s : Sides) (t : Transmission) (r : Option Reception) (x y : List ℕ) (z : Sides) → Puts s (sides t r x)
+-- behind calls that make no chunk
+pub before_then : (k : Bool) (s : Sides) (t : Transmission) (r : Option Reception) (y : List ℕ) (z : Sides) → Sends [] s.sender t → r ≡ s.receiver
     → Transmits k (sides t r y) z → Transmits k s z
-before_then k s t r x y z p f = record {
-  made = f.made ++ p.made;
-  sacks = f.sacks ++ p.sacks;
-  sent = sent_then p.made f.made s.sender t z.sender p.sent f.sent;
-  reported = reported_in p.sacks f.sacks s.receiver r z.receiver p.reported f.reported;
-  written = λ e. more_written f.made p.made f.sacks p.sacks z.bytes (f.written e);
+before_then k s t r y z sent same f = record {
+  made = f.made;
+  sacks = f.sacks;
+  sent = subst (λ (ms : List Made). Sends ms s.sender z.sender) (append-nil f.made) (sent_then [] f.made s.sender t z.sender sent f.sent);
+  reported = subst (λ (r : Option Reception). ReportsIn f.sacks r z.receiver) same f.reported;
+  written = f.written;
+  each = f.each;
+  none = f.none;
 }
 
 pub sent_same : (k : Bool) (s : Sides) (u v : Transmission) (q : Option Reception) (y : List ℕ) → v ≡ u → Transmits k s (sides u q y)
@@ -371,8 +407,21 @@ pub sent_same : (k : Bool) (s : Sides) (u v : Transmission) (q : Option Receptio
 sent_same k s u v q y e h = subst (λ w. Transmits k s (sides w q y)) (sym e) h
 
 -- no datagram
-pub unsent : (s : Sides) (t : Transmission) (r : Option Reception) (x y : List ℕ) → Puts s (sides t r x) → Transmits false s (sides t r y)
-unsent s t r x y p = record { made = p.made; sacks = p.sacks; sent = p.sent; reported = p.reported; written = λ e. absurd (false≢true e) }
+pub unsent : (s : Sides) (t : Transmission) (r : Option Reception) (y : List ℕ) → Sends [] s.sender t → r ≡ s.receiver → Transmits false s (sides t r y)
+unsent s t r y sent same = record {
+  made = [];
+  sacks = [];
+  sent = sent;
+  reported = subst (λ (r : Option Reception). ReportsIn [] s.receiver r) (sym same) (none_in s.receiver);
+  written = λ e. absurd (false≢true e);
+  each = λ e. absurd (false≢true e);
+  none = λ _. refl;
+}
+
+pub unsent_alike : (a b : Association) → HalvesAlike a b → (y : List ℕ)
+    → Transmits false (sides_of a) (sides b.outbound.sender (receiver_of b.inbound) y)
+unsent_alike a b h y = unsent (sides_of a) b.outbound.sender (receiver_of b.inbound) y
+    (subst (λ t. Sends [] a.outbound.sender t) (sym h.sender) (none_sent a.outbound.sender)) h.receiver
 
 -- nor where the call is refused
 refused : (o : Result Bool Fault) → IsErr o → is_sent o ≡ false
@@ -393,4 +442,13 @@ sent_alone a b h w = record {
   sent = subst (λ t. Sends [] a.outbound.sender t) (sym h.sender) (none_sent a.outbound.sender);
   reported = subst (λ r. ReportsIn [] (receiver_of a.inbound) r) (sym h.receiver) (none_in (receiver_of a.inbound));
   written = λ e. w;
+  each = λ e. record {
+    packet = w.packet;
+    is_zero = w.is_zero;
+    encoded = w.encoded;
+    encodings = w.encodings;
+    fits = w.fits;
+    each = none_made [] w.packet.chunks w.own;
+  };
+  none = λ e. absurd (false≢true (sym e));
 }

@@ -3,7 +3,7 @@ use Rattle.std.proofs.Common.{◌≡◌, ℕ, ◌≤◌, ◌<◌, ◌+◌, List,
 use Rattle.std.proofs.Common.{refl, ap, inr, sym, subst, ◌∙◌}
 use Rattle.std.specs.Int.{to_be_bytes, w16}
 use Rattle.std.specs.Prelude.{OnErr, OnOk, is_some, max, ◌==◌, ◌-◌, ◌^◌, if◌then◌else◌}
-use Rattle.sctp_association.proofs.Congested.{pace_so, windows_so}
+use Rattle.sctp_association.specs.Congested.{path_of}
 use Rattle.sctp_association.proofs.Known.{owes_alike}
 use Rattle.sctp_association.proofs.Others.{others_none, others_one}
 use Rattle.sctp_association.specs.Entering.{usable_in}
@@ -56,9 +56,7 @@ module _ (a m : Association) (i j : Inbound) (inbound : a.inbound ≡ Some i) (a
   told-alike d = record {
     sender = ap (λ (o : Outbound). o.sender) same.outbound;
     receiver = ap receiver_of after ∙ ap (λ r. Some r) receiver ∙ sym (ap receiver_of inbound);
-    windows = windows_so a.outbound m.outbound same.outbound;
-    pace = pace_so a.outbound m.outbound same.outbound;
-    skip = ap (λ (o : Outbound). o.is_skip_due) same.outbound;
+    path = ap path_of same.outbound;
   }
 
   told-unmoved : (d : Draft) → IsUnmoved a (record m { draft = d })

@@ -1,11 +1,11 @@
 -- Chunks that are put behind others are of what calls answered.
-use Rattle.std.proofs.Common.{◌≡◌, ℕ, List, [], ◌∷◌, ◌++◌, Bool, true, false, Some, refl, sym, subst, append_assoc, arith}
+use Rattle.std.proofs.Common.{◌≡◌, ℕ, List, [], ◌∷◌, ◌++◌, Bool, true, false, Option, Some, refl, ap, sym, subst, ◌∙◌, append_assoc, arith}
 use Rattle.std.proofs.lemmas.List.{append-nil}
 use Rattle.std.proofs.lemmas.List.Elements.{Contains-append_left, Contains-append_right}
 use Rattle.std.specs.Prelude.{Contains}
 use Rattle.std.specs.List.{AllByRecursion}
 use Rattle.sctp_association.proofs.Running.{none_in, none_sent, reported_in, reported_once, sent_by, sent_then}
-use Rattle.sctp_association.specs.Packets.{Adds, IsNoReply, IsOf, Puts, PutsOf, PutsOut, Sides, put_where, sides, with_chunks}
+use Rattle.sctp_association.specs.Packets.{Adds, IsData, IsOf, IsSkipOnce, Puts, PutsOf, PutsOut, PutsSkip, Sides, made_in, made_of, put_where, sides, with_chunks}
 use Rattle.sctp_association.specs.Runs.{AcksBy, SendsBy, made_by, reported_by}
 use Rattle.sctp_chunks.specs.Wire.{Wire, data_chunk, forward_tsn_chunk, i_forward_tsn_chunk, sack_chunk, shutdown_chunk}
 use Rattle.sctp_chunks.specs.Wire.{abort_chunk, cookie_ack_chunk, cookie_echo_chunk, error_chunk, heartbeat_ack_chunk, heartbeat_chunk, init_chunk}
@@ -70,6 +70,22 @@ pub all_put : (P : Wire → Type 0) (b : Bool) (w : Wire) → P w → AllByRecur
 all_put P true w h = (h, tt)
 all_put P false w h = tt
 
+-- ## What the sender made
+
+pub made_append : (ws vs : List Wire) → made_in (ws ++ vs) ≡ made_in vs ++ made_in ws
+made_append [] vs = sym (append-nil (made_in vs))
+made_append (w ∷ ws) vs = ap (λ (ms : List Made). ms ++ made_of w) (made_append ws vs) ∙ append_assoc (made_in vs) (made_in ws) (made_of w)
+
+-- a chunk that no call of the sender answers is not of it
+made-none : (ss : List Sack) (w : Wire) → IsOf [] ss w → made_of w ≡ []
+made-none ss (data_chunk d) h = absurd (omega (arith, h.1))
+made-none ss (forward_tsn_chunk f) h = absurd (omega (arith, h.1))
+made-none ss _ h = refl
+
+pub none_made : (ss : List Sack) (ws : List Wire) → AllByRecursion (IsOf [] ss) ws → made_in ws ≡ []
+none_made ss [] h = refl
+none_made ss (w ∷ ws) h = ap (λ (ms : List Made). made_in ws ++ ms) (made-none ss w h.0) ∙ append-nil (made_in ws) ∙ none_made ss ws h.1
+
 -- so it need be only of one that is put
 pub all_where : (P : Wire → Type 0) (b : Bool) (w : Wire) → (b ≡ true → P w) → AllByRecursion P (put_where b w)
 all_where P true w h = (h refl, tt)
@@ -87,6 +103,7 @@ nothing s = record {
   added = adds_none s.bytes;
   own = tt;
   plain = tt;
+  each = λ _ _. refl;
 }
 
 pub and_so : (P Q R : Wire → Type 0) (a b c : Sides) → ((w : Wire) → P w → R w) → ((w : Wire) → Q w → R w) → PutsOf P a b → PutsOf Q b c → PutsOf R a c
@@ -103,6 +120,8 @@ and_so P Q R a b c f g p q = record {
       (all_of_more q.made (q.made ++ p.made) q.sacks (q.sacks ++ p.sacks) (λ m h. Contains-append_left q.made p.made m h)
       (λ s h. Contains-append_left q.sacks p.sacks s h) q.chunks q.own);
   plain = all_append R p.chunks q.chunks (all_so P R f p.chunks p.plain) (all_so Q R g q.chunks q.plain);
+  each = λ d draft. ap (λ (ms : List Made). ms ++ p.made) (q.each (with_chunks p.chunks d) (p.added.draft d draft))
+      ∙ ap (λ (ms : List Made). made_in q.chunks ++ ms) (p.each d draft) ∙ sym (made_append p.chunks q.chunks);
 }
 
 -- what is said of the chunks may be less
@@ -116,10 +135,11 @@ puts_so P Q f a b p = record {
   added = p.added;
   own = p.own;
   plain = all_so P Q f p.chunks p.plain;
+  each = p.each;
 }
 
 pub and_then : (a b c : Sides) → Puts a b → Puts b c → Puts a c
-and_then a b c p q = and_so IsNoReply IsNoReply IsNoReply a b c (λ w h. h) (λ w h. h) p q
+and_then a b c p q = and_so IsData IsData IsData a b c (λ w h. h) (λ w h. h) p q
 
 -- where neither half changes, nor the packet
 pub kept : (t u : Transmission) (x y : List ℕ) → u ≡ t → y ≡ x → PutsOut t u x y
@@ -136,10 +156,23 @@ to_same t u v x y e p = subst (λ w. PutsOut t w x y) (sym e) p
 pub out_then : (t u v : Transmission) (x y z : List ℕ) → PutsOut t u x y → PutsOut u v y z → PutsOut t v x z
 out_then t u v x y z p q r = and_then (sides t r x) (sides u r y) (sides v r z) (p r) (q r)
 
+-- DATA behind a FORWARD-TSN
+data-once : (due still : Bool) (w : Wire) → IsData w → IsSkipOnce due still w
+data-once due still (data_chunk d) h = tt
+data-once due still _ h = absurd h
+
+pub skip_then : (due still : Bool) (t u v : Transmission) (x y z : List ℕ) → PutsSkip due still t u x y → PutsOut u v y z → PutsSkip due still t v x z
+skip_then due still t u v x y z p q r = and_so (IsSkipOnce due still) IsData (IsSkipOnce due still) (sides t r x) (sides u r y) (sides v r z)
+    (λ w h. h) (data-once due still) (p r) (q r)
+
+pub still_so : (due one two : Bool) (t u : Transmission) (x y : List ℕ) → two ≡ one → PutsSkip due one t u x y → PutsSkip due two t u x y
+still_so due one two t u x y e p = subst (λ (b : Bool). PutsSkip due b t u x y) (sym e) p
+
 -- a chunk that a call of the sender answers
-pub puts_made : (c : SenderCall) (b : Bool) (w : Wire) (t u : Transmission) (old new : List ℕ) → SendsBy c t u → IsOf (made_by c t) [] w → IsNoReply w
-    → Adds (put_where b w) old new → PutsOut t u old new
-puts_made c b w t u old new m of plain added r = record {
+pub puts_made : (P : Wire → Type 0) (c : SenderCall) (b : Bool) (w : Wire) (t u : Transmission) (old new : List ℕ) → SendsBy c t u
+    → IsOf (made_by c t) [] w → P w → Adds (put_where b w) old new → ((p : Parts) → IsDraft p old → made_by c t ≡ made_in (put_where b w))
+    → (r : Option Reception) → PutsOf P (sides t r old) (sides u r new)
+puts_made P c b w t u old new m of plain added each r = record {
   made = made_by c t;
   sacks = [];
   chunks = put_where b w;
@@ -147,20 +180,23 @@ puts_made c b w t u old new m of plain added r = record {
   reported = none_in r;
   added = added;
   own = all_put (IsOf (made_by c t) []) b w of;
-  plain = all_put IsNoReply b w plain;
+  plain = all_put P b w plain;
+  each = each;
 }
 
--- a call of the sender, of which no chunk is put
-pub puts_none : (c : SenderCall) (t u : Transmission) (b : List ℕ) → SendsBy c t u → PutsOut t u b b
-puts_none c t u b m r = record {
-  made = made_by c t;
+-- nothing is put
+pub puts_none : {P : Wire → Type 0} (t : Transmission) (old new : List ℕ) → Adds [] old new
+    → (r : Option Reception) → PutsOf P (sides t r old) (sides t r new)
+puts_none t old new added r = record {
+  made = [];
   sacks = [];
   chunks = [];
-  sent = sent_by c t u m;
+  sent = none_sent t;
   reported = none_in r;
-  added = adds_none b;
+  added = added;
   own = tt;
   plain = tt;
+  each = λ _ _. refl;
 }
 
 -- a chunk that a call of the receiver answers
@@ -175,6 +211,7 @@ puts_reported P c b w r s old new m of plain added t = record {
   added = added;
   own = all_put (IsOf [] (reported_by c r)) b w of;
   plain = all_put P b w plain;
+  each = λ _ _. sym (none_made (reported_by c r) (put_where b w) (all_put (IsOf [] (reported_by c r)) b w of));
 }
 
 pub there : {X : Type 0} (x : X) → Contains (x ∷ []) x

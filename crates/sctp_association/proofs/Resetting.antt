@@ -152,9 +152,7 @@ module _ (now : ℕ) (a d : Association) (rest : d ≡ record a { draft = d.draf
   reset_alike = subst (HalvesAlike a) (sym rest) (record {
     sender = refl;
     receiver = refl;
-    windows = record { peer_window = refl; congestion = refl };
-    pace = record { used = refl; burst = refl; paused = refl };
-    skip = refl;
+    path = refl;
   })
 
   pub reset_unmoved : IsUnmoved a d

@@ -4,7 +4,7 @@ use Rattle.std.proofs.lemmas.Bool.{ne_eqb}
 use Rattle.std.specs.Prelude.{Result, Ok, Err, IfOk, ◌==◌, if◌then◌else◌}
 use Rattle.sctp_association.specs.Coming.{goes_on}
 use Rattle.sctp_association.specs.Rows.{FollowsAnswer, FollowsStep, RowOn, Settles, StepsBy, StepsOn, StepsTo, asked_for, asked_in, cause_in}
-use Rattle.sctp_association.specs.Rows.{drained_where, over_by, owed_by, row_at, row_of, settled, tag_of, tag_to}
+use Rattle.sctp_association.specs.Rows.{drained_where, over_by, owed_by, row_at, row_of, settled, still_wants, tag_of, tag_to}
 use Rattle.sctp_association.specs.Sending.{holds_nothing}
 use Rattle.sctp_association.specs.Telling.{IsPassedOn}
 use Rattle.sctp_association.specs.declared.association.Association.{Association}
@@ -28,6 +28,7 @@ use Rattle.sctp_handshake.specs.declared.state.State.TheVariants.{Closed}
 pub follows_none : (a : Answer) (tag : ℕ) (x : Association) → a.reply ≡ None → a.told ≡ None → FollowsAnswer a tag x x
 follows_none a tag x reply told = record {
   due = sym (ap (λ o. record (owed_by o tag x.due) { cookie_echo = x.due.cookie_echo; heartbeat = x.due.heartbeat; report = x.due.report }) reply);
+  echo = λ none. sym (ap (λ o. (owed_by o tag x.due).cookie_echo) reply);
   over = sym (ap (λ o. over_by o x.is_over) told);
   told = subst (λ o. IsPassedOn o x.events) (sym told) tt;
   wants = refl;
@@ -35,18 +36,28 @@ follows_none a tag x reply told = record {
 
 -- nothing is answered, and another reply may be due
 pub follows_still : (tag : ℕ) (x y : Association) → y.machine ≡ x.machine
-    → y.due ≡ record x.due { cookie_echo = y.due.cookie_echo; heartbeat = y.due.heartbeat; report = y.due.report } → y.is_over ≡ x.is_over
+    → y.due ≡ record x.due { heartbeat = y.due.heartbeat; report = y.due.report } → y.is_over ≡ x.is_over
     → y.wants_shutdown ≡ x.wants_shutdown → FollowsStep (dropped x.machine) tag x y
 follows_still tag x y machine due over wants = record {
   machine = machine;
-  answer = record { due = due; over = over; told = tt; wants = wants };
+  answer = record {
+    due = due ∙ ap (λ (b : Bool). record x.due { cookie_echo = b; heartbeat = y.due.heartbeat; report = y.due.report }) (sym (echo-of due));
+    echo = λ none. echo-of due;
+    over = over;
+    told = tt;
+    wants = wants;
+  };
 }
+  where
+    echo-of : y.due ≡ record x.due { heartbeat = y.due.heartbeat; report = y.due.report } → y.due.cookie_echo ≡ x.due.cookie_echo
+    echo-of e = ap (λ (d : Due). d.cookie_echo) e
 
 -- what came before left what is due
 pub follows_from : (r : Answer) (tag : ℕ) (x y e : Association) → y.due ≡ x.due → y.is_over ≡ x.is_over → y.wants_shutdown ≡ x.wants_shutdown
     → FollowsAnswer r tag y e → FollowsAnswer r tag x e
 follows_from r tag x y e due over wants h = record {
   due = h.due ∙ ap (λ (d : Due). record (owed_by r.reply tag d) { cookie_echo = e.due.cookie_echo; heartbeat = e.due.heartbeat; report = e.due.report }) due;
+  echo = λ none. h.echo none ∙ ap (λ (d : Due). (owed_by r.reply tag d).cookie_echo) due;
   over = h.over ∙ ap (λ (b : Bool). over_by r.told b) over;
   told = h.told;
   wants = h.wants ∙ wants;
@@ -58,6 +69,7 @@ pub follows_noted : (r : Answer) (tag : ℕ) (x y e : Association) → y.due ≡
 follows_noted r tag x y e due over wants h = record {
   due = h.due ∙ ap (λ (d : Due). record (owed_by r.reply tag d) { cookie_echo = e.due.cookie_echo; heartbeat = e.due.heartbeat; report = e.due.report }) due
       ∙ reported r.reply;
+  echo = λ none. h.echo none ∙ ap (λ (d : Due). (owed_by r.reply tag d).cookie_echo) due ∙ kept r.reply;
   over = h.over ∙ ap (λ (b : Bool). over_by r.told b) over;
   told = h.told;
   wants = h.wants ∙ wants;
@@ -71,6 +83,12 @@ follows_noted r tag x y e due over wants h = record {
     reported (Some (reply.ShutdownComplete true)) = refl
     reported (Some (reply.ShutdownComplete false)) = refl
     reported (Some _) = refl
+
+    kept : (k : Option Reply) → (owed_by k tag (record x.due { report = y.due.report })).cookie_echo ≡ (owed_by k tag x.due).cookie_echo
+    kept None = refl
+    kept (Some (reply.ShutdownComplete true)) = refl
+    kept (Some (reply.ShutdownComplete false)) = refl
+    kept (Some _) = refl
 
 -- the machine takes a step, and then its answer is followed
 pub follows_step : (s : Step) (tag : ℕ) (x y : Association) (n : Machine) (a : Answer) → n ≡ s.machine → a ≡ s.answer → y.machine ≡ n
@@ -151,6 +169,7 @@ settles-closed x is = record {
   due = sym (ap (λ (s : Step). owed_by s.answer.reply 0 x.due) (settled-closed x is));
   over = refl;
   outbound = refl;
+  wants = sym (ap (λ (s : State). still_wants s x.wants_shutdown) is);
 }
 
 abort-closes : (s : State) (m : Machine) → m.state ≡ s → (abort_row s m).machine.state ≡ Closed

@@ -1,6 +1,6 @@
 -- Chunks behind which DATA, SACKs and FORWARD-TSNs come in the same datagram (RFC 9260 6.10). Moments are nanoseconds.
 use Rattle.std.specs.Prelude.{◌≡◌, ◌⊎◌, ⊤, ℕ, true, List, [], ◌∷◌}
-use Rattle.sctp_association.specs.Heard.{IsHeard}
+use Rattle.sctp_association.specs.Expected.{IsExpected}
 use Rattle.sctp_association.specs.Paths.{all_go_on}
 use Rattle.sctp_association.specs.Rows.{Settles}
 use Rattle.sctp_association.specs.Single.{AloneOn}
@@ -25,11 +25,11 @@ StillOn Stop old new = new.is_over ≡ true
 StillOn Cut old new = ⊤
 StillOn (Refused r) old new = ⊤
 
--- the first chunk is taken as if it were the only one; or it is passed over, since it is not heard
+-- the first chunk is taken as if it were the only one; or it is passed over, since it is not expected
 abbrev pub FirstOn : ChunkPlace → (tag : ℕ) → List ℕ → (now : ℕ) → Step → (old new : Association)
     → Type 0
 FirstOn c tag datagram now s old new = AloneOn c tag datagram now s old new
-    ⊎ ((s ≡ Next) × (new ≡ old) × (IsHeard c tag datagram now old → ⊥))
+    ⊎ ((s ≡ Next) × (new ≡ old) × (IsExpected c tag datagram now old → ⊥))
 
 -- so of a datagram: then others come, and it ends
 pub record FirstThen (c : ChunkPlace) (datagram : List ℕ) (now : ℕ) (old new : Association)

@@ -1,148 +1,207 @@
--- What has room for new DATA as it leaves: the peer's window, cwnd, and a burst (RFC 9260 6.1 A, B, D, 7.2.1, 7.2.3). Amounts are bytes.
-use Rattle.std.specs.Prelude.{◌≡◌, ◌⊎◌, ℕ, ◌+◌, ◌<◌, ◌≤◌, Bool, true, false, if◌then◌else◌, List, [], ◌∷◌, length}
-use Rattle.std.specs.Prelude.{Option, None, Some}
+-- What leaves, and what that makes of cwnd and of a burst (RFC 9260 6.1 A, B, D, 6.3.3 E3, 7.2.1, 7.2.3, 7.2.4). Amounts are bytes.
+use Rattle.std.specs.Prelude.{◌≡◌, ◌⊎◌, ℕ, zero, suc, ◌<◌, ◌==◌, Bool, true, false, not, ◌&&◌, ◌||◌, if◌then◌else◌, [], length, find, is_some}
+use Rattle.std.specs.Prelude.{Option, None, Some, Result, Ok, Err}
+use Rattle.sctp_association.specs.declared.association.Association.{Association}
+use Rattle.sctp_association.specs.declared.fault.Fault.{Fault}
 use Rattle.sctp_association.specs.declared.outbound.Outbound.{Outbound}
 use Rattle.sctp_association.specs.Idle.{in_flight}
 use Rattle.sctp_association.specs.Runs.{Sends}
-use Rattle.sctp_association.specs.Sending.{base_of, flight_of, idle_times, is_later, lowered_times}
+use Rattle.sctp_association.specs.Sending.{base_of, flight_of, idle_times, is_early, is_later, is_none_of, lowered_times, may_drop, may_send_again, may_send_next, sent_at}
 use Rattle.sctp_data.specs.declared.chunk.chunk_payload_data.ChunkPayloadData.{ChunkPayloadData}
-use Rattle.sctp_outbound.specs.Outstanding.{outstanding_of}
-use Rattle.sctp_outbound.specs.payload_queue.PayloadQueue.{Payload, push_chunk}
-use Rattle.sctp_path.specs.Congestion.{Control, burst_limit, may_send}
-use Rattle.sctp_sender.specs.Flight.{Flight}
-use Rattle.sctp_sender.specs.Sender.{Transmission}
-use Rattle.sctp_serial.specs.DataChunks.{following_tsn}
+use Rattle.sctp_outbound.specs.pending_queue.PendingQueue.{chunk_count, next_pending}
+use Rattle.sctp_path.specs.Congestion.{Control, after_resending, after_timeout}
+use Rattle.sctp_path.specs.Rto.{Timeout, smoothed_of}
+use Rattle.sctp_sender.specs.Resending.{all_marked, is_to_resend, resent_at}
+use Rattle.sctp_sender.specs.Sender.{Transmission, after_send, with_flight}
+use Rattle.sctp_stream.specs.Stats.{count_up}
 
--- Beside the chunks in flight, DATA of so many bytes had room: nothing was outstanding (6.1 A). Or the peer's window has room for its user data (A),
--- and less was outstanding than cwnd (B), and than a burst allows that began with so many bytes (D)
-abbrev pub HadRoom : List ChunkPayloadData → (bytes peer_window base : ℕ) → Control → Type 0
-HadRoom chunks bytes peer_window base c = flight_of chunks ≡ 0
-    ⊎ (((outstanding_of chunks).bytes + bytes ≤ peer_window)
-    × (may_send (flight_of chunks) c ≡ true)
-    × (flight_of chunks < burst_limit base c))
+-- What is sent, cwnd, and the peer's window; and how many chunks may be in flight. When DATA left last, how often it left again, whether fast
+-- retransmission begins, whether a FORWARD-TSN is due, and when T3-rtx expired last. What the burst began with that is under way, and when nothing
+-- more left in it
+pub record Path : Type 0 where
+  pub sender : Transmission
+  pub congestion : Control
+  pub peer_window : ℕ
+  pub most : ℕ
+  pub used : ℕ
+  pub resent : ℕ
+  pub fast : Bool
+  pub skip : Bool
+  pub timed_out : ℕ
+  pub burst : Option ℕ
+  pub paused : Option ℕ
 
--- the chunk with the TSN that was given last had room beside the others in flight
-pub record LastHadRoom (peer_window base : ℕ) (c : Control) (f : Flight) : Type 0 where
-  pub others : Payload
-  pub last : ChunkPayloadData
-  pub are : f.queue.inflight ≡ push_chunk others last
-  pub newest : f.next_tsn ≡ following_tsn last.tsn
-  pub room : HadRoom others.chunks (length last.user_data) peer_window base c
+abbrev pub path_of : Outbound → Path
+path_of o = record {
+  sender = o.sender;
+  congestion = o.congestion;
+  peer_window = o.peer_window;
+  most = o.most_in_flight;
+  used = o.used;
+  resent = o.resent;
+  fast = o.is_fast;
+  skip = o.is_skip_due;
+  timed_out = o.timed_out;
+  burst = o.burst;
+  paused = o.paused;
+}
 
--- ## The windows
+-- nothing left, and the RTO is as it was
+pub record IsAsFull (old new : Outbound) : Type 0 where
+  pub path : path_of new ≡ path_of old
+  pub rto : new.rto ≡ old.rto
 
--- the peer's window and cwnd are as they were; what undoes a loss may differ
-pub record HasWindowsOf (old new : Outbound) : Type 0 where
-  pub peer_window : new.peer_window ≡ old.peer_window
-  pub congestion : new.congestion ≡ record old.congestion { undo = new.congestion.undo }
+-- so many steps, one after another
+abbrev pub Repeats : (Path → Path → Type 0) → ℕ → Path → Path → Type 0
+Repeats Step zero old new = new ≡ old
+Repeats Step (suc n) old new = (mid : Path) × Repeats Step n old mid × Step mid new
 
--- the peer's window is as it was, and cwnd fell as for so many idle RTOs (7.2.1)
-pub record KeepsWindows (times : ℕ) (old new : Outbound) : Type 0 where
-  pub peer_window : new.peer_window ≡ old.peer_window
-  pub congestion : new.congestion
-      ≡ record (lowered_times times old.congestion) { undo = new.congestion.undo }
+-- where T3-rtx expires all that is in flight is to be sent again, and a FORWARD-TSN is due. cwnd is one packet, and a burst is over (6.3.3 E1, E3)
+abbrev pub expired_at : (now : ℕ) → (expired : Bool) → Path → Path
+expired_at now false p = p
+expired_at now true p = record p {
+  sender = with_flight (all_marked p.sender.flight) p.sender;
+  congestion = after_timeout p.congestion;
+  skip = true;
+  timed_out = now;
+  burst = None;
+}
+
+-- ## What leaves again
+
+-- the first chunk that is marked leaves, and is marked no more. One packet of these begins fast retransmission (7.2.4)
+pub record LeavesAgain (now : ℕ) (old new : Path) : Type 0 where
+  pub chunk : ChunkPayloadData
+  pub marked : find is_to_resend (in_flight old.sender) ≡ Some chunk
+  pub after : new ≡ record old {
+    sender = with_flight (resent_at chunk.tsn now chunk old.sender.flight) old.sender;
+    congestion = after_resending old.congestion.undo old.congestion;
+    used = now;
+    resent = count_up old.resent 1;
+    fast = false;
+  }
+
+-- DATA may leave again, of a packet that begins as so many bytes are outstanding: so does fast retransmission, or less than cwnd is outstanding
+-- (6.3.3 E3)
+abbrev pub may_again : (now : ℕ) → Timeout → (fast : Bool) → (flight : ℕ) → Path → Bool
+may_again now rto fast flight p = may_send_again fast (is_early flight now p.timed_out
+    (smoothed_of rto.trips) (sent_at (find is_to_resend (in_flight p.sender)))) flight p.congestion
+
+-- so many leave again, if they may
+pub record Resends (now : ℕ) (rto : Timeout) (fast : Bool) (flight : ℕ)
+    (old new : Path) : Type 0 where
+  pub count : ℕ
+  pub each : Repeats (LeavesAgain now) count old new
+  pub may : 0 < count → may_again now rto fast flight old ≡ true
+
+-- nothing leaves, or one chunk does again, if it may
+abbrev pub StaysOrAgain : (now : ℕ) → (may : Bool) → (old new : Path) → Type 0
+StaysOrAgain now may old new = (new ≡ old) ⊎ ((may ≡ true) × LeavesAgain now old new)
+
+-- ## What leaves for the first time
+
+-- a burst begins with what is outstanding, and goes on while something is
+abbrev pub base_at : ℕ → Option ℕ → ℕ
+base_at flight burst = if flight == 0 then 0 else base_of flight burst
+
+-- the first chunk that waits leaves. It has room: it is alone, or both windows and the burst have room for it (6.1 A, B, D)
+pub record LeavesNew (now : ℕ) (old new : Path) : Type 0 where
+  pub chunk : ChunkPayloadData
+  pub front : next_pending old.sender.flight.queue.pending ≡ Some chunk
+  pub room : may_send_next (length chunk.user_data) old.most old.peer_window old.burst
+      old.congestion (in_flight old.sender) ≡ true
+  pub after : new ≡ record old {
+    sender = after_send now old.sender;
+    used = now;
+    burst = Some (base_at (flight_of (in_flight old.sender)) old.burst);
+  }
+
+-- nothing leaves, or one chunk that waits
+abbrev pub StaysOrLeaves : (now : ℕ) → (old new : Path) → Type 0
+StaysOrLeaves now old new = (new ≡ old) ⊎ LeavesNew now old new
+
+-- a moment later than that at which nothing more left begins another burst
+abbrev pub with_burst : ℕ → Path → Path
+with_burst now p = if is_later now p.paused then record p { burst = None; paused = None } else p
 
 -- how many RTOs have passed since DATA left last, or since cwnd fell for idle RTOs
-abbrev pub idle_at : ℕ → Outbound → ℕ
-idle_at now o = idle_times now o.used o.rto.rto
+abbrev pub idle_at : ℕ → Timeout → Path → ℕ
+idle_at now rto p = idle_times now p.used rto.rto
 
--- where cwnd fell nothing was in flight, it fell once for each idle RTO, and these count no more
-pub record FallsIdle (now times : ℕ) (t : Transmission) (old new : Outbound) : Type 0 where
-  pub idle : 0 < times → in_flight t ≡ []
-  pub each : 0 < times → times ≡ idle_at now old
-  pub over : 0 < times → new.used ≡ now
+-- where some have passed they count no more
+abbrev pub used_after : (now times : ℕ) → ℕ → ℕ
+used_after now zero used = used
+used_after now (suc n) used = now
 
--- ## Bursts
+-- while nothing is in flight cwnd falls, once for each (7.2.1)
+abbrev pub idled : ℕ → Timeout → Path → Path
+idled now rto p = if is_none_of (in_flight p.sender) then record p {
+  congestion = lowered_times (idle_at now rto p) p.congestion;
+  used = used_after now (idle_at now rto p) p.used;
+} else p
 
--- DATA left last when it did, and the burst is as it was
-pub record HasPaceOf (old new : Outbound) : Type 0 where
-  pub used : new.used ≡ old.used
-  pub burst : new.burst ≡ old.burst
-  pub paused : new.paused ≡ old.paused
+-- as what waits may leave, or may not
+abbrev pub begun : (now : ℕ) → Timeout → Bool → Path → Path
+begun now rto true p = idled now rto (with_burst now p)
+begun now rto false p = with_burst now p
 
--- what the burst began with that is under way; a moment later than that at which nothing more left begins another
-abbrev pub burst_at : ℕ → Outbound → Option ℕ
-burst_at now o = if is_later now o.paused then None else o.burst
+-- so many chunks leave that wait
+pub record SendsNew (now : ℕ) (rto : Timeout) (old new : Path) : Type 0 where
+  pub goes : Bool
+  pub waits : goes ≡ true → 0 < chunk_count old.sender.flight.queue.pending
+  pub count : ℕ
+  pub held : goes ≡ false → count ≡ 0
+  pub each : Repeats (LeavesNew now) count (begun now rto goes old) new
 
--- these chunks are in flight, too
-abbrev pub with_all : List ChunkPayloadData → Payload → Payload
-with_all [] p = p
-with_all (c ∷ cs) p = with_all cs (push_chunk p c)
+-- ## What a call sends
 
--- New DATA left at this moment when `first` was in flight, and the last of it had room. Its burst is the one that was under way, or began with what
--- was outstanding of `first`, or with less
-pub record LeftBehind (now : ℕ) (first : Payload) (burst : Option ℕ) (o : Outbound) : Type 0 where
-  pub used : o.used ≡ now
-  pub base : ℕ
-  pub began : o.burst ≡ Some base
-  pub least : base ≤ base_of (flight_of first.chunks) burst
-  pub more : List ChunkPayloadData
-  pub behind : o.sender.flight.queue.inflight ≡ with_all more first
-  pub room : LastHadRoom o.peer_window base o.congestion o.sender.flight
+-- what there was to skip was told, or nothing was
+abbrev pub told_at : Bool → Path → Path
+told_at true p = record p { skip = false }
+told_at false p = p
 
--- ## What leaves
+-- first a FORWARD-TSN, then what leaves again, then what waits
+pub record LeavesFrom (now : ℕ) (rto : Timeout) (old new : Path) : Type 0 where
+  pub told : Bool
+  pub mid : Path
+  pub again : Resends now rto old.fast (flight_of (in_flight old.sender)) (told_at told old) mid
+  pub left : (new ≡ mid) ⊎ SendsNew now rto mid new
 
--- as many chunks are in flight, so none left that waited; one that is in flight may have left again at this moment
-pub record IsAsMany (now : ℕ) (old new : Outbound) : Type 0 where
-  pub many : length (in_flight new.sender) ≡ length (in_flight old.sender)
-  pub windows : HasWindowsOf old new
-  pub used : (new.used ≡ old.used) ⊎ ((new.used ≡ now) × (0 < length (in_flight old.sender)))
-  pub burst : new.burst ≡ old.burst
-  pub paused : new.paused ≡ old.paused
+-- and the RTO stays
+pub record LeavesWithin (now : ℕ) (old new : Outbound) : Type 0 where
+  pub path : LeavesFrom now old.rto (path_of old) (path_of new)
   pub rto : new.rto ≡ old.rto
 
--- no chunk left
-pub record IsAsFull (old new : Outbound) : Type 0 where
-  pub sender : new.sender ≡ old.sender
-  pub windows : HasWindowsOf old new
-  pub pace : HasPaceOf old new
+-- there is no datagram
+abbrev pub is_unsent : Result Bool Fault → Bool
+is_unsent (Ok sent) = not sent
+is_unsent (Err e) = false
+
+-- so it is of an association that goes on with a peer that is known
+abbrev pub pauses : Result Bool Fault → Association → Bool
+pauses result a = not a.is_over && (is_some a.machine.peer && is_unsent result)
+
+-- where nothing more leaves at this moment the time to send is over
+abbrev pub ended : (now : ℕ) → Bool → Path → Path
+ended now true p = record p { paused = Some now }
+ended now false p = p
+
+-- so it may be over, behind what left
+pub record PausesFrom (now : ℕ) (ends : Bool) (rto : Timeout) (old new : Path) : Type 0 where
+  pub last : Path
+  pub left : LeavesFrom now rto old last
+  pub paused : new ≡ ended now ends last
+
+pub record PausesWithin (now : ℕ) (ends : Bool) (old new : Outbound) : Type 0 where
+  pub path : PausesFrom now ends old.rto (path_of old) (path_of new)
   pub rto : new.rto ≡ old.rto
-
--- something may leave that waits, if `begun`. While nothing is in flight cwnd falls for each idle RTO; what leaves is of the burst of this moment
-pub record BeginsNew (now : ℕ) (begun : Bool) (old new : Outbound) : Type 0 where
-  pub times : ℕ
-  pub windows : KeepsWindows times old new
-  pub falls : FallsIdle now times old.sender old new
-  pub fell : begun ≡ true → in_flight old.sender ≡ [] → times ≡ idle_at now old
-  pub used : (new.used ≡ old.used) ⊎ ((new.used ≡ now) × (0 < times))
-  pub burst : new.burst ≡ burst_at now old
-  pub on : is_later now new.paused ≡ false
-
--- no chunk left that waited, or the last one that left had room; and the windows stay
-pub record StaysOrLeft (now : ℕ) (old new : Outbound) : Type 0 where
-  pub left : ((new.sender ≡ old.sender) × HasPaceOf old new)
-      ⊎ LeftBehind now old.sender.flight.queue.inflight old.burst new
-  pub paused : new.paused ≡ old.paused
-  pub windows : HasWindowsOf old new
-
--- As many chunks are in flight, so none left that waited. A burst that is over may have ended
-pub record HasLeftNone (now times : ℕ) (t : Transmission) (old new : Outbound) : Type 0 where
-  pub many : length (in_flight new.sender) ≡ length (in_flight t)
-  pub used : (new.used ≡ old.used)
-      ⊎ ((new.used ≡ now) × ((0 < times) ⊎ (0 < length (in_flight t))))
-  pub burst : (new.burst ≡ old.burst) ⊎ (new.burst ≡ burst_at now old)
-  pub paused : (new.paused ≡ old.paused) ⊎ (is_later now new.paused ≡ false)
-
--- Some left, the last of it with room, in the burst of this moment, which is not over. Where nothing was in flight cwnd fell for each idle RTO
-pub record HasLeft (now times : ℕ) (t : Transmission) (old new : Outbound) : Type 0 where
-  pub first : Payload
-  pub many : length first.chunks ≡ length (in_flight t)
-  pub left : LeftBehind now first (burst_at now old) new
-  pub on : is_later now new.paused ≡ false
-  pub fell : in_flight t ≡ [] → times ≡ idle_at now old
-
--- from this sender no chunk left that waited, or the last one that left had room; and the windows stay, but for idle RTOs
-pub record LeavesFrom (now : ℕ) (t : Transmission) (old new : Outbound) : Type 0 where
-  pub times : ℕ
-  pub windows : KeepsWindows times old new
-  pub falls : FallsIdle now times t old new
-  pub left : HasLeftNone now times t old new ⊎ HasLeft now times t old new
-
-abbrev pub LeavesWithin : ℕ → (old new : Outbound) → Type 0
-LeavesWithin now old new = LeavesFrom now old.sender old new
 
 -- so it is behind calls that abandon, and make no chunk
-pub record SendsWithin (now : ℕ) (old new : Outbound) : Type 0 where
-  pub mid : Transmission
-  pub dropped : Sends [] old.sender mid
-  pub left : LeavesFrom now mid old new
+pub record SendsWithin (now : ℕ) (ends : Bool) (old new : Outbound) : Type 0 where
+  pub kept : Transmission
+  pub skip : Bool
+  pub dropped : Sends [] old.sender kept
+  pub due : skip ≡ true → may_drop now old.sender || old.is_skip_due ≡ true
+  pub path : PausesFrom now ends old.rto (record (path_of old) { sender = kept; skip = skip })
+      (path_of new)
+  pub rto : new.rto ≡ old.rto

@@ -6,10 +6,10 @@ use Rattle.sctp_association.specs.declared.association.Association.{Association}
 use Rattle.sctp_association.specs.declared.fault.Fault.{Fault}
 use Rattle.sctp_association.specs.declared.inbound.Inbound.{Inbound}
 use Rattle.sctp_association.specs.Arrivals.{Halves, halves, new_sender}
-use Rattle.sctp_association.specs.Congested.{HasPaceOf, HasWindowsOf}
+use Rattle.sctp_association.specs.Congested.{path_of}
 use Rattle.sctp_association.specs.Kept.{IsUnmoved}
 use Rattle.sctp_association.specs.Leaving.{IsDueOnce, IsDueOrData, IsReplyOnce, owed_at, owed_of}
-use Rattle.sctp_association.specs.Packets.{Adds, IsOf, PutsOf, Sides, sides}
+use Rattle.sctp_association.specs.Packets.{Adds, IsOf, IsSkipOnce, PutsOf, Sides, sides}
 use Rattle.sctp_association.specs.Still.{heartbeat_time}
 use Rattle.sctp_chunks.specs.Wire.{Wire}
 use Rattle.sctp_path.specs.Congestion.{pmdcs_of}
@@ -32,19 +32,22 @@ halves_of a = halves a.outbound.sender (receiver_of a.inbound)
 pub record HalvesAlike (old new : Association) : Type 0 where
   pub sender : new.outbound.sender ≡ old.outbound.sender
   pub receiver : receiver_of new.inbound ≡ receiver_of old.inbound
-  pub windows : HasWindowsOf old.outbound new.outbound
-  pub pace : HasPaceOf old.outbound new.outbound
-  pub skip : new.outbound.is_skip_due ≡ old.outbound.is_skip_due
+  pub path : path_of new.outbound ≡ path_of old.outbound
 
 -- calls of both halves led on. What was put is no INIT, and each reply of it was due, and is due no more
 abbrev pub PutsDue : ℕ → Association → Association → Type 0
 PutsDue now old new =
     PutsOf (IsDueOnce (owed_at now old) (owed_at now new)) (sides_of old) (sides_of new)
 
--- the same, and DATA and FORWARD-TSN
+-- the same, and DATA
 abbrev pub PutsDueOrData : ℕ → Association → Association → Type 0
 PutsDueOrData now old new =
     PutsOf (IsDueOrData (owed_at now old) (owed_at now new)) (sides_of old) (sides_of new)
+
+-- DATA is put; or a FORWARD-TSN, that was due, and is due no more
+abbrev pub PutsSent : Association → Association → Type 0
+PutsSent old new = PutsOf (IsSkipOnce old.outbound.is_skip_due new.outbound.is_skip_due)
+    (sides_of old) (sides_of new)
 
 -- no HEARTBEAT among them
 abbrev pub PutsOnce : Association → Association → Type 0

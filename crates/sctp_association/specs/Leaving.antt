@@ -1,5 +1,5 @@
 -- What is due stays due until a packet has its chunk, so that none of it is lost (RFC 9260 5.1, 8.3, 9.2). What leaves was due, and is due no more.
-use Rattle.std.specs.Prelude.{◌≡◌, ◌≢◌, ◌⊎◌, ⊤, ℕ, ◌+◌, ◌<◌, ◌≤◌, Bool, true, false, not, List, [], ◌∷◌, ◌++◌, Contains, Option, None, Some, length}
+use Rattle.std.specs.Prelude.{◌≡◌, ◌≢◌, ◌⊎◌, ⊤, ℕ, ◌+◌, ◌<◌, ◌≤◌, Bool, true, false, not, ◌||◌, List, [], ◌∷◌, ◌++◌, Contains, Option, None, Some, length}
 use Rattle.std.specs.Prelude.{IfSome, is_some}
 use Rattle.std.specs.Option.{option_map}
 use Rattle.sctp_association.specs.declared.association.Association.{Association}
@@ -9,6 +9,7 @@ use Rattle.sctp_association.specs.declared.inbound.Inbound.{Inbound}
 use Rattle.sctp_association.specs.Kept.{sack_waits, unknown_in}
 use Rattle.sctp_association.specs.Packets.{Adds, put_where, sum_of}
 use Rattle.sctp_association.specs.Reports.{one_cause}
+use Rattle.sctp_association.specs.Sending.{may_drop}
 use Rattle.sctp_association.specs.Still.{comes, heartbeat_time}
 use Rattle.sctp_chunks.specs.Reconfig.{Reconfig}
 use Rattle.sctp_chunks.specs.Wire.{HasEncoding, Wire}
@@ -153,12 +154,13 @@ abbrev pub responses_due : Option PeerRequests → ℕ
 responses_due None = 0
 responses_due (Some p) = one_where (is_some p.older) + one_where (is_some p.newer)
 
--- what is due at a moment, and whether a HEARTBEAT and a request are, and how many responses
+-- what is due at a moment, whether a HEARTBEAT, a request and a FORWARD-TSN are, and how many responses
 pub record OwedAt : Type 0 where
   pub owed : Owed
   pub beat : Bool
   pub request : Bool
   pub responses : ℕ
+  pub skip : Bool
 
 abbrev pub owed_at : ℕ → Association → OwedAt
 owed_at now a = record {
@@ -166,6 +168,13 @@ owed_at now a = record {
   beat = beats now a;
   request = requests_due now a.requests;
   responses = responses_due a.peer_requests;
+  skip = a.outbound.is_skip_due;
+}
+
+-- a FORWARD-TSN comes to be due, too, where something is abandoned (RFC 3758 3.5 C1)
+abbrev pub owed_before : ℕ → Association → OwedAt
+owed_before now a = record (owed_at now a) {
+  skip = may_drop now a.outbound.sender || a.outbound.is_skip_due;
 }
 
 -- neither a HEARTBEAT nor a request is due that was not, and no response more
@@ -202,17 +211,18 @@ pub record PutsReconfig (responds asks : Bool) (old new : Draft) : Type 0 where
   pub some : is_put ≡ true → is_some chunk.param_a ≡ true
   pub added : Adds (put_where is_put (reconfig_chunk chunk)) old.bytes new.bytes
 
--- The same of a HEARTBEAT too: its moment had come, and the next one is later. So of the parameters of a RE-CONFIG, of which it has one or two.
+-- The same of a HEARTBEAT too: its moment had come, and the next one is later. So of the parameters of a RE-CONFIG, of which it has one or two, and of a
+-- FORWARD-TSN.
 abbrev pub IsDueOnce : (old new : OwedAt) → Wire → Type 0
 IsDueOnce old new (heartbeat_chunk ps) = (old.beat ≡ true) × (new.beat ≡ false)
 IsDueOnce old new (reconfig_chunk r) = (is_some r.param_a ≡ true)
     × (IfSome r.param_a (IsParamOnce old new) × IfSome r.param_b (IsParamOnce old new))
+IsDueOnce old new (forward_tsn_chunk f) = (old.skip ≡ true) × (new.skip ≡ false)
 IsDueOnce old new w = IsReplyOnce old.owed new.owed w
 
--- so it is of each chunk of a packet of what is due but DATA and FORWARD-TSN
+-- so it is of each chunk of a packet of what is due but DATA
 abbrev pub IsDueOrData : (old new : OwedAt) → Wire → Type 0
 IsDueOrData old new (data_chunk d) = ⊤
-IsDueOrData old new (forward_tsn_chunk f) = ⊤
 IsDueOrData old new w = IsDueOnce old new w
 
 -- Nothing is due that was not, but a SHUTDOWN or SHUTDOWN-ACK as the shutdown goes on (9.2).

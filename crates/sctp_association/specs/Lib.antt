@@ -15,10 +15,10 @@ pub mod Drafts
 pub mod Ends
 pub mod Entering
 pub mod Events
+pub mod Expected
 pub mod Failing
 pub mod Filled
 pub mod Halves
-pub mod Heard
 pub mod Held
 pub mod HostCalls
 pub mod Hosts
@@ -29,9 +29,9 @@ pub mod Leaving
 pub mod Limited
 pub mod Links
 pub mod Lives
-pub mod Once
 pub mod Most
 pub mod Offering
+pub mod Once
 pub mod OneLife
 pub mod Openings
 pub mod Packets

@@ -66,13 +66,14 @@ over_by (Some told.Closed) was = true
 over_by (Some told.Failed) was = true
 
 -- What the machine answers is followed: its reply is due, what it tells waits to be told, and the association is over where that ends it. Beside that
--- a HEARTBEAT-ACK or a report may be due, and a COOKIE-ECHO no more.
+-- a HEARTBEAT-ACK or a report may be due; and where it tells something, a COOKIE-ECHO may be no more.
 pub record FollowsAnswer (a : Answer) (tag : ℕ) (old new : Association) : Type 0 where
   pub due : new.due ≡ record (owed_by a.reply tag old.due) {
     cookie_echo = new.due.cookie_echo;
     heartbeat = new.due.heartbeat;
     report = new.due.report;
   }
+  pub echo : a.told ≡ None → new.due.cookie_echo ≡ (owed_by a.reply tag old.due).cookie_echo
   pub over : new.is_over ≡ over_by a.told old.is_over
   pub told : IsPassedOn a.told new.events
   pub wants : new.wants_shutdown ≡ old.wants_shutdown
@@ -105,6 +106,11 @@ asked_in ShutdownAckSent m = m
 abbrev pub asked_for : (wants : Bool) → Machine → Machine
 asked_for wants m = if wants then asked_in m.state m else m
 
+-- then it is asked for no more
+abbrev pub still_wants : State → Bool → Bool
+still_wants Established wants = false
+still_wants _ wants = wants
+
 -- a shutdown goes on once nothing waits or is in flight (9.2)
 abbrev pub drained_where : Bool → Machine → Step
 drained_where drained m = if drained then on_drained m else dropped m
@@ -119,6 +125,7 @@ pub record Settles (old new : Association) : Type 0 where
   pub due : new.due ≡ owed_by (settled old).answer.reply 0 old.due
   pub over : new.is_over ≡ old.is_over
   pub outbound : new.outbound ≡ old.outbound
+  pub wants : new.wants_shutdown ≡ still_wants old.machine.state old.wants_shutdown
 
 -- ## The row of a chunk
 

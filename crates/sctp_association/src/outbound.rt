@@ -5,6 +5,7 @@ ghost use Rattle.sctp_association.specs.declared.fault.Fault.TheVariants.{OutOfM
 ghost use Rattle.sctp_association.specs.Arrivals.{new_sender};
 ghost use Rattle.sctp_association.specs.Asked.{AsksOn};
 ghost use Rattle.sctp_association.specs.Beats.{after_beat};
+ghost use Rattle.sctp_association.specs.Congested.{expired_at, path_of};
 ghost use Rattle.sctp_association.specs.Counts.{CountsNone, HasLimitsOf};
 ghost use Rattle.sctp_association.specs.Halves.{fragment_size};
 ghost use Rattle.sctp_association.specs.Most.{most_data, tells_some};
@@ -384,6 +385,8 @@ impl Outbound {
             → self.new.timeouts ≡ count_up self.old.timeouts 1 }
         ensures resent { self.new.resent ≡ self.old.resent }
         ensures timed { IsTimed self.new.sender.flight.queue.inflight.chunks self.new.timer.at }
+        ensures path { path_of self.new
+            ≡ expired_at now (is_due now self.old.timer.at) (path_of self.old) }
         ensures limits { HasLimitsOf self.old self.new }
         ensures soon { EndsWithin now self.new.rto.limits.most self.old.timer.at
             self.new.timer.at }

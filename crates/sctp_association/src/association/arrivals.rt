@@ -13,7 +13,7 @@ ghost use Rattle.sctp_association.specs.Cookies.{IsAlive, IsSealed, cookie_in};
 ghost use Rattle.sctp_association.specs.Ends.{EndsIn, EndsOn};
 ghost use Rattle.sctp_association.specs.Entering.{usable_in};
 ghost use Rattle.sctp_association.specs.Halves.{HalvesAlike, halves_of};
-ghost use Rattle.sctp_association.specs.Heard.{IsDue, IsHeard};
+ghost use Rattle.sctp_association.specs.Expected.{IsDue, IsExpected};
 ghost use Rattle.sctp_association.specs.Lasting.{KeepsLimits};
 ghost use Rattle.sctp_association.specs.Sacks.{HearsFirstOf, HearsOn, TakesSacksOf};
 ghost use Rattle.sctp_association.specs.Openings.{EchoesBy, InitAckBy, OffersTo};
@@ -322,7 +322,7 @@ impl Association {
             → chunks.entry.left ≡ first ∷ rest
             → is_admitted first (u32_at datagram.now 4) (length (first ∷ rest))
             self.old.machine ≡ true
-            → IsHeard first (u32_at datagram.now 4) datagram.now now self.old
+            → IsExpected first (u32_at datagram.now 4) datagram.now now self.old
             → (r : Reason) → result ≡ Ok (Dropped r) → ⊥ }
         ensures each { TakesDataOf (u32_at datagram.now 4) self.old → result ≡ Ok Accepted
             → TakesEachOf chunks.entry.left datagram.now self.old self.new }
@@ -427,7 +427,7 @@ impl Association {
         ensures closed_else { self.old.machine.state ≡ Closed → (result ≡ Ok step.Next → ⊥)
             → self.new.machine ≡ self.old.machine }
         ensures due { is_admitted chunk tag count self.old.machine ≡ true
-            → IsHeard chunk tag datagram.now now self.old
+            → IsExpected chunk tag datagram.now now self.old
             → (r : Reason) → result ≡ Ok (step.Refused r) → ⊥ }
         ensures on { TakesDataOf tag self.old → goes_on chunk.typ ≡ true
             → IfOk result (λ s. GoesOn chunk tag datagram.now s self.old self.new) }
@@ -583,7 +583,7 @@ impl Association {
         ensures closed_else { self.old.machine.state ≡ Closed → (result ≡ Ok step.Next → ⊥)
             → self.new.machine ≡ self.old.machine }
         ensures due { is_admitted chunk tag count self.old.machine ≡ true
-            → IsHeard chunk tag datagram.now now self.old
+            → IsExpected chunk tag datagram.now now self.old
             → (r : Reason) → result ≡ Ok (step.Refused r) → ⊥ }
         ensures on { TakesDataOf tag self.old → goes_on chunk.typ ≡ true
             → IfOk result (λ s. GoesOn chunk tag datagram.now s self.old self.new) }

@@ -319,6 +319,7 @@ impl Association {
         ensures moments { AsksNoMore now self.old self.new }
         ensures due { self.new.due ≡ owed_by (drained_where
             (holds_nothing self.old.outbound.sender) self.old.machine).answer.reply 0 self.old.due }
+        ensures wants { self.new.wants_shutdown ≡ self.old.wants_shutdown }
         ensures alone { self.new.due.alone ≡ self.old.due.alone }
         ensures shut { shutdowns_left self.old.machine.state ≡ 0
             → self.new.machine.state ≡ self.old.machine.state }

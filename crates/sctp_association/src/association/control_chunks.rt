@@ -7,7 +7,7 @@ ghost use Rattle.sctp_association.specs.Beats.{AnswersOn, BeatsOn, IsBeaten, non
 ghost use Rattle.sctp_association.specs.Beginnings.{ArrivesAsOffered, BeginsBy, KeepsPeer};
 ghost use Rattle.sctp_association.specs.Kept.{IsKept};
 ghost use Rattle.sctp_association.specs.Halves.{HalvesAlike, halves_of};
-ghost use Rattle.sctp_association.specs.Heard.{IsReadable, expects, is_received, speaks};
+ghost use Rattle.sctp_association.specs.Expected.{IsReadable, expects, is_received, speaks};
 ghost use Rattle.sctp_association.specs.Rows.{FollowsAnswer, FollowsStep, StepsOn, cause_in, error_row, tag_of};
 ghost use Rattle.sctp_association.specs.Shutting.{ShutsOn};
 ghost use Rattle.sctp_association.specs.Telling.{PassesOn, Tells, TellsEnd};
@@ -96,7 +96,7 @@ impl Association {
         ensures refused { (r : Reason) → result ≡ Ok (step.Refused r) → self.new ≡ self.old }
         ensures err { OnErr result (self.new ≡ self.old) }
         ensures whole { result ≡ Ok step.Cut → ⊥ }
-        ensures heard { (self.old.machine.state ≡ Closed → ⊥) → expects chunk.typ self.old ≡ true
+        ensures expected { (self.old.machine.state ≡ Closed → ⊥) → expects chunk.typ self.old ≡ true
             → IsReadable chunk.typ (drop chunk.at datagram.now)
             → (r : Reason) → result ≡ Ok (step.Refused r) → ⊥ }
         ensures alone { IsOther chunk.typ → (tag : ℕ) → IfOk result
@@ -139,7 +139,7 @@ impl Association {
         ensures tells { PassesOn answer.told self.old self.new }
         ensures refused { (r : Reason) → result ≡ step.Refused r
             → (answer ≡ silent) × (self.new ≡ self.old) }
-        ensures heard { speaks answer ≡ true → (r : Reason) → result ≡ step.Refused r → ⊥ }
+        ensures expected { speaks answer ≡ true → (r : Reason) → result ≡ step.Refused r → ⊥ }
         ensures kept { IsKept self.old self.new }
         ensures begun { BeginsBy answer.told self.old.machine self.old.config
             (halves_of self.old) (halves_of self.new) }
@@ -164,7 +164,7 @@ impl Association {
         ensures next { result ≡ step.Next → ⊥ }
         ensures row { result ≡ step.Stop
             → FollowsStep (on_abort self.old.machine) 0 self.old self.new }
-        ensures heard { speaks (on_abort self.old.machine).answer ≡ true
+        ensures expected { speaks (on_abort self.old.machine).answer ≡ true
             → (r : Reason) → result ≡ step.Refused r → ⊥ }
     {
         let answer = self.machine.abort();
@@ -194,7 +194,7 @@ impl Association {
             (λ s. ShutsOn chunk.at datagram.now now s self.old.outbound self.new.outbound) }
         ensures row { IfOk result
             (λ s. StepsOn (on_shutdown self.old.machine) 0 s self.old self.new) }
-        ensures heard { (speaks (on_shutdown self.old.machine).answer
+        ensures expected { (speaks (on_shutdown self.old.machine).answer
             || is_received self.old.machine.state) ≡ true
             → (tsn : ℕ) → StartsWith (drop chunk.at datagram.now) (shutdown_chunk tsn)
             → (r : Reason) → result ≡ Ok (step.Refused r) → ⊥ }
@@ -233,7 +233,7 @@ impl Association {
             (λ s. AnswersOn chunk.at datagram.now s self.old self.new) }
         ensures row { IfOk result
             (λ s. StepsOn (dropped self.old.machine) 0 s self.old self.new) }
-        ensures heard { is_some self.old.machine.peer ≡ true → (info : List ℕ)
+        ensures expected { is_some self.old.machine.peer ≡ true → (info : List ℕ)
             → StartsWith (drop chunk.at datagram.now)
             (heartbeat_chunk (heartbeat_info info ∷ []))
             → (r : Reason) → result ≡ Ok (step.Refused r) → ⊥ }
@@ -269,7 +269,7 @@ impl Association {
             (λ s. BeatsOn chunk.at datagram.now now s self.old self.new) }
         ensures row { IfOk result
             (λ s. StepsOn (dropped self.old.machine) 0 s self.old self.new) }
-        ensures heard { is_some self.old.heartbeat ≡ true → (info : List ℕ)
+        ensures expected { is_some self.old.heartbeat ≡ true → (info : List ℕ)
             → StartsWith (drop chunk.at datagram.now)
             (heartbeat_ack_chunk (heartbeat_info info ∷ []))
             → (r : Reason) → result ≡ Ok (step.Refused r) → ⊥ }

@@ -6,7 +6,7 @@ ghost use Rattle.sctp_association.specs.Beginnings.{ArrivesAsOffered, BeginsByTi
 ghost use Rattle.sctp_association.specs.Kept.{OwesNoMore, OwesTicket, ticket_in_kind};
 ghost use Rattle.sctp_association.specs.Cookies.{IsAlive, IsSealed, cookie_in};
 ghost use Rattle.sctp_association.specs.Halves.{HalvesAlike, halves_of};
-ghost use Rattle.sctp_association.specs.Heard.{IsEchoHeard, IsInitAckHeard, IsInitHeard, may_begin, speaks};
+ghost use Rattle.sctp_association.specs.Expected.{IsEchoExpected, IsInitAckExpected, IsInitExpected, may_begin, speaks};
 ghost use Rattle.sctp_association.specs.Openings.{EchoesOn, InitAckOn, owed_to_init};
 ghost use Rattle.sctp_association.specs.Reports.{AnswersHostName, EndsBegun, EndsByHostName, value_in};
 ghost use Rattle.sctp_association.specs.Rows.{StepsOn};
@@ -60,7 +60,7 @@ impl Association {
         ensures host { result ≡ Ok step.Stop
             → AnswersHostName (value_in datagram.now chunk) self.new }
         ensures offers { IfOk result (λ s. OffersOn chunk datagram.now s self.old self.new) }
-        ensures heard { IsInitHeard chunk datagram.now
+        ensures expected { IsInitExpected chunk datagram.now
             → (r : Reason) → result ≡ Ok (step.Refused r) → ⊥ }
     {
         let Ok(value) = init_value(bytes_of(datagram, chunk)) else {
@@ -118,7 +118,7 @@ impl Association {
         ensures host { result ≡ Ok step.Stop
             → EndsByHostName (value_in datagram.now chunk) self.old self.new }
         ensures row { IfOk result (λ s. InitAckOn chunk datagram.now s self.old self.new) }
-        ensures heard { IsInitAckHeard chunk datagram.now self.old
+        ensures expected { IsInitAckExpected chunk datagram.now self.old
             → (r : Reason) → result ≡ Ok (step.Refused r) → ⊥ }
     {
         let Ok(value) = init_value(bytes_of(datagram, chunk)) else {
@@ -224,7 +224,7 @@ impl Association {
         ensures whole { result ≡ Ok step.Cut → ⊥ }
         ensures row { IfOk result (λ s. EchoesOn tag (cookie_in datagram.now chunk) now s
             self.old self.new) }
-        ensures heard { IsEchoHeard chunk tag datagram.now now self.old
+        ensures expected { IsEchoExpected chunk tag datagram.now now self.old
             → (r : Reason) → result ≡ Ok (step.Refused r) → ⊥ }
     {
         let raw = bytes_of(datagram, chunk);
@@ -265,7 +265,7 @@ impl Association {
         ensures refused { (r : Reason) → result ≡ step.Refused r → self.new ≡ self.old }
         ensures whole { result ≡ step.Cut → ⊥ }
         ensures row { StepsOn (on_cookie_ack self.old.machine) 0 result self.old self.new }
-        ensures heard { speaks (on_cookie_ack self.old.machine).answer ≡ true
+        ensures expected { speaks (on_cookie_ack self.old.machine).answer ≡ true
             → may_begin self.old ≡ true → (r : Reason) → result ≡ step.Refused r → ⊥ }
     {
         if !self.may_begin() {

@@ -2,14 +2,14 @@
 
 ghost use Rattle.std.specs.Prelude.{◌≡◌, ◌≢◌, ◌⊎◌, ℕ, ◌<◌, ◌≤◌, ◌-◌, ◌∷◌, None, Ok, Some, IfOk, IfSome, OnErr, OnOk, [], map, true, false, length};
 ghost use Rattle.sctp_association.specs.Beginnings.{KeepsPeer};
-ghost use Rattle.sctp_association.specs.Congested.{IsAsFull, LeavesWithin, SendsWithin};
-ghost use Rattle.sctp_association.specs.Halves.{HalvesAlike, IsAsTimed, PutsDue, PutsDueOrData, PutsOnce, PutsOthers, is_sent, sides_of};
+ghost use Rattle.sctp_association.specs.Congested.{IsAsFull, LeavesWithin, PausesWithin, SendsWithin, is_unsent, pauses};
+ghost use Rattle.sctp_association.specs.Halves.{HalvesAlike, IsAsTimed, PutsDue, PutsDueOrData, PutsOnce, PutsOthers, PutsSent, is_sent, sides_of};
 ghost use Rattle.sctp_association.specs.Entering.{usable_in};
 ghost use Rattle.sctp_association.specs.Filled.{IfNoneAdded, IfNonePut};
 ghost use Rattle.sctp_association.specs.Idle.{HasNoSackDue, IsIdle, MayReply, MaySend, OwesNoControl, OwesNone, WaitsForSacks, in_flight, sack_delay, sends};
 ghost use Rattle.sctp_association.specs.Kept.{IsUnmoved};
 ghost use Rattle.sctp_association.specs.Lasting.{LastsNoLonger};
-ghost use Rattle.sctp_association.specs.Leaving.{AsksNoMore, IsDueOrData, LeavesBy, LeavesInto, OwesNothingNew, beats, owed_at, owed_of, replies_of};
+ghost use Rattle.sctp_association.specs.Leaving.{AsksNoMore, IsDueOrData, LeavesBy, LeavesInto, OwesNothingNew, beats, owed_at, owed_before, owed_of, replies_of};
 ghost use Rattle.sctp_association.specs.Most.{FewerWherePut, most_data, most_packets};
 ghost use Rattle.sctp_association.specs.Offering.{HasFirst, IsInitWith, IsReplyOf, OffersAsDue, PutsReply};
 ghost use Rattle.sctp_association.specs.declared.due.AloneKind.{AloneKind};
@@ -18,7 +18,7 @@ ghost use Rattle.sctp_association.specs.Reports.{one_cause};
 ghost use Rattle.sctp_association.specs.Sending.{IsTimed};
 ghost use Rattle.sctp_association.specs.Still.{IsLater, heartbeat_time};
 ghost use Rattle.sctp_association.specs.Telling.{Tells};
-ghost use Rattle.sctp_association.specs.Packets.{IsPacketOf, IsWritten, Puts, Transmits};
+ghost use Rattle.sctp_association.specs.Packets.{IsPacketOf, IsWritten, Transmits};
 ghost use Rattle.sctp_chunks.specs.Init.{init_of};
 ghost use Rattle.sctp_chunks.specs.Wire.{abort_chunk, error_chunk};
 ghost use Rattle.sctp_cookie.specs.Cookie.{sealed};
@@ -92,9 +92,11 @@ impl Association {
         ensures owes { result ≡ Ok false → MayReply self.new → OwesNone self.new }
         // Where there is no datagram though DATA may leave: what waits or is to be sent again waits for a SACK, or for T3-rtx.
         ensures idle { result ≡ Ok false → MaySend self.new → IsIdle now self.new }
-        // New DATA leaves while nothing is outstanding; or less than cwnd is, the burst lasts, and the peer's window has room (RFC 9260 6.1 A, B, D).
-        // For each idle RTO cwnd falls once (7.2.1).
-        ensures within { SendsWithin now self.old.outbound self.new.outbound }
+        // A FORWARD-TSN leaves first, then DATA again, where it may (RFC 9260 6.3.3 E3, 7.2.4), then new DATA: each chunk while nothing is
+        // outstanding; or less than cwnd is, the burst lasts, and the peer's window has room (6.1 A, B, D). For each idle RTO cwnd falls once
+        // (7.2.1). A burst lasts until no datagram is due.
+        ensures within { SendsWithin now (pauses result self.new) self.old.outbound
+            self.new.outbound }
         // What else is due stays due, or leaves in the datagram: a COOKIE-ECHO with the cookie, a SHUTDOWN with the cumulative TSN, a
         // HEARTBEAT-ACK with what came. Only one that no packet has room for is dropped.
         ensures leaves { LeavesBy (is_sent result) self.old self.new }
@@ -104,10 +106,10 @@ impl Association {
         // Each call that writes a datagram leaves fewer that can leave at this moment: with the same `now` at most `most_packets` calls write one.
         ensures fewer { result ≡ Ok true
             → most_packets now self.new < most_packets now self.old }
-        // What left is due no more: each COOKIE-ECHO, COOKIE-ACK, SHUTDOWN, SHUTDOWN-ACK, HEARTBEAT-ACK, SACK, HEARTBEAT, ERROR and parameter of a
-        // RE-CONFIG in a packet of what else is due was due, as it says. Beside these it has only DATA and FORWARD-TSN.
+        // What left is due no more: each COOKIE-ECHO, COOKIE-ACK, SHUTDOWN, SHUTDOWN-ACK, HEARTBEAT-ACK, SACK, HEARTBEAT, ERROR, FORWARD-TSN and
+        // parameter of a RE-CONFIG in a packet of what else is due was due, as it says. Beside these it has only DATA.
         ensures once { is_sent result ≡ true → self.old.due.alone ≡ None
-            → IsPacketOf (IsDueOrData (owed_at now self.old) (owed_at now self.new))
+            → IsPacketOf (IsDueOrData (owed_before now self.old) (owed_at now self.new))
             self.new.draft.bytes }
     {
         if let Some(alone) = self.due.alone {
@@ -140,7 +142,7 @@ impl Association {
             → OwesNone self.new }
         ensures idle { result ≡ Ok false → sends self.new.machine.state ≡ true
             → IsIdle now self.new }
-        ensures within { LeavesWithin now self.old.outbound self.new.outbound }
+        ensures within { PausesWithin now (is_unsent result) self.old.outbound self.new.outbound }
         ensures leaves { LeavesBy (is_sent result) self.old self.new }
         ensures fewer { result ≡ Ok true
             → most_packets now self.new < most_packets now self.old }
@@ -414,7 +416,7 @@ impl Association {
 
     // Puts FORWARD-TSN and DATA, in the states in which they may be sent.
     fn put_data(&mut self, now: u64) -> Result<(), Fault>
-        ensures made { Puts (sides_of self.old) (sides_of self.new) }
+        ensures made { PutsSent self.old self.new }
         ensures kept { IsUnmoved self.old self.new }
         ensures moments { AsksNoMore now self.old self.new }
         ensures acks { sack_delay self.new ≡ sack_delay self.old }

@@ -3,6 +3,7 @@
 ghost use Rattle.std.specs.Prelude.{◌≡◌, ◌⊎◌, ◌≤◌, None, Some, true, false, is_some, option_map};
 ghost use Rattle.sctp_association.specs.BackOff.{IsAsIdle, counted_where, doubled_where, failures_after, is_missed, is_unanswered, reduced_where, rto_after};
 ghost use Rattle.sctp_association.specs.Beginnings.{KeepsPeer};
+ghost use Rattle.sctp_association.specs.Congested.{expired_at, path_of};
 ghost use Rattle.sctp_association.specs.Kept.{ticket_due};
 ghost use Rattle.sctp_association.specs.Halves.{MarksByT3};
 ghost use Rattle.sctp_association.specs.Lasting.{Expires, expires, expires_control};
@@ -136,6 +137,10 @@ impl Association {
         ensures congestion { self.old.is_over ≡ false → is_due now self.old.guard.at ≡ false
             → self.new.outbound.congestion ≡ reduced_where
             (is_due now self.old.outbound.timer.at) self.old.outbound.congestion }
+        // It alone ends a burst, marks what is in flight, and has a FORWARD-TSN due: the rest of what is sent, and how, stays (6.3.3 E3).
+        ensures path { self.old.is_over ≡ false → is_due now self.old.guard.at ≡ false
+            → path_of self.new.outbound ≡ expired_at now
+            (is_due now self.old.outbound.timer.at) (path_of self.old.outbound) }
     {
         if self.is_over {
             return;

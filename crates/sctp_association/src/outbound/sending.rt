@@ -1,12 +1,12 @@
 //! What goes into a packet (RFC 9260 6.1, 6.10).
 
 ghost use Rattle.std.specs.Prelude.{◌≡◌, ◌⊎◌, ◌+◌, ◌-◌, ◌^◌, ◌<◌, ◌≤◌, [], min, true, false, None, Some, IfOk, IfSome, OnErr, OnOk, find, length};
-ghost use Rattle.sctp_association.specs.Congested.{BeginsNew, IsAsMany, LeavesWithin, StaysOrLeft, idle_at};
+ghost use Rattle.sctp_association.specs.Congested.{LeavesWithin, Resends, SendsNew, StaysOrAgain, StaysOrLeaves, begun, idle_at, may_again, path_of, used_after};
 ghost use Rattle.sctp_association.specs.Counts.{CountsNone, IsCountedAlong, IsCountedOn};
 ghost use Rattle.sctp_association.specs.Filled.{IfNonePut};
 ghost use Rattle.sctp_association.specs.Idle.{SendsNoneAgain, SendsNoneNew, WaitsBehind, WaitsForSacks, in_flight};
 ghost use Rattle.sctp_association.specs.Most.{FewerWherePut, most_data};
-ghost use Rattle.sctp_association.specs.Packets.{PutsOut};
+ghost use Rattle.sctp_association.specs.Packets.{PutsOut, PutsSkip};
 ghost use Rattle.sctp_association.specs.Sending.{EndsWithin, IsTimed, flight_of, idle_times, is_early, is_front_late, is_later, lowered_times, lowered, may_send_again, may_send_next, sent_at};
 ghost use Rattle.sctp_outbound.specs.pending_queue.PendingQueue.{chunk_count, next_pending};
 ghost use Rattle.sctp_path.specs.Rto.{smoothed_of};
@@ -38,7 +38,8 @@ impl Outbound {
     /// Puts the FORWARD-TSN that is due, what is to be sent again, and what waits, as far as they fit and may be sent. T3-rtx runs then, after
     /// a refusal too, while something is in flight.
     pub(crate) fn put(&mut self, packet: &mut Draft, now: u64) -> Result<(), Fault>
-        ensures made { PutsOut self.old.sender self.new.sender packet.old.bytes packet.new.bytes }
+        ensures made { PutsSkip self.old.is_skip_due self.new.is_skip_due self.old.sender
+            self.new.sender packet.old.bytes packet.new.bytes }
         ensures timed { IsTimed self.new.sender.flight.queue.inflight.chunks self.new.timer.at }
         ensures counted { IsCountedAlong self.old self.new }
         // T3-rtx runs out as it did, or after the RTO at the latest.
@@ -61,7 +62,8 @@ impl Outbound {
     // The same, but the timer stays as it is.
     #[tactic(auto, using(crate::proofs::Counted::on_then, crate::proofs::Counted::on_none, crate::proofs::Counted::on_same))]
     fn put_all(&mut self, packet: &mut Draft, now: u64) -> Result<(), Fault>
-        ensures made { PutsOut self.old.sender self.new.sender packet.old.bytes packet.new.bytes }
+        ensures made { PutsSkip self.old.is_skip_due self.new.is_skip_due self.old.sender
+            self.new.sender packet.old.bytes packet.new.bytes }
         ensures counts { IsCountedOn self.old self.new }
         ensures limit { packet.new.limit ≡ packet.old.limit }
         ensures grows { length packet.old.bytes ≤ length packet.new.bytes }
@@ -78,9 +80,11 @@ impl Outbound {
 
     // Puts the FORWARD-TSN that is due (RFC 3758 3.5 C3, F2), before any DATA.
     fn put_skip(&mut self, packet: &mut Draft) -> Result<(), Fault>
-        ensures made { PutsOut self.old.sender self.new.sender packet.old.bytes packet.new.bytes }
+        ensures made { PutsSkip self.old.is_skip_due self.new.is_skip_due self.old.sender
+            self.new.sender packet.old.bytes packet.new.bytes }
         ensures limit { packet.new.limit ≡ packet.old.limit }
-        ensures rest { self.new ≡ record self.old { is_skip_due = self.new.is_skip_due } }
+        ensures rest { self.new ≡ self.old
+            ⊎ self.new ≡ record self.old { is_skip_due = false } }
         ensures err { OnErr result (self.new ≡ self.old) }
         ensures grows { length packet.old.bytes ≤ length packet.new.bytes }
         ensures fewer { FewerWherePut (most_data self.old) (most_data self.new)
@@ -105,7 +109,8 @@ impl Outbound {
         ensures grows { length packet.old.bytes ≤ length packet.new.bytes }
         ensures idle { OnOk result (IfNonePut packet.old.bytes packet.new.bytes
             (SendsNoneAgain (packet.old.limit - length packet.old.bytes) self.old self.new)) }
-        ensures many { IsAsMany now self.old self.new }
+        ensures again { Resends now self.old.rto self.old.is_fast
+            (flight_of (in_flight self.old.sender)) (path_of self.old) (path_of self.new) }
         ensures fewer { FewerWherePut (most_data self.old) (most_data self.new)
             packet.old.bytes packet.new.bytes }
     {
@@ -129,7 +134,8 @@ impl Outbound {
         ensures idle { OnOk result (IfNonePut packet.old.bytes packet.new.bytes
             (flight ≡ flight_of (in_flight self.old.sender)
             → SendsNoneAgain (packet.old.limit - length packet.old.bytes) self.old self.new)) }
-        ensures many { IsAsMany now self.old self.new }
+        ensures again { Resends now self.old.rto is_fast flight (path_of self.old)
+            (path_of self.new) }
         ensures fewer { FewerWherePut (most_data self.old) (most_data self.new)
             packet.old.bytes packet.new.bytes }
     {
@@ -174,7 +180,9 @@ impl Outbound {
         ensures none { IfOk result (λ sent. sent ≡ false
             → flight ≡ flight_of (in_flight self.old.sender)
             → SendsNoneAgain (packet.old.limit - length packet.old.bytes) self.old self.new) }
-        ensures many { IsAsMany now self.old self.new }
+        ensures again { StaysOrAgain now
+            (may_again now self.old.rto is_fast flight (path_of self.old)) (path_of self.old)
+            (path_of self.new) }
         ensures fewer { FewerWherePut (most_data self.old) (most_data self.new)
             packet.old.bytes packet.new.bytes }
     {
@@ -243,7 +251,7 @@ impl Outbound {
             → IfOk result (λ sent. sent ≡ true → 12 < length packet.new.bytes) }
         ensures none { IfOk result (λ sent. sent ≡ false → next_within
             (packet.old.limit - length packet.old.bytes) self.old.sender.flight ≡ None) }
-        ensures many { IsAsMany now self.old self.new }
+        ensures again { StaysOrAgain now true (path_of self.old) (path_of self.new) }
         ensures fewer { FewerWherePut (most_data self.old) (most_data self.new)
             packet.old.bytes packet.new.bytes }
     {
@@ -296,7 +304,8 @@ impl Outbound {
         ensures counts { CountsNone self.old self.new }
         ensures lost { self.new.has_lost ≡ self.old.has_lost }
         ensures skip { self.new.is_skip_due ≡ self.old.is_skip_due }
-        ensures begins { BeginsNew now result self.old self.new }
+        ensures begins { path_of self.new ≡ begun now self.old.rto result (path_of self.old) }
+        ensures waits { result ≡ true → 0 < chunk_count self.old.sender.flight.queue.pending }
         ensures none { result ≡ false → (self.old.has_lost ≡ true)
             ⊎ (chunk_count self.old.sender.flight.queue.pending ≡ 0) }
     {
@@ -319,7 +328,7 @@ impl Outbound {
         ensures grows { length packet.old.bytes ≤ length packet.new.bytes }
         ensures idle { OnOk result (IfNonePut packet.old.bytes packet.new.bytes
             (SendsNoneNew (packet.old.limit - length packet.old.bytes) self.old self.new)) }
-        ensures within { LeavesWithin now self.old self.new }
+        ensures within { SendsNew now self.old.rto (path_of self.old) (path_of self.new) }
         ensures fewer { FewerWherePut (most_data self.old) (most_data self.new)
             packet.old.bytes packet.new.bytes }
     {
@@ -355,8 +364,8 @@ impl Outbound {
           used = self.new.used;
         } }
         // These RTOs count no more.
-        ensures over { 0 < idle_at now self.old → self.new.used ≡ now }
-        ensures none { idle_at now self.old ≡ 0 → self.new.used ≡ self.old.used }
+        ensures over { self.new.used
+            ≡ used_after now (idle_at now self.old.rto (path_of self.old)) self.old.used }
     {
         let rto = self.rto.get().max(1);
         let times = (now.saturating_sub(self.used) / rto).min(MOST_HALVINGS);
@@ -403,7 +412,7 @@ impl Outbound {
         ensures counts { CountsNone self.old self.new }
         ensures limit { packet.new.limit ≡ packet.old.limit }
         ensures grows { length packet.old.bytes ≤ length packet.new.bytes }
-        ensures within { StaysOrLeft now self.old self.new }
+        ensures within { StaysOrLeaves now (path_of self.old) (path_of self.new) }
         ensures fewer { FewerWherePut (most_data self.old) (most_data self.new)
             packet.old.bytes packet.new.bytes }
     {
@@ -430,7 +439,7 @@ impl Outbound {
             → IfOk result (λ sent. sent ≡ true → 12 < length packet.new.bytes) }
         ensures none { IfOk result (λ sent. sent ≡ false
             → WaitsBehind (packet.old.limit - length packet.old.bytes) self.old.sender) }
-        ensures within { StaysOrLeft now self.old self.new }
+        ensures within { StaysOrLeaves now (path_of self.old) (path_of self.new) }
         ensures fewer { FewerWherePut (most_data self.old) (most_data self.new)
             packet.old.bytes packet.new.bytes }
     {

@@ -1,12 +1,13 @@
+use Rattle.sctp_association.specs.Congested.{Path}
 use Rattle.sctp_association.proofs.Fewer.{data_fewer, due_fewer, once_fewer, others_fewer, fewer_then}
 use Rattle.sctp_association.proofs.Leaving.{into_kept, into_then}
-use Rattle.std.proofs.Common.{◌≡◌, [], arith, false, subst, sym, ◌∙◌}
+use Rattle.std.proofs.Common.{ap, ◌≡◌, [], arith, false, subst, sym, ◌∙◌}
 use Rattle.std.specs.Prelude.{IfSome}
-use Rattle.sctp_association.proofs.Congested.{full_of, full_then, within_behind, within_full}
+use Rattle.sctp_association.proofs.Congested.{from_skip, full_of, full_then, within_behind, within_full}
 use Rattle.sctp_association.proofs.Idle.{added_longer, no_shutdown, on_ok, on_ok_so}
 use Rattle.sctp_association.proofs.Known.{still_none, unmoved_then}
 use Rattle.sctp_path.specs.Timers.{is_due}
-use Rattle.sctp_association.proofs.Others.{beats_same, beats_then, data_then, due_data, due_then, once_puts, others_once, others_puts, others_then, timed_then}
+use Rattle.sctp_association.proofs.Others.{beats_same, beats_then, due_then, once_puts, others_once, others_puts, others_then, skip_kept, skip_so, timed_then, data_then, due_data}
 use Rattle.sctp_association.proofs.association.Association.fill.Goals as goal
 
 pub returns-in_err-put_sack-clause-made : goal.returns-in_err-put_sack-clause-made
@@ -23,7 +24,9 @@ returns-in_err-put_control-clause-made c =
     due_then c.args.now c.args.self.now c.put_sack.new.self c.put_control.new.self acked
     (unmoved_then _ _ _ c.put_cookies.ensures.others.kept c.put_sack.ensures.kept)
     (beats_same c.args.now _ _ (timed_then _ _ _ c.put_cookies.ensures.others.timed c.put_sack.ensures.timed))
+    (skip_kept c.args.self.now c.put_sack.new.self (c.put_sack.ensures.full.path ∙ c.put_cookies.ensures.others.halves.path))
     c.put_control.ensures.made c.put_control.ensures.kept c.put_control.ensures.moments
+    (skip_kept c.put_sack.new.self c.put_control.new.self c.put_control.ensures.full.path)
     )
 
 pub returns-clause-made : goal.returns-clause-made
@@ -33,10 +36,13 @@ returns-clause-made c =
     let unmoved = unmoved_then _ _ _ c.put_cookies.ensures.others.kept c.put_sack.ensures.kept in
     let beats = beats_same c.args.now c.args.self.now c.put_sack.new.self
     (timed_then _ _ _ c.put_cookies.ensures.others.timed c.put_sack.ensures.timed) in
-    let controlled = due_then c.args.now c.args.self.now c.put_sack.new.self c.put_control.new.self acked unmoved beats c.put_control.ensures.made
-    c.put_control.ensures.kept c.put_control.ensures.moments in
-    data_then c.args.now c.args.self.now c.put_control.new.self c.put_data.new.self controlled c.put_data.ensures.made c.put_data.ensures.kept
-    c.put_data.ensures.moments
+    let early = skip_kept c.args.self.now c.put_sack.new.self (c.put_sack.ensures.full.path ∙ c.put_cookies.ensures.others.halves.path) in
+    let late = skip_kept c.put_sack.new.self c.put_control.new.self c.put_control.ensures.full.path in
+    let controlled = due_then c.args.now c.args.self.now c.put_sack.new.self c.put_control.new.self acked unmoved beats early
+    c.put_control.ensures.made c.put_control.ensures.kept c.put_control.ensures.moments late in
+    data_then c.args.now c.args.self.now c.put_control.new.self c.put_data.new.self controlled
+    (skip_so c.args.self.now c.put_sack.new.self c.put_control.new.self early late) c.put_data.ensures.made c.put_data.ensures.kept
+    c.put_data.ensures.moments (from_skip c.args.now _ _ _ c.put_data.ensures.within.path)
 
 pub returns-then-is_empty-clause-made : goal.returns-then-is_empty-clause-made
 returns-then-is_empty-clause-made c = due_data c.args.self.now c.put_cookies.new.self c.args.now (
@@ -194,7 +200,7 @@ returns-in_err-put_sack-clause-fewer c p draft =
     let cookies = c.put_cookies.ensures.others in
     let one = others_fewer c.args.now c.args.self.now c.put_cookies.new.self cookies p draft in
     let sack = c.put_sack.ensures in
-    let two = once_fewer c.args.now c.put_cookies.new.self c.put_sack.new.self sack.made sack.kept sack.timed sack.full.sender sack.skip _
+    let two = once_fewer c.args.now c.put_cookies.new.self c.put_sack.new.self sack.made sack.kept sack.timed (ap (λ (p : Path). p.sender) sack.full.path) sack.skip _
     (cookies.added.draft p draft) in
     let acked = fewer_then _ _ _ _ _ _ one two in
     acked
@@ -204,11 +210,12 @@ returns-in_err-put_control-clause-fewer c p draft =
     let cookies = c.put_cookies.ensures.others in
     let one = others_fewer c.args.now c.args.self.now c.put_cookies.new.self cookies p draft in
     let sack = c.put_sack.ensures in
-    let two = once_fewer c.args.now c.put_cookies.new.self c.put_sack.new.self sack.made sack.kept sack.timed sack.full.sender sack.skip _
+    let two = once_fewer c.args.now c.put_cookies.new.self c.put_sack.new.self sack.made sack.kept sack.timed (ap (λ (p : Path). p.sender) sack.full.path) sack.skip _
     (cookies.added.draft p draft) in
     let acked = fewer_then _ _ _ _ _ _ one two in
     let control = c.put_control.ensures in
-    let three = due_fewer c.args.now c.put_sack.new.self c.put_control.new.self control.kept control.moments control.made control.full.sender control.skip _
+    let three = due_fewer c.args.now c.put_sack.new.self c.put_control.new.self control.kept control.moments control.made (ap (λ (p : Path). p.sender) control.full.path)
+    control.skip _
     (sack.made.added.draft _ (cookies.added.draft p draft)) in
     let controlled = fewer_then _ _ _ _ _ _ acked three in
     controlled
@@ -218,11 +225,12 @@ returns-clause-fewer c p draft =
     let cookies = c.put_cookies.ensures.others in
     let one = others_fewer c.args.now c.args.self.now c.put_cookies.new.self cookies p draft in
     let sack = c.put_sack.ensures in
-    let two = once_fewer c.args.now c.put_cookies.new.self c.put_sack.new.self sack.made sack.kept sack.timed sack.full.sender sack.skip _
+    let two = once_fewer c.args.now c.put_cookies.new.self c.put_sack.new.self sack.made sack.kept sack.timed (ap (λ (p : Path). p.sender) sack.full.path) sack.skip _
     (cookies.added.draft p draft) in
     let acked = fewer_then _ _ _ _ _ _ one two in
     let control = c.put_control.ensures in
-    let three = due_fewer c.args.now c.put_sack.new.self c.put_control.new.self control.kept control.moments control.made control.full.sender control.skip _
+    let three = due_fewer c.args.now c.put_sack.new.self c.put_control.new.self control.kept control.moments control.made (ap (λ (p : Path). p.sender) control.full.path)
+    control.skip _
     (sack.made.added.draft _ (cookies.added.draft p draft)) in
     let controlled = fewer_then _ _ _ _ _ _ acked three in
     let last = c.put_data.ensures in

@@ -135,7 +135,7 @@ returns-clause-sacks c takes is chunks tells =
 pub returns-clause-due : goal.returns-clause-due
 returns-clause-due c due r is =
     let all : TellsAll place_at c.args.datagram.now c.in-Ok.chunks.left = search rules in
-    c.take_chunks.ensures.due due.first due.rest (told_once _ _ _ all due.tells) due.admitted due.heard r is
+    c.take_chunks.ensures.due due.first due.rest (told_once _ _ _ all due.tells) due.admitted due.expected r is
 
 pub returns-then-header-self-clause-tells : goal.returns-then-header-self-clause-tells
 returns-then-header-self-clause-tells c = tells_same _ _ refl

@@ -1,51 +1,50 @@
+use Rattle.sctp_association.specs.Congested.{Path}
+use Rattle.std.proofs.Common.{Bool, Option, [], ap, false, refl, subst, sym, true, ◌∙◌, ◌≡◌, None, arith, ◌≤◌}
+use Rattle.std.specs.Prelude.{Ok, is_some}
 use Rattle.sctp_association.proofs.Fewer.{data_same, replies_few, settled_few, some_less}
 use Rattle.sctp_association.specs.Most.{most_data}
-use Rattle.std.proofs.Common.{None, arith, subst, ◌≤◌}
-use Rattle.std.proofs.Common.{Option, ap, refl, sym, ◌∙◌}
 use Rattle.sctp_association.proofs.Telling.{tells_kept, tells_peer, tells_same, tells_then, to_same, transmits_end, unmoved_end}
 use Rattle.std.proofs.lemmas.Option.{none-some}
-use Rattle.sctp_association.proofs.Congested.{as_full, dropped_full, full_of, sends_after, sends_alike, sends_same}
+use Rattle.sctp_association.proofs.Congested.{as_full, dropped_due, full_of, goes_on, over_not, sends_after, sends_alike, sends_same, stops, unknown_not, unsent_of}
 use Rattle.sctp_association.proofs.Known.{keeps_then, knows_same, unmoved_keeps, unmoved_within}
 use Rattle.sctp_association.proofs.Leaving.{leaves_later, leaves_same, new_then, new_unmoved, once_after, stays_leave}
 use Rattle.sctp_association.proofs.Lasting.{lasts_same, lasts_then, lasts_unmoved}
 use Rattle.sctp_association.proofs.Offering.{offers_none, offers_reply}
 use Rattle.sctp_association.proofs.Owing.{rto_asks}
-use Rattle.sctp_association.proofs.Others.{alike_puts, at_then, beats_same, before_then, none_sent_so, sends_puts, sent_alone, unsent, unsent_err}
-use Rattle.sctp_association.proofs.Putting.{and_then, nothing}
+use Rattle.sctp_association.proofs.Others.{alike_same, at_then, beats_same, before_then, none_sent_so, sent_alone, unsent, unsent_alike, unsent_err}
 use Rattle.sctp_association.proofs.association.Association.poll_transmit.Goals as goal
+use Rattle.sctp_association.specs.Congested.{PausesWithin}
 use Rattle.sctp_association.specs.Entering.{usable_in}
 use Rattle.sctp_association.specs.Halves.{receiver_of, sides_of}
 use Rattle.sctp_association.specs.declared.inbound.Inbound.{Inbound}
 use Rattle.sctp_association.specs.Leaving.{owed_of}
 use Rattle.sctp_association.specs.declared.outbound.Outbound.{Outbound}
+use Rattle.sctp_association.specs.Runs.{Sends}
 use Rattle.sctp_handshake.specs.declared.machine.Machine.{Machine}
 
 pub returns-in_err-put_alone-clause-made : goal.returns-in_err-put_alone-clause-made
 returns-in_err-put_alone-clause-made c =
-    none_sent_so _ _ _ c.from_residual.ensures.0 (unsent _ _ _ _ _ (alike_puts _ _ c.put_alone.ensures.halves c.args.self.now.draft.bytes))
+    none_sent_so _ _ _ c.from_residual.ensures.0 (unsent_alike c.args.self.now c.put_alone.new.self c.put_alone.ensures.halves _)
 
 pub returns-in-Some-clause-made : goal.returns-in-Some-clause-made
 returns-in-Some-clause-made c = sent_alone _ _ c.put_alone.ensures.halves c.in_ok-put_alone.ensures.written
 
 pub returns-then-self-clause-made : goal.returns-then-self-clause-made
-returns-then-self-clause-made c = unsent _ _ _ _ _ (nothing (sides_of c.args.self.now))
+returns-then-self-clause-made c = unsent_alike c.args.self.now c.args.self.now (alike_same c.args.self.now) _
 
 pub returns-in_err-abandon-clause-made : goal.returns-in_err-abandon-clause-made
 returns-in_err-abandon-clause-made c = none_sent_so _ _ _ c.from_residual-in_err-abandon.ensures.0 (
-    unsent _ _ _ _ _ (sends_puts _ _ _ (receiver_of c.args.self.now.inbound) c.args.self.now.draft.bytes c.abandon.ensures.dropped)
+    unsent (sides_of c.args.self.now) _ (receiver_of c.args.self.now.inbound) _ c.abandon.ensures.dropped refl
     )
 
 pub returns-in_default-peer-clause-made : goal.returns-in_default-peer-clause-made
-returns-in_default-peer-clause-made c = unsent _ _ _ _ _ (
-    and_then _ _ _ (sends_puts _ _ _ (receiver_of c.args.self.now.inbound) c.args.self.now.draft.bytes c.abandon.ensures.dropped)
-    (alike_puts _ _ c.settle.ensures.halves c.args.self.now.draft.bytes)
-    )
+returns-in_default-peer-clause-made c = unsent (sides_of c.args.self.now) c.settle.new.self.outbound.sender (receiver_of c.settle.new.self.inbound) _
+    (subst (λ t. Sends [] c.args.self.now.outbound.sender t) (sym c.settle.ensures.halves.sender) c.abandon.ensures.dropped) c.settle.ensures.halves.receiver
 
 pub returns-clause-made : goal.returns-clause-made
-returns-clause-made c = before_then _ _ _ _ _ _ _ (
-    and_then _ _ _ (sends_puts _ _ _ (receiver_of c.args.self.now.inbound) c.args.self.now.draft.bytes c.abandon.ensures.dropped)
-    (alike_puts _ _ c.settle.ensures.halves c.args.self.now.draft.bytes)
-    ) c.put_packet.ensures.made
+returns-clause-made c = before_then _ (sides_of c.args.self.now) c.settle.new.self.outbound.sender (receiver_of c.settle.new.self.inbound) _ _
+    (subst (λ t. Sends [] c.args.self.now.outbound.sender t) (sym c.settle.ensures.halves.sender) c.abandon.ensures.dropped) c.settle.ensures.halves.receiver
+    c.put_packet.ensures.made
 
 -- ## What is offered
 
@@ -161,32 +160,40 @@ returns-clause-left c = lasts_then c.args.self.now c.settle.new.self _ (
 -- ## What had room
 
 pub returns-in_err-put_alone-clause-within : goal.returns-in_err-put_alone-clause-within
-returns-in_err-put_alone-clause-within c =
-    sends_same c.args.now c.args.self.now.outbound c.put_alone.new.self.outbound
+returns-in_err-put_alone-clause-within c = sends_same c.args.now _ c.args.self.now.outbound c.put_alone.new.self.outbound
+    (goes_on _ c.put_alone.new.self (unsent_of _ c.from_residual.ensures.0))
     (full_of _ c.put_alone.new.self c.put_alone.ensures.halves c.put_alone.ensures.kept.rto)
 
 pub returns-in-Some-clause-within : goal.returns-in-Some-clause-within
-returns-in-Some-clause-within c =
-    sends_same c.args.now c.args.self.now.outbound c.put_alone.new.self.outbound
+returns-in-Some-clause-within c = sends_same c.args.now _ c.args.self.now.outbound c.put_alone.new.self.outbound (goes_on (Ok true) c.put_alone.new.self refl)
     (full_of _ c.put_alone.new.self c.put_alone.ensures.halves c.put_alone.ensures.kept.rto)
 
 pub returns-then-self-clause-within : goal.returns-then-self-clause-within
-returns-then-self-clause-within c = sends_same c.args.now c.args.self.now.outbound c.args.self.now.outbound (as_full _ _ refl)
+returns-then-self-clause-within c = sends_same c.args.now _ c.args.self.now.outbound c.args.self.now.outbound (over_not (Ok false) c.args.self.now c.if-self.true) (as_full _ _ refl)
 
 pub returns-in_err-abandon-clause-within : goal.returns-in_err-abandon-clause-within
-returns-in_err-abandon-clause-within c = sends_alike c.args.now c.args.self.now.outbound c.abandon.new.self c.abandon.new.self c.abandon.ensures.dropped
-    (dropped_full _ c.abandon.new.self _ _ c.abandon.ensures.rest) (as_full _ _ refl)
+returns-in_err-abandon-clause-within c = sends_alike c.args.now _ c.args.self.now.outbound c.abandon.new.self c.abandon.new.self
+    (goes_on _ c.args.self.now (unsent_of _ c.from_residual-in_err-abandon.ensures.0)) c.abandon.ensures.dropped c.abandon.ensures.rest
+    (dropped_due c.args.now c.args.self.now.outbound c.abandon.new.self c.abandon.ensures.early) (as_full _ _ refl)
 
 pub returns-in_default-peer-clause-within : goal.returns-in_default-peer-clause-within
-returns-in_default-peer-clause-within c = sends_alike c.args.now c.args.self.now.outbound c.abandon.new.self c.settle.new.self.outbound
-    c.abandon.ensures.dropped (dropped_full _ c.abandon.new.self _ _ c.abandon.ensures.rest)
+returns-in_default-peer-clause-within c = sends_alike c.args.now _ c.args.self.now.outbound c.abandon.new.self c.settle.new.self.outbound
+    (unknown_not (Ok false) c.settle.new.self (sym c.peer.ensures ∙ c.in_default-peer.is)) c.abandon.ensures.dropped c.abandon.ensures.rest
+    (dropped_due c.args.now c.args.self.now.outbound c.abandon.new.self c.abandon.ensures.early)
     (full_of _ c.settle.new.self c.settle.ensures.halves (ap (λ (o : Outbound). o.rto) c.settle.ensures.sending))
 
 pub returns-clause-within : goal.returns-clause-within
 returns-clause-within c =
-    sends_after c.args.now c.args.self.now.outbound c.abandon.new.self c.settle.new.self.outbound c.put_packet.new.self.outbound c.abandon.ensures.dropped
-    (dropped_full _ c.abandon.new.self _ _ c.abandon.ensures.rest)
-    (full_of _ c.settle.new.self c.settle.ensures.halves (ap (λ (o : Outbound). o.rto) c.settle.ensures.sending)) c.put_packet.ensures.within
+    let kept = c.put_packet.ensures.kept in
+    sends_after c.args.now _ c.args.self.now.outbound c.settle.new.self.outbound c.put_packet.new.self.outbound
+    (subst (λ (o : Outbound). Sends [] c.args.self.now.outbound.sender o.sender) (sym c.settle.ensures.sending) c.abandon.ensures.dropped)
+    (subst (λ (o : Outbound). o ≡ record c.args.self.now.outbound { sender = o.sender; is_skip_due = o.is_skip_due }) (sym c.settle.ensures.sending)
+    c.abandon.ensures.rest)
+    (λ is. dropped_due c.args.now c.args.self.now.outbound c.abandon.new.self c.abandon.ensures.early
+    (ap (λ (o : Outbound). o.is_skip_due) (sym c.settle.ensures.sending) ∙ is))
+    (subst (λ (b : Bool). PausesWithin c.args.now b c.settle.new.self.outbound c.put_packet.new.self.outbound)
+    (stops _ c.put_packet.new.self (kept.over ∙ c.settle.ensures.over ∙ c.if-self.false)
+    (ap (λ (m : Machine). is_some m.peer) kept.machine ∙ ap is_some (sym c.peer.ensures ∙ c.in-Some-peer.is))) c.put_packet.ensures.within)
 
 -- ## What is due
 
@@ -223,6 +230,8 @@ pub returns-clause-once : goal.returns-clause-once
 returns-clause-once c sent _ = once_after c.args.now c.args.self.now c.settle.new.self c.put_packet.new.self _ c.settle.ensures.asks
     (at_then _ _ _
     (rto_asks c.args.now c.args.self.now c.abandon.new.self (ap (λ (o : Outbound). o.rto) c.abandon.ensures.rest)) c.settle.ensures.moments)
+    (λ is. dropped_due c.args.now c.args.self.now.outbound c.abandon.new.self c.abandon.ensures.early
+    (ap (λ (o : Outbound). o.is_skip_due) (sym c.settle.ensures.sending) ∙ is))
     (ap (λ (m : Machine). m.state) c.put_packet.ensures.kept.machine) (c.put_packet.ensures.once sent)
 
 pub returns-in_err-put_alone-clause-asks : goal.returns-in_err-put_alone-clause-asks
@@ -294,7 +303,7 @@ returns-in-Some-clause-fewer c _ =
     let put = c.put_alone.ensures in
     let beats = beats_same c.args.now c.args.self.now c.put_alone.new.self put.timed in
     let replies = replies_few c.args.now c.args.self.now c.put_alone.new.self put.kept beats in
-    let half = data_same c.args.self.now.outbound c.put_alone.new.self.outbound put.halves.sender put.halves.skip in
+    let half = data_same c.args.self.now.outbound c.put_alone.new.self.outbound put.halves.sender (ap (λ (p : Path). p.skip) put.halves.path) in
     let alone = some_less c.args.self.now.due.alone None c.in-Some.alone c.in-Some.is refl in
     omega (arith, replies, half, alone)
 

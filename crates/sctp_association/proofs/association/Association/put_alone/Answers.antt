@@ -9,26 +9,18 @@ use Rattle.sctp_association.specs.Packets.{IsOf}
 
 pub returns-in_err-put_reply-clause-halves : goal.returns-in_err-put_reply-clause-halves
 returns-in_err-put_reply-clause-halves c =
-    let h = c.put_reply.ensures.reply.halves.windows in
-    let p = c.put_reply.ensures.reply.halves.pace in
     record {
       sender = c.put_reply.ensures.reply.halves.sender;
       receiver = c.put_reply.ensures.reply.halves.receiver;
-      windows = record { peer_window = h.peer_window; congestion = h.congestion };
-      pace = record { used = p.used; burst = p.burst; paused = p.paused };
-      skip = c.put_reply.ensures.reply.halves.skip;
+      path = c.put_reply.ensures.reply.halves.path;
     }
 
 pub returns-clause-halves : goal.returns-clause-halves
 returns-clause-halves c =
-    let h = c.put_reply.ensures.reply.halves.windows in
-    let p = c.put_reply.ensures.reply.halves.pace in
     record {
       sender = c.put_reply.ensures.reply.halves.sender;
       receiver = c.put_reply.ensures.reply.halves.receiver;
-      windows = record { peer_window = h.peer_window; congestion = h.congestion };
-      pace = record { used = p.used; burst = p.burst; paused = p.paused };
-      skip = c.put_reply.ensures.reply.halves.skip;
+      path = c.put_reply.ensures.reply.halves.path;
     }
 
 pub returns-clause-written : goal.returns-clause-written

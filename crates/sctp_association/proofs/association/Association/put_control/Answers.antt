@@ -1,9 +1,10 @@
+use Rattle.sctp_association.specs.Congested.{Path}
 use Rattle.sctp_association.proofs.Leaving.{into_kept, into_then}
 use Rattle.std.proofs.Common.{[], ap, arith, ◌∙◌}
 use Rattle.sctp_association.proofs.Idle.{added_longer, no_shutdown, on_ok}
 use Rattle.sctp_association.proofs.Congested.{full_of, full_others, full_then}
 use Rattle.sctp_association.proofs.Known.{still_none, unmoved_then}
-use Rattle.sctp_association.proofs.Others.{beats_same, beats_then, due_others, due_then, once_puts, others_then, timed_then}
+use Rattle.sctp_association.proofs.Others.{beats_same, beats_then, due_others, due_then, once_puts, others_then, skip_kept, timed_then}
 use Rattle.sctp_association.proofs.Putting.{adds_then}
 use Rattle.sctp_association.proofs.association.Association.put_control.Goals as goal
 use Rattle.sctp_association.specs.Idle.{sack_delay}
@@ -11,47 +12,58 @@ use Rattle.sctp_association.specs.Idle.{sack_delay}
 pub returns-in_err-put_heartbeats-clause-made : goal.returns-in_err-put_heartbeats-clause-made
 returns-in_err-put_heartbeats-clause-made c = due_then c.args.now c.args.self.now c.put_shutdown.new.self c.put_heartbeats.new.self
     (once_puts c.args.self.now c.put_shutdown.new.self c.args.now c.put_shutdown.ensures.made) c.put_shutdown.ensures.kept
-    (beats_same c.args.now _ _ c.put_shutdown.ensures.timed)
+    (beats_same c.args.now _ _ c.put_shutdown.ensures.timed) (skip_kept c.args.self.now c.put_shutdown.new.self c.put_shutdown.ensures.full.path)
     c.put_heartbeats.ensures.made c.put_heartbeats.ensures.kept c.put_heartbeats.ensures.moments
+    (skip_kept c.put_shutdown.new.self c.put_heartbeats.new.self c.put_heartbeats.ensures.halves.path)
 
 pub returns-in_err-put_unknown_stream-clause-made : goal.returns-in_err-put_unknown_stream-clause-made
 returns-in_err-put_unknown_stream-clause-made c =
     let beaten = due_then c.args.now c.args.self.now c.put_shutdown.new.self c.put_heartbeats.new.self
     (once_puts c.args.self.now c.put_shutdown.new.self c.args.now c.put_shutdown.ensures.made) c.put_shutdown.ensures.kept
-    (beats_same c.args.now _ _ c.put_shutdown.ensures.timed)
-    c.put_heartbeats.ensures.made c.put_heartbeats.ensures.kept c.put_heartbeats.ensures.moments in
+    (beats_same c.args.now _ _ c.put_shutdown.ensures.timed) (skip_kept c.args.self.now c.put_shutdown.new.self c.put_shutdown.ensures.full.path)
+    c.put_heartbeats.ensures.made c.put_heartbeats.ensures.kept c.put_heartbeats.ensures.moments
+    (skip_kept c.put_shutdown.new.self c.put_heartbeats.new.self c.put_heartbeats.ensures.halves.path) in
     let unmoved = unmoved_then c.args.self.now _ _ c.put_shutdown.ensures.kept c.put_heartbeats.ensures.kept in
     let beats = beats_then c.args.now c.args.self.now c.put_shutdown.new.self c.put_heartbeats.new.self
     (beats_same c.args.now _ _ c.put_shutdown.ensures.timed) c.put_heartbeats.ensures.moments in
     due_others c.args.now c.args.self.now c.put_heartbeats.new.self c.put_unknown_stream.new.self beaten unmoved beats
+    (skip_kept c.args.self.now c.put_heartbeats.new.self (c.put_heartbeats.ensures.halves.path ∙ c.put_shutdown.ensures.full.path))
     c.put_unknown_stream.ensures.others
 
 pub returns-in_err-put_report-clause-made : goal.returns-in_err-put_report-clause-made
 returns-in_err-put_report-clause-made c =
     let beaten = due_then c.args.now c.args.self.now c.put_shutdown.new.self c.put_heartbeats.new.self
     (once_puts c.args.self.now c.put_shutdown.new.self c.args.now c.put_shutdown.ensures.made) c.put_shutdown.ensures.kept
-    (beats_same c.args.now _ _ c.put_shutdown.ensures.timed)
-    c.put_heartbeats.ensures.made c.put_heartbeats.ensures.kept c.put_heartbeats.ensures.moments in
+    (beats_same c.args.now _ _ c.put_shutdown.ensures.timed) (skip_kept c.args.self.now c.put_shutdown.new.self c.put_shutdown.ensures.full.path)
+    c.put_heartbeats.ensures.made c.put_heartbeats.ensures.kept c.put_heartbeats.ensures.moments
+    (skip_kept c.put_shutdown.new.self c.put_heartbeats.new.self c.put_heartbeats.ensures.halves.path) in
     let unmoved = unmoved_then c.args.self.now _ _ c.put_shutdown.ensures.kept c.put_heartbeats.ensures.kept in
     let beats = beats_then c.args.now c.args.self.now c.put_shutdown.new.self c.put_heartbeats.new.self
     (beats_same c.args.now _ _ c.put_shutdown.ensures.timed) c.put_heartbeats.ensures.moments in
     due_others c.args.now c.args.self.now c.put_heartbeats.new.self c.put_report.new.self beaten unmoved beats
+    (skip_kept c.args.self.now c.put_heartbeats.new.self (c.put_heartbeats.ensures.halves.path ∙ c.put_shutdown.ensures.full.path))
     (others_then _ _ _ c.put_unknown_stream.ensures.others c.put_report.ensures.others)
 
 pub returns-clause-made : goal.returns-clause-made
 returns-clause-made c =
     let beaten = due_then c.args.now c.args.self.now c.put_shutdown.new.self c.put_heartbeats.new.self
     (once_puts c.args.self.now c.put_shutdown.new.self c.args.now c.put_shutdown.ensures.made) c.put_shutdown.ensures.kept
-    (beats_same c.args.now _ _ c.put_shutdown.ensures.timed)
-    c.put_heartbeats.ensures.made c.put_heartbeats.ensures.kept c.put_heartbeats.ensures.moments in
+    (beats_same c.args.now _ _ c.put_shutdown.ensures.timed) (skip_kept c.args.self.now c.put_shutdown.new.self c.put_shutdown.ensures.full.path)
+    c.put_heartbeats.ensures.made c.put_heartbeats.ensures.kept c.put_heartbeats.ensures.moments
+    (skip_kept c.put_shutdown.new.self c.put_heartbeats.new.self c.put_heartbeats.ensures.halves.path) in
     let unmoved = unmoved_then c.args.self.now _ _ c.put_shutdown.ensures.kept c.put_heartbeats.ensures.kept in
     let beats = beats_then c.args.now c.args.self.now c.put_shutdown.new.self c.put_heartbeats.new.self
     (beats_same c.args.now _ _ c.put_shutdown.ensures.timed) c.put_heartbeats.ensures.moments in
     let behind = others_then _ _ _ c.put_unknown_stream.ensures.others c.put_report.ensures.others in
-    let told = due_others c.args.now c.args.self.now c.put_heartbeats.new.self c.put_report.new.self beaten unmoved beats behind in
+    let told = due_others c.args.now c.args.self.now c.put_heartbeats.new.self c.put_report.new.self beaten unmoved beats
+    (skip_kept c.args.self.now c.put_heartbeats.new.self (c.put_heartbeats.ensures.halves.path ∙ c.put_shutdown.ensures.full.path))
+    behind in
     due_then c.args.now c.args.self.now c.put_report.new.self c.put_resets.new.self told (unmoved_then _ _ _ unmoved behind.kept)
     (beats_then c.args.now c.args.self.now c.put_heartbeats.new.self c.put_report.new.self beats (beats_same c.args.now _ _ behind.timed))
+    (skip_kept c.args.self.now c.put_report.new.self
+    (behind.halves.path ∙ c.put_heartbeats.ensures.halves.path ∙ c.put_shutdown.ensures.full.path))
     c.put_resets.ensures.made c.put_resets.ensures.kept c.put_resets.ensures.moments
+    (skip_kept c.put_report.new.self c.put_resets.new.self c.put_resets.ensures.halves.path)
 
 -- ## HEARTBEATs
 
@@ -164,16 +176,16 @@ returns-clause-full c =
 -- ## A FORWARD-TSN that is due stays so
 
 pub returns-in_err-put_heartbeats-clause-skip : goal.returns-in_err-put_heartbeats-clause-skip
-returns-in_err-put_heartbeats-clause-skip c = c.put_heartbeats.ensures.halves.skip ∙ c.put_shutdown.ensures.skip
+returns-in_err-put_heartbeats-clause-skip c = ap (λ (p : Path). p.skip) c.put_heartbeats.ensures.halves.path ∙ c.put_shutdown.ensures.skip
 
 pub returns-in_err-put_unknown_stream-clause-skip : goal.returns-in_err-put_unknown_stream-clause-skip
 returns-in_err-put_unknown_stream-clause-skip c =
-    c.put_unknown_stream.ensures.others.halves.skip ∙ c.put_heartbeats.ensures.halves.skip ∙ c.put_shutdown.ensures.skip
+    ap (λ (p : Path). p.skip) c.put_unknown_stream.ensures.others.halves.path ∙ ap (λ (p : Path). p.skip) c.put_heartbeats.ensures.halves.path ∙ c.put_shutdown.ensures.skip
 
 pub returns-in_err-put_report-clause-skip : goal.returns-in_err-put_report-clause-skip
-returns-in_err-put_report-clause-skip c = c.put_report.ensures.others.halves.skip ∙ c.put_unknown_stream.ensures.others.halves.skip
-    ∙ c.put_heartbeats.ensures.halves.skip ∙ c.put_shutdown.ensures.skip
+returns-in_err-put_report-clause-skip c = ap (λ (p : Path). p.skip) c.put_report.ensures.others.halves.path ∙ ap (λ (p : Path). p.skip) c.put_unknown_stream.ensures.others.halves.path
+    ∙ ap (λ (p : Path). p.skip) c.put_heartbeats.ensures.halves.path ∙ c.put_shutdown.ensures.skip
 
 pub returns-clause-skip : goal.returns-clause-skip
-returns-clause-skip c = c.put_resets.ensures.halves.skip ∙ c.put_report.ensures.others.halves.skip
-    ∙ c.put_unknown_stream.ensures.others.halves.skip ∙ c.put_heartbeats.ensures.halves.skip ∙ c.put_shutdown.ensures.skip
+returns-clause-skip c = ap (λ (p : Path). p.skip) c.put_resets.ensures.halves.path ∙ ap (λ (p : Path). p.skip) c.put_report.ensures.others.halves.path
+    ∙ ap (λ (p : Path). p.skip) c.put_unknown_stream.ensures.others.halves.path ∙ ap (λ (p : Path). p.skip) c.put_heartbeats.ensures.halves.path ∙ c.put_shutdown.ensures.skip

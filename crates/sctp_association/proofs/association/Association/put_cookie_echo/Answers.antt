@@ -28,9 +28,7 @@ returns-then-is_put-clause-others c =
     (record {
       sender = refl;
       receiver = refl;
-      windows = record { peer_window = refl; congestion = refl };
-      pace = record { used = refl; burst = refl; paused = refl };
-      skip = refl;
+      path = refl;
     })
     (record {
       config = refl;
@@ -61,9 +59,7 @@ returns-in_default-clause-others c = others_none c.args.self.now _
     (record {
       sender = refl;
       receiver = refl;
-      windows = record { peer_window = refl; congestion = refl };
-      pace = record { used = refl; burst = refl; paused = refl };
-      skip = refl;
+      path = refl;
     })
     (record {
       config = refl;

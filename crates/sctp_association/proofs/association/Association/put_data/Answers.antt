@@ -8,8 +8,7 @@ use Rattle.sctp_association.proofs.Putting.{nothing}
 use Rattle.sctp_association.proofs.association.Association.put_data.Goals as goal
 use Rattle.sctp_association.specs.Congested.{LeavesWithin}
 use Rattle.sctp_association.specs.declared.association.Association.{Association}
-use Rattle.sctp_association.specs.Halves.{receiver_of, sides_of}
-use Rattle.sctp_association.specs.Packets.{Puts}
+use Rattle.sctp_association.specs.Halves.{PutsSent, receiver_of, sides_of}
 
 pub returns-then-not-sends_data-clause-made : goal.returns-then-not-sends_data-clause-made
 returns-then-not-sends_data-clause-made c = nothing (sides_of c.args.self.now)
@@ -18,7 +17,7 @@ pub returns-in_err-put-clause-made : goal.returns-in_err-put-clause-made
 returns-in_err-put-clause-made c = c.put.ensures.made (receiver_of c.args.self.now.inbound)
 
 pub returns-clause-made : goal.returns-clause-made
-returns-clause-made c = subst (λ (a : Association). Puts (sides_of c.args.self.now) (sides_of a)) (sym c.note_use.ensures.rest)
+returns-clause-made c = subst (λ (a : Association). PutsSent c.args.self.now a) (sym c.note_use.ensures.rest)
     (c.put.ensures.made (receiver_of c.args.self.now.inbound))
 
 pub returns-then-not-sends_data-clause-within : goal.returns-then-not-sends_data-clause-within

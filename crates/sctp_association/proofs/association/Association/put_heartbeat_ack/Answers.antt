@@ -37,9 +37,7 @@ returns-in_err-heartbeat_ack-clause-others c = others_none c.args.self.now _
     (record {
       sender = refl;
       receiver = refl;
-      windows = record { peer_window = refl; congestion = refl };
-      pace = record { used = refl; burst = refl; paused = refl };
-      skip = refl;
+      path = refl;
     })
     (record {
       config = refl;

@@ -1,7 +1,7 @@
 use Rattle.std.proofs.Common.{[], arith}
 use Rattle.sctp_association.proofs.Idle.{added_longer, on_ok}
 use Rattle.sctp_association.proofs.Known.{still_none, unmoved_then}
-use Rattle.sctp_association.proofs.Others.{alike_then, beats_same, due_then, once_puts, others_puts}
+use Rattle.sctp_association.proofs.Others.{alike_then, beats_same, due_then, once_puts, others_puts, skip_kept}
 use Rattle.sctp_association.proofs.Leaving.{into_kept}
 use Rattle.sctp_association.proofs.association.Association.put_heartbeats.Goals as goal
 
@@ -44,8 +44,10 @@ pub returns-in-Some-clause-made : goal.returns-in-Some-clause-made
 returns-in-Some-clause-made c = due_then c.args.now c.args.self.now c.put_heartbeat_ack.new.self c.put_heartbeat.new.self
     (once_puts c.args.self.now c.put_heartbeat_ack.new.self c.args.now
     (others_puts c.args.self.now c.put_heartbeat_ack.new.self c.put_heartbeat_ack.ensures.others)) c.put_heartbeat_ack.ensures.others.kept
-    (beats_same c.args.now _ _ c.put_heartbeat_ack.ensures.others.timed) c.put_heartbeat.ensures.made c.put_heartbeat.ensures.kept
-    c.put_heartbeat.ensures.moments
+    (beats_same c.args.now _ _ c.put_heartbeat_ack.ensures.others.timed)
+    (skip_kept c.args.self.now c.put_heartbeat_ack.new.self c.put_heartbeat_ack.ensures.others.halves.path) c.put_heartbeat.ensures.made
+    c.put_heartbeat.ensures.kept c.put_heartbeat.ensures.moments
+    (skip_kept c.put_heartbeat_ack.new.self c.put_heartbeat.new.self c.put_heartbeat.ensures.halves.path)
 
 pub returns-in-Some-clause-halves : goal.returns-in-Some-clause-halves
 returns-in-Some-clause-halves c = alike_then _ _ _ c.put_heartbeat_ack.ensures.others.halves c.put_heartbeat.ensures.halves

@@ -4,25 +4,27 @@ use Rattle.sctp_association.proofs.Leaving.{by_none, by_sealed, leaves_same, wit
 use Rattle.std.proofs.Common.{[], ap, false, refl, subst, sym, ◌∙◌}
 use Rattle.sctp_association.specs.Leaving.{replies_of}
 use Rattle.std.proofs.lemmas.Bool.{leb-true}
-use Rattle.sctp_association.proofs.Congested.{within_paused, within_same}
-use Rattle.sctp_association.proofs.Others.{at_then, none_sent_so, plain_after, sealed_after, sent_same, unsent, unsent_after, unsent_err}
+use Rattle.sctp_association.proofs.Congested.{pauses_not, pauses_then, unsent_of, within_same}
+use Rattle.sctp_association.proofs.Others.{alike_same, at_then, none_sent_so, plain_after, sealed_after, sent_same, unsent_after, unsent_alike, unsent_err}
 use Rattle.sctp_association.proofs.Owing.{rto_asks}
-use Rattle.sctp_association.proofs.Putting.{nothing}
 use Rattle.sctp_association.proofs.association.Association.put_packet.Goals as goal
 use Rattle.sctp_association.specs.declared.outbound.Outbound.{Outbound}
-use Rattle.sctp_association.specs.Halves.{sides_of}
 use Rattle.sctp_association.specs.Idle.{WaitsForSacks, in_flight}
 use Rattle.sctp_association.specs.Sending.{IsTimed}
 use Rattle.sctp_packets.specs.Draft.{headed}
 
 pub returns-in_err-begin-clause-made : goal.returns-in_err-begin-clause-made
-returns-in_err-begin-clause-made c = none_sent_so _ _ _ c.from_residual.ensures.0 (unsent _ _ _ _ _ (nothing (sides_of c.args.self.now)))
+returns-in_err-begin-clause-made c = none_sent_so _ _ _ c.from_residual.ensures.0 (unsent_alike c.args.self.now c.args.self.now (alike_same c.args.self.now) _)
 
 pub returns-in_err-filled-clause-made : goal.returns-in_err-filled-clause-made
-returns-in_err-filled-clause-made c = none_sent_so _ _ _ c.from_residual-in_err-filled.ensures.0 (unsent_after _ _ _ _ _ _ _ c.fill-filled.ensures.made _)
+returns-in_err-filled-clause-made c = none_sent_so _ _ _ c.from_residual-in_err-filled.ensures.0 (
+    unsent_after _ _ _ _ _ _ _ c.fill-filled.ensures.made c.args.header c.in_ok-begin.ensures.begun
+    (leb-true _ 12 (sym c.is_empty.ensures ∙ c.if-is_empty.true)) _
+    )
 
 pub returns-then-is_empty-clause-made : goal.returns-then-is_empty-clause-made
-returns-then-is_empty-clause-made c = sent_same _ _ _ _ _ _ (ap (λ o. o.sender) c.pause.ensures) (unsent_after _ _ _ _ _ _ _ c.fill-filled.ensures.made _)
+returns-then-is_empty-clause-made c = sent_same _ _ _ _ _ _ (ap (λ o. o.sender) c.pause.ensures) (unsent_after _ _ _ _ _ _ _ c.fill-filled.ensures.made c.args.header
+    c.in_ok-begin.ensures.begun (leb-true _ 12 (sym c.is_empty.ensures ∙ c.if-is_empty.true)) _)
 
 pub returns-clause-made : goal.returns-clause-made
 returns-clause-made c = sealed_after _ _ _ _ _ _ _ c.fill-filled.ensures.made c.args.header c.args.is_zero _ c.in_ok-begin.ensures.begun c.seal.ensures.sealed
@@ -63,10 +65,18 @@ returns-then-is_empty-clause-owes c _ state =
 -- ## What had room
 
 pub returns-in_err-begin-clause-within : goal.returns-in_err-begin-clause-within
-returns-in_err-begin-clause-within c = within_same c.args.now c.args.self.now.outbound c.args.self.now.outbound refl
+returns-in_err-begin-clause-within c = pauses_not c.args.now _ c.args.self.now.outbound c.args.self.now.outbound
+    (unsent_of _ c.from_residual.ensures.0) (within_same c.args.now c.args.self.now.outbound c.args.self.now.outbound refl)
+
+pub returns-in_err-filled-clause-within : goal.returns-in_err-filled-clause-within
+returns-in_err-filled-clause-within c = pauses_not c.args.now _ c.args.self.now.outbound c.fill-filled.new.self.outbound
+    (unsent_of _ c.from_residual-in_err-filled.ensures.0) c.fill-filled.ensures.within
+
+pub returns-clause-within : goal.returns-clause-within
+returns-clause-within c = pauses_not c.args.now _ c.args.self.now.outbound c.fill-filled.new.self.outbound refl c.fill-filled.ensures.within
 
 pub returns-then-is_empty-clause-within : goal.returns-then-is_empty-clause-within
-returns-then-is_empty-clause-within c = within_paused c.args.now c.args.self.now.outbound.sender c.args.self.now.outbound c.fill-filled.new.self.outbound
+returns-then-is_empty-clause-within c = pauses_then c.args.now c.args.self.now.outbound c.fill-filled.new.self.outbound
     c.pause.new.self c.fill-filled.ensures.within c.pause.ensures
 
 -- ## What leaves

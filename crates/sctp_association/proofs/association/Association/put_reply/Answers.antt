@@ -16,9 +16,7 @@ returns-in-ShuttingDown-clause-reply c =
     (record {
       sender = refl;
       receiver = refl;
-      windows = record { peer_window = refl; congestion = refl };
-      pace = record { used = refl; burst = refl; paused = refl };
-      skip = refl;
+      path = refl;
     })
     (record {
       config = refl;

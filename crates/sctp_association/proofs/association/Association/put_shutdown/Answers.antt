@@ -1,6 +1,7 @@
+use Rattle.sctp_association.specs.Congested.{Path}
 use Rattle.sctp_association.proofs.Congested.{full_others}
 use Rattle.sctp_association.proofs.Leaving.{into_then}
-use Rattle.std.proofs.Common.{arith, ◌∙◌}
+use Rattle.std.proofs.Common.{ap, arith, ◌∙◌}
 use Rattle.sctp_association.proofs.Idle.{added_longer, no_shutdown}
 use Rattle.sctp_association.proofs.Others.{once_others, timed_then}
 use Rattle.sctp_association.proofs.association.Association.put_shutdown.Goals as goal
@@ -31,4 +32,4 @@ returns-clause-full c =
     c.put_shutdown_ack.ensures.others
 
 pub returns-clause-skip : goal.returns-clause-skip
-returns-clause-skip c = c.put_shutdown_ack.ensures.others.halves.skip ∙ c.put_shutdown_asked.ensures.skip
+returns-clause-skip c = ap (λ (p : Path). p.skip) c.put_shutdown_ack.ensures.others.halves.path ∙ c.put_shutdown_asked.ensures.skip

@@ -35,9 +35,7 @@ returns-then-put-clause-others c =
     (record {
       sender = refl;
       receiver = refl;
-      windows = record { peer_window = refl; congestion = refl };
-      pace = record { used = refl; burst = refl; paused = refl };
-      skip = refl;
+      path = refl;
     })
     (record {
       config = refl;
@@ -69,9 +67,7 @@ returns-else-self-clause-others c = elim c.else-self.branch [
       others_none c.args.self.now _ (record {
         sender = refl;
         receiver = refl;
-        windows = record { peer_window = refl; congestion = refl };
-        pace = record { used = refl; burst = refl; paused = refl };
-        skip = refl;
+        path = refl;
       })
       (record {
         config = refl;

@@ -18,9 +18,7 @@ returns-clause-halves c =
     record {
       sender = first.sender;
       receiver = first.receiver;
-      windows = record { peer_window = first.windows.peer_window; congestion = first.windows.congestion };
-      pace = record { used = first.pace.used; burst = first.pace.burst; paused = first.pace.paused };
-      skip = first.skip;
+      path = first.path;
     } in
     alike_then _ c.follow.new.self _ begun c.settle.ensures.halves
 

@@ -1,7 +1,7 @@
 use Rattle.std.proofs.Common.{Ok}
 use Rattle.sctp_association.proofs.Ends.{ends_echo, ends_init_ack, ends_row, ends_same_of, if_then, off_other, row_has}
 use Rattle.sctp_association.specs.declared.association.Association.{Association}
-use Rattle.sctp_association.proofs.Heard.{heard_at, heard_begun, heard_control, heard_echo, heard_init, heard_init_ack, heard_none}
+use Rattle.sctp_association.proofs.Expected.{expected_at, expected_begun, expected_control, expected_echo, expected_init, expected_init_ack, expected_none}
 use Rattle.sctp_association.proofs.Telling.{tells_due, tells_peer, tells_same, tells_still}
 use Rattle.std.proofs.Common.{ap, arith, refl, rules, sym, ◌≡◌, ◌∙◌}
 use Rattle.std.proofs.lemmas.Bool.{false≢true}
@@ -122,53 +122,53 @@ returns-in-192-clause-alone c =
 pub returns-in_default-clause-alone : goal.returns-in_default-clause-alone
 returns-in_default-clause-alone c = c.take_control.ensures.alone (search rules, search rules, search rules, search rules) c.args.tag
 
--- ## What is heard is not refused
+-- ## What is expected is not refused
 
 pub returns-then-not-is_beginning-clause-due : goal.returns-then-not-is_beginning-clause-due
-returns-then-not-is_beginning-clause-due c admitted heard r is =
-    heard_begun c.args.chunk c.args.tag c.args.datagram.now c.args.now c.args.self.now heard (search rules) (search rules) (search rules)
+returns-then-not-is_beginning-clause-due c admitted expected r is =
+    expected_begun c.args.chunk c.args.tag c.args.datagram.now c.args.now c.args.self.now expected (search rules) (search rules) (search rules)
 
 pub returns-in-0-clause-due : goal.returns-in-0-clause-due
-returns-in-0-clause-due c admitted heard =
+returns-in-0-clause-due c admitted expected =
     let typ : c.args.chunk.typ ≡ 0 = search rules in
-    c.take_data.ensures.due (heard_at c.args.chunk c.args.tag c.args.datagram.now c.args.now c.args.self.now heard 0 typ (λ e. omega (arith, e)) (λ e. omega (arith, e)) (λ e. omega (arith, e))).0
+    c.take_data.ensures.due (expected_at c.args.chunk c.args.tag c.args.datagram.now c.args.now c.args.self.now expected 0 typ (λ e. omega (arith, e)) (λ e. omega (arith, e)) (λ e. omega (arith, e))).0
 
 pub returns-in-1-clause-due : goal.returns-in-1-clause-due
-returns-in-1-clause-due c admitted heard =
+returns-in-1-clause-due c admitted expected =
     let typ : c.args.chunk.typ ≡ 1 = search rules in
-    c.take_init.ensures.heard (heard_init c.args.chunk c.args.tag c.args.datagram.now c.args.now c.args.self.now heard typ)
+    c.take_init.ensures.expected (expected_init c.args.chunk c.args.tag c.args.datagram.now c.args.now c.args.self.now expected typ)
 
 pub returns-in-2-clause-due : goal.returns-in-2-clause-due
-returns-in-2-clause-due c admitted heard =
+returns-in-2-clause-due c admitted expected =
     let typ : c.args.chunk.typ ≡ 2 = search rules in
-    c.take_init_ack.ensures.heard (heard_init_ack c.args.chunk c.args.tag c.args.datagram.now c.args.now c.args.self.now heard typ)
+    c.take_init_ack.ensures.expected (expected_init_ack c.args.chunk c.args.tag c.args.datagram.now c.args.now c.args.self.now expected typ)
 
 pub returns-in-3-clause-due : goal.returns-in-3-clause-due
-returns-in-3-clause-due c admitted heard =
+returns-in-3-clause-due c admitted expected =
     let typ : c.args.chunk.typ ≡ 3 = search rules in
-    c.take_sack.ensures.due (heard_at c.args.chunk c.args.tag c.args.datagram.now c.args.now c.args.self.now heard 3 typ (λ e. omega (arith, e)) (λ e. omega (arith, e)) (λ e. omega (arith, e))).0
+    c.take_sack.ensures.due (expected_at c.args.chunk c.args.tag c.args.datagram.now c.args.now c.args.self.now expected 3 typ (λ e. omega (arith, e)) (λ e. omega (arith, e)) (λ e. omega (arith, e))).0
 
 pub returns-in-10-clause-due : goal.returns-in-10-clause-due
-returns-in-10-clause-due c admitted heard =
+returns-in-10-clause-due c admitted expected =
     let typ : c.args.chunk.typ ≡ 10 = search rules in
-    c.take_cookie.ensures.heard (heard_echo c.args.chunk c.args.tag c.args.datagram.now c.args.now c.args.self.now heard typ)
+    c.take_cookie.ensures.expected (expected_echo c.args.chunk c.args.tag c.args.datagram.now c.args.now c.args.self.now expected typ)
 
 pub returns-in-130-clause-due : goal.returns-in-130-clause-due
-returns-in-130-clause-due c admitted heard r is =
+returns-in-130-clause-due c admitted expected r is =
     let typ : c.args.chunk.typ ≡ 130 = search rules in
-    heard_none c.args.self.now 130 refl refl
-    (heard_at c.args.chunk c.args.tag c.args.datagram.now c.args.now c.args.self.now heard 130 typ (λ e. omega (arith, e)) (λ e. omega (arith, e)) (λ e. omega (arith, e))).0
+    expected_none c.args.self.now 130 refl refl
+    (expected_at c.args.chunk c.args.tag c.args.datagram.now c.args.now c.args.self.now expected 130 typ (λ e. omega (arith, e)) (λ e. omega (arith, e)) (λ e. omega (arith, e))).0
 
 pub returns-in-192-clause-due : goal.returns-in-192-clause-due
-returns-in-192-clause-due c admitted heard =
+returns-in-192-clause-due c admitted expected =
     let typ : c.args.chunk.typ ≡ 192 = search rules in
-    c.take_skip.ensures.due (heard_at c.args.chunk c.args.tag c.args.datagram.now c.args.now c.args.self.now heard 192 typ (λ e. omega (arith, e)) (λ e. omega (arith, e)) (λ e. omega (arith, e))).0
+    c.take_skip.ensures.due (expected_at c.args.chunk c.args.tag c.args.datagram.now c.args.now c.args.self.now expected 192 typ (λ e. omega (arith, e)) (λ e. omega (arith, e)) (λ e. omega (arith, e))).0
 
 pub returns-in_default-clause-due : goal.returns-in_default-clause-due
-returns-in_default-clause-due c admitted heard =
-    let at = heard_at c.args.chunk c.args.tag c.args.datagram.now c.args.now c.args.self.now heard c.args.chunk.typ refl (search rules) (search rules) (search rules) in
-    let control = heard_control c.args.self.now c.args.chunk.typ (search rules) (search rules) (search rules) at.0 in
-    c.take_control.ensures.heard control.0 control.1 at.1
+returns-in_default-clause-due c admitted expected =
+    let at = expected_at c.args.chunk c.args.tag c.args.datagram.now c.args.now c.args.self.now expected c.args.chunk.typ refl (search rules) (search rules) (search rules) in
+    let control = expected_control c.args.self.now c.args.chunk.typ (search rules) (search rules) (search rules) at.0 in
+    c.take_control.ensures.expected control.0 control.1 at.1
 
 -- ## What ends the association
 

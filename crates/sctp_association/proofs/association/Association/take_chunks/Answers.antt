@@ -8,7 +8,7 @@ use Rattle.std.proofs.lemmas.Bool.{false≢true}
 use Rattle.sctp_association.proofs.Arrived.{arrives_of, alike_halves}
 use Rattle.sctp_association.proofs.Single.{alone_next, alone_stop}
 use Rattle.sctp_association.specs.Single.{AloneAt, AloneOn}
-use Rattle.sctp_association.specs.Heard.{IsHeard}
+use Rattle.sctp_association.specs.Expected.{IsExpected}
 use Rattle.sctp_association.specs.Rows.{Settles}
 use Rattle.sctp_association.proofs.Coming.{if_ok, takes_still}
 use Rattle.sctp_association.proofs.First.{admits_of, one_first}
@@ -171,7 +171,7 @@ returns-clause-takes c first are typ is =
 -- ## What is due, and each DATA chunk
 
 pub returns-in-Refused-clause-due : goal.returns-in-Refused-clause-due
-returns-in-Refused-clause-due c first rest are admitted heard r is =
+returns-in-Refused-clause-due c first rest are admitted expected r is =
     let same = first_same _ _ _ _ (sym c.in-Some.ensures.place ∙ are) in
     let refused : c.take_first.result ≡ Ok (step.Refused c.in-Refused.reason) = search rules in
     let tag : u32_at c.args.datagram.now 4 ≡ c.header-tag.result.verification_tag =
@@ -181,8 +181,8 @@ returns-in-Refused-clause-due c first rest are admitted heard r is =
     (ap (λ (p : ChunkPlace). is_admitted p c.header-tag.result.verification_tag c.left-count.result c.args.self.now.machine) same
     ∙ sym (ap (λ n. is_admitted first n c.left-count.result c.args.self.now.machine) tag)
     ∙ sym (ap (λ n. is_admitted first (u32_at c.args.datagram.now 4) n c.args.self.now.machine) count) ∙ admitted)
-    (subst (λ (p : ChunkPlace). IsHeard p c.header-tag.result.verification_tag c.args.datagram.now c.args.now c.args.self.now) (sym same)
-    (subst (λ (n : ℕ). IsHeard first n c.args.datagram.now c.args.now c.args.self.now) tag heard)) _ refused
+    (subst (λ (p : ChunkPlace). IsExpected p c.header-tag.result.verification_tag c.args.datagram.now c.args.now c.args.self.now) (sym same)
+    (subst (λ (n : ℕ). IsExpected first n c.args.datagram.now c.args.now c.args.self.now) tag expected)) _ refused
 
 pub returns-in-Stop-clause-each : goal.returns-in-Stop-clause-each
 returns-in-Stop-clause-each c takes is =

@@ -1,5 +1,5 @@
 use Rattle.std.proofs.lemmas.Bool.{and_parts}
-use Rattle.sctp_association.specs.Heard.{expects, may_begin, speaks}
+use Rattle.sctp_association.specs.Expected.{expects, may_begin, speaks}
 use Rattle.sctp_association.specs.declared.association.arrivals.Step.TheVariants.{Refused}
 use Rattle.sctp_association.proofs.Telling.{tells_due, tells_peer, tells_still}
 use Rattle.std.proofs.Common.{Ok, ap, arith, refl, rules, sym, ◌≡◌, ◌∙◌}
@@ -129,7 +129,7 @@ returns-in-8-clause-alone c other tag =
     let took = c.shutdown_ack-answer.ensures.takes in
     let steps : c.take_answer.result ≡ Next → FollowsStep (on_shutdown_ack c.args.self.now.machine) c.peer_tag-tag.result c.args.self.now c.take_answer.new.self = λ is.
     follows_step _ _ _ _ _ _ took.machine took.answer c.take_answer.ensures.kept.machine (
-    let h = c.take_answer.ensures.answer is in record { due = h.due; over = h.over; told = h.told; wants = h.wants }
+    let h = c.take_answer.ensures.answer is in record { due = h.due; echo = h.echo; over = h.over; told = h.told; wants = h.wants }
     ) in
     alone_plain c.args.chunk tag d c.args.now c.args.self.now c.take_answer.new.self (Ok c.take_answer.result) 8 typ refl
     (row_steps c.args.chunk d c.args.now c.args.self.now c.take_answer.new.self (on_shutdown_ack c.args.self.now.machine) c.peer_tag-tag.result
@@ -161,7 +161,7 @@ returns-in-14-clause-alone c other tag =
     let took = c.shutdown_complete-answer.ensures.takes in
     let steps : c.take_answer-in-14.result ≡ Next → FollowsStep (on_shutdown_complete c.args.self.now.machine) 0 c.args.self.now c.take_answer-in-14.new.self = λ is.
     follows_step _ _ _ _ _ _ took.machine took.answer c.take_answer-in-14.ensures.kept.machine (
-    let h = c.take_answer-in-14.ensures.answer is in record { due = h.due; over = h.over; told = h.told; wants = h.wants }
+    let h = c.take_answer-in-14.ensures.answer is in record { due = h.due; echo = h.echo; over = h.over; told = h.told; wants = h.wants }
     ) in
     alone_plain c.args.chunk tag d c.args.now c.args.self.now c.take_answer-in-14.new.self (Ok c.take_answer-in-14.result) 14 typ refl
     (row_steps c.args.chunk d c.args.now c.args.self.now c.take_answer-in-14.new.self (on_shutdown_complete c.args.self.now.machine) 0
@@ -181,52 +181,52 @@ returns-in_default-clause-alone c other tag =
 
 -- ## What is expected is not refused
 
-pub returns-in-4-clause-heard : goal.returns-in-4-clause-heard
-returns-in-4-clause-heard c begun expected reads =
+pub returns-in-4-clause-expected : goal.returns-in-4-clause-expected
+returns-in-4-clause-expected c begun expected reads =
     let typ : c.args.chunk.typ ≡ 4 = search rules in
     let info = reads.heartbeat typ in
-    c.take_heartbeat.ensures.heard (sym (ap (λ n. expects n c.args.self.now) typ) ∙ expected) info.0 info.1
+    c.take_heartbeat.ensures.expected (sym (ap (λ n. expects n c.args.self.now) typ) ∙ expected) info.0 info.1
 
-pub returns-in-5-clause-heard : goal.returns-in-5-clause-heard
-returns-in-5-clause-heard c begun expected reads =
+pub returns-in-5-clause-expected : goal.returns-in-5-clause-expected
+returns-in-5-clause-expected c begun expected reads =
     let typ : c.args.chunk.typ ≡ 5 = search rules in
     let info = reads.heartbeat_ack typ in
-    c.take_heartbeat_ack.ensures.heard (sym (ap (λ n. expects n c.args.self.now) typ) ∙ expected) info.0 info.1
+    c.take_heartbeat_ack.ensures.expected (sym (ap (λ n. expects n c.args.self.now) typ) ∙ expected) info.0 info.1
 
-pub returns-in-6-clause-heard : goal.returns-in-6-clause-heard
-returns-in-6-clause-heard c begun expected reads r is =
+pub returns-in-6-clause-expected : goal.returns-in-6-clause-expected
+returns-in-6-clause-expected c begun expected reads r is =
     let typ : c.args.chunk.typ ≡ 6 = search rules in
     let refused : c.take_abort.result ≡ Refused r = search rules in
-    c.take_abort.ensures.heard (sym (ap (λ n. expects n c.args.self.now) typ) ∙ expected) r refused
+    c.take_abort.ensures.expected (sym (ap (λ n. expects n c.args.self.now) typ) ∙ expected) r refused
 
-pub returns-in-7-clause-heard : goal.returns-in-7-clause-heard
-returns-in-7-clause-heard c begun expected reads =
+pub returns-in-7-clause-expected : goal.returns-in-7-clause-expected
+returns-in-7-clause-expected c begun expected reads =
     let typ : c.args.chunk.typ ≡ 7 = search rules in
     let tsn = reads.shutdown typ in
-    c.take_shutdown.ensures.heard (sym (ap (λ n. expects n c.args.self.now) typ) ∙ expected) tsn.0 tsn.1
+    c.take_shutdown.ensures.expected (sym (ap (λ n. expects n c.args.self.now) typ) ∙ expected) tsn.0 tsn.1
 
-pub returns-in-8-clause-heard : goal.returns-in-8-clause-heard
-returns-in-8-clause-heard c begun expected reads r is =
+pub returns-in-8-clause-expected : goal.returns-in-8-clause-expected
+returns-in-8-clause-expected c begun expected reads r is =
     let typ : c.args.chunk.typ ≡ 8 = search rules in
     let refused : c.take_answer.result ≡ Refused r = search rules in
-    c.take_answer.ensures.heard (ap speaks c.shutdown_ack-answer.ensures.takes.answer ∙ sym (ap (λ n. expects n c.args.self.now) typ) ∙ expected) r refused
+    c.take_answer.ensures.expected (ap speaks c.shutdown_ack-answer.ensures.takes.answer ∙ sym (ap (λ n. expects n c.args.self.now) typ) ∙ expected) r refused
 
-pub returns-in-9-clause-heard : goal.returns-in-9-clause-heard
-returns-in-9-clause-heard c begun expected reads r is =
+pub returns-in-9-clause-expected : goal.returns-in-9-clause-expected
+returns-in-9-clause-expected c begun expected reads r is =
     let refused : c.take_error.result ≡ Refused r = search rules in
     c.take_error.ensures.never r refused
 
-pub returns-in-11-clause-heard : goal.returns-in-11-clause-heard
-returns-in-11-clause-heard c begun expected reads r is =
+pub returns-in-11-clause-expected : goal.returns-in-11-clause-expected
+returns-in-11-clause-expected c begun expected reads r is =
     let typ : c.args.chunk.typ ≡ 11 = search rules in
     let refused : c.take_cookie_ack.result ≡ Refused r = search rules in
     let both = and_parts (speaks (on_cookie_ack c.args.self.now.machine).answer) (may_begin c.args.self.now)
     (sym (ap (λ n. expects n c.args.self.now) typ) ∙ expected) in
-    c.take_cookie_ack.ensures.heard both.0 both.1 r refused
+    c.take_cookie_ack.ensures.expected both.0 both.1 r refused
 
-pub returns-in-14-clause-heard : goal.returns-in-14-clause-heard
-returns-in-14-clause-heard c begun expected reads r is =
+pub returns-in-14-clause-expected : goal.returns-in-14-clause-expected
+returns-in-14-clause-expected c begun expected reads r is =
     let typ : c.args.chunk.typ ≡ 14 = search rules in
     let refused : c.take_answer-in-14.result ≡ Refused r = search rules in
-    c.take_answer-in-14.ensures.heard (ap speaks c.shutdown_complete-answer.ensures.takes.answer
+    c.take_answer-in-14.ensures.expected (ap speaks c.shutdown_complete-answer.ensures.takes.answer
     ∙ sym (ap (λ n. expects n c.args.self.now) typ) ∙ expected) r refused

@@ -10,7 +10,7 @@ use Rattle.sctp_association.proofs.Kept.{same_machine}
 use Rattle.sctp_association.proofs.Offered.{offered_kept, offered_same}
 use Rattle.sctp_association.proofs.Offers.{cookie_offered}
 use Rattle.sctp_association.proofs.Stale.{stale_keeps}
-use Rattle.sctp_association.proofs.Openings.{echo_heard, echoes_by, err_ok, ok_same}
+use Rattle.sctp_association.proofs.Openings.{echo_expected, echoes_by, err_ok, ok_same}
 use Rattle.sctp_association.specs.Openings.{is_stale_reply}
 use Rattle.sctp_association.specs.Beginnings.{IsEchoed, is_standing}
 use Rattle.sctp_association.specs.Cookies.{IsSealedAt, cookie_in}
@@ -175,7 +175,7 @@ returns-in-Some-StaleCookie-clause-row c =
       _,
       ap is_stale_reply (sym (ap (λ a. a.reply) takes.answer) ∙ found),
       echoes_by c.args.tag _ c.args.now c.args.self.now c.follow.new.self c.in-Some.moment made c.is_stale-is_old.result c.is_stale-is_old.ensures _ _ takes
-          c.follow.ensures.kept.machine (record { due = h.due; over = h.over; told = h.told; wants = h.wants }),
+          c.follow.ensures.kept.machine (record { due = h.due; echo = h.echo; over = h.over; told = h.told; wants = h.wants }),
     )
 
 pub returns-in_default-reply-clause-row : goal.returns-in_default-reply-clause-row
@@ -193,7 +193,7 @@ returns-in_default-reply-clause-row c =
       _,
       ap is_stale_reply (sym (ap (λ a. a.reply) takes.answer)) ∙ fresh,
       echoes_by c.args.tag _ c.args.now c.args.self.now c.follow.new.self c.in-Some.moment made c.is_stale-is_old.result c.is_stale-is_old.ensures _ _ takes
-          c.follow.ensures.kept.machine (record { due = h.due; over = h.over; told = h.told; wants = h.wants }),
+          c.follow.ensures.kept.machine (record { due = h.due; echo = h.echo; over = h.over; told = h.told; wants = h.wants }),
     )
 
 pub returns-in_default-reply-2-clause-row : goal.returns-in_default-reply-2-clause-row
@@ -211,16 +211,16 @@ returns-in_default-reply-2-clause-row c =
       _,
       ap is_stale_reply (sym (ap (λ a. a.reply) takes.answer)) ∙ fresh,
       echoes_by c.args.tag _ c.args.now c.args.self.now c.follow.new.self c.in-Some.moment made c.is_stale-is_old.result c.is_stale-is_old.ensures _ _ takes
-          c.follow.ensures.kept.machine (record { due = h.due; over = h.over; told = h.told; wants = h.wants }),
+          c.follow.ensures.kept.machine (record { due = h.due; echo = h.echo; over = h.over; told = h.told; wants = h.wants }),
     )
 
--- ## What is heard is not refused
+-- ## What is expected is not refused
 
 cut_as : {b d code : List ℕ} (n : ℕ) → b ≡ d → slice_range d 4 n ≡ code → slice_range b 4 n ≡ code
 cut_as n same is = ap (λ (l : List ℕ). slice_range l 4 n) same ∙ is
 
-pub returns-then-chunk-raw-clause-heard : goal.returns-then-chunk-raw-clause-heard
-returns-then-chunk-raw-clause-heard c heard r is =
+pub returns-then-chunk-raw-clause-expected : goal.returns-then-chunk-raw-clause-expected
+returns-then-chunk-raw-clause-expected c expected r is =
     let frame = c.requires.place.there.is_framed in
     let size : c.args.chunk.length ≡ declared_length (drop c.args.chunk.at c.args.datagram.now) =
     ap (λ (k : ChunkPlace). k.length) c.requires.place.told in
@@ -230,26 +230,26 @@ returns-then-chunk-raw-clause-heard c heard r is =
       | then-chunk-raw-via-else-chunk-raw+then-chunk-lt4 w ↦ omega (arith, w.if-chunk-lt4.true, size, frame.least)
     ]
 
-pub returns-in_default-clause-heard : goal.returns-in_default-clause-heard
-returns-in_default-clause-heard c heard r is = c.in_default.ensures.only heard.moment heard.made.payload heard.long (cut_as c.args.chunk.length c.bytes_of-raw.ensures heard.made.code)
+pub returns-in_default-clause-expected : goal.returns-in_default-clause-expected
+returns-in_default-clause-expected c expected r is = c.in_default.ensures.only expected.moment expected.made.payload expected.long (cut_as c.args.chunk.length c.bytes_of-raw.ensures expected.made.code)
 
-pub returns-in_default-read-clause-heard : goal.returns-in_default-read-clause-heard
-returns-in_default-read-clause-heard c heard r is =
-    let same = c.in-Some.ensures.only heard.moment heard.made.payload heard.long (cut_as c.args.chunk.length c.bytes_of-raw.ensures heard.made.code) in
-    err_ok heard.made.ticket _ (sym c.in_default-read.is ∙ c.read.ensures ∙ ap ticket_in same.1 ∙ heard.made.holds)
+pub returns-in_default-read-clause-expected : goal.returns-in_default-read-clause-expected
+returns-in_default-read-clause-expected c expected r is =
+    let same = c.in-Some.ensures.only expected.moment expected.made.payload expected.long (cut_as c.args.chunk.length c.bytes_of-raw.ensures expected.made.code) in
+    err_ok expected.made.ticket _ (sym c.in_default-read.is ∙ c.read.ensures ∙ ap ticket_in same.1 ∙ expected.made.holds)
 
-pub returns-then-ticket-tag-clause-heard : goal.returns-then-ticket-tag-clause-heard
-returns-then-ticket-tag-clause-heard c heard r is =
-    let same = c.in-Some.ensures.only heard.moment heard.made.payload heard.long (cut_as c.args.chunk.length c.bytes_of-raw.ensures heard.made.code) in
-    let ticket : c.in-Ok.ticket ≡ heard.made.ticket = ok_same c.read.result _ _ c.in-Ok.is (c.read.ensures ∙ ap ticket_in same.1 ∙ heard.made.holds) in
-    let own : c.in-Ok.ticket.own.tag ≡ c.args.tag = ap (λ (t : Ticket). t.own.tag) ticket ∙ heard.made.own in
+pub returns-then-ticket-tag-clause-expected : goal.returns-then-ticket-tag-clause-expected
+returns-then-ticket-tag-clause-expected c expected r is =
+    let same = c.in-Some.ensures.only expected.moment expected.made.payload expected.long (cut_as c.args.chunk.length c.bytes_of-raw.ensures expected.made.code) in
+    let ticket : c.in-Ok.ticket ≡ expected.made.ticket = ok_same c.read.result _ _ c.in-Ok.is (c.read.ensures ∙ ap ticket_in same.1 ∙ expected.made.holds) in
+    let own : c.in-Ok.ticket.own.tag ≡ c.args.tag = ap (λ (t : Ticket). t.own.tag) ticket ∙ expected.made.own in
     absurd (search (rules, own))
 
-pub returns-then-is_none-2-clause-heard : goal.returns-then-is_none-2-clause-heard
-returns-then-is_none-2-clause-heard c heard r is =
-    let same = c.in-Some.ensures.only heard.moment heard.made.payload heard.long (cut_as c.args.chunk.length c.bytes_of-raw.ensures heard.made.code) in
-    let ticket : c.in-Ok.ticket ≡ heard.made.ticket = ok_same c.read.result _ _ c.in-Ok.is (c.read.ensures ∙ ap ticket_in same.1 ∙ heard.made.holds) in
+pub returns-then-is_none-2-clause-expected : goal.returns-then-is_none-2-clause-expected
+returns-then-is_none-2-clause-expected c expected r is =
+    let same = c.in-Some.ensures.only expected.moment expected.made.payload expected.long (cut_as c.args.chunk.length c.bytes_of-raw.ensures expected.made.code) in
+    let ticket : c.in-Ok.ticket ≡ expected.made.ticket = ok_same c.read.result _ _ c.in-Ok.is (c.read.ensures ∙ ap ticket_in same.1 ∙ expected.made.holds) in
     let reply : c.cookie_echo-answer.result.reply ≡ None = search rules in
     let told : c.cookie_echo-answer.result.told ≡ None = search rules in
-    echo_heard c.args.now c.args.self.now c.in-Some.moment c.in-Ok.ticket c.is_stale-is_old.result c.is_stale-is_old.ensures _ _
-    c.cookie_echo-answer.ensures.takes _ _ same.0 ticket heard.speaks reply told
+    echo_expected c.args.now c.args.self.now c.in-Some.moment c.in-Ok.ticket c.is_stale-is_old.result c.is_stale-is_old.ensures _ _
+    c.cookie_echo-answer.ensures.takes _ _ same.0 ticket expected.speaks reply told

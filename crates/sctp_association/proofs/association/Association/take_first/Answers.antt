@@ -1,6 +1,6 @@
 use Rattle.sctp_association.proofs.Single.{alone_refused}
 use Rattle.std.proofs.Common.{inl, inr, refl}
-use Rattle.sctp_association.proofs.Behind.{not_heard}
+use Rattle.sctp_association.proofs.Behind.{not_expected}
 use Rattle.sctp_association.proofs.Ends.{if_then}
 use Rattle.sctp_association.specs.declared.association.Reason.TheVariants.{Tag}
 use Rattle.sctp_association.proofs.Ends.{ends_same}
@@ -47,7 +47,7 @@ returns-in-Refused-Unexpected-clause-first c =
     inr (
       refl,
       c.take_chunk-2.ensures.refused Unexpected is,
-      not_heard c.args.chunk c.args.tag c.args.count c.args.datagram.now c.args.now c.args.self.now c.take_chunk-2.result Unexpected Tag
+      not_expected c.args.chunk c.args.tag c.args.count c.args.datagram.now c.args.now c.args.self.now c.take_chunk-2.result Unexpected Tag
           c.take_chunk-2.ensures.foreign tag≢unexpected c.take_chunk-2.ensures.due is,
     )
   where

@@ -4,6 +4,6 @@ use Rattle.sctp_params.specs.Param.{heartbeat_info}
 use Rattle.sctp_association.proofs.association.Association.take_heartbeat_ack.Goals as goal
 
 -- a HEARTBEAT-ACK is read
-pub returns-in_default-clause-heard : goal.returns-in_default-clause-heard
-returns-in_default-clause-heard c asked info reads r is =
+pub returns-in_default-clause-expected : goal.returns-in_default-clause-expected
+returns-in_default-clause-expected c asked info reads r is =
     c.in_ok-ack.ensures.some (heartbeat_ack_chunk (heartbeat_info info ∷ [])) tt reads (ap Ok c.in_default.is)

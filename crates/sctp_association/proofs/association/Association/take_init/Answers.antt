@@ -1,5 +1,5 @@
 use Rattle.sctp_association.proofs.Kept.{same_due}
-use Rattle.sctp_association.proofs.Heard.{offer_answered, value_found}
+use Rattle.sctp_association.proofs.Expected.{offer_answered, value_found}
 use Rattle.sctp_association.proofs.Openings.{ok_same}
 use Rattle.sctp_handshake.specs.declared.init_value.Said.{Said}
 use Rattle.std.proofs.Common.{Ok, Option, Some, ap, drop, inl, rules, sym, ◌≡◌, ◌∙◌}
@@ -36,23 +36,23 @@ returns-in_ok-self-in-Some-2-clause-offers c none =
       }) answer;
     }
 
--- ## What is heard is not refused
+-- ## What is expected is not refused
 
-pub returns-in_default-clause-heard : goal.returns-in_default-clause-heard
-returns-in_default-clause-heard c heard r is =
-    value_found c.args.datagram.now c.args.chunk c.requires.place (inl heard.typ) heard.said heard.reads c.bytes_of.result.now c.bytes_of.ensures _
+pub returns-in_default-clause-expected : goal.returns-in_default-clause-expected
+returns-in_default-clause-expected c expected r is =
+    value_found c.args.datagram.now c.args.chunk c.requires.place (inl expected.typ) expected.said expected.reads c.bytes_of.result.now c.bytes_of.ensures _
     c.in_default.ensures.fault
 
-pub returns-in_default-read_init-clause-heard : goal.returns-in_default-read_init-clause-heard
-returns-in_default-read_init-clause-heard c heard r is =
-    c.in_default-read_init.not-Ok heard.said (c.read_init.ensures ∙ ap init_in (c.in-Ok.ensures.value ∙ ap value_at c.bytes_of.ensures) ∙ heard.reads)
+pub returns-in_default-read_init-clause-expected : goal.returns-in_default-read_init-clause-expected
+returns-in_default-read_init-clause-expected c expected r is =
+    c.in_default-read_init.not-Ok expected.said (c.read_init.ensures ∙ ap init_in (c.in-Ok.ensures.value ∙ ap value_at c.bytes_of.ensures) ∙ expected.reads)
 
-pub returns-in-None-clause-heard : goal.returns-in-None-clause-heard
-returns-in-None-clause-heard c heard r is =
-    let said : c.in-Ok-read_init.said ≡ heard.said = ok_same c.read_init.result _ _ c.in-Ok-read_init.is
-    (c.read_init.ensures ∙ ap init_in (c.in-Ok.ensures.value ∙ ap value_at c.bytes_of.ensures) ∙ heard.reads) in
+pub returns-in-None-clause-expected : goal.returns-in-None-clause-expected
+returns-in-None-clause-expected c expected r is =
+    let said : c.in-Ok-read_init.said ≡ expected.said = ok_same c.read_init.result _ _ c.in-Ok-read_init.is
+    (c.read_init.ensures ∙ ap init_in (c.in-Ok.ensures.value ∙ ap value_at c.bytes_of.ensures) ∙ expected.reads) in
     offer_answered c.in-Ok-read_init.said.offer c.fresh_tag-tag.result c.args.self.now.machine
-    (λ none. heard.tagged (sym (ap (λ (s : Said). s.offer.tag) said) ∙ none)) (sym c.init.ensures ∙ c.in-None.is)
+    (λ none. expected.tagged (sym (ap (λ (s : Said). s.offer.tag) said) ∙ none)) (sym c.init.ensures ∙ c.in-None.is)
 
 pub returns-in-Some-host_name_in-clause-due : goal.returns-in-Some-host_name_in-clause-due
 returns-in-Some-host_name_in-clause-due c = same_due c.args.self.now c.owe_alone.new.self _ c.owe_alone.ensures.rest

@@ -1,4 +1,4 @@
-use Rattle.sctp_association.proofs.Heard.{init_ack_answered, said_of, value_found}
+use Rattle.sctp_association.proofs.Expected.{init_ack_answered, said_of, value_found}
 use Rattle.sctp_association.proofs.Rows.{follows_noted, follows_step}
 use Rattle.sctp_association.proofs.Known.{knows_same, within_same, within_then}
 use Rattle.sctp_association.proofs.Telling.{end_same, end_then, tells_init_ack, tells_kept, to_same}
@@ -84,16 +84,16 @@ returns-clause-row c =
           (c.follow.ensures.stays (ap (λ a. a.told) takes.answer ∙ none)).cookie ∙ kept;
     }
 
--- ## What is heard is not refused
+-- ## What is expected is not refused
 
-pub returns-in_default-clause-heard : goal.returns-in_default-clause-heard
-returns-in_default-clause-heard c heard r is =
-    let said = said_of _ _ heard.reads in
-    value_found c.args.datagram.now c.args.chunk c.requires.place (inr heard.typ) said.0 said.1 c.bytes_of.result.now c.bytes_of.ensures _
+pub returns-in_default-clause-expected : goal.returns-in_default-clause-expected
+returns-in_default-clause-expected c expected r is =
+    let said = said_of _ _ expected.reads in
+    value_found c.args.datagram.now c.args.chunk c.requires.place (inr expected.typ) said.0 said.1 c.bytes_of.result.now c.bytes_of.ensures _
     c.in_default.ensures.fault
 
-pub returns-then-is_none-2-clause-heard : goal.returns-then-is_none-2-clause-heard
-returns-then-is_none-2-clause-heard c heard r is =
+pub returns-then-is_none-2-clause-expected : goal.returns-then-is_none-2-clause-expected
+returns-then-is_none-2-clause-expected c expected r is =
     let reply : c.init_ack-answer.result.reply ≡ None = search rules in
     let told : c.init_ack-answer.result.told ≡ None = search rules in
-    init_ack_answered _ _ c.init_ack-answer.result heard.waits c.init_ack-answer.ensures.takes.answer reply told
+    init_ack_answered _ _ c.init_ack-answer.result expected.waits c.init_ack-answer.ensures.takes.answer reply told

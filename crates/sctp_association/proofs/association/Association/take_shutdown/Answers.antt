@@ -53,5 +53,5 @@ returns-clause-shuts c =
     shuts_still _ _ _ _ _ _ same (record { tsn = c.in-Some.shutdown.cumulative_tsn_ack; reads = reads; shuts = shuts })
 
 -- a SHUTDOWN is read
-pub returns-in_default-clause-heard : goal.returns-in_default-clause-heard
-returns-in_default-clause-heard c expected tsn reads r is = c.in_ok-shutdown.ensures.some (shutdown_chunk tsn) tt reads (ap Ok c.in_default.is)
+pub returns-in_default-clause-expected : goal.returns-in_default-clause-expected
+returns-in_default-clause-expected c expected tsn reads r is = c.in_ok-shutdown.ensures.some (shutdown_chunk tsn) tt reads (ap Ok c.in_default.is)

@@ -21,9 +21,7 @@ returns-clause-others c = elim c.if-is_put.branch [
       (record {
         sender = refl;
         receiver = refl;
-        windows = record { peer_window = refl; congestion = refl };
-        pace = record { used = refl; burst = refl; paused = refl };
-        skip = refl;
+        path = refl;
       })
       (record {
         config = refl;
@@ -53,9 +51,7 @@ returns-clause-others c = elim c.if-is_put.branch [
       others_none c.args.self.now _ (record {
         sender = refl;
         receiver = refl;
-        windows = record { peer_window = refl; congestion = refl };
-        pace = record { used = refl; burst = refl; paused = refl };
-        skip = refl;
+        path = refl;
       })
       (record {
         config = refl;

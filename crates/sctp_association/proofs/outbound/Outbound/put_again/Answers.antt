@@ -1,6 +1,7 @@
 use Rattle.sctp_association.proofs.Fewer.{fewer_same}
 use Rattle.std.proofs.Common.{ap, refl, sym, ℕ, ◌∙◌}
 use Rattle.std.specs.List.{count_by}
+use Rattle.sctp_association.proofs.Congested.{again_where}
 use Rattle.sctp_association.proofs.Idle.{both_so, none_marked, unfit}
 use Rattle.sctp_association.proofs.Putting.{nothing}
 use Rattle.sctp_outbound.specs.declared.payload_queue.outstanding.Outstanding.{Outstanding}
@@ -27,6 +28,9 @@ returns-clause-none c = both_so _ _ _ c.put_first.result (λ s none held is _. r
   clear = λ e. absurd (c.if-outstanding-eq0.false
       (ap (λ (o : Outstanding). o.marked) c.outstanding.ensures ∙ ap {B = ℕ} (count_by is_to_resend) e));
 }) c.put_first.ensures.none c.put_first.ensures.held
+
+pub returns-clause-again : goal.returns-clause-again
+returns-clause-again c = again_where c.args.now _ _ _ (sym c.may_send_again.ensures.value ∙ c.if-not-may_send_again.false) c.put_first.ensures.again
 
 pub returns-then-not-may_send_again-clause-fewer : goal.returns-then-not-may_send_again-clause-fewer
 returns-then-not-may_send_again-clause-fewer c = fewer_same _ _ _ _ refl refl

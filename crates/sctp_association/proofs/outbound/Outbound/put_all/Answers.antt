@@ -1,27 +1,44 @@
+use Rattle.sctp_association.proofs.Congested.{news_skip, resends_skip, within_again, within_both, within_same, within_told}
+use Rattle.std.proofs.Common.{arith, refl, ◌∙◌}
+use Rattle.sctp_association.proofs.Idle.{both_wait, on_ok_so}
+use Rattle.sctp_association.proofs.Putting.{skip_then, still_so}
 use Rattle.sctp_association.proofs.Fewer.{fewer_then}
-use Rattle.sctp_association.proofs.Congested.{skipped, within_after, within_again, within_behind, within_full}
-use Rattle.sctp_association.proofs.Putting.{out_then}
 use Rattle.sctp_association.proofs.outbound.Outbound.put_all.Goals as goal
 
 pub returns-in_err-put_lost-clause-made : goal.returns-in_err-put_lost-clause-made
-returns-in_err-put_lost-clause-made c = out_then _ _ _ _ _ _ c.put_skip.ensures.made c.put_lost.ensures.made
+returns-in_err-put_lost-clause-made c = still_so _ _ _ _ _ _ _ (resends_skip c.args.now _ _ _ _ _ c.put_lost.ensures.again)
+    (skip_then _ _ _ _ _ _ _ _ c.put_skip.ensures.made c.put_lost.ensures.made)
 
 pub returns-clause-made : goal.returns-clause-made
-returns-clause-made c =
-    out_then _ _ _ _ _ _ (out_then _ _ _ _ _ _ c.put_skip.ensures.made c.put_lost.ensures.made) c.put_new.ensures.made
+returns-clause-made c = still_so _ _ _ _ _ _ _
+    (news_skip c.args.now _ _ _ c.put_new.ensures.within ∙ resends_skip c.args.now _ _ _ _ _ c.put_lost.ensures.again)
+    (skip_then _ _ _ _ _ _ _ _ (skip_then _ _ _ _ _ _ _ _ c.put_skip.ensures.made c.put_lost.ensures.made) c.put_new.ensures.made)
 
 pub returns-in_err-put_skip-clause-within : goal.returns-in_err-put_skip-clause-within
-returns-in_err-put_skip-clause-within c = within_full c.args.now c.args.self.now c.put_skip.new.self (skipped c.args.self.now _ _ c.put_skip.ensures.rest)
+returns-in_err-put_skip-clause-within c = within_told c.args.now c.args.self.now c.put_skip.new.self c.put_skip.new.self c.put_skip.ensures.rest
+    (within_same c.args.now c.put_skip.new.self c.put_skip.new.self refl)
 
 pub returns-in_err-put_lost-clause-within : goal.returns-in_err-put_lost-clause-within
 returns-in_err-put_lost-clause-within c =
-    within_behind c.args.now c.args.self.now c.put_skip.new.self c.put_lost.new.self (skipped c.args.self.now _ _ c.put_skip.ensures.rest)
-    (within_again c.args.now c.put_skip.new.self c.put_lost.new.self c.put_lost.ensures.many)
+    within_told c.args.now c.args.self.now c.put_skip.new.self c.put_lost.new.self c.put_skip.ensures.rest
+    (within_again c.args.now c.put_skip.new.self c.put_lost.new.self c.put_lost.ensures.again c.put_lost.ensures.counts.along.rto)
 
 pub returns-clause-within : goal.returns-clause-within
 returns-clause-within c =
-    within_behind c.args.now c.args.self.now c.put_skip.new.self c.put_new.new.self (skipped c.args.self.now _ _ c.put_skip.ensures.rest)
-    (within_after c.args.now c.put_skip.new.self c.put_lost.new.self c.put_new.new.self c.put_lost.ensures.many c.put_new.ensures.within)
+    within_told c.args.now c.args.self.now c.put_skip.new.self c.put_new.new.self c.put_skip.ensures.rest
+    (within_both c.args.now c.put_skip.new.self c.put_lost.new.self c.put_new.new.self c.put_lost.ensures.again c.put_lost.ensures.counts.along.rto
+    c.put_new.ensures.within c.put_new.ensures.counts.rto)
+
+pub returns-clause-idle : goal.returns-clause-idle
+returns-clause-idle c = on_ok_so c.put_new.result (λ held head short.
+    let skip = c.put_skip.ensures in
+    let lost = c.put_lost.ensures in
+    let rest = c.put_new.ensures in
+    both_wait c.args.packet.now.limit _ _ c.put_skip.new.self c.put_lost.new.self c.put_new.new.self
+    (c.in_ok-put_lost.ensures.idle (omega (arith, head, skip.grows)) (omega (arith, short, rest.grows)))
+    (held (omega (arith, head, skip.grows, lost.grows)) short)
+    (omega (arith, head, short, skip.grows, lost.grows, rest.grows, skip.limit))
+    (omega (arith, head, short, skip.grows, lost.grows, rest.grows, skip.limit, lost.limit))) c.put_new.ensures.idle
 
 -- ## What can still leave
 

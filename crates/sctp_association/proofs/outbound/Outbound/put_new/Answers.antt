@@ -1,10 +1,11 @@
+use Rattle.std.proofs.Common.{Bool, ◌-◌, ap, arith, length, refl, subst, ◌∙◌}
 use Rattle.sctp_association.proofs.Fewer.{data_same, fewer_from, fewer_same, fewer_then}
-use Rattle.std.proofs.Common.{◌-◌, ap, arith, length, refl, subst, ◌∙◌}
 use Rattle.sctp_association.proofs.Counted.{none_same, none_then}
-use Rattle.sctp_association.proofs.Congested.{full_same, stays_then, within_from, within_none}
+use Rattle.sctp_association.proofs.Congested.{each_new, each_none, each_then, news_by, news_held}
 use Rattle.sctp_association.proofs.Idle.{waits_not}
 use Rattle.sctp_association.proofs.Putting.{from_same, kept, nothing, out_then}
 use Rattle.sctp_association.proofs.outbound.Outbound.put_new.Goals as goal
+use Rattle.sctp_association.specs.Congested.{begun, path_of}
 use Rattle.sctp_association.specs.declared.outbound.Outbound.{Outbound}
 use Rattle.sctp_association.specs.Idle.{WaitsBehind}
 use Rattle.sctp_sender.specs.Sender.{Transmission}
@@ -34,7 +35,7 @@ returns-then-not-branch-clause-idle c head short =
     }
 
 pub loop-init : goal.loop-init
-loop-init c = (refl, none_same _, (λ r. nothing _), omega arith, full_same _ _ _ refl, fewer_same _ _ _ _ refl refl)
+loop-init c = (refl, none_same _, (λ r. nothing _), omega arith, each_none _ _ _ refl, fewer_same _ _ _ _ refl refl)
 
 pub loop-preserved : goal.loop-preserved
 loop-preserved c = (
@@ -42,7 +43,7 @@ loop-preserved c = (
   none_then _ _ _ c.loop.invariant.1 c.put_timely.ensures.counts,
   out_then _ _ _ _ _ _ c.loop.invariant.2 c.put_timely.ensures.made,
   omega (arith, c.loop.invariant.3, c.put_timely.ensures.grows),
-  stays_then _ _ _ _ c.loop.invariant.4 c.put_timely.ensures.within,
+  each_then _ _ (path_of c.loop.self) _ c.loop.invariant.4 (each_new c.args.now _ _ c.put_timely.ensures.within),
   fewer_then _ _ _ _ _ _ c.loop.invariant.5 c.put_timely.ensures.fewer,
 )
 
@@ -83,31 +84,36 @@ returns-then-not-branch-2-clause-idle c head short = absurd (omega (
 ))
 
 pub returns-then-not-begin_new-clause-within : goal.returns-then-not-begin_new-clause-within
-returns-then-not-begin_new-clause-within c = within_none c.args.now _ c.args.self.now c.begin_new.new.self c.begin_new.ensures.sender
-    c.begin_new.ensures.begins
+returns-then-not-begin_new-clause-within c = news_held c.args.now _ _ _ (
+    c.begin_new.ensures.begins ∙ ap (λ (b : Bool). begun c.args.now c.args.self.now.rto b (path_of c.args.self.now)) c.if-not-begin_new.true
+    )
 
 pub returns-in_err-put_next-clause-within : goal.returns-in_err-put_next-clause-within
-returns-in_err-put_next-clause-within c = within_from c.args.now _ c.args.self.now c.begin_new.new.self c.put_next.new.self
-    c.if-not-begin_new.false c.begin_new.ensures.sender c.begin_new.ensures.begins c.put_next.ensures.within
+returns-in_err-put_next-clause-within c = news_by c.args.now _ _ (path_of c.begin_new.new.self) _ (c.begin_new.ensures.waits c.if-not-begin_new.false) (
+    c.begin_new.ensures.begins ∙ ap (λ (b : Bool). begun c.args.now c.args.self.now.rto b (path_of c.args.self.now)) c.if-not-begin_new.false
+    ) (each_new c.args.now _ _ c.put_next.ensures.within)
 
 pub returns-then-not-branch-clause-within : goal.returns-then-not-branch-clause-within
-returns-then-not-branch-clause-within c = within_from c.args.now _ c.args.self.now c.begin_new.new.self c.put_next.new.self
-    c.if-not-begin_new.false c.begin_new.ensures.sender c.begin_new.ensures.begins c.put_next.ensures.within
+returns-then-not-branch-clause-within c = news_by c.args.now _ _ (path_of c.begin_new.new.self) _ (c.begin_new.ensures.waits c.if-not-begin_new.false) (
+    c.begin_new.ensures.begins ∙ ap (λ (b : Bool). begun c.args.now c.args.self.now.rto b (path_of c.args.self.now)) c.if-not-begin_new.false
+    ) (each_new c.args.now _ _ c.put_next.ensures.within)
 
 pub returns-in_err-put_timely-clause-within : goal.returns-in_err-put_timely-clause-within
-returns-in_err-put_timely-clause-within c = within_from c.args.now _ c.args.self.now c.begin_new.new.self _
-    c.if-not-begin_new.false c.begin_new.ensures.sender c.begin_new.ensures.begins
-    (stays_then _ _ c.put_next.new.self _ c.put_next.ensures.within (stays_then _ _ c.loop.self _ c.loop.invariant.4 c.put_timely.ensures.within))
+returns-in_err-put_timely-clause-within c = news_by c.args.now _ _ (path_of c.begin_new.new.self) _ (c.begin_new.ensures.waits c.if-not-begin_new.false) (
+    c.begin_new.ensures.begins ∙ ap (λ (b : Bool). begun c.args.now c.args.self.now.rto b (path_of c.args.self.now)) c.if-not-begin_new.false
+    ) (each_then _ _ (path_of c.put_next.new.self) _ (each_new c.args.now _ _ c.put_next.ensures.within)
+    (each_then _ _ (path_of c.loop.self) _ c.loop.invariant.4 (each_new c.args.now _ _ c.put_timely.ensures.within)))
 
 pub returns-after-loop-clause-within : goal.returns-after-loop-clause-within
-returns-after-loop-clause-within c = within_from c.args.now _ c.args.self.now c.begin_new.new.self _
-    c.if-not-begin_new.false c.begin_new.ensures.sender c.begin_new.ensures.begins
-    (stays_then _ _ c.put_next.new.self _ c.put_next.ensures.within c.loop.invariant.4)
+returns-after-loop-clause-within c = news_by c.args.now _ _ (path_of c.begin_new.new.self) _ (c.begin_new.ensures.waits c.if-not-begin_new.false) (
+    c.begin_new.ensures.begins ∙ ap (λ (b : Bool). begun c.args.now c.args.self.now.rto b (path_of c.args.self.now)) c.if-not-begin_new.false
+    ) (each_then _ _ (path_of c.put_next.new.self) _ (each_new c.args.now _ _ c.put_next.ensures.within) c.loop.invariant.4)
 
 pub returns-then-not-branch-2-clause-within : goal.returns-then-not-branch-2-clause-within
-returns-then-not-branch-2-clause-within c = within_from c.args.now _ c.args.self.now c.begin_new.new.self _
-    c.if-not-begin_new.false c.begin_new.ensures.sender c.begin_new.ensures.begins
-    (stays_then _ _ c.put_next.new.self _ c.put_next.ensures.within (stays_then _ _ c.loop.self _ c.loop.invariant.4 c.put_timely.ensures.within))
+returns-then-not-branch-2-clause-within c = news_by c.args.now _ _ (path_of c.begin_new.new.self) _ (c.begin_new.ensures.waits c.if-not-begin_new.false) (
+    c.begin_new.ensures.begins ∙ ap (λ (b : Bool). begun c.args.now c.args.self.now.rto b (path_of c.args.self.now)) c.if-not-begin_new.false
+    ) (each_then _ _ (path_of c.put_next.new.self) _ (each_new c.args.now _ _ c.put_next.ensures.within)
+    (each_then _ _ (path_of c.loop.self) _ c.loop.invariant.4 (each_new c.args.now _ _ c.put_timely.ensures.within)))
 
 -- ## What can still leave
 

@@ -1,17 +1,18 @@
+use Rattle.std.proofs.Common.{ℕ, Some, ap, arith, inl, inr, length, min, refl, subst, sym, true, ◌∙◌, ◌≡◌, ◌+◌, ◌-◌, ◌^◌}
+use Rattle.sctp_association.proofs.Congested.{base_first, base_on, left_as}
+use Rattle.sctp_association.proofs.Idle.{data_is_put, data_put, fits_so, lent_fits}
+use Rattle.sctp_association.proofs.Making.{lent_put, none-of, sent_there, some-none}
 use Rattle.sctp_outbound.specs.pending_queue.Whole.{IsSendable}
 use Rattle.sctp_association.specs.Leaving.{one_where}
 use Rattle.sctp_association.proofs.Left.{sent_fewer}
 use Rattle.sctp_association.proofs.Fewer.{data_same, fewer_same}
-use Rattle.std.proofs.Common.{ℕ, Option, Some, ap, arith, inl, inr, length, min, refl, subst, sym, true, ◌∙◌, ◌≡◌, ◌+◌, ◌-◌, ◌^◌}
-use Rattle.sctp_association.proofs.Congested.{full_same, left_behind}
-use Rattle.sctp_association.proofs.Idle.{data_put, fits_so, lent_fits}
-use Rattle.sctp_association.proofs.Making.{lent_put, none_put, sent_there}
 use Rattle.sctp_association.proofs.Putting.{kept, nothing}
 use Rattle.sctp_association.proofs.outbound.Outbound.put_next.Goals as goal
 use Rattle.sctp_association.proofs.outbound.Outbound.put_next.Goals.{in-Some-burst, in_default-burst-2, in_default-burst}
 use Rattle.sctp_association.specs.declared.outbound.Outbound.{Outbound}
 use Rattle.sctp_association.specs.Idle.{in_flight}
-use Rattle.sctp_association.specs.Sending.{base_of, flight_of, may_send_next}
+use Rattle.sctp_association.specs.Congested.{path_of}
+use Rattle.sctp_association.specs.Sending.{flight_of, may_send_next}
 use Rattle.sctp_outbound.specs.outbound_queue.OutboundQueue.{Outbound as Queue}
 use Rattle.sctp_outbound.specs.pending_queue.PendingQueue.{next_pending}
 use Rattle.sctp_sender.specs.Sender.{Transmission}
@@ -39,16 +40,27 @@ returns-in-Err c = record {
   grows = omega arith;
   put = λ _. tt;
   none = tt;
-  within = full_same _ _ _ (ap (λ (s : Transmission). let y : Outbound = record c.args.self.now { sender = s } in y) c.in-Err.ensures.err);
+  within = inl (ap (λ (s : Transmission). path_of (record c.args.self.now { sender = s })) c.in-Err.ensures.err);
   fewer = fewer_same _ _ _ _
       (data_same c.args.self.now (record c.args.self.now { sender = c.send_next_tsn.new.sender }) c.in-Err.ensures.err refl) refl;
 }
 
 pub returns-in-Some-get-clause-made : goal.returns-in-Some-get-clause-made
 returns-in-Some-get-clause-made c =
-    let t = c.args.self.now.sender in
+    let t : Transmission = c.args.self.now.sender in
+    let e : next_pending t.flight.queue.pending ≡ Some c.in-Some.chunk.now =
+    sym (c.in-Some.ensures.value ∙ ap (λ (o : Queue). next_pending o.pending) c.outbound.ensures) in
+    let length : c.data_length.result ≡ min (16 + padded_length (length c.in-Some.chunk.now.user_data)) (2 ^ 64 - 1) =
+    c.data_length.ensures ∙ ap {B = ℕ} (λ (n : ℕ). min (16 + padded_length n) (2 ^ 64 - 1)) c.len-bytes.ensures.value in
+    let fit = fits_so c.data_length.result c.room.result c.in-Some.chunk.now length
+    (omega (arith, c.if-data_length-room.false)) (omega (arith, c.room.ensures.value, c.room.ensures.most)) in
     lent_put c.args.now t c.send_next_tsn.new.sender c.in-Some-sent.tsn (sym c.in-Some-sent.is ∙ c.in-Ok.ensures.answer) c.in-Ok.ensures.noted
     c.in-Ok.ensures.ok c.in-Ok.ensures.bytes (c.in-Ok.ensures.accepted refl) c.in-Some-get.chunk.now _ _ _
+    (data_is_put c.in-Some-get.chunk.now c.room.result _ _ c.put.result (
+    lent_fits c.args.now c.room.result t c.send_next_tsn.new.sender c.in-Some-sent.tsn c.in-Some.chunk.now c.in-Some-get.chunk.now
+    (sym c.in-Some-sent.is ∙ c.in-Ok.ensures.answer) c.in-Ok.ensures.noted
+    (c.in-Some-get.ensures ∙ ap (λ (o : Queue). find (has_tsn c.in-Some-sent.tsn) o.inflight.chunks) c.outbound-in-Some-sent.ensures) e fit
+    ) c.room.ensures.value c.room.ensures.most c.put.ensures.fits)
     (c.in-Some-get.ensures ∙ ap (λ (o : Queue). find (has_tsn c.in-Some-sent.tsn) o.inflight.chunks) c.outbound-in-Some-sent.ensures) c.put.ensures.added
 
 pub unreachable-requires : goal.unreachable-requires
@@ -60,7 +72,9 @@ unreachable-requires c =
 
 pub returns-in_default-sent-clause-made : goal.returns-in_default-sent-clause-made
 returns-in_default-sent-clause-made c =
-    none_put c.args.now c.args.self.now.sender c.send_next_tsn.new.sender c.in-Ok.ensures.ok c.in-Ok.ensures.bytes (c.in-Ok.ensures.accepted refl) _
+    let e : next_pending c.args.self.now.sender.flight.queue.pending ≡ Some c.in-Some.chunk.now =
+    sym (c.in-Some.ensures.value ∙ ap (λ (o : Queue). next_pending o.pending) c.outbound.ensures) in
+    absurd (some-none _ (sym e ∙ none-of _ _ (sym c.in_default-sent.is ∙ c.in-Ok.ensures.answer)))
 
 pub returns-in-Some-get-clause-put : goal.returns-in-Some-get-clause-put
 returns-in-Some-get-clause-put c head _ =
@@ -78,26 +92,21 @@ returns-in-Some-get-clause-put c head _ =
     ) c.room.ensures.value c.room.ensures.most c.put.ensures.fits c.put.ensures.put head
 
 pub returns-in-Some-get-clause-within : goal.returns-in-Some-get-clause-within
-returns-in-Some-get-clause-within c =
-    let t : Transmission = c.args.self.now.sender in
-    let e : next_pending t.flight.queue.pending ≡ Some c.in-Some.chunk.now =
-    sym (c.in-Some.ensures.value ∙ ap (λ (o : Queue). next_pending o.pending) c.outbound.ensures) in
-    record {
-      windows = record { peer_window = refl; congestion = refl };
-      paused = refl;
-      left = inr (left_behind c.args.now _ c.args.self.now _ c.in-Some.chunk.now e (
-          subst (λ (n : ℕ). may_send_next n c.args.self.now.most_in_flight c.args.self.now.peer_window c.args.self.now.burst c.args.self.now.congestion
-          (in_flight t) ≡ true) c.len-bytes.ensures.value (sym c.may_send.ensures.value ∙ c.if-not-may_send.false)
-          ) c.in-Ok.ensures.ok refl refl (elim c.match-self.branch [
-            | in-Some-burst w ↦ inr (w.self-is ∙ sym (ap (λ (o : Option ℕ). base_of (flight_of (in_flight t)) o) w.in-Some-burst.is))
-            | in_default-burst-2 w ↦ inl (
-              omega (arith, c.flight-flight.ensures, w.if-flight-gt0.false),
-              omega (arith, w.self-is, w.if-flight-gt0.false),
-            )
-            | in_default-burst w ↦ inr (w.self-is ∙ c.flight-flight.ensures
-                ∙ sym (ap (λ (o : Option ℕ). base_of (flight_of (in_flight t)) o) w.in_default-burst.is))
-          ]) refl refl);
-    }
+returns-in-Some-get-clause-within c = inr (record {
+  chunk = c.in-Some.chunk.now;
+  front = sym (c.in-Some.ensures.value ∙ ap (λ (o : Queue). next_pending o.pending) c.outbound.ensures);
+  room = subst (λ (n : ℕ). may_send_next n c.args.self.now.most_in_flight c.args.self.now.peer_window c.args.self.now.burst
+      c.args.self.now.congestion (in_flight c.args.self.now.sender) ≡ true) c.len-bytes.ensures.value
+      (sym c.may_send.ensures.value ∙ c.if-not-may_send.false);
+  after = left_as c.args.now c.args.self.now c.send_next_tsn.new.sender _ c.in-Ok.ensures.ok (elim c.match-self.branch [
+    | in-Some-burst w ↦ w.self-is ∙ base_on (flight_of (in_flight c.args.self.now.sender)) _ c.args.self.now.burst
+        (omega (arith, c.flight-flight.ensures, w.if-flight-gt0.true)) w.in-Some-burst.is
+    | in_default-burst-2 w ↦ w.self-is ∙ base_first (flight_of (in_flight c.args.self.now.sender)) _ c.args.self.now.burst c.flight-flight.ensures
+        (inr (omega (arith, c.flight-flight.ensures, w.if-flight-gt0.false)))
+    | in_default-burst w ↦ w.self-is ∙ base_first (flight_of (in_flight c.args.self.now.sender)) _ c.args.self.now.burst c.flight-flight.ensures
+        (inl w.in_default-burst.is)
+  ]);
+})
 
 -- ## What can still leave
 

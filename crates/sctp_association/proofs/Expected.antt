@@ -4,7 +4,7 @@ use Rattle.std.proofs.lemmas.Bool.{and_parts, cases_Bool, false≢true, lt-ltb, 
 use Rattle.std.specs.Prelude.{◌==◌, ◌&&◌, ◌≢◌, not, nat_lt, Result, Ok, Err, if◌then◌else◌}
 use Rattle.sctp_association.proofs.Going.{due_begun}
 use Rattle.sctp_association.specs.Coming.{goes_on, is_due}
-use Rattle.sctp_association.specs.Heard.{IsEchoHeard, IsHeard, IsInitAckHeard, IsInitHeard, IsReadable, expects, hears, is_closed}
+use Rattle.sctp_association.specs.Expected.{IsEchoExpected, IsExpected, IsInitAckExpected, IsInitExpected, IsReadable, expects, is_expected, is_closed}
 use Rattle.sctp_association.specs.declared.association.Association.{Association}
 use Rattle.sctp_association.specs.Reports.{value_in}
 use Rattle.sctp_chunks.specs.Framing.{type_at}
@@ -33,24 +33,24 @@ not-closed : (s : State) → not (is_closed s) ≡ true → s ≡ Closed → ⊥
 not-closed s going closed = false≢true (sym (ap (λ s. not (is_closed s)) closed) ∙ going)
 
 -- none is in Closed
-hears_begun : (typ : ℕ) (a : Association) → hears typ a ≡ true → a.machine.state ≡ Closed → ⊥
-hears_begun typ a e closed = elim (cases_Bool (goes_on typ)) [
+expects_begun : (typ : ℕ) (a : Association) → is_expected typ a ≡ true → a.machine.state ≡ Closed → ⊥
+expects_begun typ a e closed = elim (cases_Bool (goes_on typ)) [
   | inl on ↦ due_begun typ a (sym (ap (λ b. if b then is_due typ a else not (is_closed a.machine.state) && expects typ a) on) ∙ e) closed
   | inr off ↦ not-closed a.machine.state (and_parts (not (is_closed a.machine.state)) (expects typ a)
       (sym (ap (λ b. if b then is_due typ a else not (is_closed a.machine.state) && expects typ a) off) ∙ e)).0 closed
 ]
 
--- by itself no chunk of this type is heard
-pub heard_none : (a : Association) (n : ℕ) → goes_on n ≡ false → expects n a ≡ false → hears n a ≡ true → ⊥
-heard_none a n off none e =
+-- by itself no chunk of this type is expected
+pub expected_none : (a : Association) (n : ℕ) → goes_on n ≡ false → expects n a ≡ false → is_expected n a ≡ true → ⊥
+expected_none a n off none e =
     false≢true (sym none ∙ (and_parts (not (is_closed a.machine.state)) (expects n a)
     (sym (ap (λ b. if b then is_due n a else not (is_closed a.machine.state) && expects n a) off) ∙ e)).1)
 
-module _ (c : ChunkPlace) (tag : ℕ) (d : List ℕ) (now : ℕ) (a : Association) (heard : IsHeard c tag d now a) where
-  -- in Closed only a cookie and an INIT are heard
-  pub heard_begun : (c.typ ≡ 10 → ⊥) → (c.typ ≡ 1 → ⊥) → a.machine.state ≡ Closed → ⊥
-  heard_begun n10 n1 closed = elim heard [
-    | inl h ↦ hears_begun c.typ a h.0 closed
+module _ (c : ChunkPlace) (tag : ℕ) (d : List ℕ) (now : ℕ) (a : Association) (expected : IsExpected c tag d now a) where
+  -- in Closed only a cookie and an INIT are expected
+  pub expected_begun : (c.typ ≡ 10 → ⊥) → (c.typ ≡ 1 → ⊥) → a.machine.state ≡ Closed → ⊥
+  expected_begun n10 n1 closed = elim expected [
+    | inl h ↦ expects_begun c.typ a h.0 closed
     | inr (inl e) ↦ n10 e.typ
     | inr (inr (inl e)) ↦ n1 e.typ
     | inr (inr (inr e)) ↦ waits≢closed (sym e.waits ∙ closed)
@@ -60,35 +60,35 @@ module _ (c : ChunkPlace) (tag : ℕ) (d : List ℕ) (now : ℕ) (a : Associatio
       waits≢closed e = cc
 
   -- of a chunk of this type, which is no cookie, INIT or INIT ACK
-  pub heard_at : (n : ℕ) → c.typ ≡ n → (n ≡ 10 → ⊥) → (n ≡ 1 → ⊥) → (n ≡ 2 → ⊥) → (hears n a ≡ true) × IsReadable n (drop c.at d)
-  heard_at n is n10 n1 n2 = elim heard [
-    | inl h ↦ subst (λ k. (hears k a ≡ true) × IsReadable k (drop c.at d)) is h
+  pub expected_at : (n : ℕ) → c.typ ≡ n → (n ≡ 10 → ⊥) → (n ≡ 1 → ⊥) → (n ≡ 2 → ⊥) → (is_expected n a ≡ true) × IsReadable n (drop c.at d)
+  expected_at n is n10 n1 n2 = elim expected [
+    | inl h ↦ subst (λ k. (is_expected k a ≡ true) × IsReadable k (drop c.at d)) is h
     | inr (inl e) ↦ absurd (n10 (sym is ∙ e.typ))
     | inr (inr (inl e)) ↦ absurd (n1 (sym is ∙ e.typ))
     | inr (inr (inr e)) ↦ absurd (n2 (sym is ∙ e.typ))
   ]
 
-  never : (n : ℕ) → c.typ ≡ n → goes_on n ≡ false → expects n a ≡ false → hears c.typ a ≡ true → ⊥
-  never n is off none h = heard_none a n off none (sym (ap (λ n. hears n a) is) ∙ h)
+  never : (n : ℕ) → c.typ ≡ n → goes_on n ≡ false → expects n a ≡ false → is_expected c.typ a ≡ true → ⊥
+  never n is off none h = expected_none a n off none (sym (ap (λ n. is_expected n a) is) ∙ h)
 
-  pub heard_echo : c.typ ≡ 10 → IsEchoHeard c tag d now a
-  heard_echo is = elim heard [
+  pub expected_echo : c.typ ≡ 10 → IsEchoExpected c tag d now a
+  expected_echo is = elim expected [
     | inl h ↦ absurd (never 10 is refl refl h.0)
     | inr (inl e) ↦ e
     | inr (inr (inl e)) ↦ absurd (omega (arith, is, e.typ))
     | inr (inr (inr e)) ↦ absurd (omega (arith, is, e.typ))
   ]
 
-  pub heard_init : c.typ ≡ 1 → IsInitHeard c d
-  heard_init is = elim heard [
+  pub expected_init : c.typ ≡ 1 → IsInitExpected c d
+  expected_init is = elim expected [
     | inl h ↦ absurd (never 1 is refl refl h.0)
     | inr (inl e) ↦ absurd (omega (arith, is, e.typ))
     | inr (inr (inl e)) ↦ e
     | inr (inr (inr e)) ↦ absurd (omega (arith, is, e.typ))
   ]
 
-  pub heard_init_ack : c.typ ≡ 2 → IsInitAckHeard c d a
-  heard_init_ack is = elim heard [
+  pub expected_init_ack : c.typ ≡ 2 → IsInitAckExpected c d a
+  expected_init_ack is = elim expected [
     | inl h ↦ absurd (never 2 is refl refl h.0)
     | inr (inl e) ↦ absurd (omega (arith, is, e.typ))
     | inr (inr (inl e)) ↦ absurd (omega (arith, is, e.typ))
@@ -96,9 +96,9 @@ module _ (c : ChunkPlace) (tag : ℕ) (d : List ℕ) (now : ℕ) (a : Associatio
   ]
 
 -- a control chunk
-pub heard_control : (a : Association) (n : ℕ) → (n ≡ 0 → ⊥) → (n ≡ 3 → ⊥) → (n ≡ 192 → ⊥) → hears n a ≡ true
+pub expected_control : (a : Association) (n : ℕ) → (n ≡ 0 → ⊥) → (n ≡ 3 → ⊥) → (n ≡ 192 → ⊥) → is_expected n a ≡ true
     → (a.machine.state ≡ Closed → ⊥) × (expects n a ≡ true)
-heard_control a n n0 n3 n192 e =
+expected_control a n n0 n3 n192 e =
     let off : goes_on n ≡ false = rw (ne_eqb n 0 n0) (rw (ne_eqb n 3 n3) (ne_eqb n 192 n192)) in
     let both = and_parts (not (is_closed a.machine.state)) (expects n a)
     (sym (ap (λ b. if b then is_due n a else not (is_closed a.machine.state) && expects n a) off) ∙ e) in

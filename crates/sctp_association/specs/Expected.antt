@@ -55,8 +55,8 @@ expects typ a =
     else not ((typ == 1) || ((typ == 2) || ((typ == 10) || (typ == 130))))))))
 
 -- once the association is not closed
-abbrev pub hears : (typ : ℕ) → Association → Bool
-hears typ a = if goes_on typ then is_due typ a
+abbrev pub is_expected : (typ : ℕ) → Association → Bool
+is_expected typ a = if goes_on typ then is_due typ a
     else not (is_closed a.machine.state) && expects typ a
 
 -- a HEARTBEAT, its answer and a SHUTDOWN have what their kind asks for
@@ -68,7 +68,7 @@ pub record IsReadable (typ : ℕ) (bytes : List ℕ) : Type 0 where
   pub shutdown : typ ≡ 7 → (tsn : ℕ) × StartsWith bytes (shutdown_chunk tsn)
 
 -- a COOKIE-ECHO brings back a cookie that this side has sealed, and the machine replies or tells (5.1 D, 5.2.4)
-pub record IsEchoHeard (c : ChunkPlace) (tag : ℕ) (datagram : List ℕ) (now : ℕ) (a : Association)
+pub record IsEchoExpected (c : ChunkPlace) (tag : ℕ) (datagram : List ℕ) (now : ℕ) (a : Association)
     : Type 0 where
   pub typ : c.typ ≡ 10
   pub moment : ℕ
@@ -78,14 +78,14 @@ pub record IsEchoHeard (c : ChunkPlace) (tag : ℕ) (datagram : List ℕ) (now :
   pub speaks : speaks (echo_step now moment made.ticket a).answer ≡ true
 
 -- An INIT is read, and its offer has a tag: it is answered (5.1 B, 5.2.1, 5.2.2)
-pub record IsInitHeard (c : ChunkPlace) (datagram : List ℕ) : Type 0 where
+pub record IsInitExpected (c : ChunkPlace) (datagram : List ℕ) : Type 0 where
   pub typ : c.typ ≡ 1
   pub said : Said
   pub reads : init_in (value_in datagram c) ≡ Ok said
   pub tagged : said.offer.tag ≢ 0
 
 -- An INIT ACK without a Host Name Address is read, and this side waits for it: its cookie lies within it (5.1 C)
-pub record IsInitAckHeard (c : ChunkPlace) (datagram : List ℕ) (a : Association) : Type 0 where
+pub record IsInitAckExpected (c : ChunkPlace) (datagram : List ℕ) (a : Association) : Type 0 where
   pub typ : c.typ ≡ 2
   pub waits : a.machine.state ≡ CookieWait
   pub plain : host_name_of (value_in datagram c) ≡ None
@@ -94,13 +94,13 @@ pub record IsInitAckHeard (c : ChunkPlace) (datagram : List ℕ) (a : Associatio
   pub reads : values.cookie_in (init_in (value_in datagram c)) ≡ Ok (offer, place)
   pub within : place.at + place.length ≤ length (value_in datagram c)
 
--- a chunk of a packet with this tag is heard
-abbrev pub IsHeard : ChunkPlace → (tag : ℕ) → List ℕ → (now : ℕ) → Association → Type 0
-IsHeard c tag datagram now a =
-    ((hears c.typ a ≡ true) × IsReadable c.typ (drop c.at datagram))
-    ⊎ (IsEchoHeard c tag datagram now a ⊎ (IsInitHeard c datagram ⊎ IsInitAckHeard c datagram a))
+-- a chunk of a packet with this tag is expected
+abbrev pub IsExpected : ChunkPlace → (tag : ℕ) → List ℕ → (now : ℕ) → Association → Type 0
+IsExpected c tag datagram now a =
+    ((is_expected c.typ a ≡ true) × IsReadable c.typ (drop c.at datagram))
+    ⊎ (IsEchoExpected c tag datagram now a ⊎ (IsInitExpected c datagram ⊎ IsInitAckExpected c datagram a))
 
--- a packet for the association, which goes on: it is valid, has its ports and its tag, and begins with a chunk that is heard
+-- a packet for the association, which goes on: it is valid, has its ports and its tag, and begins with a chunk that is expected
 pub record IsDue (datagram : List ℕ) (now : ℕ) (a : Association) : Type 0 where
   pub going : a.is_over ≡ false
   pub valid : IsAccepted (zero_checksum_of a.config) crc32c_of datagram
@@ -110,4 +110,4 @@ pub record IsDue (datagram : List ℕ) (now : ℕ) (a : Association) : Type 0 wh
   pub source : u16_at datagram 0 ≡ a.config.destination_port
   pub destination : u16_at datagram 2 ≡ a.config.source_port
   pub admitted : is_admitted first (u32_at datagram 4) (length (first ∷ rest)) a.machine ≡ true
-  pub heard : IsHeard first (u32_at datagram 4) datagram now a
+  pub expected : IsExpected first (u32_at datagram 4) datagram now a
