@@ -112,7 +112,7 @@ owed_to_init (Some (reply.InitAck ticket)) tag d =
 owed_to_init r tag d = owed_by r tag d
 
 -- It says this, and the reply of the row is due: an INIT ACK, or an ABORT to an offer that cannot stand, or a SHUTDOWN-ACK (5.1 B, 5.2.1, 5.2.2, 9.2).
--- The fresh tag is one that its peer cannot guess (5.3.1).
+-- A fresh tag is not 0 (5.3.1).
 pub record AnswersOffer (value : List ℕ) (old new : Association) : Type 0 where
   pub said : Said
   pub tag : ℕ
