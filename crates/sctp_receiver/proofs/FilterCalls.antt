@@ -2,6 +2,9 @@
 use Rattle.sctp_receiver.proofs.Names.{◌≡◌, ℕ, suc, ◌<◌, ◌^◌, true, false, List, [], ◌∷◌, ◌++◌, length, refl, ap, sym, ◌∙◌, arith, ◌==◌, ◌||◌, list_any}
 use Rattle.sctp_receiver.proofs.Names.{nat_tests, same-is, fails, neither, insert_before, advance_over, Seen, distance, comes_before, at_or_before}
 use Rattle.sctp_receiver.proofs.Names.{following_tsn, after_one, Run, Filter, rise_beyond, has_come, is_opposite, with_tsn, AreRuns, tsns_from, tsns_of}
+use Rattle.sctp_receiver.proofs.Names.{subst, count_of_runs}
+use Rattle.sctp_receiver.specs.TsnFilter.{HasRoomFor}
+use Rattle.sctp_receiver.proofs.RunBlocks.{run-count}
 use Rattle.sctp_receiver.proofs.RunMoves.{past, all-past}
 use Rattle.sctp_receiver.proofs.TsnLists.{IsStep, beyond, expected-absent, expected-after, stays, moves}
 use Rattle.sctp_receiver.proofs.TsnRuns.{runs-rise}
@@ -47,3 +50,12 @@ lies-beyond c t room ts duplicates v view hc ht new near ne =
     let near-in : is_opposite t (filter_in c ts duplicates room) ≡ false = ap (is_opposite t) view ∙ near in
     let differs : (t == following_tsn c) ≡ false = fails (t == following_tsn c) (λ e. ne (same-is t (following_tsn c) e)) in
     beyond c t hc ht (neither (at_or_before t c) (list_any (λ u. u == t) ts) new-in).0 near-in differs
+
+-- there is a place for its run
+pub has-room : (c t room : ℕ) (rs : List Run) (duplicates : List ℕ) (v : Filter) → filter_in c (tsns_of rs) duplicates room ≡ v → c < 2 ^ 32
+    → AreRuns c 0 rs → HasRoomFor t v → (t ≡ following_tsn c → ⊥) → length rs < room
+has-room c t room rs duplicates v view hc are has ne =
+    let differs : (t == following_tsn c) ≡ false = fails (t == following_tsn c) (λ e. ne (same-is t (following_tsn c) e)) in
+    let n = run-count c rs hc are in
+    let h : count_of_runs c (tsns_of rs) < room = subst (HasRoomFor t) (sym view) has differs in
+    omega (arith, n, h)

@@ -50,7 +50,7 @@ module _ (c : ChunkPayloadData) (ls : List InboundStream) (k : ℕ) (p : IsOnlyP
   pub fits : is_too_large c x.queue ≡ false → stream_refusal c (find (has_number c.stream_identifier) ls) ≡ None
   fits small = ap (stream_refusal c) is-found ∙ ap (λ b. if b then Some MessageTooLarge else None) small
 
-  why : (e : ReceiverRefusal) → e ≡ (if is_too_large c x.queue then MessageTooLarge else OutOfMemory)
+  pub why : (e : ReceiverRefusal) → e ≡ (if is_too_large c x.queue then MessageTooLarge else OutOfMemory)
       → IsRefusedFor (stream_refusal c (find (has_number c.stream_identifier) ls)) e
   why e h = subst (λ o. IsRefusedFor o e) (sym (ap (stream_refusal c) is-found)) (by (is_too_large c x.queue) h)
     where

@@ -8,8 +8,6 @@ pub mod PushCosts
 pub mod Retracts
 pub mod Inbounds
 pub mod Undone
-pub mod UndoCosts
-pub mod Datagrams
 pub mod Forwarded
 pub mod Receptions
 pub mod Resetting

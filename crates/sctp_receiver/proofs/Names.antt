@@ -10,7 +10,7 @@ pub use Rattle.sctp_receiver.specs.Inbound.{unassembled_forwarded, Pushes, Pushe
 pub use Rattle.sctp_receiver.specs.Receiver.{Reception, stream_of, after_forward, filter_of, follow_forward_tsn, is_stale, with_filter, repeat_tsn, message_of}
 pub use Rattle.sctp_receiver.specs.Receiver.{Accepts, message_on, after_discard, data_refusal, new_refusal, stream_refusal, duplicates_answered, sack_entries}
 pub use Rattle.sctp_receiver.specs.Receiver.{TakesEachBy, noted_by, Takes, TakesFirstBy, IsRefusedFor, open_stream, arrival_refusal, discard_refusal, window}
-pub use Rattle.sctp_receiver.specs.Receiver.{is_open, after_sack_within, forward_refusal, max_sack_entries, refusal_for}
+pub use Rattle.sctp_receiver.specs.Receiver.{is_open, after_sack_within, forward_refusal, max_sack_entries}
 pub use Rattle.sctp_data.specs.declared.chunk.chunk_payload_data.ChunkPayloadData.{ChunkPayloadData}
 pub use Rattle.std.specs.List.{filter, sum_by, list_any, list_all, remove}
 pub use Rattle.sctp_reassembly.specs.reassembly_queue.ReassemblyQueue.{ReassemblyState, Reassembly, message_read, after_read, rest_among, after_ordered_skip}
@@ -50,7 +50,7 @@ pub use Rattle.sctp_receiver.specs.declared.receiver.tsn_filter.runs.Run.{Run}
 pub use Rattle.sctp_reassembly.proofs.lemmas.reassembly_queue.SerialPlaces.{after_one}
 pub use Rattle.sctp_receiver.specs.ReceiverRuns.{Call, Makes, opens, closes, takes, discards, reports, reports_within, reads, resets, forwards}
 pub use Rattle.sctp_receiver.specs.ReceiverRuns.{forwards_by_names, Stand, Follows, at_start, is_one_message, Message, accepted_after, with_message, RunsTo}
-pub use Rattle.sctp_receiver.specs.Costs.{undo_each_looks, IsWithinData, IsWithinUndone, TakesEachWithin, counts_in, undo_looks, IsWithinPush, IsWithinPushOn}
+pub use Rattle.sctp_receiver.specs.Costs.{IsWithinData, IsWithinPush, IsWithinPushOn}
 pub use Rattle.sctp_reassembly.specs.reassembly_queue.Skips.{cannot_complete}
 pub use Rattle.sctp_stream.specs.Numbers.{IsOnlyPlace}
 pub use Rattle.sctp_receiver.specs.declared.receiver.refusal.ReceiverRefusal.TheVariants.{StreamUnknown, OutOfMemory, MessageTooLarge, TsnTooFar, WindowFull}

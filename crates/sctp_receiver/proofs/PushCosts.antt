@@ -1,10 +1,14 @@
 -- What a DATA chunk looks at.
-use Rattle.sctp_receiver.proofs.Names.{◌≡◌, length, ℕ, ◌+◌, ◌-◌, ◌≤◌, true, false, Option, Some, None, refl, arith, ChunkPayloadData, digits, IsOrderly}
-use Rattle.sctp_receiver.proofs.Names.{ReassemblyState, held_after_ordered_push, InboundStream, IsWithinPush, IsWithinPushOn, IsWithinData, Reception}
+use Rattle.sctp_receiver.proofs.Names.{◌≡◌, length, ℕ, ◌+◌, ◌-◌, ◌*◌, ◌^◌, ◌≤◌, true, false, Option, Some, None, refl, arith, ChunkPayloadData, digits}
+use Rattle.sctp_receiver.proofs.Names.{within_digits, IsOrderly, ReassemblyState, held_after_ordered_push, InboundStream, IsWithinPush, IsWithinPushOn, IsWithinData, Reception}
 use Rattle.sctp_receiver.proofs.Names.{stream_of}
 use Rattle.sctp_reassembly.specs.reassembly_queue.Costs.{ordered_push_looks, ordered_push_walk, FitsInOrder, Joins, JoinsAtEnd, unordered_push_looks}
 use Rattle.sctp_reassembly.specs.reassembly_queue.Costs.{unordered_push_walk}
 use Rattle.sctp_receiver.specs.Costs.{filter_looks}
+
+-- a look-up among so many takes no more than one among more
+pub few-digits : (m n s : ℕ) → m ≤ n → 2 ^ s ≤ 2 * m + 1 → s ≤ digits n
+few-digits m n s le h = within_digits n s (omega (arith, h, le))
 
 -- a push whose turns are bounded by what it leaves
 pub push-within : (x : ChunkPayloadData) (q new : ReassemblyState) (before after : ℕ)

@@ -4,6 +4,7 @@ use Rattle.sctp_receiver.proofs.Names.{ap, sym, subst, ◌∙◌, arith, if◌th
 use Rattle.sctp_receiver.proofs.Names.{append_assoc, append-nil, drop_all, insert_before, advance_over, Seen, comes_before, at_or_before, same-yes, same-is}
 use Rattle.sctp_receiver.proofs.Names.{following_tsn, distance_rest, neither, after_one, Beyond, Next, Filter, rise_beyond, has_come, is_opposite, with_tsn}
 use Rattle.sctp_receiver.proofs.Names.{Run, tsns_from, tsns_of, AreRuns, count_of_runs, passed, undo_of, retracted, CanRetract}
+use Rattle.sctp_receiver.specs.TsnFilter.{MakesRoom}
 use Rattle.sctp_util.specs.Serial.{distance}
 use Rattle.sctp_serial.proofs.lemmas.AscendingEdits.{distance_sum}
 use Rattle.sctp_receiver.specs.declared.receiver.tsn_filter.undo.FilterUndo.{FilterUndo}
@@ -21,15 +22,6 @@ advance-short c (t ∷ ts) = by (t == following_tsn c) (advance-short t ts)
         record { cum = c; held = t ∷ ts } in length s.held ≤ length (t ∷ ts))
     by true h = omega (arith, h)
     by false h = omega arith
-
-pub length-put : {A : Type 0} (before : A → A → Bool) (x : A) (xs : List A) → length (insert_before before x xs) ≡ length xs + 1
-length-put before x [] = omega arith
-length-put before x (e ∷ es) = by (before x e) (length-put before x es)
-  where
-    by : (b : Bool) → length (insert_before before x es) ≡ length es + 1 → length (if b then x ∷ e ∷ es else e ∷ insert_before before x es) ≡ length
-        (e ∷ es) + 1
-    by true ih = omega arith
-    by false ih = omega (arith, ih)
 
 -- ## What the cumulative TSN moved over
 
@@ -133,6 +125,19 @@ can-retract u new old back lt rise places room = record {
   places = subst (λ (f : Filter). count_of_runs f.cumulative_tsn f.beyond ≤ f.room) (sym back) places;
   room = subst (λ (f : Filter). f.room ≤ new.room) (sym back) room;
 }
+
+-- it came behind room for it
+module _ (t : ℕ) (old mid new : Filter) (made : MakesRoom t old mid) (came : new ≡ with_tsn t mid) where
+  pub more-room : old.room ≤ new.room
+  more-room = let h = made.more in let e = ap (λ (f : Filter). f.room) came in omega (arith, h, e)
+
+  pub came-behind-room : new ≡ record (with_tsn t old) { room = new.room }
+  came-behind-room = let g : Filter → Filter = λ f. record (with_tsn t old) { room = f.room } in
+      came ∙ ap (with_tsn t) made.same ∙ ap g (sym came)
+
+  pub behind-room-back : old.cumulative_tsn < 2 ^ 32 → t < 2 ^ 32 → rise_beyond old.cumulative_tsn 1 old.beyond ≡ true → has_come t old ≡ false
+      → is_opposite t old ≡ false → retracted (undo_of t old) new ≡ old
+  behind-room-back lt small rise fresh near = ap (retracted (undo_of t old)) came-behind-room ∙ taken-back t old lt small rise fresh near new.room
 
 -- ## The TSNs that it moved over are beyond again
 

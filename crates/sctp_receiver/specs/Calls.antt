@@ -44,7 +44,7 @@ pub record TakesDataCounted (any_ssn : Bool) (c : ChunkPayloadData) (old new : R
   pub not_back : turns ≤ turns_after
   pub cost : IsWithinData c old new (turns_after - turns)
 
--- the chunks of a datagram are taken one after another, all or none: the first one that is refused refuses them all
+-- the chunks of a packet are taken one after another, all or none: the first one that is refused refuses them all
 pub record TakesDataEach (refusal : ChunkPayloadData → Reception → Option ReceiverRefusal)
     (cs : List ChunkPayloadData) (old new : Reception)
     (result : Result (Vec Arrival Global) ReceiverRefusal) : Type 0 where

@@ -15,7 +15,6 @@ pub mod Visited
 pub mod Costs
 pub mod SkipCosts
 pub mod Calls
-pub mod Datagrams
 pub mod Advice
 pub mod Beside
 pub mod Credit

@@ -184,10 +184,6 @@ pub record StopsAtBy (refusal : ChunkPayloadData → Reception → Option Receiv
   pub next : slice_get cs count ≡ Some chunk
   pub refused : refusal chunk mid ≡ Some e
 
--- the same, with the test of the stream sequence number
-abbrev pub TakesEach : List ChunkPayloadData → List Arrival → Reception → Reception → Type 0
-TakesEach = TakesEachBy arrival_refusal
-
 -- whether memory may be asked for: a duplicate is to be noted, or a fragment to be kept
 abbrev pub takes_memory : ChunkPayloadData → Reception → Bool
 takes_memory c r =

@@ -1,5 +1,5 @@
 -- The TSNs that came: the cumulative one, and those beyond it (RFC 4960 6.2; RFC 3758 3.6).
-use Rattle.std.specs.Prelude.{ℕ, ◌-◌, ◌^◌, ◌==◌, Bool, true, false, not, ◌&&◌, ◌||◌, nat_lt, List, [], ◌∷◌, ◌++◌, length, map, slice_get, unwrap_or}
+use Rattle.std.specs.Prelude.{◌≡◌, ℕ, ◌-◌, ◌<◌, ◌≤◌, ◌^◌, ◌==◌, Bool, true, false, not, ◌&&◌, ◌||◌, nat_lt, List, [], ◌∷◌, ◌++◌, length, map, slice_get, unwrap_or}
 use Rattle.std.specs.List.{list_any, filter}
 use Rattle.sctp_util.specs.Kept.{runs_of}
 use Rattle.sctp_util.specs.Lists.{advance_over, insert_before, Seen}
@@ -9,6 +9,8 @@ use Rattle.sctp_data.specs.declared.chunk.chunk_payload_data.PayloadProtocolIden
 use Rattle.sctp_data.specs.declared.chunk.chunk_payload_data.ChunkPayloadData.{ChunkPayloadData}
 use Rattle.sctp_data.specs.declared.chunk.chunk_selective_ack.GapAckBlock.{GapAckBlock}
 use Rattle.sctp_outbound.specs.payload_queue.Blocks.{is_offset}
+use Rattle.sctp_serial.specs.DataChunks.{following_tsn}
+use Rattle.sctp_receiver.specs.TsnRuns.{count_of_runs}
 
 -- all came up to the cumulative TSN; these came beyond it, in serial order; these came again since the last SACK;
 -- and so many runs of those beyond take no memory
@@ -31,6 +33,20 @@ is_opposite tsn f = distance f.cumulative_tsn tsn == 2 ^ 31
 -- the highest TSN that came: the last of those beyond, or the cumulative one
 abbrev pub highest_tsn : Filter → ℕ
 highest_tsn f = unwrap_or (slice_get f.beyond (length f.beyond - 1)) f.cumulative_tsn
+
+-- ## Room for a TSN
+
+-- it takes no memory: it is expected next, or there is room for one run more
+abbrev pub HasRoomFor : ℕ → Filter → Type 0
+HasRoomFor tsn f =
+    (tsn == following_tsn f.cumulative_tsn) ≡ false
+    → count_of_runs f.cumulative_tsn f.beyond < f.room
+
+-- room is made for it, and nothing else changes
+pub record MakesRoom (tsn : ℕ) (old new : Filter) : Type 0 where
+  pub same : new ≡ record old { room = new.room }
+  pub more : old.room ≤ new.room
+  pub fits : HasRoomFor tsn new
 
 -- ## What a TSN makes of it
 

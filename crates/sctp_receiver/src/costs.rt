@@ -1,11 +1,9 @@
 //! The calls of `Receiver` with their turns counted, for a proof of what a call costs. A turn is one look at a TSN that is held beyond
 //! the cumulative one, at a name of a FORWARD-TSN that is followed, or at a stream that it visits.
 
-ghost use Rattle.std.specs.Prelude.{◌-◌, ◌≤◌, false, OnOk, OnErr};
+ghost use Rattle.std.specs.Prelude.{false};
 ghost use Rattle.sctp_data.specs.ForwardTsn.{forward_tsn_of};
-ghost use Rattle.sctp_receiver.specs.Calls.{CountsBlocks, MakesSack, Sacks, SkipsCounted, TakesDataCounted, TakesDataEach};
-ghost use Rattle.sctp_receiver.specs.Costs.{IsWithinEach, IsWithinRefused};
-ghost use Rattle.sctp_receiver.specs.Receiver.{arrival_refusal};
+ghost use Rattle.sctp_receiver.specs.Calls.{CountsBlocks, MakesSack, Sacks, SkipsCounted, TakesDataCounted};
 ghost use Rattle.sctp_receiver.specs.Skips.{refusal_to_skip};
 
 use crate::receiver::Receiver;
@@ -17,8 +15,7 @@ use sctp_data::chunk::chunk_selective_ack::ChunkSelectiveAck;
 use sctp_serial::turns::Turns;
 
 /// `Receiver::data`, and its turns are added: at most three times as many as the number of TSNs beyond has binary digits, five more, and
-/// those of the push in the queue of its stream (`IsWithinData`). A chunk that is refused, or a repeat, takes no more. What takes a
-/// fragment back where memory runs out for its TSN takes no turn.
+/// those of the push in the queue of its stream (`IsWithinData`). A chunk that is refused, or a repeat, takes no more.
 pub fn data(
     receiver: &mut Receiver,
     chunk: &ChunkPayloadData,
@@ -27,25 +24,7 @@ pub fn data(
     ensures { TakesDataCounted
         false chunk.now receiver.old receiver.new result turns.old turns.new }
 {
-    receiver.take(chunk, false, turns)
-}
-
-/// `Receiver::data_each`, and its turns are added: for each chunk those of `data`, as the receiver is when its turn comes
-/// (`IsWithinEach`). Where one is refused, none behind it is looked at, and each before it takes as many more as `undo_looks` says, to be
-/// taken back (`IsWithinRefused`).
-pub fn data_each(
-    receiver: &mut Receiver,
-    chunks: &[ChunkPayloadData],
-    turns: &mut Turns,
-) -> Result<Vec<Arrival>, ReceiverRefusal>
-    ensures takes { TakesDataEach arrival_refusal chunks.now receiver.old receiver.new result }
-    ensures not_back { turns.old ≤ turns.new }
-    ensures cost { OnOk result
-        (IsWithinEach chunks.now receiver.old receiver.new (turns.new - turns.old)) }
-    ensures cost_refused { OnErr result
-        (IsWithinRefused chunks.now receiver.old (turns.new - turns.old)) }
-{
-    receiver.take_all(chunks, false, turns)
+    receiver.take(chunk, turns)
 }
 
 /// `Receiver::forward_tsn`, and its turns are added: two for each stream with unassembled fragments or ordered messages, one for each name

@@ -7,7 +7,6 @@ pub mod duplicates;
 
 ghost use Rattle.sctp_receiver.specs.ReceiverRuns.{AfterEachRun, AfterEachRunWithin, AreComplete, AreOfOneMessage, CostsLittle, HoldsFewChunks, KeepsFewTsns, NotesFewDuplicates, WereAccepted};
 ghost use Rattle.sctp_receiver.specs.Advice.{AdviceSettles, SkipAdviceSettles};
-ghost use Rattle.sctp_receiver.specs.Datagrams.{DatagramsCostLittle, RefusedDatagramsCostLittle};
 ghost use Rattle.sctp_receiver.specs.SkipCosts.{SkipsCostByWhatIsHeld};
 
 /// Whatever chunks come to a receiver, and whichever streams are opened and closed, each message that it hands out is complete: its
@@ -37,21 +36,6 @@ pub fn what_is_held_is_bounded()
 /// streams that have any of these. So it costs what is held, once, however often it names a stream.
 pub fn a_skip_costs_by_what_is_held()
     ensures { SkipsCostByWhatIsHeld }
-{}
-
-/// What the DATA chunks of one datagram look at together, by the bound of `costs::data_each` where none is refused
-/// (`IsWithinEach`): beside the pushes in their streams, for each chunk three times the binary digits of the number of TSNs beyond the
-/// cumulative one and of chunks together, and five more; nothing for each TSN beyond.
-pub fn a_datagram_costs_by_its_chunks()
-    ensures { DatagramsCostLittle }
-{}
-
-/// What the DATA chunks of one datagram look at together where one of them is refused, by the bound of `costs::data_each`
-/// (`IsWithinRefused`): for each chunk of the datagram four times the binary digits of the number of TSNs beyond the cumulative one and of
-/// chunks together, and six more; the pushes of those up to the refused one; and once each fragment of the unordered messages that became
-/// complete. Nothing for each TSN beyond.
-pub fn a_refused_datagram_costs_by_its_chunks()
-    ensures { RefusedDatagramsCostLittle }
 {}
 
 /// No chunk waits for ever. A chunk of the lowest missing TSN, where no stream has a message to read, is taken by `data`, or the advice at its

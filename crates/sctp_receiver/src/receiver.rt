@@ -114,35 +114,31 @@ impl Receiver {
     pub fn data(&mut self, chunk: &ChunkPayloadData) -> Result<Arrival, ReceiverRefusal>
         ensures { TakesData false chunk.now self.old self.new result }
     {
-        self.take(chunk, false, &mut Turns::new())
+        self.take(chunk, &mut Turns::new())
     }
 
-    // Takes a DATA chunk, an ordered one of any stream sequence number or not, and how it could be taken back is dropped. Its turns
-    // are added.
+    // Takes a DATA chunk. Its turns are added.
     pub(crate) fn take(
         &mut self,
         chunk: &ChunkPayloadData,
-        any_ssn: bool,
         turns: &mut Turns,
     ) -> Result<Arrival, ReceiverRefusal>
-        ensures { TakesDataCounted any_ssn chunk.now self.old self.new result turns.old turns.new }
+        ensures { TakesDataCounted false chunk.now self.old self.new result turns.old turns.new }
     {
-        let rules = self.rules(any_ssn);
-        let (arrival, _) = take(&mut self.streams, &mut self.filter, rules, chunk, turns)?;
+        let rules = self.rules();
+        let arrival = take(&mut self.streams, &mut self.filter, rules, chunk, turns)?;
         self.filter.settle();
         Ok(arrival)
     }
 
     // By what it takes chunks.
-    pub(crate) fn rules(&self, any_ssn: bool) -> Rules
+    pub(crate) fn rules(&self) -> Rules
         ensures { result ≡ record {
-          any_ssn = any_ssn;
           max_message_size = self.now.max_message_size;
           limits = self.now.limits;
         } }
     {
         Rules {
-            any_ssn,
             max_message_size: self.max_message_size,
             limits: self.limits,
         }
@@ -171,7 +167,8 @@ impl Receiver {
         if let Some(refusal) = self.new_refusal(tsn) {
             return Err(refusal);
         }
-        self.filter.accept(tsn, &mut Turns::new())?;
+        self.filter.make_room(tsn)?;
+        self.filter.accept(tsn, &mut Turns::new());
         self.filter.settle();
         Ok(Arrival::New { complete: false })
     }

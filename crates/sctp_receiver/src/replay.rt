@@ -20,14 +20,17 @@ use sctp_data::chunk::chunk_selective_ack::ChunkSelectiveAck;
 use sctp_reassembly::reassembly_queue::ReassemblyQueue;
 use sctp_serial::turns::Turns;
 
-/// Takes DATA chunks as `Receiver::data_each` does, but for `SsnTooFar`: ordered ones of any stream sequence number, as a record has them.
+/// Takes the DATA chunks of a packet one after another, each as `Receiver::data` does but for `SsnTooFar`: ordered ones of any stream sequence
+/// number, as a record has them. It takes all or none: the first one that is refused refuses them all, with its refusal, and the receiver
+/// is as it was before the first chunk. `OutOfMemory` may come in the place of any other, since room for the answers is taken before.
+/// A peer's datagrams go to `Receiver::data`, chunk by chunk: that takes nothing back.
 pub fn data_each_with_any_ssn(
     receiver: &mut Receiver,
     chunks: &[ChunkPayloadData],
 ) -> Result<Vec<Arrival>, ReceiverRefusal>
     ensures { TakesDataEach data_refusal chunks.now receiver.old receiver.new result }
 {
-    receiver.take_all(chunks, true, &mut Turns::new())
+    receiver.take_all(chunks)
 }
 
 /// Takes a FORWARD-TSN by what it names alone: it tests no name, and passes over names of streams that are not open. An incomplete

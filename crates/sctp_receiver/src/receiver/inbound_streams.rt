@@ -7,7 +7,7 @@ ghost use Rattle.sctp_receiver.specs.declared.receiver.refusal.ReceiverRefusal.T
 ghost use Rattle.sctp_stream.specs.Numbers.{IsOnlyPlace, IsAbsent, swapped_out};
 ghost use Rattle.sctp_reassembly.specs.reassembly_queue.ReassemblyQueue.{is_too_large};
 ghost use Rattle.sctp_reassembly.specs.reassembly_queue.Undo.{CanUndo};
-ghost use Rattle.sctp_receiver.specs.Costs.{IsWithinPush, IsWithinPushOn, unassembled_on};
+ghost use Rattle.sctp_receiver.specs.Costs.{IsWithinPush, IsWithinPushOn};
 ghost use Rattle.sctp_receiver.specs.Limits.{held_cost};
 ghost use Rattle.sctp_receiver.specs.Receiver.{readable_streams};
 ghost use Rattle.sctp_receiver.specs.Resets.{stream_reset, keeps_message};
@@ -58,7 +58,8 @@ impl InboundStream {
         }
     }
 
-    /// The same, and its turns are added: those of a push in its queue. With an allocator the user data is copied (`to_keep`).
+    /// Takes a chunk, and says how it is taken back. With an allocator the user data is copied (`to_keep`). Its turns are added: those of a
+    /// push in its queue.
     pub(crate) fn push_undoable_counted(
         &mut self,
         chunk: &ChunkPayloadData,
@@ -84,15 +85,12 @@ impl InboundStream {
         Ok(self.queue.push_undoable_counted(fragment, turns)?)
     }
 
-    /// The same, and its turns are added: one for each fragment of an unordered message that it completed.
-    pub(crate) fn undo_push_counted(&mut self, undo: PushUndo, turns: &mut Turns)
+    /// Takes a chunk back. It takes no memory.
+    pub(crate) fn undo_push(&mut self, undo: PushUndo)
         requires { CanUndo undo self.old.queue }
-        ensures value { self.new ≡ stream_undone undo self.old }
-        ensures not_back { turns.old ≤ turns.new }
-        ensures cost { turns.new ≤ turns.old + (length self.new.queue.held.unassembled + 1
-            - length self.old.queue.held.unassembled) }
+        ensures { self.new ≡ stream_undone undo self.old }
     {
-        self.queue.undo_push_counted(undo, turns);
+        self.queue.undo_push(undo);
     }
 
     /// Takes the next message out, where there is one, and counts it. It takes no memory.
@@ -255,7 +253,8 @@ impl InboundStreams {
         self.visits.swap_remove(place);
     }
 
-    /// The same, and its turns are added: those of a push in the queue of that stream.
+    /// The stream at a place takes a chunk, and it is said how that is taken back. Its turns are added: those of a push in the queue of that
+    /// stream.
     pub(crate) fn push_undoable_at_counted(
         &mut self,
         place: usize,
@@ -285,6 +284,25 @@ impl InboundStreams {
         pushed
     }
 
+    /// Why the stream at a place does not take a chunk, where memory was wanting for its TSN: for that alone, where its message would not be
+    /// too long. It takes no memory. Its turns are added: those of a push in the queue of that stream.
+    pub(crate) fn refusal_at(
+        &self,
+        place: usize,
+        chunk: &ChunkPayloadData,
+        turns: &mut Turns,
+    ) -> ReceiverRefusal
+        requires { IsOnlyPlace chunk.now.stream_identifier (numbers_of self.now) place }
+        ensures refused { IsRefusedFor
+            (stream_refusal chunk.now (find (has_number chunk.now.stream_identifier) self.now))
+            result }
+        ensures not_back { turns.old ≤ turns.new }
+        ensures cost { IsWithinPushOn chunk.now
+            (find (has_number chunk.now.stream_identifier) self.now) (turns.new - turns.old) }
+    {
+        refusal_without_memory(&self.items[place].queue, chunk, turns)
+    }
+
     /// The stretch of the stream at a place, which is noted again where a fragment is taken back.
     /// Precondition: it is a place.
     pub(crate) fn span_at(&self, place: usize) -> TsnSpan
@@ -301,27 +319,9 @@ impl InboundStreams {
         requires span { IsSpanAt place span (undone_at place undo self.old) }
         ensures { self.new ≡ undone_at place undo self.old }
     {
-        self.undo_push_at_counted(place, undo, span, &mut Turns::new());
-    }
-
-    /// The same, and its turns are added: one for each fragment of an unordered message that it completed.
-    pub(crate) fn undo_push_at_counted(
-        &mut self,
-        place: usize,
-        undo: PushUndo,
-        span: TsnSpan,
-        turns: &mut Turns,
-    )
-        requires can { CanUndoAt place undo self.old }
-        requires span { IsSpanAt place span (undone_at place undo self.old) }
-        ensures value { self.new ≡ undone_at place undo self.old }
-        ensures not_back { turns.old ≤ turns.new }
-        ensures cost { turns.new
-            ≤ turns.old + (unassembled_on self.new + 1 - unassembled_on self.old) }
-    {
         let inbound = &mut self.items[place];
         let before = cost_of(&inbound.queue);
-        inbound.undo_push_counted(undo, turns);
+        inbound.undo_push(undo);
         self.cost = moved(self.cost, before, cost_of(&inbound.queue));
         renew_within(&mut self.visits, place, &inbound.queue, span);
     }

@@ -1,13 +1,15 @@
-//! A DATA chunk is taken so that it can be taken back (RFC 4960 6.2, 6.10).
+//! A DATA chunk is taken (RFC 9260 6.2): each refusal is known, and all memory is there, before anything of it is kept.
 
-ghost use Rattle.std.specs.Prelude.{◌≡◌, ◌+◌, ◌-◌, ◌≤◌, length, true, false, None, OnOk, OnErr, IfOk, IfErr, IsOk};
+ghost use Rattle.std.specs.Prelude.{◌≡◌, ◌+◌, ◌-◌, ◌≤◌, length, true, false, None, OnOk, OnErr, IfOk, IfErr, IsOk, find};
 ghost use Rattle.sctp_receiver.specs.declared.receiver.refusal.ReceiverRefusal.TheVariants.{OutOfMemory};
-ghost use Rattle.sctp_receiver.specs.Receiver.{data_refusal, refusal_for, IsRefusedFor, takes_memory, arrival_of, is_answered_complete, Takes, stream_of, is_full_by, noted_by};
+ghost use Rattle.sctp_receiver.specs.Receiver.{arrival_refusal, data_refusal, IsRefusedFor, takes_memory, arrival_of, is_answered_complete, Takes, stream_of, stream_refusal, is_full_by, noted_by};
 ghost use Rattle.sctp_reassembly.specs.reassembly_queue.Orders.{digits};
-ghost use Rattle.sctp_receiver.specs.Costs.{IsWithinData, counts_of, undo_looks, undo_each_looks};
+ghost use Rattle.sctp_receiver.specs.Costs.{IsWithinData, IsWithinPushOn};
+ghost use Rattle.sctp_receiver.specs.Inbound.{PushesOn, has_number, numbers_of};
 ghost use Rattle.sctp_receiver.specs.Ssns.{is_kept_on};
-ghost use Rattle.sctp_receiver.specs.TsnFilter.{has_come};
-ghost use Rattle.sctp_receiver.specs.Undo.{parts, reception_of, chunk_undone, CanUndoChunk, chunks_undone, CanUndoChunks, repeat_undone};
+ghost use Rattle.sctp_receiver.specs.TsnFilter.{MakesRoom, has_come};
+ghost use Rattle.sctp_receiver.specs.Undo.{parts, reception_of, chunk_undone, CanUndoChunk, repeat_undone, undone_at, CanUndoAt};
+ghost use Rattle.sctp_stream.specs.Numbers.{IsOnlyPlace};
 
 use crate::receiver::arrival::Arrival;
 use crate::receiver::inbound_streams::InboundStreams;
@@ -25,15 +27,13 @@ use sctp_serial::turns::Turns;
 /// By what a receiver takes chunks.
 #[derive(Clone, Copy)]
 pub(crate) struct Rules {
-    /// Whether an ordered chunk of any stream sequence number is taken.
-    pub any_ssn: bool,
     /// How long a message may be, in bytes.
     pub max_message_size: u32,
     /// What is taken at most.
     pub limits: Option<Limits>,
 }
 
-/// What a chunk did, so that it can be taken back.
+/// What a chunk did, so that a replay can take it back.
 #[derive(Drop)]
 pub(crate) enum ChunkUndo {
     /// Its TSN came again, and was noted or not.
@@ -49,33 +49,28 @@ pub(crate) enum ChunkUndo {
     },
 }
 
-// Takes a chunk, and answers what it was, and how it is taken back. Where memory is refused for its TSN, its fragment is taken back here:
-// that adds no turns. Its own turns are added.
+// Takes a chunk, and answers what it was. Its turns are added.
 pub(crate) fn take(
     streams: &mut InboundStreams,
     filter: &mut TsnFilter,
     rules: Rules,
     chunk: &ChunkPayloadData,
     turns: &mut Turns,
-) -> Result<(Arrival, ChunkUndo), ReceiverRefusal>
-    ensures answer { IfOk result (λ taken. taken.0
-        ≡ arrival_of chunk.now.tsn (is_answered_complete taken.0)
+) -> Result<Arrival, ReceiverRefusal>
+    ensures answer { IfOk result (λ arrival. arrival
+        ≡ arrival_of chunk.now.tsn (is_answered_complete arrival)
         (reception_of rules (parts streams.old filter.old))) }
-    ensures ok { IfOk result (λ taken. Takes chunk.now taken.0
+    ensures ok { IfOk result (λ arrival. Takes chunk.now arrival
         (reception_of rules (parts streams.old filter.old))
         (reception_of rules (parts streams.new filter.new))) }
-    ensures accepted { IsOk result → refusal_for rules.any_ssn chunk.now
-        (reception_of rules (parts streams.old filter.old)) ≡ None }
-    ensures kept { IsOk result → rules.any_ssn ≡ false
-        → has_come chunk.now.tsn filter.old ≡ false
+    ensures accepted { IsOk result
+        → arrival_refusal chunk.now (reception_of rules (parts streams.old filter.old)) ≡ None }
+    ensures kept { IsOk result → has_come chunk.now.tsn filter.old ≡ false
         → is_kept_on chunk.now (stream_of chunk.now.stream_identifier
         (reception_of rules (parts streams.old filter.old))) ≡ true }
     ensures came { IsOk result → has_come chunk.now.tsn filter.new ≡ true }
-    ensures undo { IfOk result (λ taken. chunk_undone taken.1
-        (parts streams.new filter.new) ≡ parts streams.old filter.old) }
-    ensures can { IfOk result (λ taken. CanUndoChunk taken.1 (parts streams.new filter.new)) }
-    ensures refused { IfErr result (λ e. IsRefusedFor (refusal_for rules.any_ssn chunk.now
-        (reception_of rules (parts streams.old filter.old))) e) }
+    ensures refused { IfErr result (λ e. IsRefusedFor
+        (arrival_refusal chunk.now (reception_of rules (parts streams.old filter.old))) e) }
     ensures wants { IfErr result (λ e. e ≡ OutOfMemory → takes_memory chunk.now
         (reception_of rules (parts streams.old filter.old)) ≡ true) }
     ensures err { OnErr result (parts streams.new filter.new ≡ parts streams.old filter.old) }
@@ -83,17 +78,16 @@ pub(crate) fn take(
     ensures cost { IsWithinData chunk.now (reception_of rules (parts streams.old filter.old))
         (reception_of rules (parts streams.new filter.new)) (turns.new - turns.old) }
 {
-    if rules.any_ssn {
-        return take_any_ssn(streams, filter, rules, chunk, turns);
-    }
     if is_new_too_far(streams, filter, chunk, turns) {
         return Err(ReceiverRefusal::SsnTooFar);
     }
-    take_any_ssn(streams, filter, rules, chunk, turns)
+    let (arrival, _) = take_any_ssn(streams, filter, rules, chunk, turns)?;
+    Ok(arrival)
 }
 
-// The same, and its stream sequence number is not looked at.
-fn take_any_ssn(
+/// The same, but its stream sequence number is not looked at, and it answers too how the chunk is taken back. What refuses a chunk is tested
+/// first, and memory for its TSN is taken before its fragment is pushed: so nothing that was done is undone.
+pub(crate) fn take_any_ssn(
     streams: &mut InboundStreams,
     filter: &mut TsnFilter,
     rules: Rules,
@@ -137,21 +131,54 @@ fn take_any_ssn(
     let Some(place) = streams.place_of(chunk.stream_identifier) else {
         return Err(ReceiverRefusal::StreamUnknown);
     };
+    let tsn = filter.undo_of(chunk.tsn);
     let span = streams.span_at(place);
-    let (complete, queue) = streams.push_undoable_at_counted(place, chunk, turns)?;
-    let Ok(tsn) = filter.accept_undoable_counted(chunk.tsn, turns) else {
-        streams.undo_push_at(place, queue, span);
-        return Err(ReceiverRefusal::OutOfMemory);
+    let (complete, queue) = push_behind_room(streams, filter, place, chunk, turns)?;
+    filter.accept(chunk.tsn, turns);
+    let undo = ChunkUndo::New {
+        tsn,
+        place,
+        queue,
+        span,
     };
-    Ok((
-        Arrival::New { complete },
-        ChunkUndo::New {
-            tsn,
-            place,
-            queue,
-            span,
-        },
-    ))
+    Ok((Arrival::New { complete }, undo))
+}
+
+// Makes room for the TSN of a chunk, then pushes the chunk on the stream at a place. Where one of both is refused nothing changes. Its turns
+// are added: those of the push.
+// Precondition: it is the place of the stream of the chunk.
+fn push_behind_room(
+    streams: &mut InboundStreams,
+    filter: &mut TsnFilter,
+    place: usize,
+    chunk: &ChunkPayloadData,
+    turns: &mut Turns,
+) -> Result<(bool, PushUndo), ReceiverRefusal>
+    requires { IsOnlyPlace chunk.now.stream_identifier (numbers_of streams.old) place }
+    ensures ok { IfOk result (λ put. PushesOn chunk.now put.0 streams.old streams.new) }
+    ensures room { OnOk result (MakesRoom chunk.now.tsn filter.old filter.new) }
+    ensures undo { IfOk result (λ put. undone_at place put.1 streams.new ≡ streams.old) }
+    ensures can { IfOk result (λ put. CanUndoAt place put.1 streams.new) }
+    ensures fits { IsOk result → stream_refusal chunk.now
+        (find (has_number chunk.now.stream_identifier) streams.old) ≡ None }
+    ensures refused { IfErr result (λ e. IsRefusedFor (stream_refusal chunk.now
+        (find (has_number chunk.now.stream_identifier) streams.old)) e) }
+    ensures err { OnErr result (parts streams.new filter.new ≡ parts streams.old filter.old) }
+    ensures not_back { turns.old ≤ turns.new }
+    ensures cost { IsWithinPushOn chunk.now
+        (find (has_number chunk.now.stream_identifier) streams.old) (turns.new - turns.old) }
+{
+    let room = filter.room();
+    if filter.make_room(chunk.tsn).is_err() {
+        return Err(streams.refusal_at(place, chunk, turns));
+    }
+    match streams.push_undoable_at_counted(place, chunk, turns) {
+        Ok(pushed) => Ok(pushed),
+        Err(refusal) => {
+            filter.set_room(room);
+            Err(refusal)
+        }
+    }
 }
 
 // A TSN comes again: it is noted, unless the limits are there and as many duplicates are noted as a SACK can report. Answers whether it
@@ -183,65 +210,5 @@ fn is_full_by(limits: Option<Limits>, filter: &TsnFilter) -> bool
     match limits {
         Some(_) => filter.duplicates().len() >= MAX_SACK_ENTRIES,
         None => false,
-    }
-}
-
-// A TSN that came again is taken back.
-fn forget_repeat(filter: &mut TsnFilter, noted: bool)
-    ensures { filter.new ≡ repeat_undone noted filter.old }
-{
-    if noted {
-        filter.forget_last_duplicate();
-    }
-}
-
-// Takes chunks back, the last one first. It takes no memory. Its turns are added.
-// Precondition: all is as the last one left it.
-pub(crate) fn undo_each(
-    streams: &mut InboundStreams,
-    filter: &mut TsnFilter,
-    undos: Vec<ChunkUndo>,
-    turns: &mut Turns,
-)
-    requires { CanUndoChunks undos.items (parts streams.old filter.old) }
-    ensures value { parts streams.new filter.new
-        ≡ chunks_undone undos.items (parts streams.old filter.old) }
-    ensures not_back { turns.old ≤ turns.new }
-    ensures cost { turns.new
-        ≤ turns.old + undo_each_looks undos.items (parts streams.old filter.old) }
-{
-    let mut undos = undos;
-    while let Some(undo) = undos.pop() {
-        undo_chunk(streams, filter, undo, turns);
-    }
-}
-
-// Takes a chunk back. A turn is taken for it, and those of its TSN and of its fragment.
-fn undo_chunk(
-    streams: &mut InboundStreams,
-    filter: &mut TsnFilter,
-    undo: ChunkUndo,
-    turns: &mut Turns,
-)
-    requires { CanUndoChunk undo (parts streams.old filter.old) }
-    ensures value { parts streams.new filter.new
-        ≡ chunk_undone undo (parts streams.old filter.old) }
-    ensures not_back { turns.old ≤ turns.new }
-    ensures cost { turns.new ≤ turns.old
-        + undo_looks (counts_of streams.new filter.new.beyond)
-        (counts_of streams.old filter.old.beyond) }
-{
-    turns.tick();
-    match undo {
-        ChunkUndo::Repeat { noted } => forget_repeat(filter, noted),
-        ChunkUndo::New {
-            tsn,
-            place,
-            queue,
-            span,
-        } => {
-            streams.undo_push_at_counted(place, queue, span, turns);
-            filter.retract_counted(tsn, turns);
-        }
     }
 }

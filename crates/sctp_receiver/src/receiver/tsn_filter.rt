@@ -8,6 +8,7 @@ ghost use Rattle.sctp_receiver.specs.TsnFilter.{rise_beyond};
 ghost use Rattle.sctp_serial.specs.DataChunks.{preceding_tsn};
 ghost use Rattle.sctp_serial.specs.Turns.{IsWithinDigits};
 
+mod coming;
 mod runs;
 pub mod undo;
 

@@ -1,22 +1,18 @@
 //! A TSN that came is taken back.
 
-ghost use Rattle.std.specs.Prelude.{◌≡◌, ◌==◌, ◌<◌, ◌≤◌, ◌+◌, ◌-◌, ◌*◌, ◌^◌, ◌++◌, true, false, OnOk, OnErr, IfOk, IsOkUnless, length, take};
+ghost use Rattle.std.specs.Prelude.{◌≡◌, ◌<◌, ◌≤◌, ◌-◌, ◌^◌, ◌++◌, true, length, take};
 ghost use Rattle.std.specs.VecDeque.{deque_capacity};
-ghost use Rattle.sctp_util.specs.declared.error.Error.TheVariants.{ErrOutOfMemory};
-ghost use Rattle.sctp_reassembly.specs.reassembly_queue.Orders.{digits};
 ghost use Rattle.sctp_receiver.specs.TsnFilter.{rise_beyond};
 ghost use Rattle.sctp_receiver.specs.TsnRuns.{AreRuns, count_of_runs, tsns_of};
 ghost use Rattle.sctp_receiver.specs.Undo.{passed, undo_of};
-ghost use Rattle.sctp_serial.specs.DataChunks.{following_tsn};
 
 use super::TsnFilter;
-use super::runs::{Run, pass, put, reserve, take_tsn};
+use super::runs::{Run, take_tsn};
 use sctp_serial::serial::distance;
 use sctp_serial::turns::Turns;
-use sctp_util::error::Result;
 use std::collections::VecDeque;
 
-/// What `accept_undoable` did, so that `retract` can take it back.
+/// What a new TSN makes of the filter, so that `retract` can take it back.
 #[derive(Clone, Copy)]
 pub enum FilterUndo {
     /// A TSN stands beyond the cumulative one; and for how many runs there was memory.
@@ -26,65 +22,15 @@ pub enum FilterUndo {
 }
 
 impl TsnFilter {
-    ghost use Rattle.sctp_receiver.specs.TsnFilter.{has_come, is_opposite, with_tsn};
     ghost use Rattle.sctp_receiver.specs.Undo.{retracted, CanRetract};
 
-    /// A new TSN comes. The one that is expected next is put nowhere: the cumulative TSN moves over it, and over the run that stands next
-    /// to it, and no memory is taken. Answers how it is taken back. Refuses only for memory. Its turns are added: at most one more than the
-    /// number of TSNs beyond has binary digits, however many of them leave.
-    /// Precondition: it did not come (`has_come`), and is not opposite to the cumulative one (`is_opposite`).
-    pub(crate) fn accept_undoable_counted(
-        &mut self,
-        tsn: u32,
-        turns: &mut Turns,
-    ) -> Result<FilterUndo>
-        requires new { has_come tsn self.old ≡ false }
-        requires near { is_opposite tsn self.old ≡ false }
-        ensures ok { OnOk result
-            (self.new ≡ record (with_tsn tsn self.old) { room = self.new.room }) }
-        ensures undo { IfOk result (λ u. retracted u self.new ≡ self.old) }
-        ensures can { IfOk result (λ u. CanRetract u self.new) }
-        ensures err { OnErr result (self.new ≡ self.old) }
-        ensures memory { IsOkUnless result ErrOutOfMemory }
-        ensures not_back { turns.old ≤ turns.new }
-        ensures cost { turns.new ≤ turns.old + digits (length self.old.beyond) + 1 }
-    {
-        let undo = self.undo_of(tsn);
-        self.accept(tsn, turns)?;
-        Ok(undo)
-    }
-
-    // The same, and how it is taken back is not told.
-    pub(crate) fn accept(&mut self, tsn: u32, turns: &mut Turns) -> Result<()>
-        requires new { has_come tsn self.old ≡ false }
-        requires near { is_opposite tsn self.old ≡ false }
-        ensures ok { OnOk result
-            (self.new ≡ record (with_tsn tsn self.old) { room = self.new.room }) }
-        ensures room { self.old.room ≤ self.new.room }
-        ensures runs { count_of_runs self.old.cumulative_tsn self.old.beyond ≤ self.old.room }
-        ensures err { OnErr result (self.new ≡ self.old) }
-        ensures wants { OnErr result
-            ((tsn == following_tsn self.old.cumulative_tsn) ≡ false) }
-        ensures memory { IsOkUnless result ErrOutOfMemory }
-        ensures not_back { turns.old ≤ turns.new }
-        ensures cost { turns.new ≤ turns.old + digits (length self.old.beyond) + 1 }
-    {
-        let from = self.cumulative_tsn;
-        if tsn == from.wrapping_add(1) {
-            self.cumulative_tsn = pass(&mut self.runs, from, tsn, turns);
-            return Ok(());
-        }
-        self.room = reserve(&mut self.runs, self.room)?;
-        put(&mut self.runs, from, tsn, turns);
-        Ok(())
-    }
-
-    // How a new TSN is taken back.
-    fn undo_of(&self, tsn: u32) -> FilterUndo
+    /// How a new TSN is taken back, once it has come.
+    pub(crate) fn undo_of(&self, tsn: u32) -> FilterUndo
         ensures value { result ≡ undo_of tsn self.now }
         ensures tsn_fits { tsn < 2 ^ 32 }
         ensures in_range { self.now.cumulative_tsn < 2 ^ 32 }
         ensures rise { rise_beyond self.now.cumulative_tsn 1 self.now.beyond ≡ true }
+        ensures runs { count_of_runs self.now.cumulative_tsn self.now.beyond ≤ self.now.room }
     {
         let cumulative_tsn = self.cumulative_tsn;
         let room = self.room;
@@ -98,17 +44,14 @@ impl TsnFilter {
         }
     }
 
-    /// What `accept_undoable_counted` did is taken back. It takes no memory. Its turns are added: to find its TSN at most as many as the
-    /// number of those beyond has binary digits. For those that are beyond again it takes none.
-    pub(crate) fn retract_counted(&mut self, undo: FilterUndo, turns: &mut Turns)
+    /// A TSN that came is taken back. It takes no memory.
+    pub(crate) fn retract(&mut self, undo: FilterUndo)
         requires { CanRetract undo self.old }
-        ensures value { self.new ≡ retracted undo self.old }
-        ensures not_back { turns.old ≤ turns.new }
-        ensures cost { turns.new ≤ turns.old + digits (length self.old.beyond) }
+        ensures { self.new ≡ retracted undo self.old }
     {
         match undo {
             FilterUndo::Beyond { tsn, room } => {
-                take_tsn(&mut self.runs, self.cumulative_tsn, tsn, turns);
+                take_tsn(&mut self.runs, self.cumulative_tsn, tsn, &mut Turns::new());
                 self.room = room;
             }
             FilterUndo::Next {

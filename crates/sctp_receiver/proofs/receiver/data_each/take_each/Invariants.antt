@@ -1,12 +1,10 @@
-use Rattle.sctp_receiver.proofs.Names.{◌≡◌, ◌+◌, ◌-◌, ◌≤◌, length, take, TakesEachWithin, IsWithinUndone, undo_each_looks, TakesEachBy, refusal_for, parts}
-use Rattle.sctp_receiver.proofs.Names.{reception_of, chunks_undone, CanUndoChunks}
+use Rattle.sctp_receiver.proofs.Names.{◌≡◌, ◌≤◌, length, take, TakesEachBy, data_refusal, parts, reception_of, chunks_undone, CanUndoChunks}
 use Rattle.std.specs.Vec.{vec_capacity}
-use Rattle.sctp_receiver.specs.Costs.{IsWithinEachBy}
 use Rattle.sctp_receiver.proofs.receiver.data_each.take_each.Given as goal
 
 abbrev pub invariant-loop-chunk : goal.invariant-loop-chunk
 invariant-loop-chunk l = record {
-  taken : TakesEachBy (refusal_for l.rules.any_ssn) (take l.chunk-index l.chunks) l.arrivals.items
+  taken : TakesEachBy data_refusal (take l.chunk-index l.chunks) l.arrivals.items
       (reception_of l.rules (parts l.initial.streams l.initial.filter)) (reception_of l.rules (parts l.streams l.filter));
   undone : chunks_undone l.undos.items (parts l.streams l.filter) ≡ parts l.initial.streams l.initial.filter;
   can : CanUndoChunks l.undos.items (parts l.streams l.filter);
@@ -14,10 +12,4 @@ invariant-loop-chunk l = record {
   arrivals_fit : length l.chunks ≤ vec_capacity l.arrivals;
   undos : length l.undos.items ≡ l.chunk-index;
   undos_fit : length l.chunks ≤ vec_capacity l.undos;
-  not_back : l.initial.turns ≤ l.turns;
-  cost : IsWithinEachBy (refusal_for l.rules.any_ssn) (take l.chunk-index l.chunks)
-      (reception_of l.rules (parts l.initial.streams l.initial.filter)) (reception_of l.rules (parts l.streams l.filter)) (l.turns - l.initial.turns);
-  cost_undone : TakesEachWithin (refusal_for l.rules.any_ssn) IsWithinUndone (take l.chunk-index l.chunks)
-      (reception_of l.rules (parts l.initial.streams l.initial.filter)) (reception_of l.rules (parts l.streams l.filter))
-      (l.turns - l.initial.turns + undo_each_looks l.undos.items (parts l.streams l.filter));
 }

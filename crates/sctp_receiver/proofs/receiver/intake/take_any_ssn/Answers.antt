@@ -1,5 +1,7 @@
 use Rattle.sctp_receiver.proofs.Names.{◌≡◌, ◌-◌, ◌≤◌, length, sym, ◌∙◌, subst, inr, None, true, arith, digits, within_digits, new_refusal, parts, reception_of}
-use Rattle.sctp_receiver.proofs.Names.{Filter, has_come}
+use Rattle.sctp_receiver.proofs.Names.{Filter, has_come, ap, ap₂, Parts, retracted}
+use Rattle.sctp_receiver.specs.Undo.{IsSpanAt}
+use Rattle.sctp_receiver.proofs.Retracts.{behind-room-back, came-behind-room, can-retract, more-room}
 use Rattle.sctp_receiver.proofs.PushCosts.{data-none}
 use Rattle.sctp_receiver.proofs.Receptions.{closed, unknown, any-room}
 use Rattle.sctp_receiver.proofs.Came.{taken-came}
@@ -42,27 +44,19 @@ pub returns-in_err-complete-clause-cost : goal.returns-in_err-complete-clause-co
 returns-in_err-complete-clause-cost c =
     let looked = looks (goal.at.returns-in_err-complete-clause-cost c).After-has_come_counted in
     record {
-      pushing = c.push_undoable_at_counted.new.turns - c.tick-2.new.self;
+      pushing = c.push_behind_room.new.turns - c.tick-2.new.self;
       others = omega (arith, looked);
-      pushes = c.push_undoable_at_counted.ensures.cost;
-    }
-
-pub returns-in_default-accept_undoable_counted-clause-cost : goal.returns-in_default-accept_undoable_counted-clause-cost
-returns-in_default-accept_undoable_counted-clause-cost c =
-    let looked = looks (goal.at.returns-in_default-accept_undoable_counted-clause-cost c).After-has_come_counted in
-    record {
-      pushing = c.push_undoable_at_counted.new.turns - c.tick-2.new.self;
-      others = omega (arith, looked);
-      pushes = c.push_undoable_at_counted.ensures.cost;
+      pushes = c.push_behind_room.ensures.cost;
     }
 
 pub returns-clause-cost : goal.returns-clause-cost
 returns-clause-cost c =
     let looked = looks (goal.at.returns-clause-cost c).After-has_come_counted in
+    let same = ap (λ (f : Filter). length f.beyond) c.in_ok-complete.ensures.room.same in
     record {
-      pushing = c.push_undoable_at_counted.new.turns - c.tick-2.new.self;
-      others = omega (arith, looked);
-      pushes = c.push_undoable_at_counted.ensures.cost;
+      pushing = c.push_behind_room.new.turns - c.tick-2.new.self;
+      others = omega (arith, looked, ap digits same);
+      pushes = c.push_behind_room.ensures.cost;
     }
 
 pub returns-clause-came : goal.returns-clause-came
@@ -71,5 +65,26 @@ returns-clause-came c = λ _.
     let o = c.is_opposite.ensures in
     let fresh = sym c.has_come_counted.ensures.answer ∙ c.if-has_come_counted.false in
     let near = sym o.value ∙ c.if-is_opposite.false in
-    subst (λ (f : Filter). has_come t f ≡ true) (sym c.in-Ok.ensures.ok)
-    (taken-came t c.args.filter.now o.cumulative_fits o.tsn_fits o.rise fresh near)
+    let came = came-behind-room t c.args.filter.now c.push_behind_room.new.filter c.accept.new.self c.in_ok-complete.ensures.room c.accept.ensures.value in
+    subst (λ (f : Filter). has_come t f ≡ true) (sym came) (taken-came t c.args.filter.now o.cumulative_fits o.tsn_fits o.rise fresh near)
+
+pub returns-clause-undo : goal.returns-clause-undo
+returns-clause-undo c =
+    let u = c.undo_of-tsn.ensures in
+    let fresh = sym c.has_come_counted.ensures.answer ∙ c.if-has_come_counted.false in
+    let near = sym c.is_opposite.ensures.value ∙ c.if-is_opposite.false in
+    let back = behind-room-back c.args.chunk.now.tsn c.args.filter.now c.push_behind_room.new.filter c.accept.new.self c.in_ok-complete.ensures.room
+    c.accept.ensures.value u.in_range u.tsn_fits u.rise fresh near in
+    ap₂ parts c.in_ok-complete.ensures.undo (ap (λ v. retracted v c.accept.new.self) u.value ∙ back)
+
+pub returns-clause-can : goal.returns-clause-can
+returns-clause-can c =
+    let u = c.undo_of-tsn.ensures in
+    let room = more-room c.args.chunk.now.tsn c.args.filter.now c.push_behind_room.new.filter c.accept.new.self c.in_ok-complete.ensures.room c.accept.ensures.value in
+    let back = ap (λ (p : Parts). p.filter) (returns-clause-undo c) in (
+      can-retract c.undo_of-tsn.result c.accept.new.self c.args.filter.now back u.in_range u.rise u.runs room,
+      (
+        c.in_ok-complete.ensures.can,
+        subst (IsSpanAt _ _) (sym c.in_ok-complete.ensures.undo) c.span_at-span.ensures,
+      ),
+    )

@@ -1,9 +1,8 @@
-use Rattle.sctp_receiver.proofs.Names.{ℕ, zero, suc, ◌+◌, ◌-◌, ◌≤◌, length, ap, ◌∙◌, arith, insert_before, distance, comes_before, comes_before_from}
+use Rattle.sctp_receiver.proofs.Names.{ℕ, zero, suc, ◌+◌, ◌-◌, ◌≤◌, length, ap, arith, distance, comes_before_from}
 use Rattle.sctp_receiver.proofs.Names.{following_tsn, after_one, digits, tsns_of}
-use Rattle.sctp_receiver.proofs.FilterCalls.{lies-beyond, next-is, put-beyond}
-use Rattle.sctp_receiver.proofs.RunBlocks.{run-count}
+use Rattle.sctp_receiver.proofs.FilterCalls.{has-room, lies-beyond, next-is, put-beyond}
 use Rattle.sctp_receiver.proofs.TsnRuns.{fewer-runs, runs-rise}
-use Rattle.sctp_receiver.proofs.UndoCosts.{few-digits}
+use Rattle.sctp_receiver.proofs.PushCosts.{few-digits}
 use Rattle.sctp_receiver.proofs.receiver.tsn_filter.TsnFilter.accept.Goals as goal
 
 pub pass-self-inside-requires-clause-after : goal.pass-self-inside-requires-clause-after
@@ -12,8 +11,8 @@ pass-self-inside-requires-clause-after c =
     let from = c.self.inside.cumulative_tsn in
     rw (c.if-tsn-from.true) (comes_before_from from (following_tsn from) (omega (arith, one)) (omega (arith, one)))
 
-pub returns-then-tsn-from-clause-ok : goal.returns-then-tsn-from-clause-ok
-returns-then-tsn-from-clause-ok c =
+pub returns-then-tsn-from-clause-value : goal.returns-then-tsn-from-clause-value
+returns-then-tsn-from-clause-value c =
     let f = c.self.inside in
     let i = c.self.invariant in
     let p = c.pass-self-inside in
@@ -34,20 +33,6 @@ returns-then-tsn-from-clause-cost c =
     rw (← c.self.view_is) (few-turns (length (tsns_of f.runs.items)) c.args.turns.now p.new.turns (length (tsns_of p.new.runs.items)) p.ensures.cost
     (p.ensures.next (omega (arith, one, same))))
 
-pub returns-then-tsn-from-clause-runs : goal.returns-then-tsn-from-clause-runs
-returns-then-tsn-from-clause-runs c =
-    let f = c.self.inside in
-    let i = c.self.invariant in
-    let n = run-count f.cumulative_tsn f.runs.items i.in_range i.runs in
-    rw (← c.self.view_is) (omega (arith, n, i.places))
-
-pub returns-in_err-self-inside-clause-runs : goal.returns-in_err-self-inside-clause-runs
-returns-in_err-self-inside-clause-runs c =
-    let f = c.self.inside in
-    let i = c.self.invariant in
-    let n = run-count f.cumulative_tsn f.runs.items i.in_range i.runs in
-    rw (← c.self.view_is) (omega (arith, n, i.places))
-
 pub put-requires-clause-far : goal.put-requires-clause-far
 put-requires-clause-far c =
     let f = c.self.inside in
@@ -60,27 +45,38 @@ put-requires-clause-near c =
     (lies-beyond f.cumulative_tsn c.args.tsn f.room (tsns_of f.runs.items) f.duplicates.items c.args.self.now c.self.view_is c.self.invariant.in_range
     c.ranges.tsn.fits c.requires.new c.requires.near c.if-tsn-from.false).near
 
-pub returns-clause-ok : goal.returns-clause-ok
-returns-clause-ok c =
+pub put-requires-clause-room : goal.put-requires-clause-room
+put-requires-clause-room c =
+    let f = c.self.inside in
+    let i = c.self.invariant in
+    let h = has-room f.cumulative_tsn c.args.tsn f.room f.runs.items f.duplicates.items c.args.self.now c.self.view_is i.in_range i.runs c.requires.room
+    c.if-tsn-from.false in
+    omega (arith, h, i.capacity)
+
+pub invariant_of-self-2 : goal.invariant_of-self-2
+invariant_of-self-2 c =
+    let f = c.self.inside in
+    let i = c.self.invariant in
+    let h = has-room f.cumulative_tsn c.args.tsn f.room f.runs.items f.duplicates.items c.args.self.now c.self.view_is i.in_range i.runs c.requires.room
+    c.if-tsn-from.false in
+    record {
+      in_range = i.in_range;
+      runs = c.put.ensures.runs;
+      places = omega (arith, h, c.put.ensures.len);
+      capacity = omega (arith, i.capacity, c.put.ensures.capacity);
+    }
+
+pub returns-clause-value : goal.returns-clause-value
+returns-clause-value c =
     let f = c.self.inside in
     let i = c.self.invariant in
     let p = c.put in
-    rw (← c.self.view_is) (put-beyond f.cumulative_tsn c.args.tsn f.room c.in_ok-self-inside.field-0 (tsns_of f.runs.items) (tsns_of p.new.runs.items)
-    f.duplicates.items i.in_range (runs-rise f.cumulative_tsn 0 p.new.runs.items i.in_range p.ensures.runs)
-    (p.ensures.tsns ∙ ap (λ us. insert_before comes_before c.args.tsn (tsns_of us)) c.reserve.ensures.items))
-
-pub returns-clause-runs : goal.returns-clause-runs
-returns-clause-runs c =
-    let f = c.self.inside in
-    let i = c.self.invariant in
-    let n = run-count f.cumulative_tsn f.runs.items i.in_range i.runs in
-    rw (← c.self.view_is) (omega (arith, n, i.places))
+    rw (← c.self.view_is) (put-beyond f.cumulative_tsn c.args.tsn f.room f.room (tsns_of f.runs.items) (tsns_of p.new.runs.items)
+    f.duplicates.items i.in_range (runs-rise f.cumulative_tsn 0 p.new.runs.items i.in_range p.ensures.runs) p.ensures.tsns)
 
 pub returns-clause-cost : goal.returns-clause-cost
 returns-clause-cost c =
     let f = c.self.inside in
     let few = fewer-runs f.runs.items in
-    let same = ap length c.reserve.ensures.items in
-    let looked = few-digits (length c.reserve.new.runs.items) (length (tsns_of f.runs.items)) (c.put.new.turns - c.args.turns.now - 1)
-    (omega (arith, few, same)) c.put.ensures.cost in
+    let looked = few-digits (length f.runs.items) (length (tsns_of f.runs.items)) (c.put.new.turns - c.args.turns.now - 1) few c.put.ensures.cost in
     rw (← c.self.view_is) (omega (arith, looked, c.put.ensures.not_back))

@@ -1,9 +1,7 @@
-use Rattle.sctp_receiver.proofs.Names.{◌≤◌, ◌-◌, ◌++◌, length, ap, sym, subst, arith, ◌==◌, not, filter, Beyond, Next, Filter, tsns_of, count_of_runs}
+use Rattle.sctp_receiver.proofs.Names.{◌≤◌, ◌++◌, ap, sym, subst, arith, ◌==◌, not, filter, Beyond, Next, Filter, tsns_of, count_of_runs}
 use Rattle.sctp_receiver.proofs.Names.{CanRetract, passed}
 use Rattle.sctp_receiver.proofs.RunBlocks.{run-count}
-use Rattle.sctp_receiver.proofs.TsnRuns.{fewer-runs}
-use Rattle.sctp_receiver.proofs.UndoCosts.{few-digits}
-use Rattle.sctp_receiver.proofs.receiver.tsn_filter.TsnFilter.retract_counted.Goals as goal
+use Rattle.sctp_receiver.proofs.receiver.tsn_filter.TsnFilter.retract.Goals as goal
 
 pub invariant_of-self : goal.invariant_of-self
 invariant_of-self c =
@@ -45,10 +43,3 @@ invariant_of-self-in-Next c =
       places = omega (arith, places, count, n);
       capacity = omega (arith, fits, was, i.capacity, p.ensures.capacity);
     }
-
-pub returns-in-Beyond-clause-cost : goal.returns-in-Beyond-clause-cost
-returns-in-Beyond-clause-cost c =
-    let f = c.self.inside in
-    let few = fewer-runs f.runs.items in
-    let looked = few-digits (length f.runs.items) (length (tsns_of f.runs.items)) (c.take_tsn.new.turns - c.args.turns.now) few c.take_tsn.ensures.cost in
-    rw (← c.self.view_is) (omega (arith, looked, c.take_tsn.ensures.not_back))
