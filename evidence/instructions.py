@@ -37,7 +37,7 @@ def units_of(row):
         return 4000
     if row.startswith("exchange"):
         return CALLS * (10 if "ten messages" in row else 1)
-    calls = r"limit|SACK|mark_as_acked|Sender::(acked|close) over|Receiver::(close|sack|read) over|Receiver::data_each"
+    calls = r"limit|SACK|mark_as_acked|Sender::(acked|close) over|Receiver::(close|sack|read) over|Receiver::data, two"
     return CALLS if re.match(calls, row) else 1
 
 

@@ -123,8 +123,8 @@ fn sending_name(call: Sending) -> &'static str {
 fn receiving_name(call: Receiving) -> &'static str {
     match call {
         Receiving::Data => "Receiver::data",
-        Receiving::DataEach => "Receiver::data_each, two chunks,",
-        Receiving::Streams => "Receiver::data_each, two chunks, open streams,",
+        Receiving::DataPairs => "Receiver::data, two chunks,",
+        Receiving::Streams => "Receiver::data, two chunks, open streams,",
         Receiving::Sack => "Receiver::sack",
         Receiving::Read => "Receiver::read",
         Receiving::Skip => "Receiver::forward_tsn",

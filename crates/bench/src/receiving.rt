@@ -15,9 +15,9 @@ use sctp_receiver::replay::open_streams;
 pub enum Receiving {
     /// DATA chunks of a message each, while so many came beyond a gap and were not read.
     Data,
-    /// Two of them a datagram.
-    DataEach,
-    /// The same, while so many streams are open.
+    /// The same, two of them a turn.
+    DataPairs,
+    /// Two of them a turn, while so many streams are open.
     Streams,
     /// SACKs, while so many TSNs came beyond a gap.
     Sack,
@@ -157,15 +157,12 @@ pub fn prepare(ends: &mut Ends, call: Receiving, held: u32) -> bool {
         && (call != Receiving::SkipNames || name_each(&mut ends.skip.streams, NAMES))
 }
 
-// Takes two chunks at once, over and over, and gives how many.
+// Takes two chunks, over and over, and gives how many.
 fn take_pairs(receiver: &mut Receiver, first: u32) -> usize {
     let mut taken = 0usize;
     for turn in 0..CALLS {
         let tsn = first.wrapping_add(turn.wrapping_mul(2));
-        let pair = [piece(tsn, true), piece(tsn.wrapping_add(1), true)];
-        if receiver.data_each(&pair).is_ok() {
-            taken = taken.wrapping_add(2);
-        }
+        taken = taken.wrapping_add(take_each(receiver, tsn, 2));
     }
     taken
 }
@@ -198,7 +195,7 @@ pub fn run(ends: &mut Ends, call: Receiving, held: u32) -> usize {
     let next = held.wrapping_add(2);
     match call {
         Receiving::Data => take_each(receiver, next, CALLS),
-        Receiving::DataEach => take_pairs(receiver, next),
+        Receiving::DataPairs => take_pairs(receiver, next),
         Receiving::Streams => take_pairs(receiver, 1),
         Receiving::Sack => sack_each(receiver),
         Receiving::Read => read_each(receiver),

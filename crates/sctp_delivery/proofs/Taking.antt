@@ -1,18 +1,15 @@
 -- A SACK can be made and taken.
-use Rattle.sctp_delivery.proofs.Names.{nat_tests, common_steps, ◌≡◌, ℕ, ◌+◌, ◌^◌, ◌<◌, Bool, true, List, [], ◌∷◌, refl, arith, suc, length, ap, sym, Result, Ok}
-use Rattle.sctp_delivery.proofs.Names.{Err, not_both, ChunkPayloadData, Sack, total_bytes, Reception, max_sack_entries, sack_entries, sack_of_entries, Released}
+use Rattle.sctp_delivery.proofs.Names.{◌≡◌, ℕ, ◌+◌, ◌^◌, ◌<◌, Bool, true, List, [], ◌∷◌, refl, arith}
+use Rattle.sctp_delivery.proofs.Names.{not_both, ChunkPayloadData, Sack, total_bytes, Reception, max_sack_entries, sack_entries, sack_of_entries, Released}
 use Rattle.sctp_delivery.proofs.Names.{after_sack, released_by, after_acked, with_lows, ReceiverCall, is_reporting, CanBeAnswered, IsAnswered}
-use Rattle.sctp_delivery.proofs.Names.{takes_sack, data_chunk, ReceiverFollows, SenderFollows, Session, IfOk}
-use Rattle.sctp_delivery.proofs.Names.{All, Contains, data_of, Arrival, ReceiverRefusal, accepted_after}
-use Rattle.sctp_receiver.specs.Receiver.{after_sack_within, without_duplicates, TakesEach}
+use Rattle.sctp_delivery.proofs.Names.{takes_sack, ReceiverFollows, SenderFollows, Session}
+use Rattle.sctp_receiver.specs.Receiver.{after_sack_within, without_duplicates}
 use Rattle.sctp_sender.specs.Totals.{AreSettled, bytes_in}
 use Rattle.sctp_sender.proofs.Lows.{released-same}
 use Rattle.sctp_sender.proofs.Settled.{sack-bytes}
 use Rattle.sctp_delivery.specs.ReceiverCalls as incoming
-use Rattle.sctp_delivery.specs.ReceiverCalls.{ReceiverMakesEach, as_run, takes_each}
-use Rattle.sctp_delivery.specs.Session.{GoesOnTo}
 use Rattle.sctp_delivery.proofs.ArrivedTsns.{IsArrived}
-use Rattle.sctp_delivery.proofs.Every.{Every, every-of-all}
+use Rattle.sctp_delivery.proofs.Every.{Every}
 use Rattle.sctp_delivery.proofs.GivenTsns.{IsNumbered}
 use Rattle.sctp_delivery.proofs.ReportedTsns.{not-refused, sack-truthful}
 use Rattle.sctp_delivery.proofs.SackLaws.{IsInStep, IsInStepBut}
@@ -106,55 +103,3 @@ can-but dropped p n s few i = can-near (known_or dropped s) p n s few i.numbered
 
 pub can : (p n : ℕ) (s : Session) → n < 2 ^ 31 → IsInStep p n s → CanBeAnswered s
 can p n s few i = can-but none_dropped p n s few i
-
--- # Chunks that are taken together are taken one after another
-
--- each has its answer
-as-many : (cs : List ChunkPayloadData) (ws : List Arrival) (old new : Reception) → TakesEach cs ws old new → length ws ≡ length cs
-as-many [] [] old new t = refl
-as-many (c ∷ cs) (a ∷ ws) old new t = ap suc (as-many cs ws t.0 new t.1.1)
-as-many [] (a ∷ ws) old new t = absurd t
-as-many (c ∷ cs) [] old new t = absurd t
-
-one-by-one : (cs : List ChunkPayloadData) (ws : List Arrival) (old new : Reception) → TakesEach cs ws old new → ReceiverMakesEach (takes_each cs ws) old new
-one-by-one [] [] old new t = t
-one-by-one (c ∷ cs) (a ∷ ws) old new t = (t.0, ((t.1.0.taken, (t.1.0.accepted, t.1.0.answer)), one-by-one cs ws t.0 new t.1.1))
-one-by-one [] (a ∷ ws) old new t = absurd t
-one-by-one (c ∷ cs) [] old new t = absurd t
-
-abbrev IsMadeIn : Session → ChunkPayloadData → Type 0
-IsMadeIn s c = Contains s.made (data_chunk (data_of c))
-
-goes-on : (cs : List ChunkPayloadData) (ws : List Arrival) (s : Session) (new : Reception) → Every (IsMadeIn s) cs
-    → ReceiverMakesEach (takes_each cs ws) s.receiving.receiver new → GoesOnTo (takes_each cs ws) s new
-goes-on [] ws s new m h = record { ended = s; run = refl; stands = sym h }
-goes-on (c ∷ cs) [] s new m h = record { ended = s; run = refl; stands = sym h }
-goes-on (c ∷ cs) (a ∷ ws) s new m h =
-    let t : Session = record s {
-      receiving = record {
-        receiver = h.0;
-        accepted = accepted_after (as_run (incoming.takes c a)) s.receiving.accepted;
-        read = s.receiving.read;
-      };
-    } in
-    let f : ReceiverFollows (incoming.takes c a) s t =
-    record { handed = m.0; step = record { receiver = h.1.0.0; accepted = refl; read = refl }; accepted = h.1.0.1; after = refl } in
-    let rest = goes-on cs ws t new m.1 h.1.1 in
-    record { ended = rest.ended; run = (t, (f, rest.run)); stands = rest.stands }
-
--- ## What is answered
-
-module _ {V : Type 0} (items : V → List Arrival) (cs : List ChunkPayloadData) (old new : Reception) where
-  pub all-answered : (a : Result V ReceiverRefusal) → IfOk a (λ v. TakesEach cs (items v) old new) → IfOk a (λ v. length (items v) ≡ length cs)
-  all-answered (Ok v) t = as-many cs (items v) old new t
-  all-answered (Err e) t = tt
-
-  pub each-made : (a : Result V ReceiverRefusal) → IfOk a (λ v. TakesEach cs (items v) old new)
-      → IfOk a (λ v. ReceiverMakesEach (takes_each cs (items v)) old new)
-  each-made (Ok v) t = one-by-one cs (items v) old new t
-  each-made (Err e) t = tt
-
-  pub each-goes-on : (a : Result V ReceiverRefusal) → IfOk a (λ v. TakesEach cs (items v) old new)
-      → IfOk a (λ v. (s : Session) → s.receiving.receiver ≡ old → All (λ c. Contains s.made (data_chunk (data_of c))) cs
-      → GoesOnTo (takes_each cs (items v)) s new)
-  each-goes-on h0 h1 = grind (arith, nat_tests, common_steps, goes-on, every-of-all, one-by-one)

@@ -1,5 +1,5 @@
 -- What a call of a receiver makes, and what it reports.
-use Rattle.std.specs.Prelude.{◌≡◌, ⊤, ℕ, Bool, true, false, List, [], ◌∷◌, None}
+use Rattle.std.specs.Prelude.{◌≡◌, ⊤, ℕ, Bool, true, false, List, ◌∷◌, None}
 use Rattle.sctp_data.specs.declared.chunk.chunk_payload_data.ChunkPayloadData.{ChunkPayloadData}
 use Rattle.sctp_data.specs.ForwardTsn.{ForwardTsn}
 use Rattle.sctp_data.specs.SelectiveAck.{Sack}
@@ -52,18 +52,6 @@ IsAccepted (reads stream) r = is_open stream r ≡ true
 -- one call
 abbrev pub ReceiverMakes : ReceiverCall → Reception → Reception → Type 0
 ReceiverMakes call old new = Makes (as_run call) old new × IsAccepted call old
-
--- calls one after another
-abbrev pub ReceiverMakesEach : List ReceiverCall → Reception → Reception → Type 0
-ReceiverMakesEach [] old new = new ≡ old
-ReceiverMakesEach (c ∷ cs) old new =
-    (mid : Reception) × (ReceiverMakes c old mid × ReceiverMakesEach cs mid new)
-
--- the calls of `data`, one for each of these chunks, with their answers
-abbrev pub takes_each : List ChunkPayloadData → List Arrival → List ReceiverCall
-takes_each [] arrivals = []
-takes_each (c ∷ cs) [] = []
-takes_each (c ∷ cs) (a ∷ arrivals) = takes c a ∷ takes_each cs arrivals
 
 -- ## SACKs
 

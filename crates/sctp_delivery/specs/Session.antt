@@ -1,10 +1,9 @@
 -- Two hosts: one sends, one receives, and a network between them loses, delays, repeats and reorders what they make.
-use Rattle.std.specs.Prelude.{◌≡◌, ⊤, ℕ, ◌+◌, List, [], ◌∷◌, length, map, All, Contains, Option}
+use Rattle.std.specs.Prelude.{◌≡◌, ⊤, ℕ, ◌+◌, List, [], ◌∷◌, length, All, Contains, Option}
 use Rattle.std.specs.List.{sum_by}
 use Rattle.sctp_data.specs.PayloadData.{data_of}
 use Rattle.sctp_data.specs.SelectiveAck.{Sack}
 use Rattle.sctp_receiver.specs.declared.receiver.limits.Limits.{Limits}
-use Rattle.sctp_receiver.specs.Receiver.{Reception}
 use Rattle.sctp_receiver.specs.ReceiverRuns as receiver_runs
 use Rattle.sctp_receiver.specs.ReceiverRuns.{AreComplete, AreOfOneMessage, Stand}
 use Rattle.sctp_sender.specs.SenderRuns as sender_runs
@@ -85,12 +84,6 @@ Follows (of_receiver call) old new = ReceiverFollows call old new
 abbrev pub RunsTo : Session → List Call → Session → Type 0
 RunsTo old [] new = new ≡ old
 RunsTo old (c ∷ cs) new = (mid : Session) × (Follows c old mid × RunsTo mid cs new)
-
--- the session goes on by these calls of the receiver, up to where the receiver stands so
-pub record GoesOnTo (calls : List ReceiverCall) (s : Session) (new : Reception) : Type 0 where
-  pub ended : Session
-  pub run : RunsTo s (map of_receiver calls) ended
-  pub stands : ended.receiving.receiver ≡ new
 
 -- both are new, and begin with the same TSN
 abbrev pub at_start : ℕ → ℕ → ℕ → ℕ → Option Limits → Session

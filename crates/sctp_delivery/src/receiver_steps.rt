@@ -3,16 +3,13 @@
 //! Left out are `close` and `reset`, which are no calls of a session, and the calls that test less: `forward_tsn` where it passes over
 //! names of closed streams, and of `replay` `data_each_with_any_ssn` and `forward_tsn_by_names`.
 
-ghost use Rattle.std.specs.Prelude.{◌≡◌, OnErr, OnOk, IfOk, All, Contains, length, option_map};
-ghost use Rattle.sctp_data.specs.PayloadData.{data_of};
+ghost use Rattle.std.specs.Prelude.{◌≡◌, OnErr, OnOk, IfOk, option_map};
 ghost use Rattle.sctp_data.specs.ForwardTsn.{forward_tsn_of};
 ghost use Rattle.sctp_data.specs.SelectiveAck.{sack_of};
 ghost use Rattle.sctp_reassembly.specs.reassembly_queue.ReassemblyQueue.{at_start};
 ghost use Rattle.sctp_receiver.specs.Receiver.{message_on, sack, sack_within, window};
 ghost use Rattle.sctp_delivery.specs.Discards.{ReceiverDiscards};
-ghost use Rattle.sctp_delivery.specs.ReceiverCalls.{ReceiverMakes, ReceiverMakesEach, follows, forgets, makes_sack, opens, reads, reports, reports_within, takes, takes_each};
-ghost use Rattle.sctp_delivery.specs.SenderCalls.{data_chunk};
-ghost use Rattle.sctp_delivery.specs.Session.{GoesOnTo, Session};
+ghost use Rattle.sctp_delivery.specs.ReceiverCalls.{ReceiverMakes, follows, forgets, makes_sack, opens, reads, reports, reports_within, takes};
 
 use sctp_data::chunk::chunk_forward_tsn::ChunkForwardTsn;
 use sctp_data::chunk::chunk_payload_data::ChunkPayloadData;
@@ -39,24 +36,6 @@ pub fn data(receiver: &mut Receiver, chunk: &ChunkPayloadData) -> Result<Arrival
     ensures err { OnErr result (receiver.new ≡ receiver.old) }
 {
     receiver.data(chunk)
-}
-
-/// Takes several DATA chunks, or none of them: as `data` takes them, one after another. So a session of the receiver in which the sender
-/// made each of them goes on by these calls.
-pub fn data_each(
-    receiver: &mut Receiver,
-    chunks: &[ChunkPayloadData],
-) -> Result<Vec<Arrival>, ReceiverRefusal>
-    ensures all { IfOk result (λ arrivals. length arrivals.items ≡ length chunks.now) }
-    ensures each { IfOk result (λ arrivals. ReceiverMakesEach
-        (takes_each chunks.now arrivals.items) receiver.old receiver.new) }
-    ensures run { IfOk result (λ arrivals. (s : Session)
-        → s.receiving.receiver ≡ receiver.old
-        → All (λ c. Contains s.made (data_chunk (data_of c))) chunks.now
-        → GoesOnTo (takes_each chunks.now arrivals.items) s receiver.new) }
-    ensures err { OnErr result (receiver.new ≡ receiver.old) }
-{
-    receiver.data_each(chunks)
 }
 
 /// Drops a DATA chunk, and takes its TSN: a step of the sessions of `laws::discards` alone.
@@ -156,24 +135,6 @@ pub fn data_counted(
     ensures err { OnErr result (receiver.new ≡ receiver.old) }
 {
     costs::data(receiver, chunk, turns)
-}
-
-/// Takes several DATA chunks, or none of them.
-pub fn data_each_counted(
-    receiver: &mut Receiver,
-    chunks: &[ChunkPayloadData],
-    turns: &mut Turns,
-) -> Result<Vec<Arrival>, ReceiverRefusal>
-    ensures all { IfOk result (λ arrivals. length arrivals.items ≡ length chunks.now) }
-    ensures each { IfOk result (λ arrivals. ReceiverMakesEach
-        (takes_each chunks.now arrivals.items) receiver.old receiver.new) }
-    ensures run { IfOk result (λ arrivals. (s : Session)
-        → s.receiving.receiver ≡ receiver.old
-        → All (λ c. Contains s.made (data_chunk (data_of c))) chunks.now
-        → GoesOnTo (takes_each chunks.now arrivals.items) s receiver.new) }
-    ensures err { OnErr result (receiver.new ≡ receiver.old) }
-{
-    costs::data_each(receiver, chunks, turns)
 }
 
 /// Takes a FORWARD-TSN.

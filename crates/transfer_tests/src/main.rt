@@ -38,8 +38,12 @@ fn of_halves(alloc: Global, log: &mut Vec<u8>) {
     );
     let closes = bound_tests::sender_closes_the_middle(alloc);
     check(log, closes, "the middle one of three streams is closed");
-    let together = counted_tests::taken_together(alloc);
-    check(log, together, "DATA chunks are taken together");
+    let counted = counted_tests::taken_counted(alloc);
+    check(
+        log,
+        counted,
+        "DATA chunks are taken with their turns counted",
+    );
     let noted = repeat_tests::repeats(alloc);
     check(log, noted, "16,379 repeats are noted at most");
     let empty = rules_tests::no_user_data(alloc);
