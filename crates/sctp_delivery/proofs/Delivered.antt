@@ -18,9 +18,10 @@ use Rattle.sctp_delivery.proofs.OrderedPlaces.{AreNumbered, numbered-after}
 use Rattle.sctp_delivery.proofs.Queues.{IsOnceMore}
 use Rattle.sctp_delivery.proofs.Senders.{AreSent, AreSentOn, IsHeldOn, IsMoreBy}
 use Rattle.sctp_delivery.proofs.Sending.{IsTurn}
-use Rattle.sctp_delivery.proofs.Sent.{Numbered, Entry, GoesOn, IsLine, IsPart, WasSent, fragment, part-line, same-tsn, stands-behind}
+use Rattle.sctp_delivery.proofs.Sent.{Numbered, Entry, GoesOn, IsFrom, IsLine, IsPart, WasSent, WasSentFrom, fragment, part-length, part-line, same-tsn}
+use Rattle.sctp_delivery.proofs.Sent.{stands-next}
 use Rattle.sctp_delivery.proofs.Sessions as sessions
-use Rattle.sctp_delivery.proofs.Every.{Every, every-all, every-of-all, all-of-every}
+use Rattle.sctp_delivery.proofs.Every.{Every, every-all, every-of, every-of-all, all-of-every}
 
 -- ## All that a sender gave TSNs to, in every session
 
@@ -162,6 +163,19 @@ found-sent sent ms d a c = found-sent-on all_streams sent ms d a c
 abbrev pub EachSent : List Entry → List ChunkPayloadData → Type 0
 EachSent sent cs = Every (λ c. WasSent sent (data_of c)) cs
 
+-- and at one of 2^32 - 1 places from this one on
+abbrev pub EachSentFrom : ℕ → List Entry → List ChunkPayloadData → Type 0
+EachSentFrom low sent cs = Every (λ c. WasSentFrom low sent (data_of c)) cs
+
+-- so it is while fewer than 2^32 TSNs were given out
+pub from-few : (sent : List Entry) → length sent < 2 ^ 32 → (x : Entry) (xs : List Entry) → IsPart (x ∷ xs) sent → IsFrom 0 xs
+from-few sent few x xs p = let n = part-length sent (x ∷ xs) p in (omega arith, omega (arith, n, few))
+
+pub each-from : (sent : List Entry) → length sent < 2 ^ 32 → (cs : List ChunkPayloadData) → EachSent sent cs → EachSentFrom 0 sent cs
+each-from sent few cs s =
+    every-of (λ c. WasSent sent (data_of c)) (λ c. WasSentFrom 0 sent (data_of c))
+    (λ c x. (x.0, x.1, x.2, x.3, from-few sent few (fragment (data_of c) x.0 x.1) x.2 x.3)) cs s
+
 pub each-sent-on : (on : ℕ → Bool) (sent : List Entry) (ms : List Made) (cs : List ChunkPayloadData) → AreSentOn on sent ms
     → All (λ c. Contains ms (data_chunk (data_of c))) cs
     → EachSent sent cs
@@ -247,44 +261,45 @@ pub record IsReadSession (s : Session) : Type 0 where
   pub placed : AreNumbered numbered
   pub each : All (λ m. IsReadOf numbered sent m) s.receiving.read
 
-module _ (ws : List Numbered) (first : ℕ) (sent : List Entry) (few : length sent < 2 ^ 32) (line : IsLine ws first sent) where
+-- of chunks that got TSNs at places from one on
+module _ (ws : List Numbered) (first : ℕ) (sent : List Entry) (low : ℕ) (line : IsLine ws first sent) where
   -- a chunk, and those that follow it up to the end, are the rest of the write, where none of these begins a message
   follows-in : (c : ChunkPayloadData) (cs : List ChunkPayloadData) (w : Numbered) (after : List ℕ) (xs : List Entry)
-      → IsPart (fragment (data_of c) w after ∷ xs) sent → completes c cs ≡ true → EachSent sent cs
+      → IsPart (fragment (data_of c) w after ∷ xs) sent → IsFrom low xs → completes c cs ≡ true → EachSentFrom low sent cs
       → Every (λ (d : ChunkPayloadData). d.beginning_fragment ≡ false) cs → (payload_of cs ≡ after) × EachTyped w (c ∷ cs)
-  follows-in c [] w after xs p e s i =
+  follows-in c [] w after xs p at e s i =
       let l = part-line ws first sent (fragment (data_of c) w after ∷ xs) p line in
       (sym (l.0.ends e), (l.0.payload, tt))
-  follows-in c (d ∷ ds) w after xs p e s i =
+  follows-in c (d ∷ ds) w after xs p at e s i =
       let b = both (d.tsn == (c.tsn + 1) % 2 ^ 32) (completes d ds) e in
       let v = s.0.0 in
       let rest = s.0.1 in
       let q = s.0.3 in
-      let behind = stands-behind ws first sent few line (data_of c)
-      (data_of d) w v after rest xs s.0.2 p q (same-is d.tsn ((c.tsn + 1) % 2 ^ 32) b.0) in
+      let behind = stands-next ws first sent low line (data_of c)
+      (data_of d) w v after rest xs s.0.2 p q at s.0.4 (same-is d.tsn ((c.tsn + 1) % 2 ^ 32) b.0) in
       let l = part-line ws first sent (fragment (data_of d) v rest ∷ s.0.2) q line in
       let g = subst (GoesOn (data_of d) v rest) behind l.1.0 i.0 in
-      let ih = follows-in d ds v rest s.0.2 q b.1 s.1 i.1 in
+      let ih = follows-in d ds v rest s.0.2 q s.0.4 b.1 s.1 i.1 in
       let here = part-line ws first sent (fragment (data_of c) w after ∷ xs) p line in
       (ap (λ bs. d.user_data ++ bs) ih.0 ∙ sym g.1, (here.0.payload, subst (λ v. EachTyped v (d ∷ ds)) g.0 ih.1))
 
   -- where the ordered messages of its stream have numbers one behind another, none of them does
   pub none-inside : (on : ℕ → Bool) → AreIndexedOn on sent → (c : ChunkPayloadData) (cs : List ChunkPayloadData) (w : Numbered) (after : List ℕ)
-      (xs : List Entry) → IsPart (fragment (data_of c) w after ∷ xs) sent → completes c cs ≡ true → EachSent sent cs → AreInner c cs
+      (xs : List Entry) → IsPart (fragment (data_of c) w after ∷ xs) sent → IsFrom low xs → completes c cs ≡ true → EachSentFrom low sent cs → AreInner c cs
       → Every (λ (d : ChunkPayloadData). on d.stream_identifier ≡ true) cs → Every (λ (d : ChunkPayloadData). d.beginning_fragment ≡ false) cs
-  none-inside on indexed c [] w after xs p e s i o = tt
-  none-inside on indexed c (d ∷ ds) w after xs p e s i o =
+  none-inside on indexed c [] w after xs p at e s i o = tt
+  none-inside on indexed c (d ∷ ds) w after xs p at e s i o =
       let b = both (d.tsn == (c.tsn + 1) % 2 ^ 32) (completes d ds) e in
-      let behind = stands-behind ws first sent few line (data_of c)
-      (data_of d) w s.0.0 after s.0.1 xs s.0.2 p s.0.3 (same-is d.tsn ((c.tsn + 1) % 2 ^ 32) b.0) in
+      let behind = stands-next ws first sent low line (data_of c)
+      (data_of d) w s.0.0 after s.0.1 xs s.0.2 p s.0.3 at s.0.4 (same-is d.tsn ((c.tsn + 1) % 2 ^ 32) b.0) in
       let up = part-indexed on sent (fragment (data_of d) s.0.0 s.0.1 ∷ s.0.2) s.0.3 indexed in
-      let low = part-indexed on sent (fragment (data_of c) w after ∷ xs) p indexed in
+      let down = part-indexed on sent (fragment (data_of c) w after ∷ xs) p indexed in
       let here = where-is (on d.stream_identifier) (IsIndexed (data_of d) s.0.2) o.0 up.0 in (
         fails d.beginning_fragment (λ k.
             let a = i.0 k in
-            let there = where-is (on c.stream_identifier) (IsIndexed (data_of c) xs) (ap on (sym a.2) ∙ o.0) low.0 in
+            let there = where-is (on c.stream_identifier) (IsIndexed (data_of c) xs) (ap on (sym a.2) ∙ o.0) down.0 in
             apart (data_of c) (data_of d) w after xs s.0.2 behind k a.0 a.1 a.2 a.3 there here),
-        none-inside on indexed d ds s.0.0 s.0.1 s.0.2 s.0.3 b.1 s.1 i.1 o.1,
+        none-inside on indexed d ds s.0.0 s.0.1 s.0.2 s.0.3 s.0.4 b.1 s.1 i.1 o.1,
       )
     where
       apart : (c d : Data) (w : Numbered) (after : List ℕ) (xs ys : List Entry) → ys ≡ fragment c w after ∷ xs → d.beginning_fragment ≡ true
@@ -307,24 +322,24 @@ module _ (ws : List Numbered) (first : ℕ) (sent : List Entry) (few : length se
 
   -- a chunk, and those that follow it up to the end, are the rest of the write; none of these begins a message
   pub follows : AreIndexed sent → (c : ChunkPayloadData) (cs : List ChunkPayloadData) (w : Numbered) (after : List ℕ) (xs : List Entry)
-      → IsPart (fragment (data_of c) w after ∷ xs) sent → completes c cs ≡ true → EachSent sent cs → AreInner c cs
+      → IsPart (fragment (data_of c) w after ∷ xs) sent → IsFrom low xs → completes c cs ≡ true → EachSentFrom low sent cs → AreInner c cs
       → (payload_of cs ≡ after) × EachTyped w (c ∷ cs) × Every (λ (d : ChunkPayloadData). d.beginning_fragment ≡ false) cs
-  follows indexed c cs w after xs p e s i =
-      let none = none-inside all_streams indexed c cs w after xs p e s i (every-all (λ d. true ≡ true) (λ d. refl) cs) in
-      let f = follows-in c cs w after xs p e s none in
+  follows indexed c cs w after xs p at e s i =
+      let none = none-inside all_streams indexed c cs w after xs p at e s i (every-all (λ d. true ≡ true) (λ d. refl) cs) in
+      let f = follows-in c cs w after xs p at e s none in
       (f.0, f.1, none)
 
   -- a message of which no fragment but the first begins one
   pub single-is : (m : Message) → is_complete m.fragments ≡ true → (c : ChunkPayloadData) (cs : List ChunkPayloadData) → m.fragments ≡ c ∷ cs
-      → EachSent sent (c ∷ cs) → Every (λ (d : ChunkPayloadData). d.beginning_fragment ≡ false) cs → list_all (is_on m.stream) (c ∷ cs) ≡ true
-      → IsReadOf ws sent m
+      → (s : EachSentFrom low sent (c ∷ cs)) → Every (λ (d : ChunkPayloadData). d.beginning_fragment ≡ false) cs
+      → list_all (is_on m.stream) (c ∷ cs) ≡ true → (x : IsReadOf ws sent m) × (x.entries ≡ s.0.2)
   single-is m complete c cs is s none on =
       let b = both c.beginning_fragment (completes c cs) (ap is_complete (sym is) ∙ complete) in
       let w = s.0.0 in
       let after = s.0.1 in
       let l = part-line ws first sent (fragment (data_of c) w after ∷ s.0.2) s.0.3 line in
-      let f = follows-in c cs w after s.0.2 s.0.3 b.1 s.1 none in
-      record {
+      let f = follows-in c cs w after s.0.2 s.0.3 s.0.4 b.1 s.1 none in
+      let x : IsReadOf ws sent m = record {
         chunk = c;
         others = cs;
         fragments = is;
@@ -340,17 +355,18 @@ module _ (ws : List Numbered) (first : ℕ) (sent : List Entry) (few : length se
               subst (λ ds. All (λ x. x.payload_type ≡ w.payload_type) ds) (sym is) (all-of-every (λ x. x.payload_type ≡ w.payload_type) (c ∷ cs) f.1);
           bytes = ap payload_of is ∙ ap (λ bs. c.user_data ++ bs) f.0 ∙ sym (l.0.begins b.0);
         };
-      }
+      } in
+      (x, refl)
 
   -- of a message on such a stream no fragment but the first begins one
   pub single-on : (on : ℕ → Bool) → AreIndexedOn on sent → (m : Message) → is_complete m.fragments ≡ true → is_one_message m.fragments ≡ true
-      → EachSent sent m.fragments → list_all (is_on m.stream) m.fragments ≡ true → on m.stream ≡ true
+      → EachSentFrom low sent m.fragments → list_all (is_on m.stream) m.fragments ≡ true → on m.stream ≡ true
       → (c : ChunkPayloadData) (cs : List ChunkPayloadData) → m.fragments ≡ c ∷ cs → Every (λ (d : ChunkPayloadData). d.beginning_fragment ≡ false) cs
   single-on on indexed m complete one s there o c cs is =
-      let s' : EachSent sent (c ∷ cs) = subst (EachSent sent) is s in
+      let s' : EachSentFrom low sent (c ∷ cs) = subst (EachSentFrom low sent) is s in
       let b = both c.beginning_fragment (completes c cs) (ap is_complete (sym is) ∙ complete) in
       let t = ap (list_all (is_on m.stream)) (sym is) ∙ there in
-      none-inside on indexed c cs s'.0.0 s'.0.1 s'.0.2 s'.0.3 b.1 s'.1 (inner-of c cs (ap is_one_message (sym is) ∙ one))
+      none-inside on indexed c cs s'.0.0 s'.0.1 s'.0.2 s'.0.3 s'.0.4 b.1 s'.1 (inner-of c cs (ap is_one_message (sym is) ∙ one))
       (on-each cs (both (is_on m.stream c) (list_all (is_on m.stream) cs) t).1)
     where
       on-each : (ds : List ChunkPayloadData) → list_all (is_on m.stream) ds ≡ true → Every (λ (d : ChunkPayloadData). on d.stream_identifier ≡ true) ds
@@ -359,15 +375,15 @@ module _ (ws : List Numbered) (first : ℕ) (sent : List Entry) (few : length se
           let b = both (is_on m.stream d) (list_all (is_on m.stream) ds) e in
           (ap on (same-is d.stream_identifier m.stream b.0) ∙ o, on-each ds b.1)
 
-  pub message-is : AreIndexed sent → (m : Message) → is_complete m.fragments ≡ true → is_one_message m.fragments ≡ true → EachSent sent m.fragments
+  pub message-is : AreIndexed sent → (m : Message) → is_complete m.fragments ≡ true → is_one_message m.fragments ≡ true → EachSentFrom low sent m.fragments
       → list_all (is_on m.stream) m.fragments ≡ true → IsReadOf ws sent m
   message-is indexed m complete one s on = by m.fragments refl
     where
       by : (cs : List ChunkPayloadData) → m.fragments ≡ cs → IsReadOf ws sent m
       by [] is = absurd (not_both (sym (ap is_complete is) ∙ complete))
       by (c ∷ cs) is =
-          single-is m complete c cs is (subst (EachSent sent) is s)
-          (single-on all_streams indexed m complete one s on refl c cs is) (ap (list_all (is_on m.stream)) (sym is) ∙ on)
+          (single-is m complete c cs is (subst (EachSentFrom low sent) is s)
+          (single-on all_streams indexed m complete one s on refl c cs is) (ap (list_all (is_on m.stream)) (sym is) ∙ on)).0
 
 -- the next TSN is a number of 32 bits
 pub next-small : AfterEachFitSession (λ s. next_tsn s < 2 ^ 32)
@@ -408,10 +424,10 @@ read-from tsn s on whole made ns sent few h = record {
   placed = h.placed;
   each = λ k m lt.
       let it = slice_index_or s.receiving.read k m in
-      message-is ns tsn sent few h.held.stands.queued.line h.held.stands.queued.indexed it
+      message-is ns tsn sent 0 h.held.stands.queued.line h.held.stands.queued.indexed it
       (AllPass-from_list_all (λ x. is_complete x.fragments) s.receiving.read whole.0 k m lt)
       (AllPass-from_list_all (λ x. is_one_message x.fragments) s.receiving.read whole.1 k m lt)
-      (each-sent sent s.made it.fragments h.made (made k m lt))
+      (each-from sent few it.fragments (each-sent sent s.made it.fragments h.made (made k m lt)))
       (AllPass-from_list_all (λ x. list_all (is_on x.stream) x.fragments) s.receiving.read on k m lt);
 }
 

@@ -20,7 +20,7 @@ use Rattle.sctp_delivery.specs.ReceiverCalls as incoming
 use Rattle.sctp_delivery.proofs.AbandonedMessages.{AreAmong, AreMarkedGone, flight_of}
 use Rattle.sctp_delivery.proofs.ArrivedTsns.{IsArrived}
 use Rattle.sctp_delivery.proofs.Cases.{at-if, at-test, by-test}
-use Rattle.sctp_delivery.proofs.Delivered.{EachSent, each-sent-on, found-sent-on, next_tsn, single-on}
+use Rattle.sctp_delivery.proofs.Delivered.{EachSent, each-from, each-sent-on, found-sent-on, next_tsn, single-on}
 use Rattle.sctp_delivery.proofs.Every.{Every, every-at, every-contained, every-of-all}
 use Rattle.sctp_delivery.proofs.Even as held
 use Rattle.sctp_delivery.proofs.Even.{Fits, IsEven, Leaves, Puts, even-of, lonely, lonely-kind, lonely-less, lonely-light, sets-light}
@@ -312,7 +312,7 @@ whole-on on first s ns sent st o few line indexed made whole all there = every-o
       where
         by : (cs : List ChunkPayloadData) → m.fragments ≡ cs → OnlyFirst cs
         by [] is = tt
-        by (c ∷ cs) is = single-on ns first sent few line on indexed m complete one gave here o' c cs is
+        by (c ∷ cs) is = single-on ns first sent 0 line on indexed m complete one (each-from sent few m.fragments gave) here o' c cs is
 
 -- ## A call
 

@@ -27,8 +27,8 @@ use Rattle.sctp_delivery.proofs.AbandonedMessages.{cut-later, gone-left}
 use Rattle.sctp_delivery.proofs.Begun.{AreOnce, begins, was_begun}
 use Rattle.sctp_delivery.proofs.Calls.{at-forgotten, contains-forgotten, forget, forgotten, length-forgotten}
 use Rattle.sctp_delivery.proofs.Cases.{at-if}
-use Rattle.sctp_delivery.proofs.Delivered.{HoldsOn, next_tsn, sender-step-on, AreInner, EachSent, IsReadOf, inner-of, each-sent-on, found-sent-on, single-is}
-use Rattle.sctp_delivery.proofs.Delivered.{single-on}
+use Rattle.sctp_delivery.proofs.Delivered.{HoldsOn, next_tsn, sender-step-on, AreInner, IsReadOf, inner-of, found-sent-on, single-is}
+use Rattle.sctp_delivery.proofs.Delivered.{EachSentFrom, each-from, each-sent-on, single-on}
 use Rattle.sctp_delivery.specs.Complete.{is_exhausted}
 use Rattle.sctp_delivery.specs.Modes.{unknown, was_written_ordered}
 use Rattle.sctp_delivery.specs.Order.{is_ordered_on, places_where}
@@ -129,8 +129,8 @@ module _ (on : ℕ → Bool) (first : ℕ) (s : Session) (ns : List Numbered) (s
     there : list_all (is_on it.stream) it.fragments ≡ true
     there = AllPass-from_list_all (λ x. list_all (is_on x.stream) x.fragments) s.receiving.read reads-on k m lt
 
-    gave : EachSent sent it.fragments
-    gave = each-sent-on on sent s.made it.fragments sent-made (made k m lt)
+    gave : EachSentFrom 0 sent it.fragments
+    gave = each-from sent few it.fragments (each-sent-on on sent s.made it.fragments sent-made (made k m lt))
 
     -- one of which no fragment but the first begins one
     pub read-single : is_single it.fragments ≡ true → IsReadOf ns sent it
@@ -139,8 +139,8 @@ module _ (on : ℕ → Bool) (first : ℕ) (s : Session) (ns : List Numbered) (s
         by : (cs : List ChunkPayloadData) → it.fragments ≡ cs → IsReadOf ns sent it
         by [] is = absurd (not_both (sym (ap is_complete is) ∙ complete))
         by (c ∷ cs) is =
-            single-is ns first sent few line it complete c cs is (subst (EachSent sent) is gave) (none-begin cs (ap is_single (sym is) ∙ e))
-            (ap (list_all (is_on it.stream)) (sym is) ∙ there)
+            (single-is ns first sent 0 line it complete c cs is (subst (EachSentFrom 0 sent) is gave) (none-begin cs (ap is_single (sym is) ∙ e))
+            (ap (list_all (is_on it.stream)) (sym is) ∙ there)).0
 
     pub single-steady : on it.stream ≡ true → is_single it.fragments ≡ true
     single-steady o = by it.fragments refl
@@ -149,7 +149,7 @@ module _ (on : ℕ → Bool) (first : ℕ) (s : Session) (ns : List Numbered) (s
         by [] is = ap is_single is
         by (c ∷ cs) is =
             ap is_single is
-            ∙ none-begins cs (single-on ns first sent few line on indexed it complete
+            ∙ none-begins cs (single-on ns first sent 0 line on indexed it complete
             (AllPass-from_list_all (λ x. is_one_message x.fragments) s.receiving.read whole.1 k m lt) gave there o c cs is)
 
   pub writes-single : AreWritesWhereSingle s

@@ -13,7 +13,7 @@ use Rattle.sctp_reassembly.specs.reassembly_queue.Counts.{set_chunks}
 use Rattle.sctp_receiver.specs.Inbound.{has_number}
 use Rattle.sctp_delivery.proofs.Cases.{all_streams, at-if, at-test, by-test}
 use Rattle.sctp_delivery.proofs.Begun.{AreOnce, was_begun, begins}
-use Rattle.sctp_delivery.proofs.Delivered.{EachSent, IsReadOf, each-sent, follows, inner-of, message-is, next_tsn}
+use Rattle.sctp_delivery.proofs.Delivered.{EachSent, IsReadOf, each-from, each-sent, follows, from-few, inner-of, message-is, next_tsn}
 use Rattle.sctp_delivery.proofs.Every.{Every, every-of, every-contained}
 use Rattle.sctp_delivery.proofs.Kept as kept
 use Rattle.sctp_delivery.proofs.OnceWritten.{EachRead, places, apart, each-read, stand}
@@ -96,8 +96,9 @@ module _ (ws : List Numbered) (first : ℕ) (sent : List Entry) (few : length se
         let cs = x.others in
         let all : is_complete (c ∷ cs) ≡ true = subst (λ ys. is_complete ys ≡ true) x.fragments complete in
         let s' : EachSent sent (c ∷ cs) = subst (EachSent sent) x.fragments s in
-        let f = follows ws first sent few line indexed c cs x.numbered x.after x.entries x.part (both c.beginning_fragment (completes c cs) all).1 s'.1
-        (inner-of c cs (subst (λ ys. is_one_message ys ≡ true) x.fragments alike)) in
+        let f = follows ws first sent 0 line indexed c cs x.numbered x.after x.entries x.part
+        (from-few sent few (fragment (data_of c) x.numbered x.after) x.entries x.part) (both c.beginning_fragment (completes c cs) all).1
+        (each-from sent few cs s'.1) (inner-of c cs (subst (λ ys. is_one_message ys ≡ true) x.fragments alike)) in
         let there : (has_tsn d.tsn c || list_any (has_tsn d.tsn) cs) ≡ true = subst (λ ys. list_any (has_tsn d.tsn) ys ≡ true) x.fragments e in
         elim (or-split (has_tsn d.tsn c) (list_any (has_tsn d.tsn) cs) there) [
           | inl h ↦ same-write ws first sent few line (data_of c) d x.numbered w x.after after x.entries xs x.part p (same-is c.tsn d.tsn h)
@@ -242,7 +243,8 @@ module _ (first size max most : ℕ) (limits : Option Limits) (cs : List Call) (
       reads : EachRead ns sent once s.receiving.read
       reads = each-read ns sent once s.receiving.read (λ k m lt.
           let w = whole k m lt in
-          message-is ns first sent (omega (arith, short)) line i.holds.held.stands.queued.indexed (slice_index_or s.receiving.read k m) w.0 w.1 w.2
+          message-is ns first sent 0 line i.holds.held.stands.queued.indexed (slice_index_or s.receiving.read k m) w.0 w.1
+          (each-from sent (omega (arith, short)) (slice_index_or s.receiving.read k m).fragments w.2)
           (AllPass-from_list_all (λ x. list_all (is_on x.stream) x.fragments) s.receiving.read (made_in.read-on first size max most limits cs s run) k m lt))
 
       came : AreTakenOrGone gone s sent

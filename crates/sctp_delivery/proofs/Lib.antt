@@ -135,3 +135,6 @@ pub mod PlainRefused
 pub mod StandsSo
 pub mod Recent
 pub mod TakenAgain
+pub mod HeldWeights
+pub mod YoungReads
+pub mod YoungOwn

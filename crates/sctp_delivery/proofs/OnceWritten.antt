@@ -23,23 +23,29 @@ part-begun (terminal ∷ ys) d w after xs b (inr p) = part-begun ys d w after xs
 part-begun (fragment e v rest ∷ ys) d w after xs b (inr p) =
     or-right (e.beginning_fragment && (v.place == w.place)) (was_begun w.place ys) (part-begun ys d w after xs b p)
 
--- two first fragments of one write are one chunk
-pub one-first : (sent : List Entry) → AreOnce sent → (d e : Data) (w v : Numbered) (after rest : List ℕ) (xs ys : List Entry) → d.beginning_fragment ≡ true
-    → e.beginning_fragment ≡ true → w.place ≡ v.place → IsPart (fragment d w after ∷ xs) sent → IsPart (fragment e v rest ∷ ys) sent → d ≡ e
-one-first [] o d e w v after rest xs ys b c same p q = cc
-one-first (x ∷ zs) o d e w v after rest xs ys b c same (inl p) (inl q) = let it : fragment d w after ∷ xs ≡ fragment e v rest ∷ ys = p ∙ sym q in cc
-one-first (x ∷ zs) o d e w v after rest xs ys b c same (inl p) (inr q) =
+-- two first fragments of one write have one place
+pub one-begun : (sent : List Entry) → AreOnce sent → (d e : Data) (w v : Numbered) (after rest : List ℕ) (xs ys : List Entry) → d.beginning_fragment ≡ true
+    → e.beginning_fragment ≡ true → w.place ≡ v.place → IsPart (fragment d w after ∷ xs) sent → IsPart (fragment e v rest ∷ ys) sent
+    → fragment d w after ∷ xs ≡ fragment e v rest ∷ ys
+one-begun [] o d e w v after rest xs ys b c same p q = cc
+one-begun (x ∷ zs) o d e w v after rest xs ys b c same (inl p) (inl q) = p ∙ sym q
+one-begun (x ∷ zs) o d e w v after rest xs ys b c same (inl p) (inr q) =
     let once = subst AreOnce (sym p) o in
     let tails : zs ≡ xs = cc in
     let there = part-begun xs e v rest ys c (subst (IsPart (fragment e v rest ∷ ys)) tails q) in
     absurd (not_both (sym (once.0 b) ∙ ap (λ k. was_begun k xs) same ∙ there))
-one-first (x ∷ zs) o d e w v after rest xs ys b c same (inr p) (inl q) =
+one-begun (x ∷ zs) o d e w v after rest xs ys b c same (inr p) (inl q) =
     let once = subst AreOnce (sym q) o in
     let tails : zs ≡ ys = cc in
     let there = part-begun ys d w after xs b (subst (IsPart (fragment d w after ∷ xs)) tails p) in
     absurd (not_both (sym (once.0 c) ∙ ap (λ k. was_begun k ys) (sym same) ∙ there))
-one-first (terminal ∷ zs) o d e w v after rest xs ys b c same (inr p) (inr q) = one-first zs o d e w v after rest xs ys b c same p q
-one-first (fragment f u left ∷ zs) o d e w v after rest xs ys b c same (inr p) (inr q) = one-first zs o.1 d e w v after rest xs ys b c same p q
+one-begun (terminal ∷ zs) o d e w v after rest xs ys b c same (inr p) (inr q) = one-begun zs o d e w v after rest xs ys b c same p q
+one-begun (fragment f u left ∷ zs) o d e w v after rest xs ys b c same (inr p) (inr q) = one-begun zs o.1 d e w v after rest xs ys b c same p q
+
+-- they are one chunk
+pub one-first : (sent : List Entry) → AreOnce sent → (d e : Data) (w v : Numbered) (after rest : List ℕ) (xs ys : List Entry) → d.beginning_fragment ≡ true
+    → e.beginning_fragment ≡ true → w.place ≡ v.place → IsPart (fragment d w after ∷ xs) sent → IsPart (fragment e v rest ∷ ys) sent → d ≡ e
+one-first sent o d e w v after rest xs ys b c same p q = let it = one-begun sent o d e w v after rest xs ys b c same p q in cc
 
 -- ## Places
 
@@ -69,13 +75,19 @@ module _ (ns : List Numbered) (sent : List Entry) (once : AreOnce sent) where
   same-at (w ∷ ws) zero a b lt e f = sym e ∙ f
   same-at (w ∷ ws) (suc k) a b lt e f = same-at ws k a b (omega (arith, lt)) e f
 
-  -- messages at one place begin with one chunk
-  one-chunk : (m o : Message) (x : IsReadOf ns sent m) (y : IsReadOf ns sent o) → x.written.0 ≡ y.written.0 → y.chunk.tsn ≡ x.chunk.tsn
-  one-chunk m o x y e =
+  -- messages at one place begin with one chunk, at one place
+  pub one-start : (m o : Message) (x : IsReadOf ns sent m) (y : IsReadOf ns sent o) → x.written.0 ≡ y.written.0
+      → fragment (data_of x.chunk) x.numbered x.after ∷ x.entries ≡ fragment (data_of y.chunk) y.numbered y.after ∷ y.entries
+  one-start m o x y e =
       let same : x.numbered ≡ y.numbered =
       same-at ns x.written.0 x.numbered y.numbered x.written.1 x.written.2 (subst (λ k. slice_index_or ns k y.numbered ≡ y.numbered) (sym e) y.written.2) in
-      let it = one-first sent once (data_of x.chunk)
-      (data_of y.chunk) x.numbered y.numbered x.after y.after x.entries y.entries x.begins y.begins (ap (λ (n : Numbered). n.place) same) x.part y.part in
+      one-begun sent once (data_of x.chunk)
+      (data_of y.chunk) x.numbered y.numbered x.after y.after x.entries y.entries x.begins y.begins (ap (λ (n : Numbered). n.place) same) x.part y.part
+
+  one-chunk : (m o : Message) (x : IsReadOf ns sent m) (y : IsReadOf ns sent o) → x.written.0 ≡ y.written.0 → y.chunk.tsn ≡ x.chunk.tsn
+  one-chunk m o x y e =
+      let start = one-start m o x y e in
+      let it : data_of x.chunk ≡ data_of y.chunk = cc in
       sym (ap (λ (d : Data). d.tsn) it)
 
   away : (m : Message) (x : IsReadOf ns sent m) (ms : List Message) (e : EachRead ms) → list_any (has_tsn x.chunk.tsn) (fragments_of_all ms) ≡ false

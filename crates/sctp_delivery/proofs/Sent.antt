@@ -93,11 +93,34 @@ WasSent sent d = (w : Numbered) × (after : List ℕ) × (xs : List Entry) × Is
 pub sent-more : (x : Entry) (sent : List Entry) (d : Data) → WasSent sent d → WasSent (x ∷ sent) d
 sent-more x sent d s = (s.0, s.1, s.2, inr s.3)
 
+-- the chunk got a TSN at one of 2^32 - 1 places from this one on
+abbrev pub IsFrom : ℕ → List Entry → Type 0
+IsFrom low xs = (low ≤ length xs) × (length xs + 1 < low + 2 ^ 32)
+
+abbrev pub WasSentFrom : ℕ → List Entry → Data → Type 0
+WasSentFrom low sent d = (w : Numbered) × (after : List ℕ) × (xs : List Entry) × IsPart (fragment d w after ∷ xs) sent × IsFrom low xs
+
+-- of two such chunks the one that has the next TSN stands behind the other
+pub stands-next : (ws : List Numbered) (first : ℕ) (sent : List Entry) (low : ℕ) → IsLine ws first sent
+    → (d e : Data) (w v : Numbered) (after rest : List ℕ) (xs ys : List Entry) → IsPart (fragment d w after ∷ xs) sent → IsPart (fragment e v rest ∷ ys) sent
+    → IsFrom low xs → IsFrom low ys → e.tsn ≡ (d.tsn + 1) % 2 ^ 32 → ys ≡ fragment d w after ∷ xs
+stands-next ws first sent low line d e w v after rest xs ys p q i j next =
+    let a = (part-line ws first sent (fragment d w after ∷ xs) p line).0.number in
+    let b = (part-line ws first sent (fragment e v rest ∷ ys) q line).0.number in
+    let il = i.0 in
+    let iu = i.1 in
+    let jl = j.0 in
+    let ju = j.1 in
+    same-parts sent ys (fragment d w after ∷ xs) (tail-part sent ys (fragment e v rest) q) p (omega (arith, a, b, next, il, iu, jl, ju))
+
 -- what has the next TSN stands behind it, while fewer than 2^32 were given out
 pub stands-behind : (ws : List Numbered) (first : ℕ) (sent : List Entry) → length sent < 2 ^ 32 → IsLine ws first sent
     → (d e : Data) (w v : Numbered) (after rest : List ℕ) (xs ys : List Entry) → IsPart (fragment d w after ∷ xs) sent → IsPart (fragment e v rest ∷ ys) sent
     → e.tsn ≡ (d.tsn + 1) % 2 ^ 32 → ys ≡ fragment d w after ∷ xs
-stands-behind ws first sent few line d e w v after rest xs ys p q next = grind (arith, nat_tests, part-length, part-line, same-parts, tail-part)
+stands-behind ws first sent few line d e w v after rest xs ys p q next =
+    let m = part-length sent (fragment d w after ∷ xs) p in
+    let n = part-length sent (fragment e v rest ∷ ys) q in
+    stands-next ws first sent 0 line d e w v after rest xs ys p q (omega arith, omega (arith, m, few)) (omega arith, omega (arith, n, few)) next
 
 -- what has the same TSN is the same chunk
 pub same-tsn : (ws : List Numbered) (first : ℕ) (sent : List Entry) → length sent < 2 ^ 32 → IsLine ws first sent → (d e : Data) → WasSent sent d

@@ -66,7 +66,7 @@ module _ (t : ℕ) (small : t < 2 ^ 32) where
     n = count_in_flight old
 
     -- what is in flight then was in flight, or is given out
-    flew : (c : SenderCall) → SenderFollows c old new → Flies new → Flies old ⊎ (gives t old new ≡ true)
+    pub flew : (c : SenderCall) → SenderFollows c old new → Flies new → Flies old ⊎ (gives t old new ≡ true)
     flew c f g = elim (sender-moves old new few i c f) [
       | inl l ↦
           let run = i.regular.regular.numbered in

@@ -4,7 +4,7 @@ use Rattle.sctp_delivery.proofs.Names.{◌≡◌, ℕ, ◌<◌, ◌≤◌, ◌^�
 use Rattle.sctp_delivery.proofs.Names.{list_all, filter, is_on, sum_by, at_or_before, fails, not_both, tsn, ChunkPayloadData, ChunkSet, Data, data_of, data_chunk, is_complete}
 use Rattle.sctp_delivery.proofs.Names.{InboundStream, stream_of, is_one_message, all_complete, is_unmixed, are_apart, was_taken, Session, Contains}
 use Rattle.sctp_delivery.proofs.Names.{◌&&◌, completes, slice_index_or}
-use Rattle.sctp_delivery.proofs.Delivered.{AreInner, EachSent, found-sent, follows, inner-of}
+use Rattle.sctp_delivery.proofs.Delivered.{AreInner, EachSent, each-from, found-sent, follows, from-few, inner-of}
 use Rattle.sctp_delivery.proofs.Every.{Every, every-of, every-of-all}
 use Rattle.sctp_delivery.proofs.Even.{IsEven, Sorted}
 use Rattle.sctp_delivery.proofs.FragmentPlaces.{at_place}
@@ -19,7 +19,7 @@ use Rattle.sctp_delivery.proofs.PassedMessages.{AreCutGone, AreTakenOrGone, Ends
 use Rattle.sctp_delivery.proofs.PassingCalls.{IsGone}
 use Rattle.sctp_delivery.proofs.ReadOnce.{one}
 use Rattle.sctp_delivery.proofs.Senders.{AreSent}
-use Rattle.sctp_delivery.proofs.Sent.{Entry, IsLine, IsPart, Numbered, WasSent}
+use Rattle.sctp_delivery.proofs.Sent.{Entry, IsLine, IsPart, Numbered, WasSent, fragment}
 use Rattle.sctp_delivery.proofs.Sessions as sessions
 use Rattle.sctp_delivery.proofs.TsnPlaces.{base}
 use Rattle.sctp_delivery.proofs.Whole.{AreWholeOn, IsWholeOn}
@@ -64,7 +64,9 @@ module _ (ws : List Numbered) (first : ℕ) (sent : List Entry) (line : IsLine w
       only : (cs : List ChunkPayloadData) → is_complete cs ≡ true → is_one_message cs ≡ true → EachSent sent cs → OnlyFirst cs
       only [] e o w = tt
       only (c ∷ cs) e o w =
-          (follows ws first sent (omega (arith, long, few)) line indexed c cs w.0.0 w.0.1 w.0.2 w.0.3 (both c.beginning_fragment (completes c cs) e).1 w.1
+          (follows ws first sent 0 line indexed c cs w.0.0 w.0.1 w.0.2 w.0.3
+          (from-few sent (omega (arith, long, few)) (fragment (data_of c) w.0.0 w.0.1) w.0.2 w.0.3) (both c.beginning_fragment (completes c cs) e).1
+          (each-from sent (omega (arith, long, few)) cs w.1)
           (inner-of c cs o)).2
 
   abbrev light : IsEven st (IsGone gone sent) (IsNeat p n) s.receiving

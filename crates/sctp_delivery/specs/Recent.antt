@@ -1,11 +1,14 @@
 -- Sessions of a whole life: whatever is handed over is less than 2^31 TSNs old (RFC 1982 3.2), however many TSNs were given out.
-use Rattle.std.specs.Prelude.{◌≡◌, ⊤, ℕ, ◌+◌, ◌^◌, ◌<◌, ◌≤◌, Bool, true, if◌then◌else◌, nat_lt, List, [], ◌∷◌, length, Option}
-use Rattle.std.specs.List.{filter}
+use Rattle.std.specs.Prelude.{◌≡◌, ⊤, ℕ, ◌+◌, ◌^◌, ◌<◌, ◌≤◌, Bool, true, if◌then◌else◌, nat_lt, List, [], ◌∷◌, ◌++◌, length, map, Contains, Option}
+use Rattle.std.specs.Prelude.{option_map, option_to_list}
+use Rattle.std.specs.List.{filter, list_all}
+use Rattle.sctp_data.specs.PayloadData.{Data, data_of}
 use Rattle.sctp_util.specs.Serial.{at_or_before, comes_before, distance}
 use Rattle.sctp_receiver.specs.declared.receiver.limits.Limits.{Limits}
 use Rattle.sctp_serial.specs.DataChunks.{has_tsn}
+use Rattle.sctp_delivery.specs.Complete.{fragments_held}
 use Rattle.sctp_delivery.specs.ReceiverCalls.{follows, takes}
-use Rattle.sctp_delivery.specs.SenderCalls.{takes_sack}
+use Rattle.sctp_delivery.specs.SenderCalls.{next_chunk, sends, takes_sack}
 use Rattle.sctp_delivery.specs.Session.{Call, RunsTo, Session, at_start, count_in_flight, of_receiver, of_sender}
 
 -- the TSN of a chunk, and that to which a FORWARD-TSN goes, are before the sender's next one, and the cumulative TSN of a SACK is not past the
@@ -58,3 +61,61 @@ EachIsTakenOnceWhereGiven =
     → first < 2 ^ 32 → (r : RunsTo (at_start first size max most limits) calls s)
     → AreRecent (at_start first size max most limits) calls s r → (tsn : ℕ) → tsn < 2 ^ 32
     → times_taken tsn s ≤ times_given tsn (at_start first size max most limits) calls s r
+
+-- ## What each chunk is, and not its TSN alone
+
+-- a DATA chunk, and its age: so many TSNs were given out from its own on
+pub record Aged : Type 0 where
+  pub chunk : Data
+  pub age : ℕ
+
+abbrev pub older : ℕ → Aged → Aged
+older given a = record a { age = a.age + given }
+
+-- the chunk to which the call gives a TSN, if there is one
+abbrev pub new_chunks : Call → Session → List Data
+new_chunks (of_sender (sends now)) s =
+    option_to_list (option_map data_of (next_chunk now s.sending.sender))
+new_chunks _ s = []
+
+-- all that got TSNs, the last one first, after a call
+abbrev pub aged_after : Call → Session → Session → List Aged → List Aged
+aged_after call old new ages =
+    map (λ d. record { chunk = d; age = 1 }) (new_chunks call old)
+    ++ map (older (distance old.sending.sender.flight.next_tsn new.sending.sender.flight.next_tsn))
+    ages
+
+-- a DATA chunk that is handed over is less than 2^31 TSNs old
+abbrev pub IsYoung : Call → List Aged → Type 0
+IsYoung (of_receiver (takes c arrival)) ages =
+    (age : ℕ) × (age < 2 ^ 31) × Contains ages (record { chunk = data_of c; age = age })
+IsYoung _ ages = ⊤
+
+-- and the receiver holds none whose TSN is not before the next one: what came is read, or dropped, before it is 2^31 TSNs old
+abbrev pub HoldsRecent : Session → Type 0
+HoldsRecent s =
+    (stream : ℕ) → list_all (λ c. comes_before c.tsn s.sending.sender.flight.next_tsn)
+    (fragments_held stream s.receiving.receiver) ≡ true
+
+-- so it is of each call, and after each
+abbrev pub AreYoung : List Aged → (old : Session) (calls : List Call) (new : Session)
+    → RunsTo old calls new → Type 0
+AreYoung ages old [] new run = ⊤
+AreYoung ages old (c ∷ cs) new run =
+    IsYoung c ages × HoldsRecent run.0
+    × AreYoung (aged_after c old run.0 ages) run.0 cs new run.1.1
+
+-- P after each session in which that is so, and fragments have some bytes
+abbrev pub WhileYoung : (Session → Type 0) → Type 0
+WhileYoung P =
+    (tsn size max most : ℕ) (limits : Option Limits) (calls : List Call) (s : Session)
+    → tsn < 2 ^ 32 → 0 < size → (r : RunsTo (at_start tsn size max most limits) calls s)
+    → AreYoung [] (at_start tsn size max most limits) calls s r → P s
+
+-- and in which nothing that is handed over has an old TSN, as above
+abbrev pub WhileRecentAndYoung : (Session → Type 0) → Type 0
+WhileRecentAndYoung P =
+    (tsn size max most : ℕ) (limits : Option Limits) (calls : List Call) (s : Session)
+    → tsn < 2 ^ 32 → 0 < size → (r : RunsTo (at_start tsn size max most limits) calls s)
+    → AreRecent (at_start tsn size max most limits) calls s r
+    → AreYoung [] (at_start tsn size max most limits) calls s r → P s

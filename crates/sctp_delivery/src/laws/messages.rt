@@ -2,7 +2,7 @@
 
 ghost use Rattle.sctp_delivery.specs.Messages.{AfterEachFitSession, AreParts, AreSame, AreWrites, AreWritesOfTheirOwn, NoneIsReadTwice, WhileFewTsns, WhileTsnsLast};
 ghost use Rattle.sctp_delivery.specs.Order.{AreReadInOrder};
-ghost use Rattle.sctp_delivery.specs.Recent.{EachIsTakenOnceWhereGiven};
+ghost use Rattle.sctp_delivery.specs.Recent.{EachIsTakenOnceWhereGiven, WhileRecentAndYoung, WhileYoung};
 ghost use Rattle.sctp_delivery.specs.Sacks.{AfterEachSessionOfFewTsns};
 
 /// Each DATA chunk that a sender makes, for the first time or again, is a part of a write: on its stream, with its payload type, and its
@@ -15,16 +15,20 @@ pub fn each_chunk_made_is_a_part_of_a_write()
 
 /// Whatever the network loses, delays, repeats and reorders: each message that is read is one that was written, on the stream that it
 /// is read on, with its payload type and byte for byte, while the sender has given out fewer than 2^32 TSNs, so that none is given out
-/// twice.
+/// twice. So it is in a whole life, too, however many TSNs are given out: while no DATA chunk is handed over that is 2^31 TSNs old, and the
+/// receiver holds none that is.
 pub fn each_message_read_was_written()
-    ensures { WhileTsnsLast AreWrites }
+    ensures written { WhileTsnsLast AreWrites }
+    ensures recent { WhileYoung AreWrites }
 {}
 
 /// No TSN stands in two messages that are read, or twice in one, however often the network hands its chunk over; and no write is read
-/// twice: each message is a write at a place of its own. So it is in sessions that give out fewer than 2^31 TSNs.
+/// twice: each message is a write at a place of its own. So it is in sessions that give out fewer than 2^31 TSNs. That no write is read twice
+/// holds in a whole life, too, while nothing is handed over or held that is 2^31 TSNs old.
 pub fn no_message_is_read_twice()
     ensures tsns { AfterEachSessionOfFewTsns (λ first given s. NoneIsReadTwice s) }
     ensures writes { WhileFewTsns AreWritesOfTheirOwn }
+    ensures recent { WhileRecentAndYoung AreWritesOfTheirOwn }
 {}
 
 /// The ordered messages of a stream are read in the order of their writes, each a write at a place of its own, whatever is skipped and

@@ -1,0 +1,106 @@
+-- What a stream holds weighs no more after a call than before, but for a chunk that is taken; and no less than the message that is read of it.
+use Rattle.sctp_delivery.proofs.Names.{◌≡◌, ℕ, ◌+◌, ◌≤◌, Bool, true, false, List, [], ◌∷◌, Option, Some, None, refl, ap, sym, subst, ◌∙◌, arith, ◌==◌}
+use Rattle.sctp_delivery.proofs.Names.{if◌then◌else◌, find, option_map, option_or, find-append, ChunkPayloadData, ForwardTsn, InboundStream, Reception, stream_of}
+use Rattle.sctp_delivery.proofs.Names.{new_stream, stream_read, with_queue, Accepts, ReassemblyState, message_on, is_on, held_weight, weight, skipped_each}
+use Rattle.sctp_delivery.proofs.Names.{unassembled_forwarded, stream_forwarded, incomplete_forwarded, follow_forward_tsn, without_incomplete, after_forward_tsn}
+use Rattle.sctp_delivery.proofs.Names.{is_stale, ssns_of, same-yes, ReceiverCall, ReceiverFollows, Session, New, Repeat}
+use Rattle.sctp_receiver.specs.Inbound.{has_number}
+use Rattle.sctp_receiver.specs.Receiver.{after_read, message_of, open_stream}
+use Rattle.sctp_receiver.proofs.Forwarded.{found-followed, found-mapped}
+use Rattle.sctp_receiver.proofs.Weights as weights
+use Rattle.sctp_receiver.proofs.Weights.{message_weight}
+use Rattle.sctp_delivery.specs.ReceiverCalls as incoming
+use Rattle.sctp_delivery.proofs.Kept.{accepted-on, changed-elsewhere, changed-here}
+
+-- w: how chunks are weighed; st: a stream
+module _ (w : ChunkPayloadData → ℕ) (st : ℕ) where
+  abbrev pub on : Reception → ℕ
+  on r = held_weight w (stream_of st r)
+
+  -- a chunk that is taken as new
+  abbrev pub taken : ReceiverCall → ℕ
+  taken (incoming.takes c (New answered)) = if is_on st c then w c else 0
+  taken call = 0
+
+  opened : (s : ℕ) (r : Reception) → on (open_stream s r) ≤ on r
+  opened s r =
+      subst (λ o. held_weight w o ≤ on r) (sym (find-append (has_number st) r.streams (new_stream s r.max_message_size ∷ [])))
+      (by (find (has_number st) r.streams) (s == st))
+    where
+      by : (o : Option InboundStream) (b : Bool) → held_weight w (option_or o (if b then Some (new_stream s r.max_message_size) else None)) ≤ held_weight w o
+      by None true = omega arith
+      by None false = omega arith
+      by (Some l) b = omega arith
+
+  accepted : (c : ChunkPayloadData) (said : Bool) (old new : Reception) → Accepts c said old new → on new ≤ (if is_on st c then w c else 0) + on old
+  accepted c said old new a =
+      accepted-on c said old new a st (λ o. held_weight w o ≤ (if is_on st c then w c else 0) + on old)
+      (λ off. omega arith)
+      (λ here there.
+      let h = weights.pushed w c said a.stream.queue a.queue a.pushed in
+      let was = ap (held_weight w) there in
+      let more : ◌≡◌ {A = ℕ} (if is_on st c then w c else 0) (w c) = ap (λ b. if b then w c else 0) here in
+      omega (arith, h, was, more))
+
+  rest : (o : Option InboundStream) → message_weight w (message_of o) + held_weight w (option_map stream_read o) ≡ held_weight w o
+  rest None = omega arith
+  rest (Some l) = weights.read w l.queue.held
+
+  read-less : (stream : ℕ) (r : Reception) → on (after_read stream r) ≤ on r
+  read-less stream r = by (stream == st) refl
+    where
+      by : (b : Bool) → (stream == st) ≡ b → on (after_read stream r) ≤ on r
+      by true e =
+          let is = ap (held_weight w) (changed-here stream stream_read (λ l g. refl) r.streams st e) in
+          let h = rest (stream_of st r) in
+          omega (arith, is, h)
+      by false e = let is = ap (held_weight w) (changed-elsewhere stream stream_read (λ l g. refl) r.streams st e) in omega (arith, is)
+
+  names : (ssns : List ℕ) (q : ReassemblyState) → weight w (skipped_each ssns q).held ≤ weight w q.held
+  names [] q = omega arith
+  names (n ∷ ns) q = let a = weights.named w n q in let b = names ns (skipped_each (n ∷ []) q) in omega (arith, a, b)
+
+  followed : (f : ForwardTsn) (r : Reception) → on (after_forward_tsn f r) ≤ on r
+  followed f r = by (is_stale f r)
+    where
+      t : ℕ
+      t = f.new_cumulative_tsn
+
+      less : (o : Option InboundStream)
+          → held_weight w (option_map (incomplete_forwarded t) (option_map (λ l. unassembled_forwarded t (stream_forwarded f.streams l)) o)) ≤ held_weight w o
+      less None = omega arith
+      less (Some l) =
+          let q = skipped_each (ssns_of l.queue.si f.streams) l.queue in
+          let a = names (ssns_of l.queue.si f.streams) l.queue in
+          let b = weights.unassembled w t q in
+          let c = weights.incomplete w t (unassembled_forwarded t (with_queue q l)).queue in
+          omega (arith, a, b, c)
+
+      by : (b : Bool) → on (if b then r else without_incomplete t (if b then r else follow_forward_tsn f r)) ≤ on r
+      by true = omega arith
+      by false =
+          let is = ap (held_weight w) (found-mapped st (incomplete_forwarded t) (λ l. refl) (follow_forward_tsn f r).streams
+          ∙ ap (option_map (incomplete_forwarded t)) (found-followed st f r)) in
+          let h = less (stream_of st r) in
+          omega (arith, is, h)
+
+  -- after a call of the receiver
+  pub weighs : (call : ReceiverCall) (old new : Session) → ReceiverFollows call old new
+      → on new.receiving.receiver ≤ taken call + on old.receiving.receiver
+  weighs (incoming.opens stream) old new f =
+      let h = opened stream old.receiving.receiver in let is = ap on f.step.receiver.1 in omega (arith, h, is)
+  weighs (incoming.takes c (New answered)) old new f =
+      accepted c answered old.receiving.receiver new.receiving.receiver f.step.receiver
+  weighs (incoming.takes c Repeat) old new f = let is = ap on f.step.receiver in omega (arith, is)
+  weighs (incoming.follows g) old new f =
+      let h = followed g old.receiving.receiver in let is = ap on f.step.receiver in omega (arith, h, is)
+  weighs (incoming.reads stream) old new f =
+      let h = read-less stream old.receiving.receiver in let is = ap on f.step.receiver in omega (arith, h, is)
+  weighs call old new f = let is = ap on f.step.receiver in omega (arith, is)
+
+  -- the message that is read was held
+  pub read-held : (r : Reception) → message_weight w (message_on st r) + on (after_read st r) ≡ on r
+  read-held r =
+      let is = ap (held_weight w) (changed-here st stream_read (λ l g. refl) r.streams st (same-yes st)) in
+      let h = rest (stream_of st r) in
+      omega (arith, is, h)
