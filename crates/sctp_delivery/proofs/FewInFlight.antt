@@ -47,7 +47,7 @@ still-run f g same next acked h =
     let n = length f.queue.inflight.chunks in
     rebased p n g (same-numbered p n f g same next acked h)
 
-raised-run : (most : ℕ) (f g : Flight) → Raises f.acked_tsn most f g → length g.queue.inflight.chunks < 2 ^ 31 → IsInRun f → IsInRun g
+pub raised-run : (most : ℕ) (f g : Flight) → Raises f.acked_tsn most f g → length g.queue.inflight.chunks < 2 ^ 31 → IsInRun f → IsInRun g
 raised-run most f g r few h =
     let long = r.long in
     let n = length f.queue.inflight.chunks in

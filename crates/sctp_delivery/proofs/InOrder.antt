@@ -3,18 +3,20 @@ use Rattle.sctp_delivery.proofs.Names.{common_steps, ◌≡◌, ℕ, zero, suc, 
 use Rattle.sctp_delivery.proofs.Names.{ap, sym, subst, ◌∙◌, arith, All, AllPairs, ◌==◌, ◌&&◌, if◌then◌else◌, slice_index_or, filter, list_all, cases_lt}
 use Rattle.sctp_delivery.proofs.Names.{nat_tests, same-is, same-yes, both, Message, SenderCall, Write, written_after, Call, RunsTo, Session, at_start}
 use Rattle.sctp_delivery.proofs.Names.{of_receiver, of_sender, StandAt, IsWrite, Modes, Sending, at_first, modes_after, modes_from, starting}
-use Rattle.sctp_delivery.proofs.Names.{AfterEachRunOfFewTsns, not_both}
+use Rattle.sctp_delivery.proofs.Names.{AfterEachRunOfFewTsns, Limits, Option, not_both}
 use Rattle.std.specs.Prelude.{cond}
 use Rattle.sctp_delivery.specs.InOrder.{Are, AreAmong, AreReadInTurn, keeps_order, read_from, written_to}
-use Rattle.sctp_delivery.specs.Modes.{unknown, was_written_ordered}
+use Rattle.sctp_delivery.specs.Modes.{AreReadAsWritten, unknown, was_written_ordered}
 use Rattle.sctp_delivery.specs.Order.{places_where}
 use Rattle.sctp_delivery.specs.EveryCall.{AfterEachAnyOfFewBytes, AnyCall, RunsAny, is_single, is_steady, makes, of_receiving, of_sending, single_messages}
 use Rattle.sctp_delivery.specs.EveryOrder.{AreReadInTurnWhereUnbroken, is_ordered_throughout, is_unbroken, plain_calls}
+use Rattle.sctp_delivery.specs.Recent.{AfterEachYoungRun}
 use Rattle.sctp_delivery.specs.Returns.{at_start_with}
 use Rattle.sctp_delivery.proofs.Cases.{at-test}
 use Rattle.sctp_delivery.proofs.Every.{Every, every-of, every-of-all}
 use Rattle.sctp_delivery.proofs.EveryMessages as messages
 use Rattle.sctp_delivery.proofs.ModeSessions.{read-as-written}
+use Rattle.sctp_delivery.proofs.YoungOrder.{as-written}
 
 -- ## The writes to an ordered stream
 
@@ -184,15 +186,24 @@ are (m ∷ ms) (w ∷ ws) (inr a) le = let n = fewer (m ∷ ms) ws a in absurd (
 
 -- ## The law
 
-pub in-turn : AfterEachRunOfFewTsns AreReadInTurn
-in-turn tsn size max most limits cs s small some' r few =
+-- where what was written ordered is read in that order
+pub in-turn-of : (tsn size max most : ℕ) (limits : Option Limits) (cs : List Call) (s : Session) → RunsTo (at_start tsn size max most limits) cs s
+    → AreReadAsWritten cs s → AreReadInTurn cs s
+in-turn-of tsn size max most limits cs s r law =
     record { among = among-on; all = λ st e le. are (read_from st s) (written_to st s) (among-on st e) le }
   where
     among-on : (st : ℕ) → list_all (keeps_order st) cs ≡ true → AreAmong (read_from st s) (written_to st s)
     among-on st e =
-        let law = read-as-written tsn size max most limits cs s small some' r few in
         let o = ordered-run st cs (at_start tsn size max most limits) s at_first r e (record { stream = refl; writes' = tt }) in
         among-places st (modes_from at_first cs).of_writes s.written o.writes' s.receiving.read law.0 law.1 (law.3 st)
+
+pub in-turn : AfterEachRunOfFewTsns AreReadInTurn
+in-turn tsn size max most limits cs s small some' r few =
+    in-turn-of tsn size max most limits cs s r (read-as-written tsn size max most limits cs s small some' r few)
+
+pub in-turn-young : AfterEachYoungRun AreReadInTurn
+in-turn-young tsn size max most limits cs s small some' r q y z =
+    in-turn-of tsn size max most limits cs s r (as-written tsn size max most limits cs s small some' r q y z)
 
 -- those on the stream, where each of these is single, are single
 same-on : (st : ℕ) (ms : List Message) → Every (λ (m : Message). (m.stream == st) ≡ true → is_single m.fragments ≡ true) ms

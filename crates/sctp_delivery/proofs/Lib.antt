@@ -138,3 +138,7 @@ pub mod TakenAgain
 pub mod HeldWeights
 pub mod YoungReads
 pub mod YoungOwn
+pub mod FlightPlaces
+pub mod YoungSpread
+pub mod YoungTurns
+pub mod YoungOrder

@@ -85,7 +85,7 @@ longer-arrived f g r l h =
     (more-arrived f.acked_tsn (length f.queue.inflight.chunks) (length g.queue.inflight.chunks) any any r.cumulative_tsn r.beyond l.long (λ t e. e) h)
 
 -- those beyond lie past the cumulative TSN
-rise-each : (base far : ℕ) (ts : List ℕ) → rise_beyond base far ts ≡ true → Every (λ t. (far < distance base t) × (distance base t < 2 ^ 31)) ts
+pub rise-each : (base far : ℕ) (ts : List ℕ) → rise_beyond base far ts ≡ true → Every (λ t. (far < distance base t) × (distance base t < 2 ^ 31)) ts
 rise-each base far [] e = tt
 rise-each base far (t ∷ ts) e =
     let b = both (nat_lt t (2 ^ 32) && (nat_lt far (distance base t) && nat_lt (distance base t) (2 ^ 31))) (rise_beyond base (distance base t) ts) e in

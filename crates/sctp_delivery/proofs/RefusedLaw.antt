@@ -262,7 +262,7 @@ module _ (first n : ℕ) (few : n < 2 ^ 31) (gone : List ℕ) (s : Session) (h :
       windowed =
           let queued = spread.holds.held.stands.queued in
           let on : is_ordered_on st x ≡ true = and (x.stream_identifier == st) (not x.unordered) (same-yes x.stream_identifier) (ap not ordered) in
-          let entry = made-entry all_streams h.numbered first sent queued.line queued.indexed queued.joined st refl x was in
+          let entry = (made-entry all_streams h.numbered first sent queued.line queued.indexed queued.joined st refl x was).0 in
           let long = spread.long in
           let within = entry.within in
           let at = entry-at h.numbered first sent queued.line queued.joined n long few x was (entry.before + 1) (omega (arith, within, long)) entry.is in

@@ -164,7 +164,7 @@ acked on ws first t sent s h =
 
 -- ## Messages are abandoned
 
-gone-one : (on : ℕ → Bool) (ws : List Numbered) (first : ℕ) (number : ℕ → ℕ) (f : Flight) (sent : List Entry)
+pub gone-one : (on : ℕ → Bool) (ws : List Numbered) (first : ℕ) (number : ℕ → ℕ) (f : Flight) (sent : List Entry)
     → StandsOn on ws first number f.queue f.next_tsn sent → (tsn : ℕ)
     → Abandons on ws first number sent f.queue (abandoned_at tsn f).queue (abandoned_at tsn f).next_tsn
 gone-one on ws first number f sent s tsn =

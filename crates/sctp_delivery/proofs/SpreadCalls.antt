@@ -50,12 +50,12 @@ same-past (Some x) c d e = ap (λ k. (k + (2 ^ 16 - x.stream_sequence_number)) %
 pub not-far : (t : Transmission) (now : ℕ) (c : ChunkPayloadData) → Some c ≡ next_chunk now t → send_refusal t.flight ≡ None → is_too_far t.flight c ≡ false
 not-far t now c is none = grind (arith, nat_tests, as-noted, none-noted, none-some, same-past)
 
-calm-near : (st a : ℕ) (sent more : List Entry) → a ≤ length sent → IsEnded sent more → IsNear st a sent → IsNear st a more
+pub calm-near : (st a : ℕ) (sent more : List Entry) → a ≤ length sent → IsEnded sent more → IsNear st a sent → IsNear st a more
 calm-near st a sent more within (inl e) near = subst (IsNear st a) (sym e) near
 calm-near st a sent more within (inr e) near =
     subst (IsNear st a) (sym e) (let same = to-more st a terminal sent within in omega (arith, same, near))
 
-sent-near : (st a n : ℕ) (sent : List Entry) (f : Flight) (c : ChunkPayloadData) (w : Numbered) (after : List ℕ) → a ≤ length sent → length sent ≡ n
+pub sent-near : (st a n : ℕ) (sent : List Entry) (f : Flight) (c : ChunkPayloadData) (w : Numbered) (after : List ℕ) → a ≤ length sent → length sent ≡ n
     → a + length f.queue.inflight.chunks ≡ n → AreSteps st sent a f.queue.inflight.chunks
     → (c.stream_identifier ≡ st → IsIndexed (data_of c) sent) → is_too_far f c ≡ false → IsNear st a sent
     → IsNear st a (fragment (data_of c) w after ∷ sent)

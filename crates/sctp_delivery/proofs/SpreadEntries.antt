@@ -195,7 +195,7 @@ pub record IsEntry (st first : ℕ) (sent : List Entry) (c : ChunkPayloadData) :
       → (is_at st (before + 1 + 1) sent ≡ is_ordered_on st c) × (begun_to st (before + 1 + 1) sent ≡ begun_to st (before + 1) sent)
 
 pub made-entry : (on : ℕ → Bool) (ws : List Numbered) (first : ℕ) (sent : List Entry) → IsLine ws first sent → AreIndexedOn on sent → AreJoined sent
-    → (st : ℕ) → on st ≡ true → (c : ChunkPayloadData) → WasSent sent (data_of c) → IsEntry st first sent c
+    → (st : ℕ) → on st ≡ true → (c : ChunkPayloadData) (s : WasSent sent (data_of c)) → (e : IsEntry st first sent c) × (e.before ≡ length s.2)
 made-entry on ws first sent line indexed joined st o c (w, after, xs, part) =
     let l = part-line ws first sent (fragment (data_of c) w after ∷ xs) part line in
     let i = part-indexed on sent (fragment (data_of c) w after ∷ xs) part indexed in
@@ -204,7 +204,7 @@ made-entry on ws first sent line indexed joined st o c (w, after, xs, part) =
     let before = to-part st sent xs (tail-part sent xs (fragment (data_of c) w after) part) in
     let upto : begun_to st (length xs + 1) sent ≡ begun_on st (fragment (data_of c) w after ∷ xs) =
     ap (λ k. begun_to st k sent) (sym long) ∙ to-part st sent (fragment (data_of c) w after ∷ xs) part in
-    record {
+    let e : IsEntry st first sent c = record {
       before = length xs;
       within = let n = part-length sent (fragment (data_of c) w after ∷ xs) part in omega (arith, n);
       is = omega (arith, number);
@@ -218,4 +218,5 @@ made-entry on ws first sent line indexed joined st o c (w, after, xs, part) =
       next = λ e lt.
           let b = at-next st sent (data_of c) w after xs joined part e (omega (arith, lt)) in
           (ap (λ k. is_at st (k + 1) sent) (sym long) ∙ b.0, ap (λ k. begun_to st (k + 1) sent) (sym long) ∙ b.1 ∙ sym upto);
-    }
+    } in
+    (e, refl)

@@ -203,37 +203,52 @@ abbrev pub IsMadeNaming : ℕ → ℕ → ℕ → List Entry → Made → Type 0
 IsMadeNaming st p a sent (data_chunk d) = ⊤
 IsMadeNaming st p a sent (forward_tsn g) = IsNaming st p a sent g
 
-pub named : (st p n : ℕ) (sent : List Entry) (f : Flight) (h : IsNumbered p n f) (few : n < 2 ^ 31) → length sent ≡ n
-    → AreSteps st sent h.acked f.queue.inflight.chunks → AreOn st sent h.acked f.queue.inflight.chunks → (g : ForwardTsn)
-    → IsPassable p n f h few g.new_cumulative_tsn → Name g.streams (named_up_to g.new_cumulative_tsn f) → IsNaming st p h.acked sent g
-named st p n sent f h few long s o g i name = record {
-  place = i.given.place;
-  within = let w = i.given.within in omega (arith, w, long);
-  is = i.given.is;
-  tells = by (last_of (filter (is_on st) (named_up_to g.new_cumulative_tsn f))) refl (name st) says;
-}
+-- k places behind a
+pub named-at : (st p a k : ℕ) (sent : List Entry) (f : Flight) → a + length f.queue.inflight.chunks ≡ length sent
+    → AreSteps st sent a f.queue.inflight.chunks → AreOn st sent a f.queue.inflight.chunks → (g : ForwardTsn) → ahead f g.new_cumulative_tsn ≡ k
+    → k ≤ lead f.queue.inflight.chunks → g.new_cumulative_tsn ≡ tsn p (a + k) → Name g.streams (named_up_to g.new_cumulative_tsn f)
+    → Tells st a (a + k) sent g.streams
+named-at st p a k sent f long s o g far upto is name = by (last_of (filter (is_on st) (named_up_to g.new_cumulative_tsn f))) refl (name st) says
   where
-    far : ahead f g.new_cumulative_tsn ≡ i.given.place - h.acked
-    far = grind (arith, nat_tests, distance-tsn)
-
-    says : Says st (begun_to st h.acked sent) (begun_to st i.given.place sent) (last_of (filter (is_on st) (named_up_to g.new_cumulative_tsn f)))
+    says : Says st (begun_to st a sent) (begun_to st (a + k) sent) (last_of (filter (is_on st) (named_up_to g.new_cumulative_tsn f)))
     says = grind (arith, nat_tests, far, says-named)
 
     by : (q : Option ChunkPayloadData) → last_of (filter (is_on st) (named_up_to g.new_cumulative_tsn f)) ≡ q
-        → filter (is_pair_of st) g.streams ≡ pairs_of q → Says st (begun_to st h.acked sent) (begun_to st i.given.place sent) q
-        → Tells st h.acked i.given.place sent g.streams
+        → filter (is_pair_of st) g.streams ≡ pairs_of q → Says st (begun_to st a sent) (begun_to st (a + k) sent) q
+        → Tells st a (a + k) sent g.streams
     by None n e y = inl (
       e,
       omega (arith, y),
-      let past = i.past in
-          let upto = i.upto in
-          none-named st sent h.acked i.given.place (ahead f g.new_cumulative_tsn) f.queue.inflight.chunks (omega (arith, far, past))
-          (omega (arith, far, past, upto)) o n,
+      none-named st sent a (a + k) (ahead f g.new_cumulative_tsn) f.queue.inflight.chunks (omega (arith, far)) (omega (arith, far, upto)) o n,
     )
     by (Some d) n e y = grind (arith, nat_tests)
+
+pub named : (st p n : ℕ) (sent : List Entry) (f : Flight) (h : IsNumbered p n f) (few : n < 2 ^ 31) → length sent ≡ n
+    → AreSteps st sent h.acked f.queue.inflight.chunks → AreOn st sent h.acked f.queue.inflight.chunks → (g : ForwardTsn)
+    → IsPassable p n f h few g.new_cumulative_tsn → Name g.streams (named_up_to g.new_cumulative_tsn f) → IsNaming st p h.acked sent g
+named st p n sent f h few long s o g i name =
+    let a = h.acked in
+    let k = i.given.place - a in
+    let past = i.past in
+    let upto = i.upto in
+    let total = h.total in
+    let within = i.given.within in
+    let same : i.given.place ≡ a + k = omega (arith, past) in
+    let is = i.given.is ∙ ap (tsn p) same in
+    let far : ahead f g.new_cumulative_tsn ≡ k = grind (arith, nat_tests, distance-tsn) in
+    record {
+      place = a + k;
+      within = omega (arith, within, long, same);
+      is = is;
+      tells = named-at st p a k sent f (omega (arith, total, long)) s o g far (omega (arith, upto, past)) is name;
+    }
 
 -- it tells so still when more is acknowledged, and more got TSNs
 pub naming-later : (st p a b : ℕ) (sent more : List Entry) → a ≤ b → a ≤ length sent → IsOnceMore sent more → (m : Made)
     → IsMadeNaming st p a sent m → IsMadeNaming st p b more m
 naming-later st p a b sent more le within once (data_chunk d) i = tt
 naming-later st p a b sent more le within once (forward_tsn g) i = grind (arith, nat_tests, at-more, to-more, to-up)
+
+pub tells-later : (st a b place : ℕ) (sent more : List Entry) (ns : List ChunkForwardTsnStream) → a ≤ b → a ≤ length sent → place ≤ length sent
+    → IsOnceMore sent more → Tells st a place sent ns → Tells st b place more ns
+tells-later st a b place sent more ns le within far once t = grind (arith, nat_tests, at-more, to-more, to-up)

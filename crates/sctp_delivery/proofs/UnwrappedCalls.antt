@@ -53,6 +53,10 @@ module _ (p st n : ℕ) (B : ℕ → ℕ) (E : ℕ → Bool) (M : ChunkPayloadDa
   abbrev AreDue : ℕ → Stand → Type 0
   AreDue = holds.AreDue p st n B E M
 
+  -- and the messages still to be read have no lower indexes than before
+  abbrev pub AreDueSince : ℕ → ℕ → Stand → Type 0
+  AreDueSince k a s = (d : AreDue a s) × (k ≤ d.k)
+
   -- its place is m: of the stream it has no name, and no message is begun from the place a up to m; or one, of the last message begun up to m
   abbrev pub IsNamingTo : ℕ → ℕ → List ChunkForwardTsnStream → Type 0
   IsNamingTo a m ns =
@@ -89,7 +93,7 @@ module _ (p st n : ℕ) (B : ℕ → ℕ) (E : ℕ → Bool) (M : ChunkPayloadDa
         by (Some l) b d = d
 
     -- no TSN comes
-    moved : (a : ℕ) (old new : Stand) (d : AreDue a old) (k : ℕ)
+    abbrev pub moved : (a : ℕ) (old new : Stand) (d : AreDue a old) (k : ℕ)
         → DueOn (Came old.receiver.cumulative_tsn old.receiver.beyond) k d.reach (stream_of st new.receiver) → AreInTurn k new.read
         → new.receiver.cumulative_tsn ≡ old.receiver.cumulative_tsn → new.receiver.beyond ≡ old.receiver.beyond → AreDue d.arrived.place new
     moved a old new d k due turns c b =
@@ -112,7 +116,7 @@ module _ (p st n : ℕ) (B : ℕ → ℕ) (E : ℕ → Bool) (M : ChunkPayloadDa
         }
 
     -- and nothing is read
-    pub quiet : (a : ℕ) (old new : Stand) (d : AreDue a old) → new.read ≡ old.read
+    abbrev pub quiet : (a : ℕ) (old new : Stand) (d : AreDue a old) → new.read ≡ old.read
         → DueOn (Came old.receiver.cumulative_tsn old.receiver.beyond) d.k d.reach (stream_of st new.receiver)
         → new.receiver.cumulative_tsn ≡ old.receiver.cumulative_tsn → new.receiver.beyond ≡ old.receiver.beyond → AreDue d.arrived.place new
     quiet a old new d e due = moved a old new d d.k due (subst (AreInTurn d.k) (sym e) d.turns)
@@ -151,7 +155,7 @@ module _ (p st n : ℕ) (B : ℕ → ℕ) (E : ℕ → Bool) (M : ChunkPayloadDa
         abbrev Old : ℕ → Type 0
         Old = Came old.receiver.cumulative_tsn old.receiver.beyond
 
-        inserted : (more : ℕ) → d.reach ≤ more → (B (g.before + 1) ≤ B g.before) ⊎ (B (g.before + 1) ≤ more)
+        pub inserted : (more : ℕ) → d.reach ≤ more → (B (g.before + 1) ≤ B g.before) ⊎ (B (g.before + 1) ≤ more)
             → Covers more d.arrived.place old.receiver.cumulative_tsn (insert_before comes_before c.tsn old.receiver.beyond)
         inserted more le so =
             let h = d.arrived in
@@ -167,7 +171,7 @@ module _ (p st n : ℕ) (B : ℕ → ℕ) (E : ℕ → Bool) (M : ChunkPayloadDa
             }
 
         -- what came, but for the chunk, came before
-        back : (y : ℕ) → y ≤ n → Came new.receiver.cumulative_tsn new.receiver.beyond y → Old y ⊎ ((y ≡ g.before + 1) × (E y ≡ true))
+        pub back : (y : ℕ) → y ≤ n → Came new.receiver.cumulative_tsn new.receiver.beyond y → Old y ⊎ ((y ≡ g.before + 1) × (E y ≡ true))
         back y le h =
             let k = advance-back p st n B E M few up (d.reach + B (g.before + 1)) d.arrived.place old.receiver.cumulative_tsn
             (insert_before comes_before c.tsn old.receiver.beyond) (inserted (d.reach + B (g.before + 1)) (omega arith) (inr (omega arith))) y le
@@ -185,7 +189,7 @@ module _ (p st n : ℕ) (B : ℕ → ℕ) (E : ℕ → Bool) (M : ChunkPayloadDa
                   ]
             ]
 
-        build : (more : ℕ) → d.reach ≤ more → more ≤ B n → holds.DueIn p st n B E M d.k more new.receiver
+        abbrev build : (more : ℕ) → d.reach ≤ more → more ≤ B n → holds.DueIn p st n B E M d.k more new.receiver
             → (B (g.before + 1) ≤ B g.before) ⊎ (B (g.before + 1) ≤ more) → AreDue d.arrived.place new
         build more le most due so = record {
           k = d.k;
@@ -200,7 +204,7 @@ module _ (p st n : ℕ) (B : ℕ → ℕ) (E : ℕ → Bool) (M : ChunkPayloadDa
         }
 
         -- one that is no ordered one of the stream, where on the stream is due what was
-        pub other-due : is_ordered_on st c ≡ false → DueOn Old d.k d.reach (stream_of st new.receiver) → AreDue d.arrived.place new
+        abbrev pub other-due : is_ordered_on st c ≡ false → DueOn Old d.k d.reach (stream_of st new.receiver) → AreDue d.arrived.place new
         other-due e due = build d.reach (omega arith) d.most
             (on-of p st n B E M few up Old (Came new.receiver.cumulative_tsn new.receiver.beyond) less d.k d.reach (stream_of st new.receiver) due)
             (inl (let x = g.other e in omega (arith, x)))
@@ -226,7 +230,7 @@ module _ (p st n : ℕ) (B : ℕ → ℕ) (E : ℕ → Bool) (M : ChunkPayloadDa
         is-due C k reach off on = accepted-on c answered old.receiver new.receiver acc st (DueOn C k reach) off
             (λ e there. on e (subst (DueOn Was d.k d.reach) there d.due))
 
-        ordered : is_ordered_on st c ≡ true → AreDue d.arrived.place new
+        ordered : is_ordered_on st c ≡ true → AreDueSince d.k d.arrived.place new
         ordered e = elim (cases_lt d.reach (i + 1)) [
           | inl lt ↦ put (i + 1) (omega (arith, lt)) (omega arith) (omega (arith, wide.1)) (omega (arith, top, o.1))
           | inr ge ↦ put d.reach (omega arith) (omega (arith, ge)) dd.far d.most
@@ -256,29 +260,34 @@ module _ (p st n : ℕ) (B : ℕ → ℕ) (E : ℕ → Bool) (M : ChunkPayloadDa
             of : holds.IsOf p st n B E M i c
             of = record { before = g.before; within = g.within; is = g.is; begun = o.1; made = g.made; on = e; inner = λ f. g.inner e f ∙ o.1 }
 
-            put : (more : ℕ) → d.reach ≤ more → i < more → more ≤ dd.low + 2 ^ 15 → more ≤ B n → AreDue d.arrived.place new
+            put : (more : ℕ) → d.reach ≤ more → i < more → more ≤ dd.low + 2 ^ 15 → more ≤ B n → AreDueSince d.k d.arrived.place new
             put more le lt far most =
                 let b = o.1 in
                 let at : has_tsn (tsn p (g.before + 1)) c ≡ true = eq-eqb c.tsn (tsn p (g.before + 1)) g.is in
                 let x = push-ordered p n B Fits Was (at-in p st n B E M few up) d.k d.reach more i (g.before + 1) c answered acc.stream.queue acc.queue dd kind
                 (of, omega arith, tt)
-                (λ cs none r. rises-put p st n B E M few up i 0 c cs of (omega arith) none r) o.2 at o.1 wide.0 wide.1 le lt far acc.pushed in
-                build c old new d g with_chunk acc.after read fresh more le most
-                (is-due (Came new.receiver.cumulative_tsn new.receiver.beyond) d.k more (λ no. absurd (not_both (sym no ∙ on.0)))
-                (λ yes held.
-                recame p n B Fits Was (Came new.receiver.cumulative_tsn new.receiver.beyond) d.k more acc.queue.held x.0
-                (λ y m h. elim (back c old new d g with_chunk acc.after read fresh y m h) [
-                  | inl z ↦ inl z
-                  | inr z ↦ inr (subst (IsKeptAt p n B Fits Was x.0.index acc.queue.held.ordered) (sym z.0) x.1)
-                ]))) (inr (omega (arith, b, lt)))
+                (λ cs none r. rises-put p st n B E M few up i 0 c cs of (omega arith) none r) o.2 at o.1 wide.0 wide.1 le lt far acc.pushed in (
+                  build c old new d g with_chunk acc.after read fresh more le most
+                      (is-due (Came new.receiver.cumulative_tsn new.receiver.beyond) d.k more (λ no. absurd (not_both (sym no ∙ on.0)))
+                      (λ yes held.
+                      recame p n B Fits Was (Came new.receiver.cumulative_tsn new.receiver.beyond) d.k more acc.queue.held x.0
+                      (λ y m h. elim (back c old new d g with_chunk acc.after read fresh y m h) [
+                        | inl z ↦ inl z
+                        | inr z ↦ inr (subst (IsKeptAt p n B Fits Was x.0.index acc.queue.held.ordered) (sym z.0) x.1)
+                      ]))) (inr (omega (arith, b, lt))),
+                  omega arith,
+                )
 
-        other : is_ordered_on st c ≡ false → AreDue d.arrived.place new
-        other e = other-due c old new d g with_chunk acc.after read fresh e
-            (is-due Was d.k d.reach (λ no. d.due) (λ on held.
-            push-unordered p n B Fits Was (at-in p st n B E M few up) d.k d.reach c answered acc.stream.queue acc.queue
-            (unnot c.unordered (ap (λ b. b && not c.unordered) (sym on) ∙ e)) acc.pushed held))
+        other : is_ordered_on st c ≡ false → AreDueSince d.k d.arrived.place new
+        other e = (
+          other-due c old new d g with_chunk acc.after read fresh e
+              (is-due Was d.k d.reach (λ no. d.due) (λ on held.
+              push-unordered p n B Fits Was (at-in p st n B E M few up) d.k d.reach c answered acc.stream.queue acc.queue
+              (unnot c.unordered (ap (λ b. b && not c.unordered) (sym on) ∙ e)) acc.pushed held)),
+          omega arith,
+        )
 
-        pub taken-due : AreDue d.arrived.place new
+        pub taken-due : AreDueSince d.k d.arrived.place new
         taken-due = by-test (is_ordered_on st c) ordered other
 
     -- a message is read
@@ -524,7 +533,7 @@ module _ (p st n : ℕ) (B : ℕ → ℕ) (E : ℕ → Bool) (M : ChunkPayloadDa
           ]
 
       -- with this reach
-      leads-to : is_stale f old.receiver ≡ false → (more : ℕ) → d.reach ≤ more → more ≤ B n → B m ≤ more
+      abbrev leads-to : is_stale f old.receiver ≡ false → (more : ℕ) → d.reach ≤ more → more ≤ B n → B m ≤ more
           → DueOn New d.k more (option_map change (stream_of st old.receiver)) → AreDue d.arrived.place new
       leads-to e more up' most covered due = record {
         k = d.k;
@@ -542,8 +551,8 @@ module _ (p st n : ℕ) (B : ℕ → ℕ) (E : ℕ → Bool) (M : ChunkPayloadDa
       with-names ssns l = incomplete_forwarded t (unassembled_forwarded t (with_queue (skipped_each ssns l.queue) l))
 
       unnamed : is_stale f old.receiver ≡ false → filter (is_pair_of st) f.streams ≡ [] → B m ≤ B a → ((k : ℕ) → a < k → k ≤ m → E k ≡ false)
-          → AreDue d.arrived.place new
-      unnamed e none most clear = leads-to e d.reach (omega arith) d.most covered (by (stream_of st old.receiver) refl)
+          → AreDueSince d.k d.arrived.place new
+      unnamed e none most clear = (leads-to e d.reach (omega arith) d.most covered (by (stream_of st old.receiver) refl), omega arith)
         where
           covered : B m ≤ d.reach
           covered = let h = d.arrived in let y = up a h.place h.least_is in omega (arith, most, y)
@@ -570,13 +579,13 @@ module _ (p st n : ℕ) (B : ℕ → ℕ) (E : ℕ → Bool) (M : ChunkPayloadDa
               (incomplete-due p n B Fits New (at-in p st n B E M few up) d.k d.reach t (held_after_unordered_skip t l.queue.held) u gone)
 
       named : is_stale f old.receiver ≡ false → (j : ℕ) → j + 1 ≡ B m
-          → filter (is_pair_of st) f.streams ≡ record { identifier = st; sequence = j % 2 ^ 16 } ∷ [] → AreDue d.arrived.place new
+          → filter (is_pair_of st) f.streams ≡ record { identifier = st; sequence = j % 2 ^ 16 } ∷ [] → AreDueSince d.k d.arrived.place new
       named e j last only = by (stream_of st old.receiver) refl
         where
           lt : d.arrived.place < m
           lt = ahead-is a f m old d le is e
 
-          by : (o : Option InboundStream) → stream_of st old.receiver ≡ o → AreDue d.arrived.place new
+          by : (o : Option InboundStream) → stream_of st old.receiver ≡ o → AreDueSince d.k d.arrived.place new
           by None g =
               absurd (not_both (sym (ap is_some g) ∙ open' lt (j % 2 ^ 16) only))
           by (Some l) g =
@@ -591,15 +600,19 @@ module _ (p st n : ℕ) (B : ℕ → ℕ) (E : ℕ → Bool) (M : ChunkPayloadDa
               ]) in
               let u = unassembled-due p n B Fits New (at-in p st n B E M few up) d.k s.more t q now in
               let past = gone-begun t m le is Prior missing s.due.index s.due.low s.more q.ordered s.due.sets (omega (arith, last)) in
-              let names : ssns_of l.queue.si f.streams ≡ j % 2 ^ 16 ∷ [] = cc (named-by a f m old d le is l g, only) in
-              leads-to e s.more s.up s.within (omega (arith, last)) (subst (λ o. DueOn New d.k s.more (option_map change o)) (sym g)
-              (subst (λ ssns. IsDue p n B Fits New d.k s.more (with-names ssns l).queue.held) (sym names)
-              (incomplete-due p n B Fits New (at-in p st n B E M few up) d.k s.more t (held_after_unordered_skip t q) u past)))
+              let names : ssns_of l.queue.si f.streams ≡ j % 2 ^ 16 ∷ [] = cc (named-by a f m old d le is l g, only) in (
+                leads-to e s.more s.up s.within (omega (arith, last)) (subst (λ o. DueOn New d.k s.more (option_map change o)) (sym g)
+                    (subst (λ ssns. IsDue p n B Fits New d.k s.more (with-names ssns l).queue.held) (sym names)
+                    (incomplete-due p n B Fits New (at-in p st n B E M few up) d.k s.more t (held_after_unordered_skip t q) u past))),
+                omega arith,
+              )
 
-      pub followed-due : AreDue d.arrived.place new
+      pub followed-due : AreDueSince d.k d.arrived.place new
       followed-due = by-test (is_stale f old.receiver)
           (λ e.
-          let same = stale-same f old new after e in
-          quiet a old new d read (subst (λ (r : Reception). DueOn Prior d.k d.reach (stream_of st r)) (sym same) d.due)
-          (ap (λ (r : Reception). r.cumulative_tsn) same) (ap (λ (r : Reception). r.beyond) same))
+          let same = stale-same f old new after e in (
+            quiet a old new d read (subst (λ (r : Reception). DueOn Prior d.k d.reach (stream_of st r)) (sym same) d.due)
+                (ap (λ (r : Reception). r.cumulative_tsn) same) (ap (λ (r : Reception). r.beyond) same),
+            omega arith,
+          ))
           (λ e. elim naming [ inl x ↦ unnamed e x.0 x.1 x.2 | inr x ↦ named e x.0 x.1 x.2 ])

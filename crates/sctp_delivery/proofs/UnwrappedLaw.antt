@@ -1,12 +1,12 @@
 -- The ordered messages of a stream are read in the order of their writes.
 use Rattle.sctp_delivery.proofs.Names.{◌≡◌, ℕ, zero, suc, ◌<◌, ◌≤◌, true, false, not, List, [], ◌∷◌, inl, inr, ap, sym, subst, ◌∙◌, arith, ◌+◌, ◌^◌, Bool}
 use Rattle.sctp_delivery.proofs.Names.{length, refl, All, ◌==◌, AllPairs, if◌then◌else◌, list_all, negated, same-is, and, both, not_both, ChunkPayloadData}
-use Rattle.sctp_delivery.proofs.Names.{data_of, Data, Message, AreReadInOrder, pairs_cons, StandAt, WhileFewTsns}
+use Rattle.sctp_delivery.proofs.Names.{⊤, data_of, Message, AreReadInOrder, pairs_cons, StandAt, WhileFewTsns}
 use Rattle.std.proofs.Common.{◌⊎◌}
 use Rattle.sctp_delivery.specs.Order.{is_ordered_on, places_where}
 use Rattle.sctp_delivery.proofs.Begun.{AreOnce}
 use Rattle.sctp_delivery.proofs.Delivered.{IsReadOf, read-in}
-use Rattle.sctp_delivery.proofs.OnceWritten.{one-first, EachRead, apart, each-read, places, stand}
+use Rattle.sctp_delivery.proofs.OnceWritten.{one-begun, EachRead, apart, each-read, places, stand}
 use Rattle.sctp_delivery.proofs.OrderedEntries.{AreRising, IsUnder, begun_on, part-fewer}
 use Rattle.sctp_delivery.proofs.OrderedPlaces.{AreNumbered, place-at}
 use Rattle.sctp_delivery.proofs.Sent.{Entry, IsPart, Numbered, fragment, part-itself, terminal, IsLine, WasSent, part-length, part-line}
@@ -60,7 +60,7 @@ up_to ns sent m x = fragment (data_of x.chunk) x.numbered x.after ∷ x.entries
 -- of two ordered messages the one with the greater index was written later
 module _ (ns : List Numbered) (sent : List Entry) (once : AreOnce sent) (rising : AreRising sent) (numbered : AreNumbered ns) (st : ℕ) (m o : Message)
     (x : IsReadOf ns sent m) (y : IsReadOf ns sent o) (kx : x.chunk.unordered ≡ false) (ky : y.chunk.unordered ≡ false)
-    (more : begun_on st (up_to ns sent o y) < begun_on st (up_to ns sent m x)) (other : data_of x.chunk ≡ data_of y.chunk → ⊥) where
+    (more : begun_on st (up_to ns sent o y) < begun_on st (up_to ns sent m x)) where
   behind : IsPart (up_to ns sent o y) (up_to ns sent m x) → y.numbered.place ≤ x.numbered.place
   behind (inl e) = absurd (let f = ap (begun_on st) e in let g = more in omega (arith, f, g))
   behind (inr q) =
@@ -72,8 +72,11 @@ module _ (ns : List Numbered) (sent : List Entry) (once : AreOnce sent) (rising 
 
   differ : x.numbered.place ≡ y.numbered.place → ⊥
   differ same =
-      other (one-first sent once (data_of x.chunk)
-      (data_of y.chunk) x.numbered y.numbered x.after y.after x.entries y.entries x.begins y.begins same x.part y.part)
+      let it = one-begun sent once (data_of x.chunk)
+      (data_of y.chunk) x.numbered y.numbered x.after y.after x.entries y.entries x.begins y.begins same x.part y.part in
+      let b = ap (begun_on st) it in
+      let lt = more in
+      omega (arith, b, lt)
 
   pub before : x.written.0 < y.written.0
   before =
@@ -83,62 +86,49 @@ module _ (ns : List Numbered) (sent : List Entry) (once : AreOnce sent) (rising 
 
 -- # The ordered messages of a stream are read in the order of their writes.
 
-module _ (st first n : ℕ) (ns : List Numbered) (sent : List Entry) (few : n < 2 ^ 31) (long : length sent ≡ n) (line : IsLine ns first sent)
-    (once : AreOnce sent) (rising : AreRising sent) (numbered : AreNumbered ns) (T : Message → ℕ → Bool)
+module _ (st : ℕ) (ns : List Numbered) (sent : List Entry) (once : AreOnce sent) (rising : AreRising sent) (numbered : AreNumbered ns)
+    (T : Message → ℕ → Bool)
     (starts' : (m : Message) (x : IsReadOf ns sent m) → T m x.written.0 ≡ true → (x.chunk.unordered ≡ false) × (is_in_order st m ≡ true)) where
-  abbrev Piece : ℕ → List ChunkPayloadData → Type 0
-  Piece = Fits (base first) st n (λ k. begun_to st k sent) (λ k. is_at st k sent) (λ c. WasSent sent (data_of c))
+  -- the message is the ordered one of this index
+  abbrev pub IsIndexOf : (m : Message) → IsReadOf ns sent m → ℕ → Type 0
+  IsIndexOf m x i = begun_on st (up_to ns sent m x) ≡ i + 1
 
-  abbrev InTurn : ℕ → List Message → Type 0
-  InTurn = AreInTurn (base first) st n (λ k. begun_to st k sent) (λ k. is_at st k sent) (λ c. WasSent sent (data_of c))
-
-  -- what its chunks say is its index
-  index-is : (m : Message) (x : IsReadOf ns sent m) (i : ℕ) → Piece i m.fragments → begun_on st (up_to ns sent m x) ≡ i + 1
-  index-is m x i h =
-      let o = (subst (Piece i) x.fragments h).0 in
-      let number = (part-line ns first sent (up_to ns sent m x) x.part line).0.number in
-      let same : length (up_to ns sent m x) ≡ o.before + 1 = omega (arith, number, part-length sent (up_to ns sent m x) x.part, long, few) in
-      sym (to-part st sent (up_to ns sent m x) x.part) ∙ ap (λ k. begun_to st k sent) same ∙ o.begun
-
-  -- the later index
-  by-index : (m o : Message) (x : IsReadOf ns sent m) (y : IsReadOf ns sent o) (i j : ℕ) → Piece i m.fragments → Piece j o.fragments → j < i
-      → x.chunk.unordered ≡ false → y.chunk.unordered ≡ false → x.written.0 < y.written.0
-  by-index m o x y i j h g lt kx ky =
-      before ns sent once rising numbered st m o x y kx ky (omega (arith, index-is m x i h, index-is o y j g, lt)) (λ it.
-      (let t = ap (λ (d : Data). d.tsn) it in
-      let p = (subst (Piece i) x.fragments h).0 in
-      let q = (subst (Piece j) y.fragments g).0 in
-      let same : p.before + 1 ≡ q.before + 1 = omega (arith, t, few) in
-      omega (arith, ap (λ k. begun_to st k sent) same, lt)))
+  -- the ordered messages of the stream have indexes below this one, each later one a greater one
+  abbrev pub AreIndexedBelow : ℕ → (ms : List Message) → EachRead ns sent once ms → Type 0
+  AreIndexedBelow k [] e = ⊤
+  AreIndexedBelow k (m ∷ ms) e =
+      Where (is_in_order st m) ((i : ℕ) × (i < k) × IsIndexOf m e.0 i × AreIndexedBelow i ms e.1) (AreIndexedBelow k ms e.1)
 
   -- an ordered message, and those that were read before it
-  module _ (m : Message) (x : IsReadOf ns sent m) (i : ℕ) (h : Piece i m.fragments) (kx : x.chunk.unordered ≡ false) where
-    away : (k : ℕ) (ms : List Message) (e : EachRead ns sent once ms) → k ≤ i → InTurn k ms
+  module _ (m : Message) (x : IsReadOf ns sent m) (i : ℕ) (h : IsIndexOf m x i) (kx : x.chunk.unordered ≡ false) where
+    away : (k : ℕ) (ms : List Message) (e : EachRead ns sent once ms) → k ≤ i → AreIndexedBelow k ms e
         → All (λ q. x.written.0 < q) (places_where T ms (places ns sent once ms e))
     away k [] e le t = λ j d lt. absurd (omega (arith, lt))
     away k (o ∷ os) e le t = by (T o e.0.written.0) refl (is_in_order st o) refl t (λ j l u. away j os e.1 l u)
       where
         by : (b : Bool) → T o e.0.written.0 ≡ b → (c : Bool) → is_in_order st o ≡ c
-            → Where c ((j : ℕ) × (j < k) × Piece j o.fragments × InTurn j os) (InTurn k os)
-            → ((j : ℕ) → j ≤ i → InTurn j os → All (λ q. x.written.0 < q) (places_where T os (places ns sent once os e.1)))
+            → Where c ((j : ℕ) × (j < k) × IsIndexOf o e.0 j × AreIndexedBelow j os e.1) (AreIndexedBelow k os e.1)
+            → ((j : ℕ) → j ≤ i → AreIndexedBelow j os e.1 → All (λ q. x.written.0 < q) (places_where T os (places ns sent once os e.1)))
             → All (λ q. x.written.0 < q) (if b then e.0.written.0 ∷ places_where T os (places ns sent once os e.1) else places_where T os
             (places ns sent once os e.1))
         by true f false g u ih = absurd (not_both (sym g ∙ (starts' o e.0 f).1))
         by true f true g u ih =
             let s = starts' o e.0 f in
+            let lt = u.1 in
+            let is = u.2 in
             all-cons (λ q. x.written.0 < q) e.0.written.0 (places_where T os (places ns sent once os e.1))
-            (by-index m o x e.0 i u.0 h u.2 (omega (arith, le)) kx s.0) (ih u.0 (omega (arith, le)) u.3)
+            (before ns sent once rising numbered st m o x e.0 kx s.0 (omega (arith, h, is, lt, le))) (ih u.0 (omega (arith, le)) u.3)
         by false f true g u ih = let l = u.1 in ih u.0 (omega (arith, l, le)) u.3
         by false f false g u ih = ih k le u
 
-  pub in-order-of : (k : ℕ) (ms : List Message) (e : EachRead ns sent once ms) → InTurn k ms
+  pub in-order-by : (k : ℕ) (ms : List Message) (e : EachRead ns sent once ms) → AreIndexedBelow k ms e
       → AllPairs (λ p q. p < q) (places_where T ms (places ns sent once ms e))
-  in-order-of k [] e t = λ i j d lt short. absurd (omega (arith, short))
-  in-order-of k (m ∷ ms) e t = by (T m e.0.written.0) refl (is_in_order st m) refl t (λ j u. in-order-of j ms e.1 u)
+  in-order-by k [] e t = λ i j d lt short. absurd (omega (arith, short))
+  in-order-by k (m ∷ ms) e t = by (T m e.0.written.0) refl (is_in_order st m) refl t (λ j u. in-order-by j ms e.1 u)
     where
       by : (b : Bool) → T m e.0.written.0 ≡ b → (c : Bool) → is_in_order st m ≡ c
-          → Where c ((j : ℕ) × (j < k) × Piece j m.fragments × InTurn j ms) (InTurn k ms)
-          → ((j : ℕ) → InTurn j ms → AllPairs (λ p q. p < q) (places_where T ms (places ns sent once ms e.1)))
+          → Where c ((j : ℕ) × (j < k) × IsIndexOf m e.0 j × AreIndexedBelow j ms e.1) (AreIndexedBelow k ms e.1)
+          → ((j : ℕ) → AreIndexedBelow j ms e.1 → AllPairs (λ p q. p < q) (places_where T ms (places ns sent once ms e.1)))
           → AllPairs (λ p q. p < q) (if b then e.0.written.0 ∷ places_where T ms (places ns sent once ms e.1) else places_where T ms
           (places ns sent once ms e.1))
       by true f false g u ih = absurd (not_both (sym g ∙ (starts' m e.0 f).1))
@@ -148,6 +138,39 @@ module _ (st first n : ℕ) (ns : List Numbered) (sent : List Entry) (few : n < 
           (away m e.0 u.0 u.2 s.0 u.0 ms e.1 (omega arith) u.3) (ih u.0 u.3)
       by false f true g u ih = ih u.0 u.3
       by false f false g u ih = ih k u
+
+-- where fewer than 2^31 TSNs were given out, the chunks of a message tell its index
+module _ (st first n : ℕ) (ns : List Numbered) (sent : List Entry) (few : n < 2 ^ 31) (long : length sent ≡ n) (line : IsLine ns first sent)
+    (once : AreOnce sent) (rising : AreRising sent) (numbered : AreNumbered ns) (T : Message → ℕ → Bool)
+    (starts' : (m : Message) (x : IsReadOf ns sent m) → T m x.written.0 ≡ true → (x.chunk.unordered ≡ false) × (is_in_order st m ≡ true)) where
+  abbrev Piece : ℕ → List ChunkPayloadData → Type 0
+  Piece = Fits (base first) st n (λ k. begun_to st k sent) (λ k. is_at st k sent) (λ c. WasSent sent (data_of c))
+
+  abbrev InTurn : ℕ → List Message → Type 0
+  InTurn = AreInTurn (base first) st n (λ k. begun_to st k sent) (λ k. is_at st k sent) (λ c. WasSent sent (data_of c))
+
+  index-is : (m : Message) (x : IsReadOf ns sent m) (i : ℕ) → Piece i m.fragments → begun_on st (up_to ns sent m x) ≡ i + 1
+  index-is m x i h =
+      let o = (subst (Piece i) x.fragments h).0 in
+      let number = (part-line ns first sent (up_to ns sent m x) x.part line).0.number in
+      let same : length (up_to ns sent m x) ≡ o.before + 1 = omega (arith, number, part-length sent (up_to ns sent m x) x.part, long, few) in
+      sym (to-part st sent (up_to ns sent m x) x.part) ∙ ap (λ k. begun_to st k sent) same ∙ o.begun
+
+  indexed-of : (k : ℕ) (ms : List Message) (e : EachRead ns sent once ms) → InTurn k ms
+      → AreIndexedBelow st ns sent once rising numbered T starts' k ms e
+  indexed-of k [] e t = tt
+  indexed-of k (m ∷ ms) e t = by (is_in_order st m) t (λ j u. indexed-of j ms e.1 u)
+    where
+      by : (b : Bool) → Where b ((i : ℕ) × (i < k) × Piece i m.fragments × InTurn i ms) (InTurn k ms)
+          → ((j : ℕ) → InTurn j ms → AreIndexedBelow st ns sent once rising numbered T starts' j ms e.1)
+          → Where b ((i : ℕ) × (i < k) × (begun_on st (up_to ns sent m e.0) ≡ i + 1) × AreIndexedBelow st ns sent once rising numbered T starts' i ms e.1)
+          (AreIndexedBelow st ns sent once rising numbered T starts' k ms e.1)
+      by true u ih = (u.0, u.1, index-is m e.0 u.0 u.2, ih u.0 u.3)
+      by false u ih = ih k u
+
+  pub in-order-of : (k : ℕ) (ms : List Message) (e : EachRead ns sent once ms) → InTurn k ms
+      → AllPairs (λ p q. p < q) (places_where T ms (places ns sent once ms e))
+  in-order-of k ms e t = in-order-by st ns sent once rising numbered T starts' k ms e (indexed-of k ms e t)
 
 -- ## The law
 

@@ -76,12 +76,12 @@ module _ (p st n m : ℕ) (B C : ℕ → ℕ) (E F : ℕ → Bool) (M N : ChunkP
     unassembled = d.unassembled;
   }
 
-  on-more : (D G : ℕ → Type 0) → ((y : ℕ) → y ≤ m → G y → (y ≤ n) × D y) → (k reach : ℕ) (o : Option InboundStream)
+  pub on-more : (D G : ℕ → Type 0) → ((y : ℕ) → y ≤ m → G y → (y ≤ n) × D y) → (k reach : ℕ) (o : Option InboundStream)
       → DueOn p st n B E M D k reach o → DueOn p st m C F N G k reach o
   on-more D G back k reach None d = (d.0, d.1, λ y most g. let b = back y most g in d.2 y b.0 b.1)
   on-more D G back k reach (Some l) d = due-more D G back k reach l.queue.held d
 
-  turns-more : (k : ℕ) (ms : List Message) → AreInTurn p st n B E M k ms → AreInTurn p st m C F N k ms
+  pub turns-more : (k : ℕ) (ms : List Message) → AreInTurn p st n B E M k ms → AreInTurn p st m C F N k ms
   turns-more k [] t = tt
   turns-more k (x ∷ xs) t = by (is_in_order st x) t (λ j h. turns-more j xs h)
     where
@@ -92,7 +92,7 @@ module _ (p st n m : ℕ) (B C : ℕ → ℕ) (E F : ℕ → Bool) (M N : ChunkP
       by true h ih = (h.0, h.1, rises-more h.0 0 x.fragments h.2, ih h.0 h.3)
       by false h ih = ih k h
 
-  beyond-more : (reach t : ℕ) → IsBeyond p st n B E M reach t → IsBeyond p st m C F N reach t
+  pub beyond-more : (reach t : ℕ) → IsBeyond p st n B E M reach t → IsBeyond p st m C F N reach t
   beyond-more reach t b =
       let w = b.within in
       let y = same (b.before + 1) w in
@@ -103,7 +103,7 @@ module _ (p st n m : ℕ) (B C : ℕ → ℕ) (E F : ℕ → Bool) (M N : ChunkP
         so = elim b.so [ inl z ↦ inl (omega (arith, same b.before (omega (arith, w)), y, z)) | inr z ↦ inr (omega (arith, y, z)) ];
       }
 
-  came-more : (a : ℕ) (s : Stand) (d : AreDue p st n B E M a s) (y : ℕ) → y ≤ m → Came p st m C F N s.receiver.cumulative_tsn s.receiver.beyond y
+  pub came-more : (a : ℕ) (s : Stand) (d : AreDue p st n B E M a s) (y : ℕ) → y ≤ m → Came p st m C F N s.receiver.cumulative_tsn s.receiver.beyond y
       → (y ≤ n) × Came p st n B E M s.receiver.cumulative_tsn s.receiver.beyond y
   came-more a s d y most h = elim (cases_lt n y) [
     | inl lt ↦
@@ -112,7 +112,7 @@ module _ (p st n m : ℕ) (B C : ℕ → ℕ) (E F : ℕ → Bool) (M N : ChunkP
     | inr ge ↦ (ge, (sym (alike y ge) ∙ h.0, h.1))
   ]
 
-  abbrev are-more : (a b : ℕ) (s : Stand) (d : AreDue p st n B E M a s) → b ≤ d.arrived.place → AreDue p st m C F N b s
+  abbrev pub are-more : (a b : ℕ) (s : Stand) (d : AreDue p st n B E M a s) → b ≤ d.arrived.place → AreDue p st m C F N b s
   are-more a b s d least =
       let h = d.arrived in
       let w = h.within in
@@ -262,7 +262,7 @@ module _ (st first : ℕ) where
     pub entry-of : (c : ChunkPayloadData) → Was sent c → IsEntry st first sent c
     entry-of c w =
         let q = i.holds.held.stands.queued in
-        made-entry on ns first sent q.line q.indexed q.joined st o c w
+        (made-entry on ns first sent q.line q.indexed q.joined st o c w).0
 
     pub step-of : (c : ChunkPayloadData) → Contains old.made (data_chunk (data_of c)) → IsStepOf (base first) st n (to sent) (at sent) (Was sent) c
     step-of c in' =
@@ -353,10 +353,10 @@ module _ (st first : ℕ) where
           → filter (is_pair_of st) g.streams ≡ record { identifier = st; sequence = j } ∷ [] → is_open st old.receiving.receiver ≡ true) → Now
       passed-due g in' after read near-names open' =
           let x = every-contained (IsMadeNaming st (base first) acked sent) old.made (forward_tsn g) in' (i.names st o) in
-          followed-due (base first) st n (to sent) (at sent)
+          (followed-due (base first) st n (to sent) (at sent)
           (Was sent) few grows acked near g x.place old.receiving new.receiving d (omega arith) x.is after read x.tells near-names
           (λ lt j only. open' x.place x.is (omega arith) lt j only)
-          (λ j cs fits e. missed x.place j cs (omega arith) fits e)
+          (λ j cs fits e. missed x.place j cs (omega arith) fits e)).0
 
       due-after : (call : ReceiverCall) → ReceiverFollows call old new → Now
       due-after (incoming.opens stream) f =
@@ -367,9 +367,9 @@ module _ (st first : ℕ) where
           (ap (λ (r : Reception). r.cumulative_tsn) f.step.receiver.1) (ap (λ (r : Reception). r.beyond) f.step.receiver.1)
       due-after (incoming.takes c (New answered)) f =
           let fresh = fresh-new c.tsn answered old.receiving.receiver f.accepted.1 in
-          taken-due (base first) st n (to sent) (at sent)
+          (taken-due (base first) st n (to sent) (at sent)
           (Was sent) few grows acked near c answered old.receiving new.receiving d (step-of c f.handed) f.step.receiver f.step.read
-          fresh (not-far c old.receiving.receiver fresh f.accepted.0)
+          fresh (not-far c old.receiving.receiver fresh f.accepted.0)).0
       due-after (incoming.follows g) f =
           let r = refused g old.receiving.receiver f.accepted in
           passed-due g f.handed f.step.receiver f.step.read r.0

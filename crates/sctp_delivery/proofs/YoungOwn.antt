@@ -1,5 +1,5 @@
 -- Sessions of a whole life: no write is read twice, while what is handed over and what is held is less than 2^31 TSNs old.
-use Rattle.sctp_delivery.proofs.Names.{◌≡◌, ℕ, zero, suc, ◌+◌, ◌%◌, ◌<◌, ◌≤◌, ◌^◌, Bool, true, false, List, [], ◌∷◌, length, Option, Some, None}
+use Rattle.sctp_delivery.proofs.Names.{◌⊎◌, Limits, ◌≡◌, ℕ, zero, suc, ◌+◌, ◌%◌, ◌<◌, ◌≤◌, ◌^◌, Bool, true, false, List, [], ◌∷◌, length, Option, Some, None}
 use Rattle.sctp_delivery.proofs.Names.{refl, ap, sym, subst, ◌∙◌, arith, nat_tests, inl, inr, ◌==◌, if◌then◌else◌, nat_lt, list_all, list_any}
 use Rattle.sctp_delivery.proofs.Names.{All, AllPairs, pairs_cons, sum_by, sum_by-cons, AllPass-from_list_all, both, and}
 use Rattle.sctp_delivery.proofs.Names.{not, not_both, fails, negated, same-is, same-yes, ChunkPayloadData, ChunkSet, Data, data_of, data_chunk, forward_tsn, is_on, has_tsn, is_complete}
@@ -37,7 +37,7 @@ use Rattle.sctp_delivery.proofs.YoungReads.{IsReadFrom, IsYoungSession, each-fro
 use Rattle.sctp_delivery.proofs.YoungReads.{sender-young, weight-none, young-first}
 
 -- the TSN is in flight
-abbrev Flies : ℕ → Session → Type 0
+abbrev pub Flies : ℕ → Session → Type 0
 Flies t s = IsGiven s.sending.sender.flight.acked_tsn (count_in_flight s) t
 
 -- ## What came has come after a call of the receiver
@@ -95,23 +95,23 @@ module _ (old new : Session) (few : count_in_flight new < 2 ^ 31) (i : IsNear ol
 -- ## The messages that were read, by the places of their first fragments
 
 -- so it is of the first fragment, which has the place p; a message of none has the place 0
-abbrev AtFirst : (P : ChunkPayloadData → Numbered → List ℕ → List Entry → Type 0) (p low : ℕ) (sent : List Entry) (cs : List ChunkPayloadData)
+abbrev pub AtFirst : (P : ChunkPayloadData → Numbered → List ℕ → List Entry → Type 0) (p low : ℕ) (sent : List Entry) (cs : List ChunkPayloadData)
     → EachSentFrom low sent cs → Type 0
 AtFirst P p low sent [] e = p ≡ 0
 AtFirst P p low sent (c ∷ cs) e = (p ≡ length e.0.2 + 1) × P c e.0.0 e.0.1 e.0.2
 
 -- how many chunks with the TSN are held on the stream
-abbrev held_with : ℕ → ℕ → Session → ℕ
+abbrev pub held_with : ℕ → ℕ → Session → ℕ
 held_with t st s = held_weight (one t) (stream_of st s.receiving.receiver)
 
 -- while it is less than 2^31 TSNs old: it came where it is in flight, and is held no more
-record IsDone (s : Session) (sent : List Entry) (stream : ℕ) (c : ChunkPayloadData) (w : Numbered) (after : List ℕ) (xs : List Entry) : Type 0 where
-  part : IsPart (fragment (data_of c) w after ∷ xs) sent
-  on : c.stream_identifier ≡ stream
-  known : floor (length sent) ≤ length xs → Flies c.tsn s → Knows c.tsn s.receiving.receiver
-  unheld : floor (length sent) ≤ length xs → held_with c.tsn stream s ≡ 0
+pub record IsDone (s : Session) (sent : List Entry) (stream : ℕ) (c : ChunkPayloadData) (w : Numbered) (after : List ℕ) (xs : List Entry) : Type 0 where
+  pub part : IsPart (fragment (data_of c) w after ∷ xs) sent
+  pub on : c.stream_identifier ≡ stream
+  pub known : floor (length sent) ≤ length xs → Flies c.tsn s → Knows c.tsn s.receiving.receiver
+  pub unheld : floor (length sent) ≤ length xs → held_with c.tsn stream s ≡ 0
 
-abbrev AreRead : Session → List Entry → List Message → List ℕ → Type 0
+abbrev pub AreRead : Session → List Entry → List Message → List ℕ → Type 0
 AreRead s sent [] [] = Unit {0}
 AreRead s sent [] (p ∷ ps) = ⊥
 AreRead s sent (m ∷ ms) [] = ⊥
@@ -119,21 +119,23 @@ AreRead s sent (m ∷ ms) (p ∷ ps) =
     ((r : IsReadFrom sent m) × AtFirst (IsDone s sent m.stream) p r.0 sent m.fragments r.1) × AreRead s sent ms ps
 
 -- none of these places stands twice
-abbrev AreOther : ℕ → List ℕ → Type 0
+abbrev pub AreOther : ℕ → List ℕ → Type 0
 AreOther p ps = Every (λ q. 0 < p → p ≡ q → ⊥) ps
 
-abbrev AreDistinct : List ℕ → Type 0
+abbrev pub AreDistinct : List ℕ → Type 0
 AreDistinct [] = Unit {0}
 AreDistinct (p ∷ ps) = AreOther p ps × AreDistinct ps
 
-abbrev AreReadOnce : Session → List Entry → List Message → Type 0
-AreReadOnce s sent ms = (ps : List ℕ) × AreRead s sent ms ps × AreDistinct ps
+-- they are the same places still, or one more message is read, whose first fragment is less than 2^31 TSNs old
+abbrev pub AreReadOn : List Entry → (ms ns : List Message) (ps qs : List ℕ) → Type 0
+AreReadOn sent ms ns ps qs =
+    ((ns ≡ ms) × (qs ≡ ps)) ⊎ ((m : Message) × (p : ℕ) × (ns ≡ m ∷ ms) × (qs ≡ p ∷ ps) × (0 < p → floor (length sent) < p))
 
-record IsOwned (s : Session) (sent : List Entry) : Type 0 where
-  single : (st t : ℕ) → held_with t st s ≤ 1
-  missing : (t : ℕ) → t < 2 ^ 32 → Flies t s → (Knows t s.receiving.receiver → ⊥) → (st : ℕ) → held_with t st s ≡ 0
-  once : AreReadOnce s sent s.receiving.read
-  recent : HoldsRecent s
+pub record IsOwned (s : Session) (sent : List Entry) (ps : List ℕ) : Type 0 where
+  pub single : (st t : ℕ) → held_with t st s ≤ 1
+  pub missing : (t : ℕ) → t < 2 ^ 32 → Flies t s → (Knows t s.receiving.receiver → ⊥) → (st : ℕ) → held_with t st s ≡ 0
+  pub once : AreRead s sent s.receiving.read ps × AreDistinct ps
+  pub recent : HoldsRecent s
 
 -- where the facts of each are kept
 read-kept : (s v : Session) (sent more : List Entry) → IsOnceMore sent more
@@ -190,7 +192,7 @@ none-next s st t small h is = sym (held-weighs (one t) (stream_of st s.receiving
 
 module _ (first : ℕ) (call : SenderCall) (old new : Session) (ns : List Numbered) (sent : List Entry) (ages : List Aged)
     (f : SenderFollows call old new) (i : IsYoungSession first old ns sent ages) (recent : HoldsRecent new)
-    (few : count_in_flight new < 2 ^ 31) (j : IsNear old) (k : IsNear new) (h : IsOwned old sent) where
+    (few : count_in_flight new < 2 ^ 31) (j : IsNear old) (k : IsNear new) (ps : List ℕ) (h : IsOwned old sent ps) where
   abbrev x : Sends all_streams first call old new ns sent
   x = sender-step first call old new ns sent f i.holds
 
@@ -237,15 +239,14 @@ module _ (first : ℕ) (call : SenderCall) (old new : Session) (ns : List Number
         unheld = λ le. same-held c.tsn stream ∙ d.unheld (omega (arith, le, lo));
       }
 
-  sender-owned : IsOwned new x.more
+  pub sender-owned : IsOwned new x.more ps
   sender-owned = record {
     single = λ st t. let e = same-held t st in let le = h.single st t in omega (arith, e, le);
     missing = still-missing;
     once = (
-      h.once.0,
-      subst (λ (r : Stand). AreRead new x.more r.read h.once.0) (sym same)
-          (read-kept old new sent x.more x.once still-done old.receiving.read h.once.0 h.once.1),
-      h.once.2,
+      subst (λ (r : Stand). AreRead new x.more r.read ps) (sym same)
+          (read-kept old new sent x.more x.once still-done old.receiving.read ps h.once.0),
+      h.once.1,
     );
     recent = recent;
   }
@@ -254,7 +255,7 @@ module _ (first : ℕ) (call : SenderCall) (old new : Session) (ns : List Number
 
 module _ (first : ℕ) (call : ReceiverCall) (old new : Session) (ns : List Numbered) (sent : List Entry) (ages : List Aged)
     (f : ReceiverFollows call old new) (i : IsYoungSession first old ns sent ages) (young : IsYoung (of_receiver call) ages) (recent : HoldsRecent new)
-    (few : count_in_flight new < 2 ^ 31) (q : IsRecent (of_receiver call) old) (j : IsNear old) (h : IsOwned old sent) where
+    (few : count_in_flight new < 2 ^ 31) (q : IsRecent (of_receiver call) old) (j : IsNear old) (ps : List ℕ) (h : IsOwned old sent ps) where
   sending : new.sending ≡ old.sending
   sending = ap (λ (s : Session). s.sending) f.after
 
@@ -351,9 +352,9 @@ module _ (first : ℕ) (call : ReceiverCall) (old new : Session) (ns : List Numb
     -- its first fragment, and its place
     first-done : (cs : List ChunkPayloadData) → set.chunks ≡ cs → (e : EachSentFrom (floor (length sent)) sent cs)
         → (p : ℕ) × AtFirst (IsDone new sent stream) p (floor (length sent)) sent cs e
-        × ((ps : List ℕ) (ms : List Message) → AreRead old sent ms ps → AreOther p ps)
-    first-done [] chunks e = (0, refl, λ ps ms a. every-all (λ q. 0 < 0 → 0 ≡ q → ⊥) (λ q lt. absurd (omega (arith, lt))) ps)
-    first-done (c ∷ cs) chunks e = (length e.0.2 + 1, (refl, done), others)
+        × ((ps : List ℕ) (ms : List Message) → AreRead old sent ms ps → AreOther p ps) × (0 < p → floor (length sent) < p)
+    first-done [] chunks e = (0, refl, λ ps ms a. every-all (λ q. 0 < 0 → 0 ≡ q → ⊥) (λ q lt. absurd (omega (arith, lt))) ps, λ lt. absurd (omega (arith, lt)))
+    first-done (c ∷ cs) chunks e = (length e.0.2 + 1, (refl, done), others, λ lt. (let low = e.0.4.0 in omega (arith, low)))
       where
         t : ℕ
         t = c.tsn
@@ -413,30 +414,35 @@ module _ (first : ℕ) (call : ReceiverCall) (old new : Session) (ns : List Numb
                 let n = now-held t in
                 omega (arith, z', n, counted)
 
-    with-it : AreReadOnce new sent (it ∷ old.receiving.read)
+    with-it : (qs : List ℕ) × AreRead new sent (it ∷ old.receiving.read) qs × AreDistinct qs
+        × AreReadOn sent old.receiving.read (it ∷ old.receiving.read) ps qs
     with-it =
         let e = each-from (floor (length sent)) stream sent set.chunks (omega arith) all-recent in
         let d = first-done set.chunks refl e in (
-          d.0 ∷ h.once.0,
-          (
-            ((floor (length sent), e), d.1),
-            read-kept old new sent sent (inl refl) done-still old.receiving.read h.once.0 h.once.1,
-          ),
-          (d.2 h.once.0 old.receiving.read h.once.1, h.once.2),
+          d.0 ∷ ps,
+          (((floor (length sent), e), d.1), read-kept old new sent sent (inl refl) done-still old.receiving.read ps h.once.0),
+          (d.2 ps old.receiving.read h.once.0, h.once.1),
+          inr (it, d.0, refl, refl, d.3),
         )
 
-  read-once : (c : ReceiverCall) → ReceiverFollows c old new → AreReadOnce new sent new.receiving.read
-  read-once (incoming.reads stream) g = subst (AreReadOnce new sent) (sym g.step.read) (by (message_on stream old.receiving.receiver) refl)
-    where
-      by : (o : Option ChunkSet) → message_on stream old.receiving.receiver ≡ o → AreReadOnce new sent (with_message stream o old.receiving.read)
-      by None e = (h.once.0, read-kept old new sent sent (inl refl) done-still old.receiving.read h.once.0 h.once.1, h.once.2)
-      by (Some set) e = with-it stream g set e
-  read-once c g =
-      subst (AreReadOnce new sent) (sym g.step.read)
-      (h.once.0, read-kept old new sent sent (inl refl) done-still old.receiving.read h.once.0 h.once.1, h.once.2)
+  abbrev ReadOn : List Message → Type 0
+  ReadOn ns = (qs : List ℕ) × AreRead new sent ns qs × AreDistinct qs × AreReadOn sent old.receiving.read ns ps qs
 
-  receiver-owned : IsOwned new sent
-  receiver-owned = record { single = λ st t. one-more call f q t st; missing = missing-still; once = read-once call f; recent = recent }
+  as-before : ReadOn old.receiving.read
+  as-before = (ps, read-kept old new sent sent (inl refl) done-still old.receiving.read ps h.once.0, h.once.1, inl (refl, refl))
+
+  read-once : (c : ReceiverCall) → ReceiverFollows c old new → ReadOn new.receiving.read
+  read-once (incoming.reads stream) g = subst ReadOn (sym g.step.read) (by (message_on stream old.receiving.receiver) refl)
+    where
+      by : (o : Option ChunkSet) → message_on stream old.receiving.receiver ≡ o → ReadOn (with_message stream o old.receiving.read)
+      by None e = as-before
+      by (Some set) e = with-it stream g set e
+  read-once c g = subst ReadOn (sym g.step.read) as-before
+
+  pub receiver-owned : (qs : List ℕ) × IsOwned new sent qs × AreReadOn sent old.receiving.read new.receiving.read ps qs
+  receiver-owned =
+      let r = read-once call f in
+      (r.0, record { single = λ st t. one-more call f q t st; missing = missing-still; once = (r.1, r.2); recent = recent }, r.3)
 
 -- ## Each session
 
@@ -444,35 +450,40 @@ record After (first : ℕ) (s : Session) : Type 0 where
   numbered : List Numbered
   sent : List Entry
   ages : List Aged
+  places' : List ℕ
   young : IsYoungSession first s numbered sent ages
-  owned : IsOwned s sent
+  owned : IsOwned s sent places'
 
 owned-then : (first : ℕ) (cs : List Call) (old new : Session) (ns : List Numbered) (sent : List Entry) (ages : List Aged) (r : RunsTo old cs new)
-    → AreRecent old cs new r → AreYoung ages old cs new r → IsNear old → IsYoungSession first old ns sent ages → IsOwned old sent → After first new
-owned-then first [] old new ns sent ages r q y j i h = record {
+    → AreRecent old cs new r → AreYoung ages old cs new r → IsNear old → IsYoungSession first old ns sent ages → (ps : List ℕ) → IsOwned old sent ps
+    → After first new
+owned-then first [] old new ns sent ages r q y j i ps h = record {
   numbered = ns;
   sent = sent;
   ages = ages;
   young = subst (λ s. IsYoungSession first s ns sent ages) (sym r) i;
-  owned = subst (λ s. IsOwned s sent) (sym r) h;
+  places' = ps;
+  owned = subst (λ s. IsOwned s sent ps) (sym r) h;
 }
-owned-then first (of_sender call ∷ cs) old new ns sent ages r q y j i h =
+owned-then first (of_sender call ∷ cs) old new ns sent ages r q y j i ps h =
     let x = sender-step first call old r.0 ns sent r.1.0 i.holds in
     let k = sender-near old r.0 q.1 j call r.1.0 q.0 in
     owned-then first cs r.0 new (numbered_after call ns) x.more (aged_after (of_sender call) old r.0 ages) r.1.1 q.2 y.2 k
-    (sender-young first call old r.0 ns sent ages r.1.0 i y.1) (sender-owned first call old r.0 ns sent ages r.1.0 i y.1 q.1 j k h)
-owned-then first (of_receiver call ∷ cs) old new ns sent ages r q y j i h =
+    (sender-young first call old r.0 ns sent ages r.1.0 i y.1) ps
+    (sender-owned first call old r.0 ns sent ages r.1.0 i y.1 q.1 j k ps h)
+owned-then first (of_receiver call ∷ cs) old new ns sent ages r q y j i ps h =
+    let o = receiver-owned first call old r.0 ns sent ages r.1.0 i y.0 y.1 q.1 q.0 j ps h in
     owned-then first cs r.0 new ns sent (aged_after (of_receiver call) old r.0 ages) r.1.1 q.2 y.2 (receiver-near old r.0 q.1 j call r.1.0 q.0)
-    (receiver-young first call old r.0 ns sent ages r.1.0 i y.0) (receiver-owned first call old r.0 ns sent ages r.1.0 i y.0 y.1 q.1 q.0 j h)
+    (receiver-young first call old r.0 ns sent ages r.1.0 i y.0) o.0 o.1
 
 -- ## The law
 
 module _ (ns : List Numbered) (first : ℕ) (sent : List Entry) (once : AreOnce sent) (line : IsLine ns first sent) (indexed : AreIndexed sent) (s : Session) where
-  abbrev IsWhole : Message → Type 0
+  abbrev pub IsWhole : Message → Type 0
   IsWhole m = (is_complete m.fragments ≡ true) × (is_one_message m.fragments ≡ true) × (list_all (is_on m.stream) m.fragments ≡ true)
 
   -- the first fragments of these messages stand at these places
-  abbrev AreAt : (ms : List Message) → EachRead ns sent once ms → List ℕ → Type 0
+  abbrev pub AreAt : (ms : List Message) → EachRead ns sent once ms → List ℕ → Type 0
   AreAt [] e [] = Unit {0}
   AreAt [] e (p ∷ ps) = ⊥
   AreAt (m ∷ ms) e [] = ⊥
@@ -493,7 +504,7 @@ module _ (ns : List Numbered) (first : ℕ) (sent : List Entry) (once : AreOnce 
           let at = a.0 in
           (x.0, omega (arith, long, at))
 
-  reads-are : (ms : List Message) (ps : List ℕ) → AreRead s sent ms ps → Every IsWhole ms → (e : EachRead ns sent once ms) × AreAt ms e ps
+  pub reads-are : (ms : List Message) (ps : List ℕ) → AreRead s sent ms ps → Every IsWhole ms → (e : EachRead ns sent once ms) × AreAt ms e ps
   reads-are [] [] a w = (tt, tt)
   reads-are [] (p ∷ ps) a w = absurd a
   reads-are (m ∷ ms) [] a w = absurd a
@@ -512,34 +523,44 @@ module _ (ns : List Numbered) (first : ℕ) (sent : List Entry) (once : AreOnce 
       o.0 (omega (arith, at)) (omega (arith, at, there, long))
   away m x p at (n ∷ ms) e (q ∷ ps) a o (suc k) d lt = away m x p at ms e.1 ps a.1 o.1 k d (omega (arith, lt))
 
-  apart : (ms : List Message) (e : EachRead ns sent once ms) (ps : List ℕ) → AreAt ms e ps → AreDistinct ps
+  pub apart : (ms : List Message) (e : EachRead ns sent once ms) (ps : List ℕ) → AreAt ms e ps → AreDistinct ps
       → AllPairs (λ p q. p ≢ q) (places ns sent once ms e)
   apart [] e ps a d = λ i j x lt short. absurd (omega (arith, short))
   apart (m ∷ ms) e [] a d = absurd a
   apart (m ∷ ms) e (p ∷ ps) a d =
       pairs_cons (λ p q. p ≢ q) e.0.written.0 (places ns sent once ms e.1) (away m e.0 p a.0 ms e.1 ps a.1 d.0) (apart ms e.1 ps a.1 d.1)
 
+pub owned-first : (tsn size max most : ℕ) (limits : Option Limits) → IsOwned (at_start tsn size max most limits) [] []
+owned-first tsn size max most limits =
+    record { single = λ st t. omega arith; missing = λ t lt fl off st. refl; once = (tt, tt); recent = λ st. refl }
+
+-- each message that was read is whole, of one message, and on its stream
+pub all-whole : (tsn size max most : ℕ) (limits : Option Limits) (cs : List Call) (s : Session) → RunsTo (at_start tsn size max most limits) cs s
+    → Every (λ (m : Message). (is_complete m.fragments ≡ true) × (is_one_message m.fragments ≡ true) × (list_all (is_on m.stream) m.fragments ≡ true))
+    s.receiving.read
+all-whole tsn size max most limits cs s r =
+    let read = s.receiving.read in
+    let whole = sessions.messages tsn size max most limits cs s r in
+    let on = sessions.read-on tsn size max most limits cs s r in
+    every-of-all (λ m. (is_complete m.fragments ≡ true) × (is_one_message m.fragments ≡ true) × (list_all (is_on m.stream) m.fragments ≡ true)) read
+    (λ k m lt. (
+      AllPass-from_list_all (λ x. is_complete x.fragments) read whole.0 k m lt,
+      AllPass-from_list_all (λ x. is_one_message x.fragments) read whole.1 k m lt,
+      AllPass-from_list_all (λ x. list_all (is_on x.stream) x.fragments) read on k m lt,
+    ))
+
 pub law : WhileRecentAndYoung AreWritesOfTheirOwn
 law tsn size max most limits cs s small some r q y =
     let start = at_start tsn size max most limits in
-    let a = owned-then tsn cs start s [] [] [] r q y (near-first tsn size max most limits small) (young-first tsn size max most limits small some)
-    (record { single = λ st t. omega arith; missing = λ t lt fl off st. refl; once = ([], tt, tt); recent = λ st. refl }) in
+    let a = owned-then tsn cs start s [] [] [] r q y (near-first tsn size max most limits small) (young-first tsn size max most limits small some) []
+    (owned-first tsn size max most limits) in
     let h = a.young.holds in
     let ns = a.numbered in
     let sent = a.sent in
     let once = h.held.stands.begun'.once in
     let read = s.receiving.read in
-    let whole = sessions.messages tsn size max most limits cs s r in
-    let on = sessions.read-on tsn size max most limits cs s r in
-    let each : Every (λ (m : Message). (is_complete m.fragments ≡ true) × (is_one_message m.fragments ≡ true) × (list_all (is_on m.stream) m.fragments ≡ true)) read
-    = every-of-all (λ m. (is_complete m.fragments ≡ true) × (is_one_message m.fragments ≡ true) × (list_all (is_on m.stream) m.fragments ≡ true)) read
-    (λ k m lt. (
-      AllPass-from_list_all (λ x. is_complete x.fragments) read whole.0 k m lt,
-      AllPass-from_list_all (λ x. is_one_message x.fragments) read whole.1 k m lt,
-      AllPass-from_list_all (λ x. list_all (is_on x.stream) x.fragments) read on k m lt,
-    )) in
-    let e = reads-are ns tsn sent once h.held.stands.queued.line h.held.stands.queued.indexed s read a.owned.once.0 a.owned.once.1 each in (
+    let e = reads-are ns tsn sent once h.held.stands.queued.line h.held.stands.queued.indexed s read a.places' a.owned.once.0 (all-whole tsn size max most limits cs s r) in (
       places ns sent once read e.0,
       subst (λ ws. StandAt ws read (places ns sent once read e.0)) h.writes (stand ns sent once read e.0),
-      apart ns tsn sent once h.held.stands.queued.line h.held.stands.queued.indexed s read e.0 a.owned.once.0 e.1 a.owned.once.2,
+      apart ns tsn sent once h.held.stands.queued.line h.held.stands.queued.indexed s read e.0 a.places' e.1 a.owned.once.1,
     )

@@ -1,10 +1,10 @@
 -- Sessions of a whole life: each message that is read was written, while what is handed over and what is held is less than 2^31 TSNs old.
 use Rattle.sctp_delivery.proofs.Names.{◌≡◌, ℕ, ◌+◌, ◌-◌, ◌%◌, ◌<◌, ◌≤◌, ◌^◌, Bool, true, false, List, [], ◌∷◌, length, map, Option, Some, None, refl, ap}
 use Rattle.sctp_delivery.proofs.Names.{sym, subst, ◌∙◌, arith, nat_tests, inl, inr, ◌&&◌, ◌||◌, if◌then◌else◌, nat_le, nat_lt, list_all}
-use Rattle.sctp_delivery.proofs.Names.{Contains, slice_index_or, sum_by, sum_by-cons, AllPass-from_list_all, option_map, option_to_list, both, and, not_both}
+use Rattle.sctp_delivery.proofs.Names.{Contains, slice_index_or, sum_by, sum_by-cons, AllPass-from_list_all, both, and, not_both}
 use Rattle.sctp_delivery.proofs.Names.{or-left, or-right, or-split, ChunkPayloadData, ChunkSet, Data, data_of, is_on, is_complete, is_one_message, Limits, Message}
 use Rattle.sctp_delivery.proofs.Names.{fragments_on, held_weight, message_on, stream_of, New, AreWrites, ReceiverCall, SenderCall}
-use Rattle.sctp_delivery.proofs.Names.{Call, RunsTo, Session, SenderFollows, ReceiverFollows, at_start, of_receiver, of_sender, next_chunk}
+use Rattle.sctp_delivery.proofs.Names.{Made, data_chunk, forward_tsn, with_chunk, ⊤, Call, RunsTo, Session, SenderFollows, ReceiverFollows, at_start, of_receiver, of_sender, next_chunk}
 use Rattle.sctp_util.specs.Serial.{comes_before, distance}
 use Rattle.sctp_receiver.specs.ReceiverRuns.{with_message}
 use Rattle.sctp_receiver.proofs.Weights.{message_weight}
@@ -97,10 +97,14 @@ each-from low st sent (c ∷ cs) few e =
 
 -- ## A session
 
--- the chunk got a TSN, and no more were given out since than its age says
+-- the DATA chunk got a TSN, and no more were given out since than its age says
+abbrev pub IsPlacedAt : List Entry → ℕ → Made → Type 0
+IsPlacedAt sent age (data_chunk d) =
+    (w : Numbered) × (after : List ℕ) × (xs : List Entry) × IsPart (fragment d w after ∷ xs) sent × (length sent ≤ length xs + age)
+IsPlacedAt sent age (forward_tsn f) = ⊤
+
 abbrev pub IsPlaced : List Entry → Aged → Type 0
-IsPlaced sent a =
-    (w : Numbered) × (after : List ℕ) × (xs : List Entry) × IsPart (fragment a.chunk w after ∷ xs) sent × (length sent ≤ length xs + a.age)
+IsPlaced sent a = IsPlacedAt sent a.age a.chunk
 
 abbrev pub IsReadFrom : List Entry → Message → Type 0
 IsReadFrom sent m = (low : ℕ) × EachSentFrom low sent m.fragments
@@ -131,9 +135,13 @@ read-more sent more once m r = (r.0, each-more sent more once r.0 m.fragments r.
 
 placed-older : (given : ℕ) (sent more : List Entry) → IsOnceMore sent more → length more ≤ length sent + given → (a : Aged) → IsPlaced sent a
     → IsPlaced more (older given a)
-placed-older given sent more once few a x =
-    let le = x.4 in
-    (x.0, x.1, x.2, more-part sent more (fragment a.chunk x.0 x.1 ∷ x.2) once x.3, omega (arith, le, few))
+placed-older given sent more once few a x = by a.chunk x
+  where
+    by : (m : Made) → IsPlacedAt sent a.age m → IsPlacedAt more (a.age + given) m
+    by (data_chunk d) x =
+        let le = x.4 in
+        (x.0, x.1, x.2, more-part sent more (fragment d x.0 x.1 ∷ x.2) once x.3, omega (arith, le, few))
+    by (forward_tsn f) x = tt
 
 -- a TSN before the next one is of a place that is less than 2^31 TSNs old
 pub recent-place : (first n k next t : ℕ) → k < n → n ≤ k + 2 ^ 31 → next ≡ (first + n) % 2 ^ 32 → t ≡ (first + k) % 2 ^ 32 → comes_before t next ≡ true
@@ -157,18 +165,20 @@ module _ (first : ℕ) (call : SenderCall) (old new : Session) (ns : List Number
 
   -- the chunk that gets a TSN
   new-placed : (c : SenderCall) → IsMoreBy (sent_by c old.sending.sender) sent x.more
-      → Every (IsPlaced x.more) (map (λ d. record { chunk = d; age = 1 }) (new_chunks (of_sender c) old))
+      → Every (IsPlaced x.more) (map (λ m. record { chunk = m; age = 1 }) (new_chunks (of_sender c) old))
   new-placed (outgoing.sends now) g = by (next_chunk now old.sending.sender) g
     where
       by : (o : Option ChunkPayloadData) → IsMoreBy o sent x.more
-          → Every (IsPlaced x.more) (map (λ d. record { chunk = d; age = 1 }) (option_to_list (option_map data_of o)))
+          → Every (IsPlaced x.more) (map (λ m. record { chunk = m; age = 1 }) (with_chunk o []))
       by None g = tt
       by (Some c) g = let n = ap length g.2 in ((g.0, g.1, sent, subst (IsPart (fragment (data_of c) g.0 g.1 ∷ sent)) (sym g.2) (inl refl), omega (arith, n)), tt)
+  new-placed (outgoing.forwards t g) h = (tt, tt)
+  new-placed (outgoing.forwards_within bytes g) h = (tt, tt)
   new-placed c g = tt
 
   all-placed : Every (IsPlaced x.more) (aged_after (of_sender call) old new ages)
   all-placed =
-      every-joined (IsPlaced x.more) (map (λ d. record { chunk = d; age = 1 }) (new_chunks (of_sender call) old)) (map (older given) ages)
+      every-joined (IsPlaced x.more) (map (λ m. record { chunk = m; age = 1 }) (new_chunks (of_sender call) old)) (map (older given) ages)
       (new-placed call x.grown)
       (every-mapped (IsPlaced sent) (IsPlaced x.more) (older given) (placed-older given sent x.more x.once x.few) ages i.placed)
 
@@ -215,7 +225,7 @@ module _ (first : ℕ) (call : ReceiverCall) (old new : Session) (ns : List Numb
   pub handed-recent : (st : ℕ) (c : ChunkPayloadData) (said : Bool) → IsYoung (of_receiver (incoming.takes c (New said))) ages → is_on st c ≡ true
       → is_recent sent st c ≡ true
   handed-recent st c said y on =
-      let a = every-contained (IsPlaced sent) ages (record { chunk = data_of c; age = y.0 }) y.2 i.placed in
+      let a = every-contained (IsPlaced sent) ages (record { chunk = data_chunk (data_of c); age = y.0 }) y.2 i.placed in
       let less = y.1 in
       let le = a.4 in
       and (is_on st c) (stands_from (floor (length sent)) (data_of c) sent) on
@@ -253,7 +263,7 @@ module _ (first : ℕ) (call : ReceiverCall) (old new : Session) (ns : List Numb
   receiver-young = record {
     holds = receiver-step first call old new ns sent f i.holds;
     placed = every-mapped (IsPlaced sent) (IsPlaced sent) (older (distance (next_tsn old) (next_tsn new)))
-        (λ a x. let le = x.4 in (x.0, x.1, x.2, x.3, omega (arith, le))) ages i.placed;
+        (placed-older (distance (next_tsn old) (next_tsn new)) sent sent (inl refl) (omega arith)) ages i.placed;
     held = λ st.
         let o = stream_of st new.receiving.receiver in
         all-pass (is_recent sent st) (fragments_on o) (held-weighs (fails (is_recent sent st)) o ∙ held-after call f young st);

@@ -1,14 +1,13 @@
 -- Sessions of a whole life: whatever is handed over is less than 2^31 TSNs old (RFC 1982 3.2), however many TSNs were given out.
 use Rattle.std.specs.Prelude.{◌≡◌, ⊤, ℕ, ◌+◌, ◌^◌, ◌<◌, ◌≤◌, Bool, true, if◌then◌else◌, nat_lt, List, [], ◌∷◌, ◌++◌, length, map, Contains, Option}
-use Rattle.std.specs.Prelude.{option_map, option_to_list}
 use Rattle.std.specs.List.{filter, list_all}
-use Rattle.sctp_data.specs.PayloadData.{Data, data_of}
+use Rattle.sctp_data.specs.PayloadData.{data_of}
 use Rattle.sctp_util.specs.Serial.{at_or_before, comes_before, distance}
 use Rattle.sctp_receiver.specs.declared.receiver.limits.Limits.{Limits}
 use Rattle.sctp_serial.specs.DataChunks.{has_tsn}
 use Rattle.sctp_delivery.specs.Complete.{fragments_held}
 use Rattle.sctp_delivery.specs.ReceiverCalls.{follows, takes}
-use Rattle.sctp_delivery.specs.SenderCalls.{next_chunk, sends, takes_sack}
+use Rattle.sctp_delivery.specs.SenderCalls.{Made, data_chunk, forward_tsn, forwards, forwards_within, next_chunk, sends, takes_sack, with_chunk}
 use Rattle.sctp_delivery.specs.Session.{Call, RunsTo, Session, at_start, count_in_flight, of_receiver, of_sender}
 
 -- the TSN of a chunk, and that to which a FORWARD-TSN goes, are before the sender's next one, and the cumulative TSN of a SACK is not past the
@@ -64,31 +63,36 @@ EachIsTakenOnceWhereGiven =
 
 -- ## What each chunk is, and not its TSN alone
 
--- a DATA chunk, and its age: so many TSNs were given out from its own on
+-- a chunk that was made, and its age: so many TSNs were given out from that of a DATA chunk on, or since a FORWARD-TSN was made
 pub record Aged : Type 0 where
-  pub chunk : Data
+  pub chunk : Made
   pub age : ℕ
 
 abbrev pub older : ℕ → Aged → Aged
 older given a = record a { age = a.age + given }
 
--- the chunk to which the call gives a TSN, if there is one
-abbrev pub new_chunks : Call → Session → List Data
-new_chunks (of_sender (sends now)) s =
-    option_to_list (option_map data_of (next_chunk now s.sending.sender))
+-- the DATA chunk to which the call gives a TSN, if there is one, or the FORWARD-TSN that it makes
+abbrev pub new_chunks : Call → Session → List Made
+new_chunks (of_sender (sends now)) s = with_chunk (next_chunk now s.sending.sender) []
+new_chunks (of_sender (forwards tsn f)) s = forward_tsn f ∷ []
+new_chunks (of_sender (forwards_within bytes f)) s = forward_tsn f ∷ []
 new_chunks _ s = []
 
--- all that got TSNs, the last one first, after a call
+-- all of these, the last one first, after a call. A DATA chunk that is sent again is as old as before
 abbrev pub aged_after : Call → Session → Session → List Aged → List Aged
 aged_after call old new ages =
-    map (λ d. record { chunk = d; age = 1 }) (new_chunks call old)
+    map (λ m. record { chunk = m; age = 1 }) (new_chunks call old)
     ++ map (older (distance old.sending.sender.flight.next_tsn new.sending.sender.flight.next_tsn))
     ages
 
--- a DATA chunk that is handed over is less than 2^31 TSNs old
+-- it is among these, and less than 2^31 TSNs old
+abbrev pub IsAmongYoung : Made → List Aged → Type 0
+IsAmongYoung m ages =
+    (age : ℕ) × (age < 2 ^ 31) × Contains ages (record { chunk = m; age = age })
+
+-- a DATA chunk that is handed over is so
 abbrev pub IsYoung : Call → List Aged → Type 0
-IsYoung (of_receiver (takes c arrival)) ages =
-    (age : ℕ) × (age < 2 ^ 31) × Contains ages (record { chunk = data_of c; age = age })
+IsYoung (of_receiver (takes c arrival)) ages = IsAmongYoung (data_chunk (data_of c)) ages
 IsYoung _ ages = ⊤
 
 -- and the receiver holds none whose TSN is not before the next one: what came is read, or dropped, before it is 2^31 TSNs old
@@ -105,7 +109,19 @@ AreYoung ages old (c ∷ cs) new run =
     IsYoung c ages × HoldsRecent run.0
     × AreYoung (aged_after c old run.0 ages) run.0 cs new run.1.1
 
--- P after each session in which that is so, and fragments have some bytes
+-- and so is each FORWARD-TSN that is handed over
+abbrev pub IsForwardYoung : Call → List Aged → Type 0
+IsForwardYoung (of_receiver (follows f)) ages = IsAmongYoung (forward_tsn f) ages
+IsForwardYoung _ ages = ⊤
+
+abbrev pub AreForwardsYoung : List Aged → (old : Session) (calls : List Call) (new : Session)
+    → RunsTo old calls new → Type 0
+AreForwardsYoung ages old [] new run = ⊤
+AreForwardsYoung ages old (c ∷ cs) new run =
+    IsForwardYoung c ages
+    × AreForwardsYoung (aged_after c old run.0 ages) run.0 cs new run.1.1
+
+-- P after each session in which that is so of DATA chunks, and fragments have some bytes
 abbrev pub WhileYoung : (Session → Type 0) → Type 0
 WhileYoung P =
     (tsn size max most : ℕ) (limits : Option Limits) (calls : List Call) (s : Session)
@@ -119,3 +135,15 @@ WhileRecentAndYoung P =
     → tsn < 2 ^ 32 → 0 < size → (r : RunsTo (at_start tsn size max most limits) calls s)
     → AreRecent (at_start tsn size max most limits) calls s r
     → AreYoung [] (at_start tsn size max most limits) calls s r → P s
+
+-- P of the calls and of the session, where that is so of FORWARD-TSNs, too
+abbrev pub AfterEachYoungRun : (List Call → Session → Type 0) → Type 0
+AfterEachYoungRun P =
+    (tsn size max most : ℕ) (limits : Option Limits) (calls : List Call) (s : Session)
+    → tsn < 2 ^ 32 → 0 < size → (r : RunsTo (at_start tsn size max most limits) calls s)
+    → AreRecent (at_start tsn size max most limits) calls s r
+    → AreYoung [] (at_start tsn size max most limits) calls s r
+    → AreForwardsYoung [] (at_start tsn size max most limits) calls s r → P calls s
+
+abbrev pub WhileAllAreYoung : (Session → Type 0) → Type 0
+WhileAllAreYoung P = AfterEachYoungRun (λ calls s. P s)

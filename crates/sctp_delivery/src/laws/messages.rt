@@ -2,7 +2,7 @@
 
 ghost use Rattle.sctp_delivery.specs.Messages.{AfterEachFitSession, AreParts, AreSame, AreWrites, AreWritesOfTheirOwn, NoneIsReadTwice, WhileFewTsns, WhileTsnsLast};
 ghost use Rattle.sctp_delivery.specs.Order.{AreReadInOrder};
-ghost use Rattle.sctp_delivery.specs.Recent.{EachIsTakenOnceWhereGiven, WhileRecentAndYoung, WhileYoung};
+ghost use Rattle.sctp_delivery.specs.Recent.{EachIsTakenOnceWhereGiven, WhileAllAreYoung, WhileRecentAndYoung, WhileYoung};
 ghost use Rattle.sctp_delivery.specs.Sacks.{AfterEachSessionOfFewTsns};
 
 /// Each DATA chunk that a sender makes, for the first time or again, is a part of a write: on its stream, with its payload type, and its
@@ -32,9 +32,11 @@ pub fn no_message_is_read_twice()
 {}
 
 /// The ordered messages of a stream are read in the order of their writes, each a write at a place of its own, whatever is skipped and
-/// however many there are. So it is in sessions that give out fewer than 2^31 TSNs.
+/// however many there are. So it is in sessions that give out fewer than 2^31 TSNs. It holds in a whole life, too, while nothing is handed over
+/// or held that is 2^31 TSNs old.
 pub fn messages_are_read_in_order()
-    ensures { WhileFewTsns AreReadInOrder }
+    ensures few { WhileFewTsns AreReadInOrder }
+    ensures recent { WhileAllAreYoung AreReadInOrder }
 {}
 
 /// Each time that a TSN is given out, at most one DATA chunk with it is taken as new, however often and in whatever order the network hands chunks

@@ -1,0 +1,635 @@
+-- Sessions of a whole life: the ordered messages of a stream are read in the order of their writes.
+use Rattle.sctp_delivery.proofs.Names.{◌≡◌, ℕ, ◌+◌, ◌-◌, ◌%◌, ◌<◌, ◌≤◌, ◌^◌, Bool, true, false, not, List, [], ◌∷◌, length, Option, Some, None}
+use Rattle.sctp_delivery.proofs.Names.{refl, ap, sym, subst, ◌∙◌, arith, nat_tests, inl, inr, ⊤, ◌==◌, if◌then◌else◌, list_all, find}
+use Rattle.sctp_delivery.proofs.Names.{option_map, AllPairs, both, not_both, same-is, none-some, tsn, ChunkPayloadData, ChunkSet, data_of, data_chunk}
+use Rattle.sctp_delivery.proofs.Names.{forward_tsn, ForwardTsn, fragments_on, InboundStream, Reception, Stand, stream_of, stream_read, message_on, Message}
+use Rattle.sctp_delivery.proofs.Names.{New, Limits, is_open, names_closed, names_too_far, skip_refusal, forward_refusal, NamedStreamUnknown}
+use Rattle.sctp_delivery.proofs.Names.{NamedSsnTooFar, ReceiverCall, SenderCall, ReceiverFollows, SenderFollows, Session, Call, RunsTo, at_start, of_receiver, of_sender}
+use Rattle.sctp_delivery.proofs.Names.{AreReadInOrder, StandAt, nat_lt, change_where, Modes, at_first, modes_after, modes_from}
+use Rattle.sctp_util.specs.Serial.{comes_before, distance}
+use Rattle.sctp_receiver.specs.Inbound.{has_number}
+use Rattle.sctp_receiver.specs.Receiver.{message_of}
+use Rattle.sctp_receiver.specs.ReceiverRuns.{with_message}
+use Rattle.std.proofs.Common.{◌≢◌}
+use Rattle.sctp_delivery.specs.Modes.{AreReadAsWritten, was_written_ordered}
+use Rattle.sctp_delivery.specs.Order.{is_ordered_on, places_where}
+use Rattle.sctp_delivery.specs.ReceiverCalls as incoming
+use Rattle.sctp_delivery.specs.Recent.{Aged, AreForwardsYoung, AreRecent, AreYoung, HoldsRecent, IsAmongYoung, IsForwardYoung, IsRecent, IsYoung, WhileAllAreYoung}
+use Rattle.sctp_delivery.specs.Recent.{AfterEachYoungRun}
+use Rattle.sctp_delivery.specs.Recent.{aged_after}
+use Rattle.sctp_delivery.specs.Session.{count_in_flight}
+use Rattle.sctp_delivery.proofs.Calls.{numbered_after}
+use Rattle.sctp_delivery.proofs.Cases.{all_streams, by-test}
+use Rattle.sctp_delivery.proofs.Delivered.{EachSentFrom, Holds, IsReadOf, Sends, next_tsn, sender-step}
+use Rattle.sctp_delivery.proofs.Every.{Every, every-contained}
+use Rattle.sctp_delivery.proofs.Kept.{changed-elsewhere, changed-here}
+use Rattle.sctp_delivery.proofs.OrderedMessages.{is_in_order, not-far, starts_ordered}
+use Rattle.sctp_delivery.proofs.Queues.{IsOnceMore}
+use Rattle.sctp_delivery.proofs.Recent.{IsNear, near-first, receiver-near, sender-near}
+use Rattle.sctp_delivery.proofs.Sent.{Entry, IsLine, Numbered, fragment, part-length, part-line}
+use Rattle.sctp_delivery.proofs.Sessions.{unnot}
+use Rattle.sctp_delivery.proofs.SpreadEntries.{begun_to, to-all, to-more, to-part, to-up}
+use Rattle.sctp_delivery.proofs.TakenCalls.{fresh-new}
+use Rattle.sctp_delivery.proofs.TsnPlaces.{base}
+use Rattle.sctp_delivery.proofs.UnwrappedCalls.{AreDueSince, IsNamingTo, followed-due, moved, none-among, opened-due, quiet, taken-due}
+use Rattle.sctp_delivery.proofs.UnwrappedHolds.{AreDue, Came, DueOn, Fits, Where, at-in}
+use Rattle.sctp_delivery.proofs.UnwrappedReads.{read-due}
+use Rattle.sctp_delivery.proofs.YoungOwn.{AreAt, AreRead, AreReadOn, AtFirst, IsDone, IsOwned, all-whole, apart, owned-first, reads-are, receiver-owned, sender-owned}
+use Rattle.sctp_delivery.proofs.YoungReads.{IsPlaced, IsYoungSession, floor, more-long, receiver-young, recent-place, sender-young, young-first}
+use Rattle.sctp_delivery.proofs.YoungSpread.{IsNamedAt, IsSpreadOut, receiver-spread, sender-spread, spread-first}
+use Rattle.sctp_delivery.proofs.Begun.{AreOnce}
+use Rattle.sctp_delivery.proofs.ModeSessions.{IsAsSaid, said-after, said-beside, said-first, starts-ordered}
+use Rattle.sctp_delivery.proofs.OnceWritten.{EachRead, places, stand}
+use Rattle.sctp_delivery.proofs.OrderedEntries.{AreIndexed, AreRising, begun_on}
+use Rattle.sctp_delivery.proofs.OrderedPlaces.{AreNumbered}
+use Rattle.sctp_delivery.proofs.UnwrappedLaw.{AreIndexedBelow, in-order-by, starts}
+use Rattle.sctp_delivery.proofs.YoungTurns.{At, Begun, Due, Stands, due-later, due-more, missed, step-of}
+
+-- what a FORWARD-TSN that is not refused names
+refused : (f : ForwardTsn) (r : Reception) → skip_refusal f r ≡ None → (names_too_far f r ≡ false) × (names_closed f r ≡ false)
+refused f r e = by (names_closed f r) refl (names_too_far f r) refl e
+  where
+    by : (a : Bool) → names_closed f r ≡ a → (b : Bool) → names_too_far f r ≡ b
+        → (if a then Some NamedStreamUnknown else (if b then Some NamedSsnTooFar else forward_refusal f r)) ≡ None
+        → (names_too_far f r ≡ false) × (names_closed f r ≡ false)
+    by true g b h k = absurd (none-some NamedStreamUnknown (sym k))
+    by false g true h k = absurd (none-some NamedSsnTooFar (sym k))
+    by false g false h k = (h, g)
+
+-- a TSN before the next one, to which a young FORWARD-TSN goes, is of a place that is less than 2^31 TSNs old
+recent-name : (first n place age next t : ℕ) → place ≤ n → n < place + age + 2 ^ 31 → age < 2 ^ 31 → next ≡ (first + n) % 2 ^ 32
+    → t ≡ tsn (base first) place → comes_before t next ≡ true → floor n ≤ place
+unfolding comes_before distance
+recent-name first n place age next t upto far less is at e =
+    let b = both (nat_lt 0 (distance t next)) (nat_lt (distance t next) (2 ^ 31)) e in
+    let near : distance t next < 2 ^ 31 = grind (arith, nat_tests, b.1) in
+    omega (arith, upto, far, less, is, at, near)
+
+abbrev alone : Reception → Stand
+alone r = record { receiver = r; accepted = []; read = [] }
+
+lower : (st first : ℕ) (sent : List Entry) (low a b : ℕ) (r : Reception) → a ≤ b → (e : Due st first sent low b r)
+    → (f : Due st first sent low a r) × (f.k ≡ e.k)
+lower st first sent low a b r le e =
+    let h = e.arrived in
+    let least = h.least_is in (
+      record {
+        k = e.k;
+        reach = e.reach;
+        due = e.due;
+        turns = e.turns;
+        most = e.most;
+        arrived = record { place = h.place; least_is = omega (arith, least, le); within = h.within; is = h.is; covered = h.covered; each = h.each };
+      },
+      refl,
+    )
+
+-- ## A call of the receiver
+
+module _ (st first : ℕ) (old new : Session) (ns : List Numbered) (sent : List Entry) (ages : List Aged) (h : Holds first old ns sent) (i : IsNear old)
+    (x : IsSpreadOut first old sent ages) (placed : Every (IsPlaced sent) ages) where
+  abbrev low : ℕ
+  low = floor (length sent)
+
+  abbrev n : ℕ
+  n = length sent - low
+
+  abbrev p : ℕ
+  p = base first + low
+
+  abbrev B : ℕ → ℕ
+  B = Begun st first sent low
+
+  abbrev E : ℕ → Bool
+  E = At st first sent low
+
+  abbrev M : ChunkPayloadData → Type 0
+  M = Stands st first sent low
+
+  abbrev r : Reception
+  r = old.receiving.receiver
+
+  abbrev s : Reception
+  s = new.receiving.receiver
+
+  few : n < 2 ^ 31
+  few = omega arith
+
+  within : low ≤ length sent
+  within = omega arith
+
+  acked-from : low ≤ x.set.acked
+  acked-from = let t = x.set.total in let f = i.few in omega (arith, t, f)
+
+  abbrev a : ℕ
+  a = x.set.acked - low
+
+  grows : (j k : ℕ) → j ≤ k → B j ≤ B k
+  grows j k le = to-up st (low + j) (low + k) sent (omega (arith, le))
+
+  near : B n ≤ B a + 2 ^ 14
+  near =
+      let top = to-all st (low + n) sent (omega arith) in
+      let from = acked-from in
+      let at : low + a ≡ x.set.acked = omega (arith, from) in
+      let here = ap (λ k. begun_to st k sent) at in
+      let y = x.near st in
+      omega (arith, top, here, y)
+
+  stands-of : (c : ChunkPayloadData) → IsAmongYoung (data_chunk (data_of c)) ages → M c
+  stands-of c y =
+      let b = every-contained (IsPlaced sent) ages (record { chunk = data_chunk (data_of c); age = y.0 }) y.2 placed in
+      let less = y.1 in
+      let le = b.4 in
+      (b.0, b.1, b.2, b.3, omega (arith, less, le))
+
+  module _ (d : Due st first sent low a r) where
+    abbrev Now : Type 0
+    Now = AreDueSince p st n B E M d.k d.arrived.place (alone s)
+
+    abbrev Old : ℕ → Type 0
+    Old = Came p st n B E M r.cumulative_tsn r.beyond
+
+    still : s.streams ≡ r.streams → s.cumulative_tsn ≡ r.cumulative_tsn → s.beyond ≡ r.beyond → Now
+    still streams cumulative beyond = (
+      quiet p st n B E M few grows a (alone r) (alone s) d refl
+          (subst (λ ls. DueOn p st n B E M Old d.k d.reach (find (has_number st) ls)) (sym streams) d.due) cumulative beyond,
+      omega arith,
+    )
+
+    follows : (g : ForwardTsn) → ReceiverFollows (incoming.follows g) old new → IsForwardYoung (of_receiver (incoming.follows g)) ages
+        → comes_before g.new_cumulative_tsn (next_tsn old) ≡ true → Now
+    follows g f y before =
+        let z = every-contained (λ (m : Aged). IsNamedAt first x.set.acked m.age sent m.chunk) ages (record { chunk = forward_tsn g; age = y.0 }) y.2 x.names in
+        let close = refused g r f.accepted in
+        let m = z.0 - low in
+        let upto = z.1 in
+        let far = z.2 in
+        let less = y.1 in
+        let at = z.3 in
+        let from : low ≤ z.0 = recent-name first (length sent) z.0 y.0 (next_tsn old) g.new_cumulative_tsn upto far less h.held.stands.counted at before in
+        let start = acked-from in
+        let here : low + m ≡ z.0 = omega (arith, from) in
+        let there : low + a ≡ x.set.acked = omega (arith, start) in
+        let to = ap (λ k. begun_to st k sent) here in
+        let by = ap (λ k. begun_to st k sent) there in
+        let is : g.new_cumulative_tsn ≡ tsn p m = omega (arith, at, from) in
+        let le : m ≤ n = omega (arith, upto, from) in
+        let naming : IsNamingTo p st n B E M a m g.streams = elim (z.4 st) [
+          | inl t ↦
+              let u = t.1 in
+              inl (t.0, omega (arith, u, to, by), λ k lt most. t.2 (low + k) (omega (arith, lt, there)) (omega (arith, most, here)))
+          | inr t ↦ inr (t.0, t.1 ∙ sym to, t.2)
+        ] in
+        followed-due p st n B E M few grows a near g m (alone r) (alone s) d le is f.step.receiver refl naming close.0
+        (λ lt j only. unnot (is_open st r) (none-among p st n B E M few grows a g m (alone r) d le is (λ o. not (is_open o.identifier r)) close.1 lt
+        (record { identifier = st; sequence = j }) only))
+        (λ j cs fits e. missed st first ns sent h.held.stands.queued.line h.held.stands.queued.indexed h.held.stands.queued.joined low few within m j cs le
+        fits e)
+
+    after : (c : ReceiverCall) → ReceiverFollows c old new → IsYoung (of_receiver c) ages → IsForwardYoung (of_receiver c) ages
+        → IsRecent (of_receiver c) old → ((stream : ℕ) → c ≡ incoming.reads stream → ⊥) → Now
+    after (incoming.opens stream) f y z q none = (
+      quiet p st n B E M few grows a (alone r) (alone s) d refl
+          (subst (λ (o : Reception). DueOn p st n B E M Old d.k d.reach (stream_of st o)) (sym f.step.receiver.1)
+          (opened-due p st n B E M few grows Old d.k d.reach stream r.max_message_size r.streams d.due))
+          (ap (λ (o : Reception). o.cumulative_tsn) f.step.receiver.1) (ap (λ (o : Reception). o.beyond) f.step.receiver.1),
+      omega arith,
+    )
+    after (incoming.takes c (New said)) f y z q none =
+        let fresh = fresh-new c.tsn said r f.accepted.1 in
+        taken-due p st n B E M few grows a near c said (alone r) (alone s) d
+        (step-of st first ns sent h.held.stands.queued.line h.held.stands.queued.indexed h.held.stands.queued.joined low few within c (stands-of c y))
+        f.step.receiver refl fresh (not-far c r fresh f.accepted.0)
+    after (incoming.follows g) f y z q none = follows g f z q
+    after (incoming.reads stream) f y z q none = absurd (none stream refl)
+    after c f y z q none =
+        still (ap (λ (o : Reception). o.streams) f.step.receiver) (ap (λ (o : Reception). o.cumulative_tsn) f.step.receiver)
+        (ap (λ (o : Reception). o.beyond) f.step.receiver)
+
+    -- a message is read: where it is an ordered one of the stream, it has an index from the first that was due on
+    module _ (stream : ℕ) (f : ReceiverFollows (incoming.reads stream) old new) where
+      abbrev IsNext : ℕ → Type 0
+      IsNext k =
+          (set : ChunkSet) → message_on stream r ≡ Some set → is_in_order st (record { stream = stream; fragments = set.chunks }) ≡ true
+          → (j : ℕ) × (d.k ≤ j) × (j < k) × Fits p st n B E M j set.chunks
+
+      abbrev Reads : Type 0
+      Reads = (e : AreDue p st n B E M d.arrived.place (alone s)) × (d.k ≤ e.k) × IsNext e.k
+
+      to : (k : ℕ) → d.k ≤ k → IsNext k → DueOn p st n B E M Old k d.reach (stream_of st s) → Reads
+      to k le next due = (
+        moved p st n B E M few grows a (alone r) (alone s) d k due tt (ap (λ (o : Reception). o.cumulative_tsn) f.step.receiver)
+            (ap (λ (o : Reception). o.beyond) f.step.receiver),
+        le,
+        next,
+      )
+
+      found : stream_of st s ≡ find (has_number st) (change_where (has_number stream) stream_read r.streams)
+      found = ap (stream_of st) f.step.receiver
+
+      here : (stream == st) ≡ true → (o : Option InboundStream) → stream_of st r ≡ o → Reads
+      here e None is =
+          to d.k (omega arith) (λ set m order. absurd (none-some set (sym (ap message_of (there ∙ is)) ∙ m)))
+          (subst (DueOn p st n B E M Old d.k d.reach) (sym (found ∙ changed-here stream stream_read (λ l g. refl) r.streams st e
+          ∙ ap (option_map stream_read) is)) (subst (DueOn p st n B E M Old d.k d.reach) is d.due))
+        where
+          there : stream_of stream r ≡ stream_of st r
+          there = ap (λ k. stream_of k r) (same-is stream st e)
+      here e (Some l) is =
+          let there = ap (λ k. stream_of k r) (same-is stream st e) in
+          let x = read-due p n B (Fits p st n B E M) Old (at-in p st n B E M few grows) d.k d.reach l.queue.held
+          (subst (DueOn p st n B E M Old d.k d.reach) is d.due) in
+          to x.after x.up (λ set m order. let t = x.turn set (sym (ap message_of (there ∙ is)) ∙ m) (both (stream == st) (starts_ordered set.chunks) order).1 in
+          (t.0, t.1.0, t.1.1, t.2))
+          (subst (DueOn p st n B E M Old x.after d.reach) (sym (found ∙ changed-here stream stream_read (λ l g. refl) r.streams st e
+          ∙ ap (option_map stream_read) is)) x.due)
+
+      elsewhere : (stream == st) ≡ false → Reads
+      elsewhere e =
+          to d.k (omega arith) (λ set m order. absurd (not_both (sym e ∙ (both (stream == st) (starts_ordered set.chunks) order).0)))
+          (subst (DueOn p st n B E M Old d.k d.reach) (sym (found ∙ changed-elsewhere stream stream_read (λ l g. refl) r.streams st e)) d.due)
+
+      reads : Reads
+      reads = by-test (stream == st) (λ e. here e (stream_of st r) refl) elsewhere
+
+-- ## Messages that were read
+
+-- the ordered ones of the stream have indexes below this one, each later one a greater one: p is the place of the first fragment
+abbrev AreTurned : ℕ → List Entry → ℕ → List Message → List ℕ → Type 0
+AreTurned st sent k [] ps = ⊤
+AreTurned st sent k (m ∷ ms) [] = ⊤
+AreTurned st sent k (m ∷ ms) (p ∷ ps) =
+    Where (is_in_order st m) ((i : ℕ) × (i < k) × (p ≤ length sent) × (begun_to st p sent ≡ i + 1) × AreTurned st sent i ms ps)
+    (AreTurned st sent k ms ps)
+
+turned-more : (st : ℕ) (sent more : List Entry) → IsOnceMore sent more → (j k : ℕ) → j ≤ k → (ms : List Message) (ps : List ℕ) → AreTurned st sent j ms ps
+    → AreTurned st more k ms ps
+turned-more st sent more once j k le [] ps t = tt
+turned-more st sent more once j k le (m ∷ ms) [] t = tt
+turned-more st sent more once j k le (m ∷ ms) (p ∷ ps) t = by (is_in_order st m) t (λ i l. turned-more st sent more once i i (omega arith) ms ps)
+    (turned-more st sent more once j k le ms ps)
+  where
+    long : (length sent ≤ length more) × (length more ≤ length sent + 1)
+    long = more-long sent more once
+
+    same : p ≤ length sent → begun_to st p more ≡ begun_to st p sent
+    same le = by once
+      where
+        by : IsOnceMore sent more → begun_to st p more ≡ begun_to st p sent
+        by (inl e) = ap (begun_to st p) e
+        by (inr x) = ap (begun_to st p) x.1 ∙ to-more st p x.0 sent le
+
+    by : (b : Bool) → Where b ((i : ℕ) × (i < j) × (p ≤ length sent) × (begun_to st p sent ≡ i + 1) × AreTurned st sent i ms ps) (AreTurned st sent j ms ps)
+        → ((i : ℕ) → i < j → AreTurned st sent i ms ps → AreTurned st more i ms ps) → (AreTurned st sent j ms ps → AreTurned st more k ms ps)
+        → Where b ((i : ℕ) × (i < k) × (p ≤ length more) × (begun_to st p more ≡ i + 1) × AreTurned st more i ms ps) (AreTurned st more k ms ps)
+    by true u ih jh =
+        let lt = u.1 in
+        let upto = u.2 in
+        let lo = long.0 in
+        (u.0, omega (arith, lt, le), omega (arith, upto, lo), same upto ∙ u.3, ih u.0 lt u.4)
+    by false u ih jh = jh u
+
+-- ## A session
+
+record IsTurned (first : ℕ) (s : Session) (sent : List Entry) (acked : ℕ) (ps : List ℕ) : Type 0 where
+  due : (st : ℕ) → Due st first sent (floor (length sent)) (acked - floor (length sent)) s.receiving.receiver
+  turned : (st : ℕ) → AreTurned st sent (due st).k s.receiving.read ps
+
+-- the index of an ordered message is that at the place of its first fragment
+place-index : (st first : ℕ) (ns : List Numbered) (sent : List Entry) {s : Session} → Holds first s ns sent → (p : ℕ) → (0 < p → floor (length sent) < p)
+    → (new : Session) (stream j : ℕ) (cs : List ChunkPayloadData) → starts_ordered cs ≡ true
+    → Fits (base first + floor (length sent)) st (length sent - floor (length sent)) (Begun st first sent (floor (length sent)))
+    (At st first sent (floor (length sent))) (Stands st first sent (floor (length sent))) j cs
+    → (lo : ℕ) (e : EachSentFrom lo sent cs) → AtFirst (IsDone new sent stream) p lo sent cs e → (p ≤ length sent) × (begun_to st p sent ≡ j + 1)
+place-index st first ns sent h p fresh new stream j [] order fits lo e at = absurd (not_both order)
+place-index st first ns sent h p fresh new stream j (c ∷ cs) order fits lo e at =
+    let o = fits.0 in
+    let number = (part-line ns first sent (fragment (data_of c) e.0.0 e.0.1 ∷ e.0.2) at.1.part h.held.stands.queued.line).0.number in
+    let lt = part-length sent (fragment (data_of c) e.0.0 e.0.1 ∷ e.0.2) at.1.part in
+    let is = o.is in
+    let within = o.within in
+    let place = at.0 in
+    let from = fresh (omega (arith, place)) in
+    let same : p ≡ floor (length sent) + (o.before + 1) = omega (arith, number, lt, is, within, place, from) in
+    (omega (arith, place, lt), ap (λ k. begun_to st k sent) same ∙ o.begun)
+
+longer : {A : Type 0} (x : A) (xs : List A) → x ∷ xs ≡ xs → ⊥
+longer x xs e = let n = ap length e in omega (arith, n)
+
+module _ (first : ℕ) (call : ReceiverCall) (old new : Session) (ns : List Numbered) (sent : List Entry) (ages : List Aged) (f : ReceiverFollows call old new)
+    (h : Holds first old ns sent) (i : IsNear old) (x : IsSpreadOut first old sent ages) (placed : Every (IsPlaced sent) ages)
+    (y : IsYoung (of_receiver call) ages) (z : IsForwardYoung (of_receiver call) ages) (q : IsRecent (of_receiver call) old) (ps qs : List ℕ)
+    (on : AreReadOn sent old.receiving.read new.receiving.read ps qs) (read : AreRead new sent new.receiving.read qs)
+    (t : IsTurned first old sent x.set.acked ps) where
+  abbrev start : ℕ
+  start = x.set.acked - floor (length sent)
+
+  -- what is due then, and where nothing is read, or one message, its turn
+  abbrev Then : ℕ → Type 0
+  Then st = (e : Due st first sent (floor (length sent)) start new.receiving.receiver) × AreTurned st sent e.k new.receiving.read qs
+
+  none-read : new.receiving.read ≡ old.receiving.read → (new.receiving.read ≡ old.receiving.read) × (qs ≡ ps)
+  none-read e = elim on [
+    | inl o ↦ o
+    | inr o ↦ absurd (longer o.0 old.receiving.read (sym o.2 ∙ e))
+  ]
+
+  quiet-turn : (st : ℕ) → new.receiving.read ≡ old.receiving.read
+      → AreDueSince (base first + floor (length sent)) st (length sent - floor (length sent)) (Begun st first sent (floor (length sent)))
+      (At st first sent (floor (length sent))) (Stands st first sent (floor (length sent))) (t.due st).k (t.due st).arrived.place
+      (alone new.receiving.receiver) → Then st
+  quiet-turn st e now =
+      let o = none-read e in
+      let least = (t.due st).arrived.least_is in
+      let l = lower st first sent (floor (length sent)) start (t.due st).arrived.place new.receiving.receiver least now.0 in
+      let same = l.1 in
+      let up = now.1 in (
+        l.0,
+        subst (λ ms. AreTurned st sent l.0.k ms qs) (sym o.0) (subst (AreTurned st sent l.0.k old.receiving.read) (sym o.1)
+            (turned-more st sent sent (inl refl) (t.due st).k l.0.k (omega (arith, same, up)) old.receiving.read ps (t.turned st))),
+      )
+
+  -- a message that is read
+  module _ (st stream : ℕ) (g : ReceiverFollows (incoming.reads stream) old new) where
+    d : Due st first sent (floor (length sent)) start old.receiving.receiver
+    d = t.due st
+
+    abbrev now : Reads st first old new ns sent ages h i x placed (t.due st) stream g
+    now = reads st first old new ns sent ages h i x placed (t.due st) stream g
+
+    l : (f : Due st first sent (floor (length sent)) start new.receiving.receiver) × (f.k ≡ now.0.k)
+    l = lower st first sent (floor (length sent)) start (t.due st).arrived.place new.receiving.receiver (t.due st).arrived.least_is now.0
+
+    up : (t.due st).k ≤ l.0.k
+    up = let same = l.1 in let le = now.1 in omega (arith, same, le)
+
+    with-message' : (set : ChunkSet) → message_on stream old.receiving.receiver ≡ Some set
+        → new.receiving.read ≡ record { stream = stream; fragments = set.chunks } ∷ old.receiving.read → Then st
+    with-message' set is e = elim on [
+      | inl o ↦ absurd (longer it old.receiving.read (sym e ∙ o.0))
+      | inr o ↦ (
+        l.0,
+        subst (λ ms. AreTurned st sent l.0.k ms qs) (sym e) (subst (AreTurned st sent l.0.k (it ∷ old.receiving.read)) (sym o.3)
+            (by o.1 o.4 (subst (λ ms. AreRead new sent ms (o.1 ∷ ps)) e (subst (AreRead new sent new.receiving.read) o.3 read)) (is_in_order st it) refl)),
+      )
+    ]
+      where
+        it : Message
+        it = record { stream = stream; fragments = set.chunks }
+
+        by : (p : ℕ) → (0 < p → floor (length sent) < p)
+            → AreRead new sent (record { stream = stream; fragments = set.chunks } ∷ old.receiving.read) (p ∷ ps) → (b : Bool)
+            → is_in_order st (record { stream = stream; fragments = set.chunks }) ≡ b
+            → Where b ((i : ℕ) × (i < l.0.k) × (p ≤ length sent) × (begun_to st p sent ≡ i + 1) × AreTurned st sent i old.receiving.read ps)
+            (AreTurned st sent l.0.k old.receiving.read ps)
+        by p fresh r false m = turned-more st sent sent (inl refl) (t.due st).k l.0.k up old.receiving.read ps (t.turned st)
+        by p fresh r true m =
+            let j = now.2 set is m in
+            let same = l.1 in
+            let lt = j.2 in
+            let w = place-index st first ns sent h p (λ f. fresh f) new stream j.0 set.chunks (both (stream == st) (starts_ordered set.chunks) m).1 j.3
+            r.0.0.0 r.0.0.1 r.0.1 in
+            (j.0, omega (arith, lt, same), w.0, w.1, turned-more st sent sent (inl refl) (t.due st).k j.0 j.1 old.receiving.read ps (t.turned st))
+
+    read-turn : (o : Option ChunkSet) → message_on stream old.receiving.receiver ≡ o → new.receiving.read ≡ with_message stream o old.receiving.read → Then st
+    read-turn None is e =
+        let o = none-read e in (
+          l.0,
+          subst (λ ms. AreTurned st sent l.0.k ms qs) (sym o.0) (subst (AreTurned st sent l.0.k old.receiving.read) (sym o.1)
+              (turned-more st sent sent (inl refl) (t.due st).k l.0.k up old.receiving.read ps (t.turned st))),
+        )
+    read-turn (Some set) is e = with-message' set is e
+
+  to-then : (c : ReceiverCall) → c ≡ call → ReceiverFollows c old new → (st : ℕ) → Then st
+  to-then (incoming.reads stream) is g st = read-turn st stream g (message_on stream old.receiving.receiver) refl g.step.read
+  to-then c is g st =
+      quiet-turn st g.step.read (after st first old new ns sent ages h i x placed (t.due st) c g (subst (λ d. IsYoung (of_receiver d) ages) (sym is) y)
+      (subst (λ d. IsForwardYoung (of_receiver d) ages) (sym is) z) (subst (λ d. IsRecent (of_receiver d) old) (sym is) q) (λ stream e. cc))
+
+  receiver-turned : IsTurned first new sent x.set.acked qs
+  receiver-turned = record { due = λ st. (to-then call refl f st).0; turned = λ st. (to-then call refl f st).1 }
+
+-- ## A call of the sender
+
+module _ (first : ℕ) (call : SenderCall) (old new : Session) (ns : List Numbered) (sent : List Entry) (ages : List Aged) (f : SenderFollows call old new)
+    (h : Holds first old ns sent) (few' : count_in_flight new < 2 ^ 31) (i : IsNear old) (j : IsNear new) (x : IsSpreadOut first old sent ages)
+    (recent : HoldsRecent new) (ps : List ℕ) (t : IsTurned first old sent x.set.acked ps) where
+  abbrev y : Sends all_streams first call old new ns sent
+  y = sender-step first call old new ns sent f h
+
+  abbrev z : IsSpreadOut first new y.more (aged_after (of_sender call) old new ages)
+  z = sender-spread first call old new ns sent ages f h few' i j x
+
+  abbrev more : List Entry
+  more = y.more
+
+  abbrev from : ℕ
+  from = floor (length sent)
+
+  abbrev up-to : ℕ
+  up-to = floor (length more) - floor (length sent)
+
+  same : new.receiving ≡ old.receiving
+  same = ap (λ (s : Session). s.receiving) f.after
+
+  long : (length sent ≤ length more) × (length more ≤ length sent + 1)
+  long = more-long sent more y.once
+
+  moved-to : from + up-to ≡ floor (length more)
+  moved-to = let lo = long.0 in omega (arith, lo)
+
+  module _ (st : ℕ) where
+    abbrev was : Due st first sent from (x.set.acked - from) old.receiving.receiver
+    was = t.due st
+
+    -- what is acknowledged has come
+    reached : z.set.acked ≤ from + was.arrived.place
+    reached =
+        let lo = long.0 in
+        let hi = long.1 in
+        let total = z.set.total in
+        let is = z.set.is in
+        let came = j.arrived.is in
+        let within = j.arrived.within in
+        let cum = ap (λ (s : Stand). s.receiver.cumulative_tsn) same in
+        let at = was.arrived.is in
+        let upto = was.arrived.within in
+        omega (arith, lo, hi, total, is, came, within, cum, at, upto, few')
+
+    late : (c : ChunkPayloadData) (b : ℕ) → comes_before c.tsn (next_tsn new) ≡ true → b + 1 ≤ length sent - from → c.tsn ≡ tsn (base first + from) (b + 1)
+        → up-to ≤ b
+    late c b e le at =
+        let lo = long.0 in
+        let hi = long.1 in
+        let k = recent-place first (length more) (from + b) (next_tsn new) c.tsn (omega (arith, le, lo)) (omega (arith, hi))
+        y.holds.held.stands.counted (omega (arith, at)) e in
+        omega (arith, k, lo)
+
+    then-due : (e : Due st first more (floor (length more)) (z.set.acked - floor (length more)) new.receiving.receiver) × (e.k ≡ was.k)
+    then-due =
+        let lo = long.0 in
+        let hi = long.1 in
+        let total = z.set.total in
+        let back = reached in
+        let test = ap (λ (s : Stand). list_all (λ c. comes_before c.tsn (next_tsn new)) (fragments_on (stream_of st s.receiver))) (sym same) ∙ recent st in
+        let e = due-later st first ns sent h.held.stands.queued.line from up-to (omega (arith, lo, hi)) (omega arith)
+        (λ c. comes_before c.tsn (next_tsn new)) late (x.set.acked - from) old.receiving.receiver was (omega (arith, back, total, few', lo, hi)) test i.order.rise in
+        let place = e.2 in
+        let g = due-more st first sent more (from + up-to) (was.arrived.place - up-to) (z.set.acked - (from + up-to)) y.once (omega (arith, lo, hi)) lo
+        (omega (arith, lo, hi)) old.receiving.receiver e.0 (omega (arith, place, back)) in
+        subst (λ (s : Stand). (e : Due st first more (floor (length more)) (z.set.acked - floor (length more)) s.receiver) × (e.k ≡ was.k)) (sym same)
+        (subst (λ w. (e : Due st first more w (z.set.acked - w) old.receiving.receiver) × (e.k ≡ was.k)) moved-to (g.0, g.1 ∙ e.1))
+
+  sender-turned : IsTurned first new more z.set.acked ps
+  sender-turned = record {
+    due = λ st. (then-due st).0;
+    turned = λ st.
+        let e = then-due st in
+        let k = e.1 in
+        subst (λ (s : Stand). AreTurned st more e.0.k s.read ps) (sym same)
+        (turned-more st sent more y.once (t.due st).k e.0.k (omega (arith, k)) old.receiving.read ps (t.turned st));
+  }
+
+-- ## Each session
+
+record After (first : ℕ) (m : Modes) (s : Session) : Type 0 where
+  numbered : List Numbered
+  sent : List Entry
+  ages : List Aged
+  places' : List ℕ
+  young : IsYoungSession first s numbered sent ages
+  owned : IsOwned s sent places'
+  acked : ℕ
+  turned : IsTurned first s sent acked places'
+  said : IsAsSaid m s numbered sent
+
+all-then : (first : ℕ) (cs : List Call) (old new : Session) (ns : List Numbered) (sent : List Entry) (ages : List Aged) (r : RunsTo old cs new)
+    → AreRecent old cs new r → AreYoung ages old cs new r → AreForwardsYoung ages old cs new r → IsNear old → IsYoungSession first old ns sent ages
+    → (ps : List ℕ) → IsOwned old sent ps → (x : IsSpreadOut first old sent ages) → IsTurned first old sent x.set.acked ps → (m : Modes)
+    → IsAsSaid m old ns sent → After first (modes_from m cs) new
+all-then first [] old new ns sent ages r q y z j i ps h x t m u = record {
+  numbered = ns;
+  sent = sent;
+  ages = ages;
+  places' = ps;
+  young = subst (λ s. IsYoungSession first s ns sent ages) (sym r) i;
+  owned = subst (λ s. IsOwned s sent ps) (sym r) h;
+  acked = x.set.acked;
+  turned = subst (λ s. IsTurned first s sent x.set.acked ps) (sym r) t;
+  said = subst (λ s. IsAsSaid m s ns sent) (sym r) u;
+}
+all-then first (of_sender call ∷ cs) old new ns sent ages r q y z j i ps h x t m u =
+    let g = sender-step first call old r.0 ns sent r.1.0 i.holds in
+    let k = sender-near old r.0 q.1 j call r.1.0 q.0 in
+    all-then first cs r.0 new (numbered_after call ns) g.more (aged_after (of_sender call) old r.0 ages) r.1.1 q.2 y.2 z.1 k
+    (sender-young first call old r.0 ns sent ages r.1.0 i y.1) ps (sender-owned first call old r.0 ns sent ages r.1.0 i y.1 q.1 j k ps h)
+    (sender-spread first call old r.0 ns sent ages r.1.0 i.holds q.1 j k x)
+    (sender-turned first call old r.0 ns sent ages r.1.0 i.holds q.1 j k x y.1 ps t) (modes_after call m)
+    (said-after call old r.0 m ns sent g.more r.1.0 g.grown i.holds.held.sized u)
+all-then first (of_receiver call ∷ cs) old new ns sent ages r q y z j i ps h x t m u =
+    let o = receiver-owned first call old r.0 ns sent ages r.1.0 i y.0 y.1 q.1 q.0 j ps h in
+    all-then first cs r.0 new ns sent (aged_after (of_receiver call) old r.0 ages) r.1.1 q.2 y.2 z.1 (receiver-near old r.0 q.1 j call r.1.0 q.0)
+    (receiver-young first call old r.0 ns sent ages r.1.0 i y.0) o.0 o.1
+    (receiver-spread first call old r.0 sent ages (ap (λ (s : Session). s.sending) r.1.0.after) x)
+    (receiver-turned first call old r.0 ns sent ages r.1.0 i.holds j x i.placed y.0 z.0 q.0 ps o.0 o.2 o.1.once.0 t) m
+    (said-beside old r.0 m ns sent (ap (λ (s : Session). s.sending) r.1.0.after) u)
+
+-- ## The law
+
+module _ (st : ℕ) (ns : List Numbered) (first : ℕ) (sent : List Entry) (once : AreOnce sent) (line : IsLine ns first sent) (indexed : AreIndexed sent)
+    (s : Session) (rising : AreRising sent) (numbered : AreNumbered ns) (T : Message → ℕ → Bool)
+    (starts' : (m : Message) (x : IsReadOf ns sent m) → T m x.written.0 ≡ true → (x.chunk.unordered ≡ false) × (is_in_order st m ≡ true)) where
+  indexed-below : (k : ℕ) (ms : List Message) (e : EachRead ns sent once ms) (ps : List ℕ) → AreAt ns first sent once line indexed s ms e ps
+      → AreTurned st sent k ms ps → AreIndexedBelow st ns sent once rising numbered T starts' k ms e
+  indexed-below k [] e ps a t = tt
+  indexed-below k (m ∷ ms) e [] a t = absurd a
+  indexed-below k (m ∷ ms) e (p ∷ ps) a t = by (is_in_order st m) t (λ j u. indexed-below j ms e.1 ps a.1 u)
+    where
+      at : p ≡ length (fragment (data_of e.0.chunk) e.0.numbered e.0.after ∷ e.0.entries)
+      at = let is = a.0 in omega (arith, is)
+
+      by : (b : Bool) → Where b ((i : ℕ) × (i < k) × (p ≤ length sent) × (begun_to st p sent ≡ i + 1) × AreTurned st sent i ms ps) (AreTurned st sent k ms ps)
+          → ((j : ℕ) → AreTurned st sent j ms ps → AreIndexedBelow st ns sent once rising numbered T starts' j ms e.1)
+          → Where b ((i : ℕ) × (i < k) × (begun_on st (fragment (data_of e.0.chunk) e.0.numbered e.0.after ∷ e.0.entries) ≡ i + 1)
+          × AreIndexedBelow st ns sent once rising numbered T starts' i ms e.1) (AreIndexedBelow st ns sent once rising numbered T starts' k ms e.1)
+      by true u ih = (
+        u.0,
+        u.1,
+        sym (to-part st sent (fragment (data_of e.0.chunk) e.0.numbered e.0.after ∷ e.0.entries) e.0.part) ∙ ap (λ n. begun_to st n sent) (sym at) ∙ u.3,
+        ih u.0 u.4,
+      )
+      by false u ih = ih k u
+
+turned-first : (first size max most : ℕ) (limits : Option Limits) → first < 2 ^ 32 → IsTurned first (at_start first size max most limits) [] 0 []
+turned-first first size max most limits small = record {
+  due = λ st. record {
+    k = 0;
+    reach = 0;
+    due = (refl, refl, λ y le h. absurd (not_both h.0));
+    turns = tt;
+    most = omega arith;
+    arrived = record {
+      place = 0;
+      least_is = omega arith;
+      within = omega arith;
+      is = omega (arith, small);
+      covered = omega arith;
+      each = tt;
+    };
+  };
+  turned = λ st. tt;
+}
+
+all-young : (tsn size max most : ℕ) (limits : Option Limits) (cs : List Call) (s : Session) → tsn < 2 ^ 32 → 0 < size
+    → (r : RunsTo (at_start tsn size max most limits) cs s) → AreRecent (at_start tsn size max most limits) cs s r
+    → AreYoung [] (at_start tsn size max most limits) cs s r → AreForwardsYoung [] (at_start tsn size max most limits) cs s r
+    → After tsn (modes_from at_first cs) s
+all-young tsn size max most limits cs s small some r q y z =
+    all-then tsn cs (at_start tsn size max most limits) s [] [] [] r q y z (near-first tsn size max most limits small)
+    (young-first tsn size max most limits small some) [] (owned-first tsn size max most limits) (spread-first tsn size max most limits small)
+    (turned-first tsn size max most limits small) at_first (said-first tsn size max most limits)
+
+-- of the messages that pass, each of which begins with an ordered fragment, the places of the writes fall
+module _ (tsn size max most : ℕ) (limits : Option Limits) (cs : List Call) (s : Session) (r : RunsTo (at_start tsn size max most limits) cs s)
+    (a : After tsn (modes_from at_first cs) s) where
+  abbrev h : Holds tsn s a.numbered a.sent
+  h = a.young.holds
+
+  once : AreOnce a.sent
+  once = h.held.stands.begun'.once
+
+  e : (e : EachRead a.numbered a.sent once s.receiving.read)
+      × AreAt a.numbered tsn a.sent once h.held.stands.queued.line h.held.stands.queued.indexed s s.receiving.read e a.places'
+  e = reads-are a.numbered tsn a.sent once h.held.stands.queued.line h.held.stands.queued.indexed s s.receiving.read a.places' a.owned.once.0
+      (all-whole tsn size max most limits cs s r)
+
+  in-order : (T : ℕ → Message → ℕ → Bool)
+      → ((st : ℕ) (m : Message) (x : IsReadOf a.numbered a.sent m) → T st m x.written.0 ≡ true → (x.chunk.unordered ≡ false) × (is_in_order st m ≡ true))
+      → (places : List ℕ) × StandAt s.written s.receiving.read places × AllPairs (λ p q. p ≢ q) places
+      × ((st : ℕ) → AllPairs (λ p q. p < q) (places_where (T st) s.receiving.read places))
+  in-order T starts' = (
+    places a.numbered a.sent once s.receiving.read e.0,
+    subst (λ ws. StandAt ws s.receiving.read (places a.numbered a.sent once s.receiving.read e.0)) h.writes
+        (stand a.numbered a.sent once s.receiving.read e.0),
+    apart a.numbered tsn a.sent once h.held.stands.queued.line h.held.stands.queued.indexed s s.receiving.read e.0 a.places' e.1 a.owned.once.1,
+    λ st.
+        let rising = h.held.stands.queued.ranked.rising in
+        in-order-by st a.numbered a.sent once rising h.placed (T st) (starts' st) (a.turned.due st).k s.receiving.read e.0
+        (indexed-below st a.numbered tsn a.sent once h.held.stands.queued.line h.held.stands.queued.indexed s rising h.placed (T st) (starts' st)
+        (a.turned.due st).k s.receiving.read e.0 a.places' e.1 (a.turned.turned st)),
+  )
+
+pub law : WhileAllAreYoung AreReadInOrder
+law tsn size max most limits cs s small some r q y z =
+    let a = all-young tsn size max most limits cs s small some r q y z in
+    in-order tsn size max most limits cs s r a (λ st m p. is_ordered_on st m)
+    (λ st m x f. let b = starts st m x.chunk x.others x.fragments f in (b.1, b.2))
+
+-- what was written ordered is read in the order of the writes
+pub as-written : AfterEachYoungRun AreReadAsWritten
+as-written tsn size max most limits cs s small some r q y z =
+    let m = modes_from at_first cs in
+    let a = all-young tsn size max most limits cs s small some r q y z in
+    in-order tsn size max most limits cs s r a (λ st. was_written_ordered m.of_writes st)
+    (λ st. starts-ordered m s a.numbered a.sent a.said a.young.holds.placed st)
