@@ -1,10 +1,11 @@
 -- Of calls of two hosts that both send, those of each way are a session.
 use Rattle.sctp_delivery.proofs.Names.{◌≡◌, List, [], ◌∷◌, ap, subst, Follows, RunsTo, Session}
-use Rattle.sctp_delivery.specs.BothWays.{AreReadBothWays, AreReadBothWaysSo, EachWayIsASession, EachWayIsASessionSo, Pair, PairCall, PairRunsTo, both_begun}
+use Rattle.sctp_delivery.specs.BothWays.{AreReadBothWays, AreReadBothWaysSo, AreReadBothWaysWhileYoung, EachWayIsASession, EachWayIsASessionSo, Pair, PairCall, PairRunsTo, both_begun}
 use Rattle.sctp_delivery.specs.BothWays.{both_begun_with, comes, coming, goes, going}
 use Rattle.sctp_delivery.specs.Returns.{FollowsOrReturns, RunsWithReturns}
-use Rattle.sctp_delivery.proofs.ModeSessions.{read-as-written}
+use Rattle.sctp_delivery.proofs.FewYoung as few_young
 use Rattle.sctp_delivery.proofs.PlainRuns.{as-written}
+use Rattle.sctp_delivery.proofs.YoungOrder as young_order
 
 -- whatever a call and calls one after another are
 module _ {C : Type 0} (F : C → Session → Session → Type 0) (R : Session → List C → Session → Type 0) (none : (old new : Session) → new ≡ old → R old [] new)
@@ -28,8 +29,17 @@ each-way a b cs p r = (
 pub read-both-ways : AreReadBothWays
 read-both-ways a b cs p r few few' =
     let w = each-way a b cs p r in (
-      read-as-written a.tsn a.size a.max a.most a.limits (going cs) p.forth a.small a.some w.0 (few w.0),
-      read-as-written b.tsn b.size b.max b.most b.limits (coming cs) p.back b.small b.some w.1 (few' w.1),
+      few_young.as-written a.tsn a.size a.max a.most a.limits (going cs) p.forth a.small a.some w.0 (few w.0),
+      few_young.as-written b.tsn b.size b.max b.most b.limits (coming cs) p.back b.small b.some w.1 (few' w.1),
+    )
+
+pub read-while-young : AreReadBothWaysWhileYoung
+read-while-young a b cs p r young young' =
+    let w = each-way a b cs p r in
+    let y = young w.0 in
+    let z = young' w.1 in (
+      young_order.as-written a.tsn a.size a.max a.most a.limits (going cs) p.forth a.small a.some w.0 y.0 y.1 y.2,
+      young_order.as-written b.tsn b.size b.max b.most b.limits (coming cs) p.back b.small b.some w.1 z.0 z.1 z.2,
     )
 
 -- where senders keep what is reported

@@ -15,7 +15,7 @@ use Rattle.sctp_delivery.specs.Returns.{at_start_with}
 use Rattle.sctp_delivery.proofs.Cases.{at-test}
 use Rattle.sctp_delivery.proofs.Every.{Every, every-of, every-of-all}
 use Rattle.sctp_delivery.proofs.EveryMessages as messages
-use Rattle.sctp_delivery.proofs.ModeSessions.{read-as-written}
+use Rattle.sctp_delivery.proofs.FewYoung.{of-few}
 use Rattle.sctp_delivery.proofs.YoungOrder.{as-written}
 
 -- ## The writes to an ordered stream
@@ -197,13 +197,12 @@ in-turn-of tsn size max most limits cs s r law =
         let o = ordered-run st cs (at_start tsn size max most limits) s at_first r e (record { stream = refl; writes' = tt }) in
         among-places st (modes_from at_first cs).of_writes s.written o.writes' s.receiving.read law.0 law.1 (law.3 st)
 
-pub in-turn : AfterEachRunOfFewTsns AreReadInTurn
-in-turn tsn size max most limits cs s small some' r few =
-    in-turn-of tsn size max most limits cs s r (read-as-written tsn size max most limits cs s small some' r few)
-
 pub in-turn-young : AfterEachYoungRun AreReadInTurn
 in-turn-young tsn size max most limits cs s small some' r q y z =
     in-turn-of tsn size max most limits cs s r (as-written tsn size max most limits cs s small some' r q y z)
+
+pub in-turn : AfterEachRunOfFewTsns AreReadInTurn
+in-turn = of-few AreReadInTurn in-turn-young
 
 -- those on the stream, where each of these is single, are single
 same-on : (st : ℕ) (ms : List Message) → Every (λ (m : Message). (m.stream == st) ≡ true → is_single m.fragments ≡ true) ms

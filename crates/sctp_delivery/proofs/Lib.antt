@@ -121,6 +121,7 @@ pub mod Plain
 pub mod PlainStreams
 pub mod PlainFlights
 pub mod FewInFlight
+pub mod FewYoung
 pub mod PlainSessions
 pub mod PlainCalls
 pub mod Besides

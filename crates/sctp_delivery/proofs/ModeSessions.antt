@@ -6,15 +6,15 @@ use Rattle.sctp_delivery.proofs.Names.{expiring_tail, message_of, Outbound, all_
 use Rattle.sctp_delivery.proofs.Names.{message_to_abandon, after_leaving, late_order, worn_order, after_expiry, after_releases, has_number, less_by, with_mode}
 use Rattle.sctp_delivery.proofs.Names.{with_reliability, with_size, wrote, Transmission, after_expire, written_to, Makes, OutboundStream, fragment_at, Mode}
 use Rattle.sctp_delivery.proofs.Names.{Modes, Sending, at_first, mode_of_write, modes_after, reliable_mode, AfterEachFitRun, modes_from, numbered_in, starting}
-use Rattle.sctp_delivery.proofs.Names.{AfterEachRunOfFewTsns, Expires, ExpiresTail, IsAccepted, MakesExactly, SenderCall, abandons, as_run, expires}
+use Rattle.sctp_delivery.proofs.Names.{Expires, ExpiresTail, IsAccepted, MakesExactly, SenderCall, abandons, as_run, expires}
 use Rattle.sctp_delivery.proofs.Names.{expires_late, expires_rexmit, expires_tail, forwards, forwards_within, marks, opens, resends, reserves, sends, sets_low}
 use Rattle.sctp_delivery.proofs.Names.{sets_mode, sets_size, starts, takes_sack, writes, length-map, none-some, ChunkPayloadData, Data, data_of, next_pending}
-use Rattle.sctp_delivery.proofs.Names.{Limits, StandAt, ReceiverCall, Call, ReceiverFollows, RunsTo, SenderFollows, Session, at_start, of_receiver, of_sender}
+use Rattle.sctp_delivery.proofs.Names.{Limits, ReceiverCall, Call, ReceiverFollows, RunsTo, SenderFollows, Session, at_start, of_receiver, of_sender}
 use Rattle.sctp_delivery.proofs.Names.{common_steps, distance, Ledger, Message, tsns_given}
 use Rattle.std.specs.Prelude.{drop}
 use Rattle.sctp_sender.proofs.SenderStreams.{made}
 use Rattle.sctp_stream.specs.Stream.{new_stream}
-use Rattle.sctp_delivery.specs.Modes.{all_starting, with_mode_of, AreSentAsWritten, IsUnorderedAt, AreReadAsWritten, unknown, was_written_ordered}
+use Rattle.sctp_delivery.specs.Modes.{all_starting, with_mode_of, AreSentAsWritten, IsUnorderedAt, unknown, was_written_ordered}
 use Rattle.sctp_delivery.specs.SenderCalls.{misses}
 use Rattle.sctp_delivery.proofs.Every.{Every, every-changed, every-found, every-joined, every-mapped}
 use Rattle.sctp_delivery.proofs.ModeQueues.{AreModed, HasModeOf, abandoned-moded, each-moded, expired-moded, fragments-new, marked-moded, message-moded}
@@ -26,19 +26,16 @@ use Rattle.sctp_delivery.proofs.Changes.{expired-one}
 use Rattle.sctp_delivery.specs.Messages.{IsPart as IsPartOf}
 use Rattle.sctp_delivery.specs.SenderCalls as outgoing
 use Rattle.sctp_delivery.proofs.Calls.{at-forgotten, forget, length-forgotten, numbered_after, sent_by}
-use Rattle.sctp_delivery.proofs.Delivered.{Holds, at-first, found-sent, receiver-step, sender-step, IsReadOf, next_tsn, read-in}
+use Rattle.sctp_delivery.proofs.Delivered.{Holds, at-first, found-sent, receiver-step, sender-step, IsReadOf, next_tsn}
 use Rattle.sctp_delivery.proofs.FilledQueues.{IsFilled, filled-step}
 use Rattle.sctp_delivery.proofs.OrderedPlaces.{AreNumbered, place-at}
 use Rattle.sctp_delivery.proofs.Senders.{IsMoreBy}
 use Rattle.sctp_delivery.proofs.Sent.{Entry, IsPart, Numbered, fragment, part-line, terminal}
 use Rattle.sctp_delivery.proofs.QueueChunks.{AllWait, peeked}
-use Rattle.sctp_delivery.proofs.OnceWritten.{apart, each-read, places, stand}
 use Rattle.sctp_delivery.proofs.OrderedMessages.{is_in_order}
-use Rattle.sctp_delivery.proofs.ReadOnce as read_once
 use Rattle.sctp_delivery.proofs.SackLaws as sacks
 use Rattle.sctp_delivery.proofs.SpreadCalls.{sender-spreads}
 use Rattle.sctp_delivery.proofs.TsnPlaces.{base}
-use Rattle.sctp_delivery.proofs.UnwrappedLaw.{in-order-of}
 use Rattle.sctp_delivery.proofs.UnwrappedSessions.{IsUnwrapped, receiver-unwrapped, sender-answered, unwrapped-first}
 
 -- # Each call of a sender, and how each stream and each chunk is sent after it
@@ -464,21 +461,3 @@ starts-ordered m s ns sent said placed st o x h =
     let kind = kind-at m s ns sent said placed (data_of x.chunk) x.numbered x.after x.entries x.written x.part unknown in
     let ordered : x.chunk.unordered ≡ false = sym kind ∙ negated (slice_index_or m.of_writes x.written.0 unknown).mode.unordered b.1 in
     grind (arith, nat_tests, and)
-
-pub read-as-written : AfterEachRunOfFewTsns AreReadAsWritten
-read-as-written tsn size max most limits cs s small some r few =
-    let m = modes_from at_first cs in
-    let u = said-of-few tsn size max most limits cs s small some r few in
-    let h = u.unwrapped.spread.holds in
-    let long = u.unwrapped.spread.long in
-    let a = read-in tsn size max most limits cs s r u.numbered u.sent (omega (arith, long, few)) h in
-    let e = each-read a.numbered a.sent a.once s.receiving.read a.each in (
-      places a.numbered a.sent a.once s.receiving.read e,
-      subst (λ ws. StandAt ws s.receiving.read (places a.numbered a.sent a.once s.receiving.read e)) a.writes
-          (stand a.numbered a.sent a.once s.receiving.read e),
-      apart a.numbered a.sent a.once s.receiving.read e (read_once.none-twice tsn size max most limits cs s r small few),
-      λ st.
-          let t = (u.unwrapped.answered st).0 in
-          in-order-of st tsn _ u.numbered u.sent few long h.held.stands.queued.line a.once a.rising a.placed
-          (was_written_ordered m.of_writes st) (starts-ordered m s u.numbered u.sent u.said h.placed st) t.k s.receiving.read e t.turns,
-    )

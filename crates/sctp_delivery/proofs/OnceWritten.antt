@@ -2,12 +2,11 @@
 use Rattle.sctp_delivery.proofs.Names.{◌≡◌, ℕ, zero, suc, ◌<◌, true, false, not, List, [], ◌∷◌, ◌++◌, length, inl, inr, ap, sym, subst, ◌∙◌, arith, All}
 use Rattle.sctp_delivery.proofs.Names.{AllPairs, ◌==◌, ◌&&◌, slice_index_or, list_any, negated, or-left, or-right, same-yes, list_any-append, pairs_cons, and}
 use Rattle.sctp_delivery.proofs.Names.{both, not_both, ChunkPayloadData, Data, data_of, Message, has_tsn, AreWritesOfTheirOwn, IsWrite, NoneIsReadTwice}
-use Rattle.sctp_delivery.proofs.Names.{StandAt, WhileFewTsns, fragments_of_all, are_apart, Session}
+use Rattle.sctp_delivery.proofs.Names.{StandAt, fragments_of_all, are_apart, Session}
 use Rattle.std.proofs.Common.{◌≢◌}
 use Rattle.sctp_delivery.proofs.Begun.{AreOnce, was_begun}
 use Rattle.sctp_delivery.proofs.Calls.{at-forgotten, forgotten, length-forgotten}
-use Rattle.sctp_delivery.proofs.Delivered.{IsReadOf, IsReadSession, read-of}
-use Rattle.sctp_delivery.proofs.ReadOnce as read_once
+use Rattle.sctp_delivery.proofs.Delivered.{IsReadOf, IsReadSession}
 use Rattle.sctp_delivery.proofs.Sent.{Entry, IsPart, Numbered, fragment, terminal}
 use Rattle.sctp_delivery.proofs.Every.{Every, every-of-all}
 use Rattle.sctp_delivery.proofs.Sessions.{neither}
@@ -130,7 +129,3 @@ own-so s a apart' =
           (stand a.numbered a.sent a.once s.receiving.read e),
       apart a.numbered a.sent a.once s.receiving.read e apart',
     )
-
-pub of-their-own : WhileFewTsns AreWritesOfTheirOwn
-of-their-own tsn size max most limits cs s small some r few =
-    own-so s (read-of tsn size max most limits cs s small some r (omega (arith, few))) (read_once.none-twice tsn size max most limits cs s r small few)

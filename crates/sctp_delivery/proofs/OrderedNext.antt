@@ -7,7 +7,7 @@ use Rattle.sctp_delivery.specs.Order.{IsNextIn}
 use Rattle.sctp_delivery.proofs.Delivered as delivered
 use Rattle.sctp_delivery.proofs.Delivered.{next_tsn}
 use Rattle.sctp_delivery.proofs.OneRead.{answers, given-then, no-way, read_of, reads-on, run-then}
-use Rattle.sctp_delivery.proofs.UnwrappedLaw.{in-order}
+use Rattle.sctp_delivery.proofs.FewYoung.{in-order}
 
 read-next : (r : Reception) (stream : ℕ) (set : ChunkSet) → is_open stream r ≡ true → message_on stream r ≡ Some set
     → WhileFewTsns (IsNextIn r stream set.chunks)

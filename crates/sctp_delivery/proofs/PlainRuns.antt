@@ -27,8 +27,8 @@ use Rattle.sctp_delivery.proofs.Delivered.{next_tsn}
 use Rattle.sctp_delivery.proofs.EveryRuns as every
 use Rattle.sctp_delivery.proofs.FewInFlight.{regular-first}
 use Rattle.sctp_delivery.proofs.ReturnsAny.{any_calls, as_any, follows-any, none-dropped, of-each, of-few-tsns, runs-any}
+use Rattle.sctp_delivery.proofs.FewYoung as few_young
 use Rattle.sctp_delivery.proofs.ModeSessions as modes
-use Rattle.sctp_delivery.proofs.OnceWritten as once_written
 use Rattle.sctp_delivery.proofs.OneRead.{no-way}
 use Rattle.sctp_delivery.proofs.OthersOnce as others
 use Rattle.sctp_delivery.proofs.Plain.{are-long}
@@ -39,7 +39,6 @@ use Rattle.sctp_delivery.proofs.PlainStreams.{returned-alike}
 use Rattle.sctp_delivery.proofs.SackLaws.{IsInStepBut}
 use Rattle.sctp_delivery.proofs.SackSteps.{none_dropped}
 use Rattle.sctp_delivery.proofs.TsnPlaces.{base}
-use Rattle.sctp_delivery.proofs.UnwrappedLaw as unwrapped
 
 -- ## Bytes
 
@@ -233,12 +232,12 @@ none-read-twice = of-few-tsns (λ first n cs s. NoneIsReadTwice s) every.none-re
 pub of-their-own : AfterEachWithReturnsOfFewTsns (λ first n gone cs s. AreWritesOfTheirOwn s)
 of-their-own reported first size max most limits cs s run small some few short =
     so reported first size max most limits cs s run small (flying-of reported first size max most limits cs s run small few) short AreWritesOfTheirOwn
-    (λ ks r e. once_written.of-their-own first size max most limits ks _ small some r (omega (arith, e, few)))
+    (λ ks r e. few_young.of-their-own first size max most limits ks _ small some r (omega (arith, e, few)))
 
 pub in-order : AfterEachWithReturnsOfFewTsns (λ first n gone cs s. AreReadInOrder s)
 in-order reported first size max most limits cs s run small some few short =
     so reported first size max most limits cs s run small (flying-of reported first size max most limits cs s run small few) short AreReadInOrder
-    (λ ks r e. unwrapped.in-order first size max most limits ks _ small some r (omega (arith, e, few)))
+    (λ ks r e. few_young.in-order first size max most limits ks _ small some r (omega (arith, e, few)))
 
 -- `AreReadAsWritten`, of the modes
 abbrev AreReadSo : Modes → Session → Type 0
@@ -250,7 +249,7 @@ pub as-written : AfterEachWithReturnsOfFewTsns (λ first n gone cs s. AreReadAsW
 as-written reported first size max most limits cs s run small some few short =
     so-called reported first size max most limits cs s run small (flying-of reported first size max most limits cs s run small few) short
     (λ m gone s. AreReadSo m s)
-    (λ ks r e. modes.read-as-written first size max most limits ks _ small some r (omega (arith, e, few)))
+    (λ ks r e. few_young.as-written first size max most limits ks _ small some r (omega (arith, e, few)))
 
 -- ## Chunks
 

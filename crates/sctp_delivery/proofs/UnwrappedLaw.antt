@@ -1,18 +1,16 @@
 -- The ordered messages of a stream are read in the order of their writes.
 use Rattle.sctp_delivery.proofs.Names.{◌≡◌, ℕ, zero, suc, ◌<◌, ◌≤◌, true, false, not, List, [], ◌∷◌, inl, inr, ap, sym, subst, ◌∙◌, arith, ◌+◌, ◌^◌, Bool}
 use Rattle.sctp_delivery.proofs.Names.{length, refl, All, ◌==◌, AllPairs, if◌then◌else◌, list_all, negated, same-is, and, both, not_both, ChunkPayloadData}
-use Rattle.sctp_delivery.proofs.Names.{⊤, data_of, Message, AreReadInOrder, pairs_cons, StandAt, WhileFewTsns}
+use Rattle.sctp_delivery.proofs.Names.{⊤, data_of, Message, pairs_cons}
 use Rattle.std.proofs.Common.{◌⊎◌}
 use Rattle.sctp_delivery.specs.Order.{is_ordered_on, places_where}
 use Rattle.sctp_delivery.proofs.Begun.{AreOnce}
-use Rattle.sctp_delivery.proofs.Delivered.{IsReadOf, read-in}
-use Rattle.sctp_delivery.proofs.OnceWritten.{one-begun, EachRead, apart, each-read, places, stand}
+use Rattle.sctp_delivery.proofs.Delivered.{IsReadOf}
+use Rattle.sctp_delivery.proofs.OnceWritten.{one-begun, EachRead, places}
 use Rattle.sctp_delivery.proofs.OrderedEntries.{AreRising, IsUnder, begun_on, part-fewer}
 use Rattle.sctp_delivery.proofs.OrderedPlaces.{AreNumbered, place-at}
 use Rattle.sctp_delivery.proofs.Sent.{Entry, IsPart, Numbered, fragment, part-itself, terminal, IsLine, WasSent, part-length, part-line}
 use Rattle.sctp_delivery.proofs.OrderedMessages.{is_in_order, starts_ordered}
-use Rattle.sctp_delivery.proofs.KeptSessions.{kept-in}
-use Rattle.sctp_delivery.proofs.ReadOnce as read_once
 use Rattle.sctp_delivery.proofs.SpreadEntries.{begun_to, is_at, to-part}
 use Rattle.sctp_delivery.proofs.TsnPlaces.{base}
 use Rattle.sctp_delivery.proofs.UnwrappedHolds.{AreInTurn, Fits, Where}
@@ -171,22 +169,3 @@ module _ (st first n : ℕ) (ns : List Numbered) (sent : List Entry) (few : n < 
   pub in-order-of : (k : ℕ) (ms : List Message) (e : EachRead ns sent once ms) → InTurn k ms
       → AllPairs (λ p q. p < q) (places_where T ms (places ns sent once ms e))
   in-order-of k ms e t = in-order-by st ns sent once rising numbered T starts' k ms e (indexed-of k ms e t)
-
--- ## The law
-
-pub in-order : WhileFewTsns AreReadInOrder
-in-order tsn size max most limits cs s small some r few =
-    let u = kept-in tsn size max most limits cs s small some r few in
-    let h = u.kept.unwrapped.spread.holds in
-    let long = u.kept.unwrapped.spread.long in
-    let a = read-in tsn size max most limits cs s r u.numbered u.sent (omega (arith, long, few)) h in
-    let e = each-read a.numbered a.sent a.once s.receiving.read a.each in (
-      places a.numbered a.sent a.once s.receiving.read e,
-      subst (λ ws. StandAt ws s.receiving.read (places a.numbered a.sent a.once s.receiving.read e)) a.writes
-          (stand a.numbered a.sent a.once s.receiving.read e),
-      apart a.numbered a.sent a.once s.receiving.read e (read_once.none-twice tsn size max most limits cs s r small few),
-      λ st.
-          let t = (u.kept.unwrapped.answered st).0 in
-          in-order-of st tsn _ u.numbered u.sent few long h.held.stands.queued.line a.once a.rising a.placed
-          (λ m p. is_ordered_on st m) (λ m x f. let b = starts st m x.chunk x.others x.fragments f in (b.1, b.2)) t.k s.receiving.read e t.turns,
-    )

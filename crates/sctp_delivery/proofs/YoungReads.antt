@@ -78,7 +78,7 @@ none-fail p (c ∷ cs) e =
     let here : fails p c ≡ 0 = ap (λ b. if b then 0 else 1) b.0 in
     omega (arith, more, here, none-fail p cs b.1)
 
-both-pass : (p q r : ChunkPayloadData → Bool) → ((c : ChunkPayloadData) → p c ≡ true → q c ≡ true → r c ≡ true) → (cs : List ChunkPayloadData)
+pub both-pass : (p q r : ChunkPayloadData → Bool) → ((c : ChunkPayloadData) → p c ≡ true → q c ≡ true → r c ≡ true) → (cs : List ChunkPayloadData)
     → list_all p cs ≡ true → list_all q cs ≡ true → list_all r cs ≡ true
 both-pass p q r h [] e f = refl
 both-pass p q r h (c ∷ cs) e f =

@@ -3,6 +3,7 @@ use Rattle.std.specs.Prelude.{◌≡◌, ℕ, ◌^◌, ◌<◌, List, [], ◌∷
 use Rattle.sctp_receiver.specs.declared.receiver.limits.Limits.{Limits}
 use Rattle.sctp_sender.specs.declared.sender.Reported.{Reported}
 use Rattle.sctp_delivery.specs.Modes.{AreReadAsWritten}
+use Rattle.sctp_delivery.specs.Recent.{AreForwardsYoung, AreRecent, AreYoung}
 use Rattle.sctp_delivery.specs.Sacks.{tsns_given}
 use Rattle.sctp_delivery.specs.Returns.{CallOrReturn, FollowsOrReturns, RunsWithReturns, at_start_with, other_calls, tsns_given_so}
 use Rattle.sctp_delivery.specs.Session.{Call, Follows, RunsTo, Session, at_start, bytes_written}
@@ -72,6 +73,21 @@ AreReadBothWays =
     → tsns_given (begun a) (going calls) p.forth r < 2 ^ 31)
     → ((r : RunsTo (begun b) (coming calls) p.back)
     → tsns_given (begun b) (coming calls) p.back r < 2 ^ 31)
+    → AreReadAsWritten (going calls) p.forth × AreReadAsWritten (coming calls) p.back
+
+-- and in a whole life, while each way nothing is handed over or held that is 2^31 TSNs old
+abbrev pub AreReadBothWaysWhileYoung : Type 0
+AreReadBothWaysWhileYoung =
+    (a b : Beginning) (calls : List (PairCall Call)) (p : Pair)
+    → PairRunsTo Follows (both_begun a b) calls p
+    → ((r : RunsTo (begun a) (going calls) p.forth)
+    → AreRecent (begun a) (going calls) p.forth r
+    × AreYoung [] (begun a) (going calls) p.forth r
+    × AreForwardsYoung [] (begun a) (going calls) p.forth r)
+    → ((r : RunsTo (begun b) (coming calls) p.back)
+    → AreRecent (begun b) (coming calls) p.back r
+    × AreYoung [] (begun b) (coming calls) p.back r
+    × AreForwardsYoung [] (begun b) (coming calls) p.back r)
     → AreReadAsWritten (going calls) p.forth × AreReadAsWritten (coming calls) p.back
 
 -- ## Where senders keep what gap ack blocks report

@@ -7,6 +7,7 @@ use Rattle.sctp_receiver.specs.declared.receiver.limits.Limits.{Limits}
 use Rattle.sctp_serial.specs.DataChunks.{has_tsn}
 use Rattle.sctp_delivery.specs.Complete.{fragments_held}
 use Rattle.sctp_delivery.specs.ReceiverCalls.{follows, takes}
+use Rattle.sctp_delivery.specs.Sacks.{tsns_given}
 use Rattle.sctp_delivery.specs.SenderCalls.{Made, data_chunk, forward_tsn, forwards, forwards_within, next_chunk, sends, takes_sack, with_chunk}
 use Rattle.sctp_delivery.specs.Session.{Call, RunsTo, Session, at_start, count_in_flight, of_receiver, of_sender}
 
@@ -147,3 +148,13 @@ AfterEachYoungRun P =
 
 abbrev pub WhileAllAreYoung : (Session → Type 0) → Type 0
 WhileAllAreYoung P = AfterEachYoungRun (λ calls s. P s)
+
+-- so it is of each session that gives out fewer than 2^31 TSNs
+abbrev pub FewTsnsAreYoung : Type 0
+FewTsnsAreYoung =
+    (tsn size max most : ℕ) (limits : Option Limits) (calls : List Call) (s : Session)
+    → tsn < 2 ^ 32 → 0 < size → (r : RunsTo (at_start tsn size max most limits) calls s)
+    → tsns_given (at_start tsn size max most limits) calls s r < 2 ^ 31
+    → AreRecent (at_start tsn size max most limits) calls s r
+    × AreYoung [] (at_start tsn size max most limits) calls s r
+    × AreForwardsYoung [] (at_start tsn size max most limits) calls s r

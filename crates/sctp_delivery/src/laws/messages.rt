@@ -2,7 +2,7 @@
 
 ghost use Rattle.sctp_delivery.specs.Messages.{AfterEachFitSession, AreParts, AreSame, AreWrites, AreWritesOfTheirOwn, NoneIsReadTwice, WhileFewTsns, WhileTsnsLast};
 ghost use Rattle.sctp_delivery.specs.Order.{AreReadInOrder};
-ghost use Rattle.sctp_delivery.specs.Recent.{EachIsTakenOnceWhereGiven, WhileAllAreYoung, WhileRecentAndYoung, WhileYoung};
+ghost use Rattle.sctp_delivery.specs.Recent.{EachIsTakenOnceWhereGiven, FewTsnsAreYoung, WhileAllAreYoung, WhileRecentAndYoung, WhileYoung};
 ghost use Rattle.sctp_delivery.specs.Sacks.{AfterEachSessionOfFewTsns};
 
 /// Each DATA chunk that a sender makes, for the first time or again, is a part of a write: on its stream, with its payload type, and its
@@ -37,6 +37,12 @@ pub fn no_message_is_read_twice()
 pub fn messages_are_read_in_order()
     ensures few { WhileFewTsns AreReadInOrder }
     ensures recent { WhileAllAreYoung AreReadInOrder }
+{}
+
+/// In each session that gives out fewer than 2^31 TSNs nothing is handed over or held that is 2^31 TSNs old. So what is said of a whole life
+/// is said of it, too.
+pub fn few_tsns_are_young()
+    ensures { FewTsnsAreYoung }
 {}
 
 /// Each time that a TSN is given out, at most one DATA chunk with it is taken as new, however often and in whatever order the network hands chunks

@@ -1,6 +1,6 @@
-use Rattle.sctp_delivery.proofs.UnwrappedLaw as unwrapped
+use Rattle.sctp_delivery.proofs.FewYoung as few_young
 use Rattle.sctp_delivery.proofs.YoungOrder as young_order
 use Rattle.sctp_delivery.proofs.laws.messages.messages_are_read_in_order.Goals as goal
 
 pub returns : goal.returns
-returns c = record { few = unwrapped.in-order; recent = young_order.law }
+returns c = record { few = few_young.in-order; recent = young_order.law }
