@@ -7,7 +7,7 @@ use Rattle.sctp_delivery.proofs.Names.{pushed-number, set_weight, weight, found-
 use Rattle.sctp_delivery.proofs.Names.{Call, RunsTo, SenderFollows, at_start, of_receiver, of_sender, sum_by-append, sum_by-cons, sum_by-inserted, ChunkSet}
 use Rattle.sctp_delivery.proofs.Names.{data_of, BecomesComplete, Reassembly, ReassemblyState, held_after_ordered_push, is_ssn_too_far, is_too_far_on}
 use Rattle.sctp_delivery.proofs.Names.{AfterEachReliableSession, fragments_of_sets, fragments_on, is_reliable, is_reliable_at_receiver, is_reliable_at_sender}
-use Rattle.sctp_delivery.proofs.Names.{are_apart, data_chunk}
+use Rattle.sctp_delivery.proofs.Names.{Limits, are_apart, data_chunk}
 use Rattle.std.specs.Prelude.{not}
 use Rattle.sctp_receiver.specs.Inbound.{has_number}
 use Rattle.sctp_receiver.specs.Receiver.{after_read, message_of, open_stream}
@@ -187,13 +187,13 @@ module _ (st : ℕ) (W : (ChunkPayloadData → ℕ) → Type 0) (P : Option Inbo
   pub after-call : (lost : List ChunkPayloadData) (old new : Session) (k : IsSo lost old.receiving) (call : ReceiverCall) → IsOther call
       → ReceiverFollows call old new
       → ((stream : ℕ) → stream_of st old.receiving.receiver ≡ None → P (Some (new_stream stream old.receiving.receiver.max_message_size)))
-      → ((c : ChunkPayloadData) (said : Bool) (f : ReceiverFollows (incoming.takes c (New said)) old new)
+      → ((c : ChunkPayloadData) (said : Bool) → call ≡ incoming.takes c (New said) → (f : ReceiverFollows (incoming.takes c (New said)) old new)
       → Puts lost old.receiving new.receiving k c said f.step.receiver)
       → ((l : InboundStream) → stream_of st old.receiving.receiver ≡ Some l → P (Some (stream_read l))) → IsSo lost new.receiving
   after-call lost old new k (incoming.opens stream) o f fresh put read =
       opened lost old.receiving new.receiving k stream f.step.receiver.1 f.step.accepted f.step.read (fresh stream)
   after-call lost old new k (incoming.takes c (New said)) o f fresh put read =
-      taken lost old.receiving new.receiving k c said f.step.receiver (put c said f) f.step.accepted f.step.read
+      taken lost old.receiving new.receiving k c said f.step.receiver (put c said refl f) f.step.accepted f.step.read
   after-call lost old new k (incoming.follows g) o f fresh put read = absurd o
   after-call lost old new k (incoming.reads stream) o f fresh put read =
       reads lost old.receiving new.receiving k stream f.step.receiver f.step.accepted f.step.read read
@@ -246,9 +246,14 @@ pushed st c answered l new p t near fresh = at-test (λ b. PushesAs b c answered
 abbrev pub IsKept : ℕ → Stand → Type 0
 IsKept st = IsSo st AnyWeight InTurn []
 
+-- no chunk is held with the TSN of one that is taken as new
+abbrev pub IsAbsent : ReceiverCall → Session → Type 0
+IsAbsent call s =
+    (st : ℕ) (c : ChunkPayloadData) (said : Bool) → call ≡ incoming.takes c (New said) → held_weight (one c.tsn) (stream_of st s.receiving.receiver) ≡ 0
+
 kept-on : (call : ReceiverCall) (old new : Session) (st : ℕ) → is_reliable_at_receiver call ≡ true → Every IsShortMade old.made
-    → are_apart new.receiving.accepted ≡ true → ReceiverFollows call old new → IsKept st old.receiving → IsKept st new.receiving
-kept-on call old new st reliable made apart f k =
+    → IsAbsent call old → ReceiverFollows call old new → IsKept st old.receiving → IsKept st new.receiving
+kept-on call old new st reliable made absent f k =
     after-call st AnyWeight InTurn [] old new k call (other call reliable) f (λ stream e. record { index = 0; next = omega arith; rise = tt }) put
     (λ l e. read-in-turn l.queue.held (subst InTurn e k.holds))
   where
@@ -259,16 +264,13 @@ kept-on call old new st reliable made apart f k =
     other (incoming.follows g) e = absurd (not_both e)
     other call e = tt
 
-    put : (c : ChunkPayloadData) (said : Bool) (f : ReceiverFollows (incoming.takes c (New said)) old new)
+    put : (c : ChunkPayloadData) (said : Bool) → call ≡ incoming.takes c (New said) → (f : ReceiverFollows (incoming.takes c (New said)) old new)
         → Puts st AnyWeight InTurn [] old.receiving new.receiving k c said f.step.receiver
-    put c said f on there =
+    put c said same f on there =
         let a = f.step.receiver in
         let short : IsShort c = every-contained IsShortMade old.made (data_chunk (data_of c)) f.handed made in
         let near = not-far c r (fresh-new c.tsn said r f.accepted.1) f.accepted.0 in
-        let all = subst (λ cs. are_apart cs ≡ true) f.step.accepted apart in
-        let none = negated (list_any (has_tsn c.tsn) old.receiving.accepted)
-        (both (not (list_any (has_tsn c.tsn) old.receiving.accepted)) (are_apart old.receiving.accepted) all).0 in
-        let zero = none-held st AnyWeight InTurn [] old.receiving k c.tsn tt none in
+        let zero = absent st c said same in
         let is = ap (held_weight (one c.tsn)) there in
         let t : IsInTurn a.stream.queue.held = subst InTurn there k.holds in
         let test : (not c.unordered && is_ssn_too_far c.stream_sequence_number a.stream.queue.held) ≡ false = ap (is_too_far_on c) (sym a.found) ∙ near in
@@ -304,10 +306,20 @@ sender-kept call old new r f k = record {
   made = subst (Every IsShortMade) (sym (ap (λ (s : Session). s.made) f.after)) (made-short call old.sending.sender old.made r f.accepted k.short k.made);
 }
 
-pub receiver-kept : (call : ReceiverCall) (old new : Session) → is_reliable_at_receiver call ≡ true → are_apart new.receiving.accepted ≡ true
+-- where what was taken has TSNs of its own
+apart-absent : (call : ReceiverCall) (old new : Session) → are_apart new.receiving.accepted ≡ true → ReceiverFollows call old new → IsKeptIn old
+    → IsAbsent call old
+apart-absent call old new apart g k st c said is =
+    let f = subst (λ d. ReceiverFollows d old new) is g in
+    let all = subst (λ cs. are_apart cs ≡ true) f.step.accepted apart in
+    let none = negated (list_any (has_tsn c.tsn) old.receiving.accepted)
+    (both (not (list_any (has_tsn c.tsn) old.receiving.accepted)) (are_apart old.receiving.accepted) all).0 in
+    none-held st AnyWeight InTurn [] old.receiving (k.kept st) c.tsn tt none
+
+pub receiver-kept : (call : ReceiverCall) (old new : Session) → is_reliable_at_receiver call ≡ true → IsAbsent call old
     → ReceiverFollows call old new → IsKeptIn old → IsKeptIn new
-receiver-kept call old new r apart f k = record {
-  kept = λ st. kept-on call old new st r k.made apart f (k.kept st);
+receiver-kept call old new r absent f k = record {
+  kept = λ st. kept-on call old new st r k.made absent f (k.kept st);
   short = subst (λ l. AreShort l.sender) (sym (ap (λ (s : Session). s.sending) f.after)) k.short;
   made = subst (Every IsShortMade) (sym (ap (λ (s : Session). s.made) f.after)) k.made;
 }
@@ -320,7 +332,7 @@ kept-after (of_sender call ∷ cs) old new all apart r k =
     kept-after cs r.0 new b.1 apart r.1.1 (sender-kept call old r.0 b.0 r.1.0 k)
 kept-after (of_receiver call ∷ cs) old new all apart r k =
     let b = both (is_reliable_at_receiver call) (list_all is_reliable cs) all in
-    kept-after cs r.0 new b.1 apart r.1.1 (receiver-kept call old r.0 b.0 (apart-before cs r.0 new r.1.1 apart) r.1.0 k)
+    kept-after cs r.0 new b.1 apart r.1.1 (receiver-kept call old r.0 b.0 (apart-absent call old r.0 (apart-before cs r.0 new r.1.1 apart) r.1.0 k) r.1.0 k)
 
 -- ## The law
 
@@ -336,16 +348,20 @@ held-weighs w (Some l) =
     let a = sum_by-append w (fragments_of_sets q.ordered) (fragments_of_sets q.unordered ++ q.unassembled) in
     omega (arith, a, sum_by-append w (fragments_of_sets q.unordered) q.unassembled, sets-weigh w q.ordered, sets-weigh w q.unordered)
 
+pub kept-first : (tsn size max most : ℕ) (limits : Option Limits) → IsKeptIn (at_start tsn size max most limits)
+kept-first tsn size max most limits = record {
+  kept = λ st. record { weighs = λ w v. refl; holds = tt };
+  short = record { streams = tt; queue = record { ordered = tt; unordered = tt; inflight = tt } };
+  made = tt;
+}
+
 pub kept : AfterEachReliableSession (λ size s. (st : ℕ) → IsKept st s.receiving)
 kept tsn size max most limits cs s run small few all =
     let apart = sacks.none-twice tsn size max most limits cs s run small few in
-    let k = kept-after cs (at_start tsn size max most limits) s all apart run (record {
-      kept = λ st. record { weighs = λ w v. refl; holds = tt };
-      short = record { streams = tt; queue = record { ordered = tt; unordered = tt; inflight = tt } };
-      made = tt;
-    }) in
-    k.kept
+    (kept-after cs (at_start tsn size max most limits) s all apart run (kept-first tsn size max most limits)).kept
+
+pub of-kept : (s : Session) → ((st : ℕ) → IsKept st s.receiving) → IsHeldOrRead s
+of-kept s k st w = omega (arith, (k st).weighs w tt, held-weighs w (stream_of st s.receiving.receiver))
 
 pub held-or-read : AfterEachReliableSession (λ size s. IsHeldOrRead s)
-held-or-read tsn size max most limits cs s run small few all st w =
-    omega (arith, (kept tsn size max most limits cs s run small few all st).weighs w tt, held-weighs w (stream_of st s.receiving.receiver))
+held-or-read tsn size max most limits cs s run small few all = of-kept s (kept tsn size max most limits cs s run small few all)

@@ -382,14 +382,14 @@ module _ (first n : ℕ) (few : n < 2 ^ 31) (old new : Session) (ns : List Numbe
     passed-by call o f =
         let floor = k.floor.floor in
         passed-still call f k (after-call st AnyWeight Past k.lost old new (record { weighs = λ w v. k.weighs w; holds = k.floor.past }) call o f
-        (λ stream e. tt) put-past
+        (λ stream e. tt) (λ c said is g. put-past c said g)
         (λ l e. subst (Every Later) (sym (read-unassembled l.queue.held)) (subst Past e k.floor.past))).holds
         (hears p n (known_past first sent st floor old.receiving) (known_past first sent st floor new.receiving) old new few i.spread.step.made
         (known-more call f floor floor (omega arith)) (known-taken floor) k.floor.arrived call f (λ g in' same. absurd (subst IsOther same o)))
 
   pub keeps-other : (call : ReceiverCall) → IsOther call → ReceiverFollows call old new → Answered new → Keeps old.receiving → Keeps new.receiving
   keeps-other call o f after k = after-so call f k
-      (after-call st AnyWeight (Well (Late old.receiving)) k.lost old new (before k) call o f fresh-well (λ c said g. put c said g k after) (read k))
+      (after-call st AnyWeight (Well (Late old.receiving)) k.lost old new (before k) call o f fresh-well (λ c said is g. put c said g k after) (read k))
       (passed-by k after call o f)
 
   -- ## A FORWARD-TSN comes: what the receiver drops of the stream is of messages that are gone

@@ -138,8 +138,10 @@ pub mod Recent
 pub mod TakenAgain
 pub mod HeldWeights
 pub mod YoungReads
+pub mod YoungSacks
 pub mod YoungOwn
 pub mod FlightPlaces
 pub mod YoungSpread
 pub mod YoungTurns
+pub mod YoungHeld
 pub mod YoungOrder

@@ -4,7 +4,7 @@ use Rattle.sctp_delivery.proofs.Names.{abandoned_by, abandoned_in, is_reliable, 
 use Rattle.sctp_delivery.proofs.Names.{Session, of_receiver, of_sender}
 use Rattle.sctp_delivery.specs.Complete.{EachIsReadOnce}
 
-none-by : (call : SenderCall) (t : Transmission) → is_reliable_at_sender call ≡ true → abandoned_by call t ≡ []
+pub none-by : (call : SenderCall) (t : Transmission) → is_reliable_at_sender call ≡ true → abandoned_by call t ≡ []
 none-by call t h3 = grind (arith, nat_tests, not_both)
 
 pub none-in : (cs : List Call) (old new : Session) (run : RunsTo old cs new) → list_all is_reliable cs ≡ true → abandoned_in old cs new run ≡ []

@@ -20,7 +20,7 @@ use Rattle.sctp_delivery.proofs.Delivered.{EachSentFrom, IsReadOf, Sends, next_t
 use Rattle.sctp_delivery.proofs.Every.{Every, every-all, every-contained, every-of-all}
 use Rattle.sctp_delivery.proofs.FewInFlight.{IsMadeSmall}
 use Rattle.sctp_delivery.proofs.HeldWeights.{read-held, weighs}
-use Rattle.sctp_delivery.proofs.Kept.{held-weighs}
+use Rattle.sctp_delivery.proofs.Kept.{IsAbsent, held-weighs}
 use Rattle.sctp_delivery.proofs.OrderedEntries.{AreIndexed}
 use Rattle.sctp_delivery.proofs.OnceWritten.{EachRead, one-start, places, stand}
 use Rattle.sctp_delivery.proofs.Queues.{IsOnceMore}
@@ -80,7 +80,7 @@ module _ (old new : Session) (few : count_in_flight new < 2 ^ 31) (i : IsNear ol
   fresh : Knows c.tsn old.receiving.receiver → ⊥
   fresh e = not_both (sym (fresh-new c.tsn said old.receiving.receiver f.accepted.1) ∙ e)
 
-  flies : Flies c.tsn old
+  pub flies : Flies c.tsn old
   flies =
       let r = old.receiving.receiver in
       given old new few i c.tsn small q (neither (at_or_before c.tsn r.cumulative_tsn) (list_any (λ u. u == c.tsn) r.beyond)
@@ -292,6 +292,13 @@ module _ (first : ℕ) (call : ReceiverCall) (old new : Session) (ns : List Numb
       let le = h.single st t in
       omega (arith, a, le)
 
+  -- none is held with the TSN of the chunk that is taken
+  pub absent : IsAbsent call old
+  absent st d said is =
+      let g = subst (λ c. ReceiverFollows c old new) is f in
+      let q' = subst (λ c. IsRecent (of_receiver c) old) is q in
+      h.missing d.tsn (small old new few j d said g q') (flies old new few j d said g q') (fresh old new few j d said g q') st
+
   -- a chunk that did not come is not the one that is taken
   not-it : (t : ℕ) → (Knows t new.receiving.receiver → ⊥) → (d : ChunkPayloadData) (said : Bool) → call ≡ incoming.takes d (New said) → (d.tsn ≡ t → ⊥)
   not-it t off d said is same =
@@ -331,14 +338,14 @@ module _ (first : ℕ) (call : ReceiverCall) (old new : Session) (ns : List Numb
 
   module _ (stream : ℕ) (g : ReceiverFollows (incoming.reads stream) old new) (set : ChunkSet)
       (is : message_on stream old.receiving.receiver ≡ Some set) where
-    now-held : (t : ℕ) → sum_by (one t) set.chunks + held_with t stream new ≡ held_with t stream old
+    pub now-held : (t : ℕ) → sum_by (one t) set.chunks + held_with t stream new ≡ held_with t stream old
     now-held t =
         let a = read-held (one t) stream old.receiving.receiver in
         let b = ap (λ o. message_weight (one t) o) is in
         let c = ap (λ (r : Reception). held_weight (one t) (stream_of stream r)) g.step.receiver in
         omega (arith, a, b, c)
 
-    all-recent : list_all (is_recent sent stream) set.chunks ≡ true
+    pub all-recent : list_all (is_recent sent stream) set.chunks ≡ true
     all-recent =
         let p = sessions.fails (is_recent sent stream) in
         let a = read-held p stream old.receiving.receiver in

@@ -1,12 +1,14 @@
 -- Sessions of a whole life: whatever is handed over is less than 2^31 TSNs old (RFC 1982 3.2), however many TSNs were given out.
-use Rattle.std.specs.Prelude.{◌≡◌, ⊤, ℕ, ◌+◌, ◌^◌, ◌<◌, ◌≤◌, Bool, true, if◌then◌else◌, nat_lt, List, [], ◌∷◌, ◌++◌, length, map, Contains, Option}
+use Rattle.std.specs.Prelude.{◌≡◌, ⊤, ℕ, ◌+◌, ◌^◌, ◌<◌, ◌≤◌, Bool, true, if◌then◌else◌, nat_lt, List, [], ◌∷◌, ◌++◌, length, map, All, Contains, Option, None}
 use Rattle.std.specs.List.{filter, list_all}
 use Rattle.sctp_data.specs.PayloadData.{data_of}
+use Rattle.sctp_data.specs.SelectiveAck.{Sack}
 use Rattle.sctp_util.specs.Serial.{at_or_before, comes_before, distance}
 use Rattle.sctp_receiver.specs.declared.receiver.limits.Limits.{Limits}
+use Rattle.sctp_sender.specs.Flight.{sack_refusal}
 use Rattle.sctp_serial.specs.DataChunks.{has_tsn}
-use Rattle.sctp_delivery.specs.Complete.{fragments_held}
-use Rattle.sctp_delivery.specs.ReceiverCalls.{follows, takes}
+use Rattle.sctp_delivery.specs.Complete.{fragments_held, is_reliable}
+use Rattle.sctp_delivery.specs.ReceiverCalls.{follows, reports_after, takes}
 use Rattle.sctp_delivery.specs.Sacks.{tsns_given}
 use Rattle.sctp_delivery.specs.SenderCalls.{Made, data_chunk, forward_tsn, forwards, forwards_within, next_chunk, sends, takes_sack, with_chunk}
 use Rattle.sctp_delivery.specs.Session.{Call, RunsTo, Session, at_start, count_in_flight, of_receiver, of_sender}
@@ -149,6 +151,15 @@ AfterEachYoungRun P =
 abbrev pub WhileAllAreYoung : (Session → Type 0) → Type 0
 WhileAllAreYoung P = AfterEachYoungRun (λ calls s. P s)
 
+-- and where the calls are reliable, so that there are no FORWARD-TSNs
+abbrev pub WhileReliableAndYoung : (Session → Type 0) → Type 0
+WhileReliableAndYoung P =
+    (tsn size max most : ℕ) (limits : Option Limits) (calls : List Call) (s : Session)
+    → tsn < 2 ^ 32 → 0 < size → (r : RunsTo (at_start tsn size max most limits) calls s)
+    → AreRecent (at_start tsn size max most limits) calls s r
+    → AreYoung [] (at_start tsn size max most limits) calls s r
+    → list_all is_reliable calls ≡ true → P s
+
 -- so it is of each session that gives out fewer than 2^31 TSNs
 abbrev pub FewTsnsAreYoung : Type 0
 FewTsnsAreYoung =
@@ -158,3 +169,42 @@ FewTsnsAreYoung =
     → AreRecent (at_start tsn size max most limits) calls s r
     × AreYoung [] (at_start tsn size max most limits) calls s r
     × AreForwardsYoung [] (at_start tsn size max most limits) calls s r
+
+-- ## SACKs
+
+-- a SACK, and how many TSNs were given out since it was made
+pub record AgedSack : Type 0 where
+  pub sack : Sack
+  pub age : ℕ
+
+abbrev pub sack_older : ℕ → AgedSack → AgedSack
+sack_older given k = record k { age = k.age + given }
+
+-- the SACK that the call makes, if there is one
+abbrev pub new_sacks : Call → Session → List Sack
+new_sacks (of_receiver call) s = reports_after call s.receiving.receiver []
+new_sacks (of_sender call) s = []
+
+-- all that were made, the last one first, where these were before
+abbrev pub sacks_aged : List AgedSack → (old : Session) (calls : List Call) (new : Session)
+    → RunsTo old calls new → List AgedSack
+sacks_aged ages old [] new run = ages
+sacks_aged ages old (c ∷ cs) new run =
+    sacks_aged (map (λ k. record { sack = k; age = 0 }) (new_sacks c old)
+    ++ map (sack_older (distance old.sending.sender.flight.next_tsn run.0.sending.sender.flight.next_tsn)) ages)
+    run.0 cs new run.1.1
+
+-- none of these is refused now that is less than 2^31 TSNs old, and whose cumulative TSN is not past the receiver's
+abbrev pub NoneYoungIsRefused : List AgedSack → Session → Type 0
+NoneYoungIsRefused ages s =
+    All (λ k. k.age < 2 ^ 31
+    → at_or_before k.sack.cumulative_tsn_ack s.receiving.receiver.cumulative_tsn ≡ true
+    → sack_refusal k.sack s.sending.sender.flight ≡ None) ages
+
+-- so it is after each session in which what is handed over is recent
+abbrev pub NoYoungSackIsRefused : Type 0
+NoYoungSackIsRefused =
+    (tsn size max most : ℕ) (limits : Option Limits) (calls : List Call) (s : Session)
+    → tsn < 2 ^ 32 → 0 < size → (r : RunsTo (at_start tsn size max most limits) calls s)
+    → AreRecent (at_start tsn size max most limits) calls s r
+    → NoneYoungIsRefused (sacks_aged [] (at_start tsn size max most limits) calls s r) s

@@ -4,6 +4,7 @@
 ghost use Rattle.std.specs.Prelude.{◌≡◌, ◌<◌, true, IfErr, IfOk, OnErr, All, Contains};
 ghost use Rattle.sctp_data.specs.SelectiveAck.{sack_of};
 ghost use Rattle.sctp_sender.specs.declared.sender.refusal.SenderRefusal.TheVariants.{OutOfMemory};
+ghost use Rattle.sctp_delivery.specs.Recent.{NoYoungSackIsRefused};
 ghost use Rattle.sctp_delivery.specs.SenderCalls.{SenderMakes, takes_sack};
 ghost use Rattle.sctp_delivery.specs.Sacks.{AfterEachSessionOfFewTsns, AcknowledgedCame, AllReportedLeaves, EachSackTells, LeftCame, NextSackTells, NoneIsRefused, NoneIsTakenTwice, PassAbandoned, ReleasedCame, ReportWhatCame, StaysAcknowledged, was_taken};
 
@@ -14,9 +15,11 @@ use sctp_sender::sender::flight::Released;
 use sctp_sender::sender::refusal::SenderRefusal;
 
 /// The sender refuses no SACK that the receiver made, however late, however often and in whatever order the network hands them over;
-/// one that a later one overtook is out of date, and changes nothing (RFC 4960 6.2.1).
+/// one that a later one overtook is out of date, and changes nothing (RFC 4960 6.2.1). So it is in sessions that give out fewer than 2^31 TSNs.
+/// It holds in a whole life, too, of each SACK that is less than 2^31 TSNs old.
 pub fn no_sack_is_refused()
-    ensures { AfterEachSessionOfFewTsns (λ first count s. NoneIsRefused s) }
+    ensures few { AfterEachSessionOfFewTsns (λ first count s. NoneIsRefused s) }
+    ensures recent { NoYoungSackIsRefused }
 {}
 
 /// From the first TSN on, a SACK reports none, cumulatively or in a gap ack block, but those that the receiver took as new and those

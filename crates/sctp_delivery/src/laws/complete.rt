@@ -5,11 +5,14 @@ ghost use Rattle.std.specs.Prelude.{◌<◌};
 ghost use Rattle.sctp_delivery.specs.Abandoned.{AfterEachOfFewInFlight, AfterEachSessionOfMessages, AreOfWrites, IsEachOtherReadInTheEnd, IsHeldReadOrPassed, OnlyTheirsAreMarked};
 ghost use Rattle.sctp_delivery.specs.Complete.{AfterEachReliableSession, IsAllReadInTheEnd, IsAllReadWhereSettled, IsHeldOrRead};
 ghost use Rattle.sctp_delivery.specs.Messages.{WhileFewTsns};
+ghost use Rattle.sctp_delivery.specs.Recent.{WhileReliableAndYoung};
 
 /// Nothing that the receiver took as new is dropped in silence: each chunk stands in a message that was read on its stream, or is held
-/// there, and none of them twice. So it is in reliable sessions that give out fewer than 2^31 TSNs.
+/// there, and none of them twice. So it is in reliable sessions that give out fewer than 2^31 TSNs; and in a whole life, while nothing is
+/// handed over or held that is 2^31 TSNs old.
 pub fn what_is_taken_is_held_or_read()
-    ensures { AfterEachReliableSession (λ size s. IsHeldOrRead s) }
+    ensures few { AfterEachReliableSession (λ size s. IsHeldOrRead s) }
+    ensures recent { WhileReliableAndYoung IsHeldOrRead }
 {}
 
 /// And in every session, whatever is abandoned, each such chunk that is dropped is one that a FORWARD-TSN passed (RFC 3758 3.6): the
