@@ -143,5 +143,6 @@ pub mod YoungOwn
 pub mod FlightPlaces
 pub mod YoungSpread
 pub mod YoungTurns
+pub mod YoungEnd
 pub mod YoungHeld
 pub mod YoungOrder

@@ -22,9 +22,11 @@ pub fn what_is_taken_is_held_read_or_passed()
 {}
 
 /// Whatever the network loses, delays, repeats and reorders: where nothing waits to be sent, nothing is in flight, and the receiver
-/// holds nothing, each write was read exactly once. So it is in reliable sessions that give out fewer than 2^31 TSNs.
+/// holds nothing, each write was read exactly once. So it is in reliable sessions that give out fewer than 2^31 TSNs; and in a whole life,
+/// while nothing is handed over or held that is 2^31 TSNs old.
 pub fn each_write_is_read_where_nothing_is_held()
-    ensures { AfterEachReliableSession (λ size s. 0 < size → IsAllReadWhereSettled s) }
+    ensures few { AfterEachReliableSession (λ size s. 0 < size → IsAllReadWhereSettled s) }
+    ensures recent { WhileReliableAndYoung IsAllReadWhereSettled }
 {}
 
 /// And where nothing waits to be sent, nothing is in flight, and on no stream is a message to read: each write was read exactly once.
