@@ -3,11 +3,12 @@ use Rattle.sctp_delivery.proofs.Names.{◌≡◌, ℕ, zero, suc, ◌+◌, ◌-�
 use Rattle.sctp_delivery.proofs.Names.{sym, subst, ◌∙◌, arith, nat_tests, inl, inr, ⊤, list_all, Contains, slice_index_or, both}
 use Rattle.sctp_delivery.proofs.Names.{ChunkPayloadData, Data, data_of, is_on, fragments_on, stream_of, Made, data_chunk, forward_tsn, with_chunk, tsn}
 use Rattle.sctp_delivery.proofs.Names.{distance-tsn, tsns_given, next_chunk, made_after, Transmission, Call, RunsTo, Session, SenderCall, ReceiverCall, SenderFollows}
-use Rattle.sctp_delivery.proofs.Names.{ReceiverFollows, at_start, of_receiver, of_sender}
+use Rattle.sctp_delivery.proofs.Names.{ReceiverFollows, Stand, at_start, of_receiver, of_sender}
 use Rattle.sctp_util.specs.Serial.{comes_before, distance}
 use Rattle.std.proofs.lemmas.List.Elements.{Contains-append_right}
 use Rattle.sctp_delivery.specs.ReceiverCalls as incoming
-use Rattle.sctp_delivery.specs.Recent.{AfterEachYoungRun, Aged, AreForwardsYoung, AreRecent, AreYoung, FewTsnsAreYoung, HoldsRecent, IsAmongYoung, IsForwardYoung, IsRecent, IsYoung}
+use Rattle.sctp_delivery.specs.Recent.{AfterEachYoungRun, Aged, AreForwardsYoung, AreRecent, AreYoung, FewTsnsAreYoung, HoldsRecent, WhileReliableAndYoung, IsAmongYoung, IsForwardYoung, IsRecent, IsYoung}
+use Rattle.sctp_delivery.specs.Complete.{AfterEachReliableSession}
 use Rattle.sctp_delivery.specs.Messages.{AreWritesOfTheirOwn, WhileFewTsns}
 use Rattle.sctp_delivery.specs.Modes.{AfterEachRunOfFewTsns, AreReadAsWritten}
 use Rattle.sctp_delivery.specs.Order.{AreReadInOrder}
@@ -21,7 +22,7 @@ use Rattle.sctp_delivery.proofs.Queues.{IsEnded}
 use Rattle.sctp_delivery.proofs.SackLaws as sacks
 use Rattle.sctp_delivery.proofs.SackSteps.{IsMadeGiven}
 use Rattle.sctp_delivery.proofs.Senders.{IsMoreBy}
-use Rattle.sctp_delivery.proofs.Sent.{Entry, IsPart, Numbered, fragment, part-length, part-line, terminal}
+use Rattle.sctp_delivery.proofs.Sent.{Entry, IsLine, IsPart, Numbered, fragment, part-length, part-line, terminal}
 use Rattle.sctp_delivery.proofs.SpreadCalls.{Spreads, same-more, sender-spreads}
 use Rattle.sctp_delivery.proofs.TsnPlaces.{IsGiven, base, upto-yes}
 use Rattle.sctp_delivery.proofs.UnwrappedSessions.{IsUnwrapped, IsUpTo, receiver-unwrapped, sender-answered, unwrapped-first}
@@ -97,6 +98,20 @@ place-before first n k t next few lt is at =
     let lo : 0 < distance t next = omega (arith, few, lt, is, at) in
     let hi : distance t next < 2 ^ 31 = omega (arith, few, lt, is, at) in
     grind (arith, nat_tests, lo, hi)
+
+-- so it is of what is held, after more TSNs, too
+all-before : (first m next st : ℕ) (ns : List Numbered) (sent : List Entry) → IsLine ns first sent → length sent ≤ m → m < 2 ^ 31
+    → next ≡ (first + m) % 2 ^ 32 → (cs : List ChunkPayloadData) → list_all (is_recent sent st) cs ≡ true
+    → list_all (λ c. comes_before c.tsn next) cs ≡ true
+all-before first m next st ns sent line le few is cs e =
+    both-pass (is_recent sent st) (is_recent sent st) (λ c. comes_before c.tsn next) before cs e e
+  where
+    before : (c : ChunkPayloadData) → is_recent sent st c ≡ true → is_recent sent st c ≡ true → comes_before c.tsn next ≡ true
+    before c e k =
+        let y = from-test (floor (length sent)) (data_of c) sent (both (is_on st c) (stands_from (floor (length sent)) (data_of c) sent) e).1 in
+        let number = (part-line ns first sent (fragment (data_of c) y.0 y.1 ∷ y.2) y.3 line).0.number in
+        let lt = part-length sent (fragment (data_of c) y.0 y.1 ∷ y.2) y.3 in
+        place-before first m (length y.2) c.tsn next few (omega (arith, lt, le)) is number
 
 -- what is held and what was read has places
 abbrev HavePlaces : Session → List Entry → List Aged → Type 0
@@ -175,20 +190,11 @@ module _ (first n : ℕ) (call : SenderCall) (old new : Session) (ns : List Numb
 
   recent-then : (p : HavePlaces old sent ages) → HoldsRecent new
   recent-then p st =
-      let same = ap (λ (s : Session). s.receiving) f.after in
-      ap (λ r. list_all (λ c. comes_before c.tsn (next_tsn new)) (fragments_on (stream_of st r.receiver))) same
-      ∙ both-pass (is_recent sent st) (is_recent sent st) (λ c. comes_before c.tsn (next_tsn new)) one
-      (fragments_on (stream_of st old.receiving.receiver)) (p.1 st) (p.1 st)
-    where
-      one : (c : ChunkPayloadData) → is_recent sent st c ≡ true → is_recent sent st c ≡ true → comes_before c.tsn (next_tsn new) ≡ true
-      one c e k =
-          let y = from-test (floor (length sent)) (data_of c) sent (both (is_on st c) (stands_from (floor (length sent)) (data_of c) sent) e).1 in
-          let number = (part-line ns first sent (fragment (data_of c) y.0 y.1 ∷ y.2) y.3 i.spread.holds.held.stands.queued.line).0.number in
-          let lt = part-length sent (fragment (data_of c) y.0 y.1 ∷ y.2) y.3 in
-          let all = x.spread.long in
-          let was = i.spread.long in
-          place-before first (length x.more) (length y.2) c.tsn (next_tsn new) (omega (arith, all, few)) (omega (arith, lt, all, was))
-          x.spread.holds.held.stands.counted number
+      let all = x.spread.long in
+      let was = i.spread.long in
+      ap (λ (r : Stand). list_all (λ c. comes_before c.tsn (next_tsn new)) (fragments_on (stream_of st r.receiver))) (ap (λ (s : Session). s.receiving) f.after)
+      ∙ all-before first (length x.more) (next_tsn new) st ns sent i.spread.holds.held.stands.queued.line (omega (arith, all, was)) (omega (arith, all, few))
+      x.spread.holds.held.stands.counted (fragments_on (stream_of st old.receiving.receiver)) (p.1 st)
 
   sender-places : HavePlaces old sent ages → HavePlaces new x.more (aged_after (of_sender call) old new ages)
   sender-places p =
@@ -258,16 +264,9 @@ module _ (first n : ℕ) (call : ReceiverCall) (old new : Session) (ns : List Nu
 held-recent : (first n : ℕ) (s : Session) (ns : List Numbered) (sent : List Entry) (ages : List Aged) → n < 2 ^ 31 → IsUnwrapped first n s ns sent
     → HavePlaces s sent ages → HoldsRecent s
 held-recent first n s ns sent ages few i p st =
-    both-pass (is_recent sent st) (is_recent sent st) (λ c. comes_before c.tsn (next_tsn s)) one (fragments_on (stream_of st s.receiving.receiver)) (p.1 st) (p.1 st)
-  where
-    one : (c : ChunkPayloadData) → is_recent sent st c ≡ true → is_recent sent st c ≡ true → comes_before c.tsn (next_tsn s) ≡ true
-    one c e k =
-        let y = from-test (floor (length sent)) (data_of c) sent (both (is_on st c) (stands_from (floor (length sent)) (data_of c) sent) e).1 in
-        let number = (part-line ns first sent (fragment (data_of c) y.0 y.1 ∷ y.2) y.3 i.spread.holds.held.stands.queued.line).0.number in
-        let lt = part-length sent (fragment (data_of c) y.0 y.1 ∷ y.2) y.3 in
-        let was = i.spread.long in
-        place-before first (length sent) (length y.2) c.tsn (next_tsn s) (omega (arith, was, few)) (omega (arith, lt))
-        i.spread.holds.held.stands.counted number
+    let was = i.spread.long in
+    all-before first (length sent) (next_tsn s) st ns sent i.spread.holds.held.stands.queued.line (omega arith) (omega (arith, was, few))
+    i.spread.holds.held.stands.counted (fragments_on (stream_of st s.receiving.receiver)) (p.1 st)
 
 -- ## Each session
 
@@ -325,3 +324,8 @@ pub of-their-own : WhileFewTsns AreWritesOfTheirOwn
 of-their-own =
     of-few (λ calls s. AreWritesOfTheirOwn s)
     (λ tsn size max most limits cs s small some r q y z. young_own.law tsn size max most limits cs s small some r q y)
+
+pub of-reliable : (P : Session → Type 0) → WhileReliableAndYoung P → AfterEachReliableSession (λ size s. 0 < size → P s)
+of-reliable P law tsn size max most limits cs s run small few all some =
+    let y = few-young tsn size max most limits cs s small some run few in
+    law tsn size max most limits cs s small some run y.0 y.1 all

@@ -199,22 +199,6 @@ module _ (first size max most : ℕ) (limits : Option Limits) (cs : List Call) (
       (d : Data) (w : Numbered) (after : List ℕ) (xs : List Entry) → IsPart (fragment d w after ∷ xs) sent → is_gone gone w.place ≡ false
       → was_taken d.tsn s ≡ true → (st : ℕ) × (0 < sum_by (one d.tsn) (fragments_read st s.receiving.read))
 
-  -- what is lost of messages that are gone has other TSNs
-  none-lost : (d : Data) (w : Numbered) (after : List ℕ) (xs : List Entry) → IsPart (fragment d w after ∷ xs) sent → is_gone gone w.place ≡ false
-      → (lost : List ChunkPayloadData) → Every (IsPassedBy gone sent s.made) lost → sum_by (one d.tsn) lost ≡ 0
-  none-lost d w after xs q off [] e = refl
-  none-lost d w after xs q off (c ∷ lost) e =
-      grind (arith, nat_tests, common_steps, sum_by-cons, not_both, same-write, same-is, none-lost d w after xs q off lost e.1)
-
-  -- where all that was taken is held, was read, or is lost so, and of a message that is not gone nothing is held
-  pub read-whole : (a : ℕ) → ((st : ℕ) → IsKeptBut first sent st (tsns_given (at_start first size max most limits) cs s run) a gone s.made s.receiving)
-      → ((d : Data) (w : Numbered) (after : List ℕ) (xs : List Entry) → IsPart (fragment d w after ∷ xs) sent → is_gone gone w.place ≡ false
-      → (st : ℕ) → held_weight (one d.tsn) (stream_of st s.receiving.receiver) ≡ 0) → IsReadWhole
-  read-whole a kept none d w after xs q off taken =
-      let on = some-on d.tsn s.receiving.accepted taken in
-      let k = kept on.0 in
-      (on.0, omega (arith, k.weighs (one d.tsn), none d w after xs q off on.0, none-lost d w after xs q off k.lost k.of-gone))
-
   pub others-once : IsReadWhole → EachOtherIsReadOnce gone s
   others-once all = (
     places ns sent once s.receiving.read reads,

@@ -1,19 +1,18 @@
 -- In the end each write is read exactly once, but for those whose messages were abandoned; in a reliable session none was.
-use Rattle.sctp_delivery.proofs.Names.{length, arith, ◌≡◌, ◌<◌, true, subst, sym, ◌∙◌, both, stream_of, EachOtherIsReadOnce, abandoned_in}
-use Rattle.sctp_delivery.proofs.Names.{AfterEachReliableSession, holds_nothing, is_all_acknowledged, reads_nothing, WhileFewTsns, was_passed, at_start, RunsTo, Session, Call, Limits, Option, List, [], ℕ, ◌^◌}
+use Rattle.sctp_delivery.proofs.Names.{length, arith, ◌≡◌, ◌<◌, true, subst, both, stream_of, EachOtherIsReadOnce, abandoned_in}
+use Rattle.sctp_delivery.proofs.Names.{AfterEachReliableSession, is_all_acknowledged, reads_nothing, WhileFewTsns, was_passed, at_start, RunsTo, Session, Call, Limits, Option, List, [], ℕ, ◌^◌}
 use Rattle.sctp_delivery.specs.Abandoned.{AfterEachSessionOfMessages, AreOfWrites, IsEachOtherReadInTheEnd, IsHeldReadOrPassed, OnlyTheirsAreMarked}
-use Rattle.sctp_delivery.specs.Complete.{IsAllReadInTheEnd, IsAllReadWhereSettled}
+use Rattle.sctp_delivery.specs.Complete.{IsAllReadInTheEnd}
 use Rattle.sctp_delivery.specs.Modes.{AreFewInFlight}
 use Rattle.sctp_delivery.proofs.AbandonedMessages.{AreBelow, AreMarkedGone, IsMarkedGone}
 use Rattle.sctp_delivery.proofs.Cases.{all_streams}
-use Rattle.sctp_delivery.proofs.KeptSessions.{idle-of, none-held, others-once, read-whole, kept-in}
+use Rattle.sctp_delivery.proofs.KeptSessions.{idle-of, others-once, kept-in}
 use Rattle.sctp_delivery.proofs.Every.{all-of-every, every-of}
 use Rattle.sctp_delivery.proofs.HeldInTheEnd.{taken-read}
 use Rattle.sctp_delivery.proofs.InTheEnd.{none-selected}
 use Rattle.sctp_delivery.proofs.Kept.{held-weighs}
 use Rattle.sctp_delivery.proofs.KeptOrGone.{IsPassedBy}
 use Rattle.sctp_delivery.proofs.NoneAbandoned.{each-of-others, none-in}
-use Rattle.sctp_delivery.proofs.ReadOnce.{one}
 use Rattle.sctp_delivery.proofs.Reached.{lasted-first, lasts-gone}
 
 pub others-read : AfterEachSessionOfMessages (λ size gone s. 0 < size → IsEachOtherReadInTheEnd gone s)
@@ -25,17 +24,6 @@ others-read first size max most limits cs s run small few some exhausted =
     (taken-read first size max most limits cs s run _ few _ h.numbered h.sent h.kept idle.inflight
     (none-selected all_streams h.numbered first _ s.sending.sender.flight.queue.pending h.sent h.kept.unwrapped.spread.holds.held.stands.queued idle.ordered
     idle.unordered) b.1)
-
--- and where nothing is held
-others-settled : AfterEachSessionOfMessages (λ size gone s. 0 < size → is_all_acknowledged s.sending.sender ≡ true
-    → holds_nothing s.receiving.receiver ≡ true → EachOtherIsReadOnce gone s)
-others-settled first size max most limits cs s run small few some acknowledged empty =
-    let h = kept-in first size max most limits cs s small some run few in
-    let idle = idle-of s acknowledged in
-    let i = h.kept.unwrapped.spread in
-    others-once first size max most limits cs s run small few _ h.numbered h.sent i h.kept.passed idle
-    (read-whole first size max most limits cs s run small few _ h.numbered h.sent i h.kept.passed idle i.step.numbered.acked h.kept.kept
-    (λ d w after xs p off st. sym (held-weighs (one d.tsn) (stream_of st s.receiving.receiver)) ∙ none-held st d.tsn s.receiving.receiver empty))
 
 -- what is taken is held, was read, or is passed
 pub held-read-or-passed : WhileFewTsns IsHeldReadOrPassed
@@ -55,12 +43,6 @@ pub all-read : AfterEachReliableSession (λ size s. 0 < size → IsAllReadInTheE
 all-read first size max most limits cs s run small few all some exhausted =
     each-of-others s (subst (λ gone. EachOtherIsReadOnce gone s) (none-in cs (at_start first size max most limits) s run all)
     (others-read first size max most limits cs s run small few some exhausted))
-
-pub all-settled : AfterEachReliableSession (λ size s. 0 < size → IsAllReadWhereSettled s)
-all-settled first size max most limits cs s run small few all some settled =
-    let b = both (is_all_acknowledged s.sending.sender) (holds_nothing s.receiving.receiver) settled in
-    each-of-others s (subst (λ gone. EachOtherIsReadOnce gone s) (none-in cs (at_start first size max most limits) s run all)
-    (others-settled first size max most limits cs s run small few some b.0 b.1))
 
 -- ## What is abandoned
 

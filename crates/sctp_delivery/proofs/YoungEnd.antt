@@ -264,13 +264,13 @@ module _ (first : ℕ) (call : SenderCall) (old new : Session) (ns : List Number
 
 -- ## A call of the receiver
 
-abbrev IsWholeMessage : Message → Type 0
-IsWholeMessage m = (is_complete m.fragments ≡ true) × (is_one_message m.fragments ≡ true) × (list_all (is_on m.stream) m.fragments ≡ true)
+abbrev IsWhole : Message → Type 0
+IsWhole m = (is_complete m.fragments ≡ true) × (is_one_message m.fragments ≡ true) × (list_all (is_on m.stream) m.fragments ≡ true)
 
 module _ (first : ℕ) (call : ReceiverCall) (old new : Session) (ns : List Numbered) (sent : List Entry) (ages : List Aged)
     (f : ReceiverFollows call old new) (i : IsYoungSession first old ns sent ages) (young : IsYoung (of_receiver call) ages) (recent : HoldsRecent new)
     (few : count_in_flight new < 2 ^ 31) (q : IsRecent (of_receiver call) old) (j : IsNear old) (ps : List ℕ) (h : IsOwned old sent ps)
-    (e : IsSet first old.sending.sender.flight sent) (ko : IsKeptIn old) (kn : IsKeptIn new) (whole : Every IsWholeMessage new.receiving.read)
+    (e : IsSet first old.sending.sender.flight sent) (ko : IsKeptIn old) (kn : IsKeptIn new) (whole : Every IsWhole new.receiving.read)
     (qs : List ℕ) (o : IsOwned new sent qs) (on : AreReadOn sent old.receiving.read new.receiving.read ps qs) (t : AreThere first old sent e.acked ps) where
   line : IsLine ns first sent
   line = i.holds.held.stands.queued.line
@@ -440,8 +440,8 @@ module _ (first : ℕ) (call : ReceiverCall) (old new : Session) (ns : List Numb
               e' = each-from (floor (length sent)) stream sent set.chunks (omega arith)
                   (all-recent first call old new ns sent ages f i young recent few q j ps h stream g set m)
 
-              w' : Every IsWholeMessage (record { stream = stream; fragments = set.chunks } ∷ old.receiving.read)
-              w' = subst (Every IsWholeMessage) read whole
+              w' : Every IsWhole (record { stream = stream; fragments = set.chunks } ∷ old.receiving.read)
+              w' = subst (Every IsWhole) read whole
 
               by : AreReadOn sent old.receiving.read new.receiving.read ps qs → IsThere new sent qs d xs
               by (inl y) = let n = ap length (sym read ∙ y.0) in absurd (omega (arith, n))
@@ -498,19 +498,19 @@ module _ (first : ℕ) (call : ReceiverCall) (old new : Session) (ns : List Numb
 
 -- ## Each session
 
-whole-before : (cs : List Call) (old new : Session) → RunsTo old cs new → Every IsWholeMessage new.receiving.read → Every IsWholeMessage old.receiving.read
-whole-before [] old new r h = subst (λ (s : Session). Every IsWholeMessage s.receiving.read) r h
+whole-before : (cs : List Call) (old new : Session) → RunsTo old cs new → Every IsWhole new.receiving.read → Every IsWhole old.receiving.read
+whole-before [] old new r h = subst (λ (s : Session). Every IsWhole s.receiving.read) r h
 whole-before (of_sender call ∷ cs) old new r h =
-    subst (λ (s : Stand). Every IsWholeMessage s.read) (ap (λ (s : Session). s.receiving) r.1.0.after) (whole-before cs r.0 new r.1.1 h)
+    subst (λ (s : Stand). Every IsWhole s.read) (ap (λ (s : Session). s.receiving) r.1.0.after) (whole-before cs r.0 new r.1.1 h)
 whole-before (of_receiver call ∷ cs) old new r h = by call r.1.0 (whole-before cs r.0 new r.1.1 h)
   where
-    less : (o : Option ChunkSet) (stream : ℕ) → Every IsWholeMessage (with_message stream o old.receiving.read) → Every IsWholeMessage old.receiving.read
+    less : (o : Option ChunkSet) (stream : ℕ) → Every IsWhole (with_message stream o old.receiving.read) → Every IsWhole old.receiving.read
     less None stream h = h
     less (Some set) stream h = h.1
 
-    by : (c : ReceiverCall) → ReceiverFollows c old r.0 → Every IsWholeMessage r.0.receiving.read → Every IsWholeMessage old.receiving.read
-    by (incoming.reads stream) f h = less (message_on stream old.receiving.receiver) stream (subst (Every IsWholeMessage) f.step.read h)
-    by c f h = subst (Every IsWholeMessage) f.step.read h
+    by : (c : ReceiverCall) → ReceiverFollows c old r.0 → Every IsWhole r.0.receiving.read → Every IsWhole old.receiving.read
+    by (incoming.reads stream) f h = less (message_on stream old.receiving.receiver) stream (subst (Every IsWhole) f.step.read h)
+    by c f h = subst (Every IsWhole) f.step.read h
 
 record After (first : ℕ) (s : Session) : Type 0 where
   numbered : List Numbered
@@ -526,7 +526,7 @@ record After (first : ℕ) (s : Session) : Type 0 where
 there-then : (first : ℕ) (cs : List Call) (old new : Session) (ns : List Numbered) (sent : List Entry) (ages : List Aged) (r : RunsTo old cs new)
     → AreRecent old cs new r → AreYoung ages old cs new r → list_all is_reliable cs ≡ true → IsNear old → IsYoungSession first old ns sent ages
     → (ps : List ℕ) → IsOwned old sent ps → IsKeptIn old → (e : IsSet first old.sending.sender.flight sent) → AreThere first old sent e.acked ps
-    → AreBegunOrGone [] (length ns) sent old.sending.sender.flight.queue.pending → Every IsWholeMessage new.receiving.read → After first new
+    → AreBegunOrGone [] (length ns) sent old.sending.sender.flight.queue.pending → Every IsWhole new.receiving.read → After first new
 there-then first [] old new ns sent ages r q y all j i ps h k e t b w = subst (After first) (sym r) (record {
   numbered = ns;
   sent = sent;

@@ -1,6 +1,7 @@
-use Rattle.sctp_delivery.proofs.OthersOnce as others
+use Rattle.sctp_delivery.specs.Complete.{IsAllReadWhereSettled}
+use Rattle.sctp_delivery.proofs.FewYoung.{of-reliable}
 use Rattle.sctp_delivery.proofs.YoungEnd as young_end
 use Rattle.sctp_delivery.proofs.laws.complete.each_write_is_read_where_nothing_is_held.Goals as goal
 
 pub returns : goal.returns
-returns c = record { few = others.all-settled; recent = young_end.law }
+returns c = record { few = of-reliable IsAllReadWhereSettled young_end.law; recent = young_end.law }
