@@ -6,7 +6,9 @@ use Rattle.std.specs.Prelude.{◌&&◌, ◌||◌, ◌+◌, ◌⊎◌, IsErr, Ok,
 use Rattle.std.specs.Option.{option_map}
 use Rattle.sctp_association.proofs.Making.{fitting}
 use Rattle.sctp_association.proofs.Running.{none_sent}
-use Rattle.sctp_association.specs.Congested.{IsAsFull, LeavesAgain, LeavesFrom, LeavesNew, LeavesWithin, Path, PausesFrom, PausesWithin, Repeats, Resends, SendsNew, SendsWithin, StaysOrAgain, StaysOrLeaves, base_at, begun, ended, idle_at, idled, is_unsent, may_again, path_of, pauses, told_at, used_after, with_burst}
+use Rattle.sctp_association.specs.Congested.{IsAsFull, LeavesAgain, LeavesFrom, LeavesNew, LeavesWithin, Path, PausesFrom, PausesWithin, Repeats, Resends}
+use Rattle.sctp_association.specs.Congested.{SendsNew, SendsWithin, StaysOrAgain, StaysOrLeaves, base_at, begun, ended, idle_at, idled, is_unsent, may_again}
+use Rattle.sctp_association.specs.Congested.{path_of, pauses, told_at, used_after, with_burst}
 use Rattle.sctp_association.specs.declared.association.Association.{Association}
 use Rattle.sctp_association.specs.declared.fault.Fault.{Fault}
 use Rattle.sctp_association.specs.declared.outbound.Outbound.{Outbound}
@@ -165,7 +167,8 @@ within_before now a b c f g = record {
   rto = g.rto ∙ f.rto;
 }
 
-pub within_again : (now : ℕ) (a b : Outbound) → Resends now a.rto a.is_fast (flight_of (in_flight a.sender)) (path_of a) (path_of b) → b.rto ≡ a.rto → LeavesWithin now a b
+pub within_again : (now : ℕ) (a b : Outbound) → Resends now a.rto a.is_fast (flight_of (in_flight a.sender)) (path_of a) (path_of b) → b.rto ≡ a.rto
+    → LeavesWithin now a b
 within_again now a b f rto = record { path = record { told = false; mid = path_of b; again = f; left = inl refl }; rto = rto }
 
 pub within_both : (now : ℕ) (a b c : Outbound) → Resends now a.rto a.is_fast (flight_of (in_flight a.sender)) (path_of a) (path_of b) → b.rto ≡ a.rto

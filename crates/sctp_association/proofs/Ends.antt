@@ -1,25 +1,34 @@
 -- Which chunk may end an association.
 use Rattle.std.proofs.Common.{◌≡◌, ◌⊎◌, ℕ, Bool, true, false, List, [], drop, Option, Some, None, refl, ap, sym, subst, ◌∙◌, inl, inr}
 use Rattle.std.proofs.lemmas.Bool.{cases_Bool, cases_eq, false≢true, ne_eqb}
-use Rattle.std.specs.Prelude.{Result, Ok, Err, IfErr, IfOk, ◌==◌, is_some}
-use Rattle.sctp_association.proofs.Rows.{row_other}
+use Rattle.std.proofs.lemmas.Option.{none-some}
+use Rattle.std.specs.Prelude.{Result, Ok, Err, IfErr, IfOk, IfSome, ◌==◌, is_some}
+use Rattle.sctp_association.proofs.Rows.{asked_closed, row_other, settled_closed}
 use Rattle.sctp_association.specs.Coming.{goes_on}
 use Rattle.sctp_association.specs.Cookies.{cookie_in}
-use Rattle.sctp_association.specs.Ends.{Ends, EndsData, EndsIn, EndsOn, EndsSkip, IsEndedBy, IsForged, IsRefusedForGood, IsSkipRefusedForGood, ends_at, ends_by_type}
-use Rattle.sctp_association.specs.Ends.{by_data, by_sack, by_skip, by_type}
+use Rattle.sctp_association.specs.Ends.{Ends, EndsData, EndsIn, EndsOn, EndsSkip, IsAborted, IsAbortedBy, IsEndedBy, IsForged, abort_for, advised_code}
+use Rattle.sctp_association.specs.Ends.{by_data, by_empty, by_sack, by_skip, ends_at, ends_by_type}
 use Rattle.sctp_association.specs.Halves.{receiver_of}
 use Rattle.sctp_association.specs.Openings.{EchoesOn, InitAckOn}
-use Rattle.sctp_association.specs.Rows.{FollowsStep, RowOn, cause_in, error_row, has_row, over_by, row_at}
+use Rattle.sctp_association.specs.Causes.{cause_in}
+use Rattle.sctp_association.specs.Fresh.{fresh_tag}
+use Rattle.sctp_association.specs.Rows.{FollowsStep, RowOn, Settles, error_row, has_row, over_by, owed_by, row_at, settled}
+use Rattle.sctp_association.specs.Timers.{KeepsTimers, stops}
 use Rattle.sctp_association.specs.declared.association.Association.{Association}
 use Rattle.sctp_association.specs.declared.association.arrivals.Step.{Step}
 use Rattle.sctp_association.specs.declared.association.arrivals.Step.TheVariants.{Next, Stop, Cut, Refused}
+use Rattle.sctp_association.specs.declared.due.AloneKind.{AloneKind}
+use Rattle.sctp_association.specs.declared.due.AloneKind.TheVariants as alone
+use Rattle.sctp_association.specs.declared.due.Due.{Due}
+use Rattle.sctp_association.specs.declared.event.Events.{Events}
 use Rattle.sctp_association.specs.declared.fault.Fault.{Fault}
 use Rattle.sctp_association.specs.declared.inbound.Followed.{Followed}
 use Rattle.sctp_association.specs.declared.inbound.Followed.TheVariants.{Abort, Done, NoUserData, Wanting}
 use Rattle.sctp_data.specs.declared.chunk.chunk_payload_data.ChunkPayloadData.{ChunkPayloadData}
 use Rattle.sctp_data.specs.ForwardTsn.{ForwardTsn}
+use Rattle.sctp_data.specs.PayloadData.{data_of}
 use Rattle.sctp_association.specs.declared.outbound.Outbound.{Outbound}
-use Rattle.sctp_chunks.specs.Wire.{sack_chunk}
+use Rattle.sctp_chunks.specs.Wire.{data_chunk, forward_tsn_chunk, sack_chunk}
 use Rattle.sctp_data.specs.SelectiveAck.{Sack}
 use Rattle.sctp_datagram.specs.Carried.{IsChunkOf}
 use Rattle.sctp_datagram.specs.Framing.{StartsWith}
@@ -29,11 +38,14 @@ use Rattle.sctp_handshake.specs.Endings.{shutdown_row}
 use Rattle.sctp_handshake.specs.Machines as machines
 use Rattle.sctp_handshake.specs.declared.machine.cookies.CookieRow.{CookieRow}
 use Rattle.sctp_handshake.specs.declared.machine.cookies.CookieRow.TheVariants.{First, Restart, Collision, Late, Repeat, Unlisted}
+use Rattle.sctp_handshake.specs.declared.answer.Reply.TheVariants.{Shutdown}
 use Rattle.sctp_handshake.specs.declared.machine.Machine.{Machine}
+use Rattle.sctp_handshake.specs.declared.offer.Offer.{Offer}
 use Rattle.sctp_handshake.specs.declared.state.State.{State}
 use Rattle.sctp_handshake.specs.declared.state.State.TheVariants.{Closed, CookieEchoed}
 use Rattle.sctp_handshake.specs.declared.ticket.Ticket.{Ticket}
 use Rattle.sctp_association.specs.Paths.{taken_as}
+use Rattle.sctp_path.specs.declared.timer.Timer.{Timer}
 use Rattle.sctp_receiver.specs.Receiver.{Reception}
 use Rattle.sctp_sender.specs.Flight.{sack_refusal}
 use Rattle.sctp_sender.specs.Sender.{take_back_refusal}
@@ -87,36 +99,36 @@ echo-goes Repeat t stale m = repeat-goes m.state m
 echo-goes Unlisted t stale m = unless-goes stale m _ refl
 
 -- where the step is followed that tells no end, it is over as it was
-goes-over : (s : machines.Step) (tag : ℕ) (a b : Association) → Goes s → FollowsStep s tag a b → a.is_over ≡ false → b.is_over ≡ true → ⊥
-goes-over s tag a b goes h going over =
+goes-over : (s : machines.Step) (tag now : ℕ) (a b : Association) → Goes s → FollowsStep s tag now a b → a.is_over ≡ false → b.is_over ≡ true → ⊥
+goes-over s tag now a b goes h going over =
     false≢true (sym goes ∙ sym (ap (λ (x : Bool). over_by s.answer.told x) going) ∙ sym h.answer.over ∙ over)
 
 -- ## A chunk that has a row
 
 -- the causes of an ERROR that end nothing
-error-ends : (cause : Option ℕ) (m : Machine) → over_by (error_row cause m).answer.told false ≡ true → ends_at 9 cause ≡ true
-error-ends None m e = absurd (false≢true e)
-error-ends (Some code) m e = elim (cases_Bool (code == 3)) [
+error-ends : (cause : Option ℕ) (fresh : ℕ) (m : Machine) → over_by (error_row cause fresh m).answer.told false ≡ true → ends_at 9 cause ≡ true
+error-ends None fresh m e = absurd (false≢true e)
+error-ends (Some code) fresh m e = elim (cases_Bool (code == 3)) [
   | inl is ↦ is
   | inr other ↦ absurd (false≢true (rw other at e))
 ]
 
-row-ends : (typ : ℕ) (cause : Option ℕ) (m : Machine) → goes_on typ ≡ false → over_by (row_at typ cause m).answer.told false ≡ true
+row-ends : (typ : ℕ) (cause : Option ℕ) (fresh : ℕ) (m : Machine) → goes_on typ ≡ false → over_by (row_at typ cause fresh m).answer.told false ≡ true
     → ends_at typ cause ≡ true
-row-ends typ cause m off e = elim (cases_eq typ 6) [
+row-ends typ cause fresh m off e = elim (cases_eq typ 6) [
   | inl is ↦ ap (λ n. ends_at n cause) is
   | inr n6 ↦ elim (cases_eq typ 8) [
     | inl is ↦ ap (λ n. ends_at n cause) is
     | inr n8 ↦ elim (cases_eq typ 14) [
       | inl is ↦ ap (λ n. ends_at n cause) is
       | inr n14 ↦ elim (cases_eq typ 9) [
-        | inl is ↦ ap (λ n. ends_at n cause) is ∙ error-ends cause m (sym (ap told is) ∙ e)
+        | inl is ↦ ap (λ n. ends_at n cause) is ∙ error-ends cause fresh m (sym (ap told is) ∙ e)
         | inr n9 ↦ elim (cases_eq typ 7) [
           | inl is ↦ absurd (false≢true (sym (shutdown-goes m.state m) ∙ sym (ap told is) ∙ e))
           | inr n7 ↦ elim (cases_eq typ 11) [
             | inl is ↦ absurd (false≢true (sym (ack-goes m.state m) ∙ sym (ap told is) ∙ e))
             | inr n11 ↦ absurd (false≢true (sym (ap (λ (s : machines.Step). over_by s.answer.told false)
-                (row_other typ cause m (λ is. false≢true (sym off ∙ ap goes_on is)) n6 n7 n8 n9 n11 n14)) ∙ e))
+                (row_other typ cause fresh m (λ is. false≢true (sym off ∙ ap goes_on is)) n6 n7 n8 n9 n11 n14)) ∙ e))
           ]
         ]
       ]
@@ -125,40 +137,41 @@ row-ends typ cause m off e = elim (cases_eq typ 6) [
 ]
   where
     told : ℕ → Bool
-    told n = over_by (row_at n cause m).answer.told false
+    told n = over_by (row_at n cause fresh m).answer.told false
 
 module _ (c : ChunkPlace) (d : List ℕ) (a b : Association) where
-  pub ends_row : goes_on c.typ ≡ false → (s : Step) → (s ≡ Cut → ⊥) → RowOn c d s a b → EndsOn c d s a b
-  ends_row off Next whole h = λ going over. row-ends c.typ (cause_in d c) a.machine off (
-      sym (ap (λ (x : Bool). over_by (row_at c.typ (cause_in d c) a.machine).answer.told x) going) ∙ sym h.answer.over ∙ over
+  pub ends_row : (now : ℕ) → goes_on c.typ ≡ false → (s : Step) → (s ≡ Cut → ⊥) → RowOn c d now s a b → EndsOn c d s a b
+  ends_row now off Next whole h = λ going over. row-ends c.typ (cause_in d c) (fresh_tag a.key now a.machine.own) a.machine off (
+      sym (ap (λ (x : Bool). over_by (row_at c.typ (cause_in d c) (fresh_tag a.key now a.machine.own) a.machine).answer.told x) going) ∙ sym h.answer.over
+      ∙ over
       )
-  ends_row off Stop whole (inl e) = λ going over. by_type (ap (λ n. ends_at n (cause_in d c)) e.0)
-  ends_row off Stop whole (inr e) = absurd (false≢true (sym off ∙ e.0))
-  ends_row off Cut whole h = absurd (whole refl)
-  ends_row off (Refused r) whole h = tt
+  ends_row now off Stop whole (inl e) = λ going over. inl (ap (λ n. ends_at n (cause_in d c)) e.0)
+  ends_row now off Stop whole (inr e) = absurd (false≢true (sym off ∙ e.0))
+  ends_row now off Cut whole h = absurd (whole refl)
+  ends_row now off (Refused r) whole h = tt
 
   -- a COOKIE-ECHO ends nothing
   pub ends_echo : (tag now : ℕ) (s : Step) → EchoesOn tag (cookie_in d c) now s a b → EndsOn c d s a b
-  ends_echo tag now Next h = λ going over. absurd (goes-over h.0 _ a b (ap (λ (s : machines.Step). over_by s.answer.told false) h.2.is
+  ends_echo tag now Next h = λ going over. absurd (goes-over h.0 _ now a b (ap (λ (s : machines.Step). over_by s.answer.told false) h.2.is
       ∙ echo-goes (row_of h.2.made.ticket a.machine) h.2.made.ticket _ a.machine) h.2.follows going over)
-  ends_echo tag now Stop h = λ going over. absurd (goes-over h.0 _ a b (ap (λ (s : machines.Step). over_by s.answer.told false) h.2.is
+  ends_echo tag now Stop h = λ going over. absurd (goes-over h.0 _ now a b (ap (λ (s : machines.Step). over_by s.answer.told false) h.2.is
       ∙ echo-goes (row_of h.2.made.ticket a.machine) h.2.made.ticket _ a.machine) h.2.follows going over)
   ends_echo tag now Cut h = absurd h
   ends_echo tag now (Refused r) h = tt
 
   -- an INIT ACK may
-  pub ends_init_ack : c.typ ≡ 2 → (s : Step) → InitAckOn c d s a b → EndsOn c d s a b
-  ends_init_ack typ Next h = λ going over. ap (λ n. ends_at n (cause_in d c)) typ
-  ends_init_ack typ Stop h = λ going over. by_type (ap (λ n. ends_at n (cause_in d c)) typ)
-  ends_init_ack typ Cut h = absurd h
-  ends_init_ack typ (Refused r) h = tt
+  pub ends_init_ack : (now : ℕ) → c.typ ≡ 2 → (s : Step) → InitAckOn c d now s a b → EndsOn c d s a b
+  ends_init_ack now typ Next h = λ going over. ap (λ n. ends_at n (cause_in d c)) typ
+  ends_init_ack now typ Stop h = λ going over. inl (ap (λ n. ends_at n (cause_in d c)) typ)
+  ends_init_ack now typ Cut h = absurd h
+  ends_init_ack now typ (Refused r) h = tt
 
 -- none of these types
 pub off_other : (typ : ℕ) → (typ ≡ 0 → ⊥) → (typ ≡ 3 → ⊥) → (typ ≡ 192 → ⊥) → goes_on typ ≡ false
 off_other typ n0 n3 n192 = rw (ne_eqb typ 0 n0) (rw (ne_eqb typ 3 n3) (ne_eqb typ 192 n192))
 
-pub row_has : (typ : ℕ) → (typ ≡ 1 → ⊥) → (typ ≡ 2 → ⊥) → (typ ≡ 10 → ⊥) → (typ ≡ 130 → ⊥) → has_row typ ≡ true
-row_has typ n1 n2 n10 n130 = rw (ne_eqb typ 1 n1) (rw (ne_eqb typ 2 n2) (rw (ne_eqb typ 10 n10) (rw (ne_eqb typ 130 n130) refl)))
+pub row_has : (typ : ℕ) → (typ ≡ 1 → ⊥) → (typ ≡ 2 → ⊥) → (typ ≡ 10 → ⊥) → has_row typ ≡ true
+row_has typ n1 n2 n10 = rw (ne_eqb typ 1 n1) (rw (ne_eqb typ 2 n2) (rw (ne_eqb typ 10 n10) refl))
 
 -- an answer of a call carries over
 pub if_then : {T E : Type 0} {P Q : T → Type 0} (r : Result T E) → ((x : T) → r ≡ Ok x → P x → Q x) → IfOk r P → IfOk r Q
@@ -167,18 +180,23 @@ if_then (Err e) f h = tt
 
 -- ## DATA and FORWARD-TSN
 
-pub data_why : (c : ChunkPayloadData) (f : Followed) (r : Reception) → EndsData c f r → (f ≡ Done → ⊥) → (f ≡ Wanting → ⊥)
-    → (c.user_data ≡ []) ⊎ IsRefusedForGood c r
-data_why c Done r h done wanting = absurd (done refl)
-data_why c Wanting r h done wanting = absurd (wanting refl)
-data_why c (NoUserData tsn) r h done wanting = inl h
-data_why c (Abort cause) r h done wanting = inr h
+module _ (c : ChunkPlace) (d : List ℕ) (p q : Option Offer) (same : q ≡ p) (b : Association) (r : Reception) (is : receiver_of b.inbound ≡ Some r) where
+  pub data_aborts : (chunk : ChunkPayloadData) → StartsWith (drop c.at d) (data_chunk (data_of chunk)) → (f : Followed) → EndsData chunk f r
+      → (f ≡ Done → ⊥) → (f ≡ Wanting → ⊥) → IfSome (abort_for f) (λ kind. IsAborted kind q b) → IsAbortedBy c d p b
+  data_aborts chunk reads Done h done wanting aborts = absurd (done refl)
+  data_aborts chunk reads Wanting h done wanting aborts = absurd (wanting refl)
+  data_aborts chunk reads (NoUserData tsn) h done wanting aborts =
+      by_empty chunk reads h.0 (subst (λ n. IsAborted (alone.NoUserData n) p b) h.1 (subst (λ o. IsAborted (alone.NoUserData tsn) o b) same aborts))
+  data_aborts chunk reads (Abort cause) h done wanting aborts =
+      by_data r is chunk reads cause h (subst (λ o. IsAborted (alone.Abort (advised_code cause)) o b) same aborts)
 
-pub skip_why : (c : ForwardTsn) (f : Followed) (r : Reception) → EndsSkip c f r → (f ≡ Done → ⊥) → (f ≡ Wanting → ⊥) → IsSkipRefusedForGood c r
-skip_why c Done r h done wanting = absurd (done refl)
-skip_why c Wanting r h done wanting = absurd (wanting refl)
-skip_why c (NoUserData tsn) r h done wanting = absurd h
-skip_why c (Abort cause) r h done wanting = h
+  pub skip_aborts : (skip : ForwardTsn) → StartsWith (drop c.at d) (forward_tsn_chunk skip) → (f : Followed) → EndsSkip skip f r
+      → (f ≡ Done → ⊥) → (f ≡ Wanting → ⊥) → IfSome (abort_for f) (λ kind. IsAborted kind q b) → IsAbortedBy c d p b
+  skip_aborts skip reads Done h done wanting aborts = absurd (done refl)
+  skip_aborts skip reads Wanting h done wanting aborts = absurd (wanting refl)
+  skip_aborts skip reads (NoUserData tsn) h done wanting aborts = absurd h
+  skip_aborts skip reads (Abort cause) h done wanting aborts =
+      by_skip r is skip reads cause h (subst (λ o. IsAborted (alone.Abort (advised_code cause)) o b) same aborts)
 
 -- a SACK that was read is there
 pub sack_there : (at : ℕ) (d : List ℕ) (s : Sack) (bytes : List ℕ) → bytes ≡ drop at d → StartsWith bytes (sack_chunk s)
@@ -201,23 +219,44 @@ forged_by s t o (Err k) same not_ok other why = elim why [
 pub forged_still : (s : Sack) (o p : Outbound) → p ≡ o → IsForged s o → IsForged s p
 forged_still s o p same h = subst (IsForged s) (sym same) h
 
--- where it is taken the association goes on, and where it ends the datagram it has ended so
-pub ends_by : (c : ChunkPlace) (d : List ℕ) (a b : Association) (s : Step) → (s ≡ Next → b.is_over ≡ a.is_over) → (s ≡ Stop → Ends c d b)
-    → (s ≡ Cut → ⊥) → EndsOn c d s a b
-ends_by c d a b Next next stop cut = λ going over. absurd (false≢true (sym going ∙ sym (next refl) ∙ over))
-ends_by c d a b Stop next stop cut = λ going over. stop refl
-ends_by c d a b Cut next stop cut = absurd (cut refl)
-ends_by c d a b (Refused r) next stop cut = tt
-
 -- ## Chunks one behind the other
 
--- what leaves both halves leaves that
-pub ends_still : (c : ChunkPlace) (d : List ℕ) (a b : Association) → receiver_of b.inbound ≡ receiver_of a.inbound → b.outbound ≡ a.outbound
-    → Ends c d a → Ends c d b
-ends_still c d a b came out (by_type e) = by_type e
-ends_still c d a b came out (by_data r is chunk reads why) = by_data r (came ∙ is) chunk reads why
-ends_still c d a b came out (by_skip r is f reads why) = by_skip r (came ∙ is) f reads why
-ends_still c d a b came out (by_sack s reads forged) = by_sack s reads (rw (sym out) at forged)
+-- an association that is closed stays so as the datagram ends
+module _ (now : ℕ) (a b : Association) (came : receiver_of b.inbound ≡ receiver_of a.inbound) (events : b.events ≡ a.events) (ends : Settles now a b) where
+  aborted-kept : (kind : AloneKind) (peer : Option Offer) → IsAborted kind peer a → IsAborted kind peer b
+  aborted-kept kind peer h =
+      let machine : b.machine ≡ a.machine = ends.machine ∙ ap (λ (s : machines.Step). s.machine) (settled_closed a h.state) in
+      let due : b.due ≡ a.due = ends.due ∙ ap (λ (s : machines.Step). owed_by s.answer.reply 0 a.due) (settled_closed a h.state) in
+      let silent : (settled a).answer.reply ≡ None = ap (λ (s : machines.Step). s.answer.reply) (settled_closed a h.state) in
+      let kept : KeepsTimers a b = ends.timers.keep (ap (λ (s : machines.Step). stops s.answer.told) (settled_closed a h.state))
+      (ap (λ (m : Machine). m.state) machine ∙ sym (ap (λ (m : Machine). m.state) (asked_closed a.wants_shutdown a.machine h.state)))
+      (λ e. none-some Shutdown (sym silent ∙ e)) in
+      record {
+        over = ends.over ∙ h.over;
+        state = ap (λ (m : Machine). m.state) machine ∙ h.state;
+        told = ap (λ (e : Events). e.closed) events ∙ h.told;
+        timers = record {
+          control = ap (λ (t : Timer). t.at) kept.control ∙ h.timers.control;
+          guard = ap (λ (t : Timer). t.at) kept.guard ∙ h.timers.guard;
+        };
+        alone = ap (λ (x : Due). x.alone) due ∙ h.alone;
+        farewell = λ is. ap (λ (x : Due). x.farewell) due ∙ h.farewell is;
+      }
+
+  pub aborted_still : (c : ChunkPlace) (d : List ℕ) (peer : Option Offer) → IsAbortedBy c d peer a → IsAbortedBy c d peer b
+  aborted_still c d peer (by_empty chunk reads none h) = by_empty chunk reads none (aborted-kept _ peer h)
+  aborted_still c d peer (by_data r is chunk reads cause why h) = by_data r (came ∙ is) chunk reads cause why (aborted-kept _ peer h)
+  aborted_still c d peer (by_skip r is f reads cause why h) = by_skip r (came ∙ is) f reads cause why (aborted-kept _ peer h)
+  aborted_still c d peer (by_sack s reads forged h) = by_sack s reads (forged_still s a.outbound b.outbound ends.outbound forged) (aborted-kept _ peer h)
+
+  ends-still : (c : ChunkPlace) (d : List ℕ) (peer : Option Offer) → Ends c d peer a → Ends c d peer b
+  ends-still c d peer (inl e) = inl e
+  ends-still c d peer (inr h) = inr (aborted_still c d peer h)
+
+  pub ended_still : (d : List ℕ) (x : Association) → EndsIn d x a → EndsIn d x b
+  ended_still d x was = λ going over.
+      let h = was going (sym ends.over ∙ over) in
+      record { chunk = h.chunk; own = h.own; peer = h.peer; ends = ends-still h.chunk d h.peer h.ends }
 
 -- so far one ended it by its type, if any did
 pub record EndedByType (d : List ℕ) : Type 0 where
@@ -229,7 +268,7 @@ abbrev pub EndedSo : List ℕ → (old new : Association) → Type 0
 EndedSo d old new = old.is_over ≡ false → new.is_over ≡ true → EndedByType d
 
 ended-of : (d : List ℕ) (b : Association) → EndedByType d → IsEndedBy d b
-ended-of d b e = record { chunk = e.chunk; own = e.own; ends = by_type e.ends }
+ended-of d b e = record { chunk = e.chunk; own = e.own; peer = None; ends = inl e.ends }
 
 module _ (d : List ℕ) (a m b : Association) (c : ChunkPlace) (own : IsChunkOf d c) (so : EndedSo d a m) where
   -- behind another chunk
@@ -242,7 +281,7 @@ module _ (d : List ℕ) (a m b : Association) (c : ChunkPlace) (own : IsChunkOf 
   pub ended_stop : EndsOn c d Stop m b → EndsIn d a b
   ended_stop on = λ going over. elim (cases_Bool m.is_over) [
     | inl was ↦ ended-of d b (so going was)
-    | inr was ↦ record { chunk = c; own = own; ends = on was over }
+    | inr was ↦ record { chunk = c; own = own; peer = m.machine.peer; ends = on was over }
   ]
 
 -- nothing more ends it
@@ -258,9 +297,3 @@ ended_then d a m b so others = λ going over. elim (cases_Bool m.is_over) [
   | inl was ↦ ended-of d b (so going was)
   | inr was ↦ others was over
 ]
-
-pub ended_still : (d : List ℕ) (a b e : Association) → receiver_of e.inbound ≡ receiver_of b.inbound → e.outbound ≡ b.outbound
-    → e.is_over ≡ b.is_over → EndsIn d a b → EndsIn d a e
-ended_still d a b e came out same ends = λ going over.
-    let h = ends going (sym same ∙ over) in
-    record { chunk = h.chunk; own = h.own; ends = ends_still h.chunk d b e came out h.ends }

@@ -41,7 +41,7 @@ expects_begun typ a e closed = elim (cases_Bool (goes_on typ)) [
 ]
 
 -- by itself no chunk of this type is expected
-pub expected_none : (a : Association) (n : ℕ) → goes_on n ≡ false → expects n a ≡ false → is_expected n a ≡ true → ⊥
+expected_none : (a : Association) (n : ℕ) → goes_on n ≡ false → expects n a ≡ false → is_expected n a ≡ true → ⊥
 expected_none a n off none e =
     false≢true (sym none ∙ (and_parts (not (is_closed a.machine.state)) (expects n a)
     (sym (ap (λ b. if b then is_due n a else not (is_closed a.machine.state) && expects n a) off) ∙ e)).1)

@@ -19,7 +19,8 @@ use Rattle.sctp_association.specs.Leaving.{AsksNoMore, IsDueOnce, IsParamOnce, O
 use Rattle.sctp_association.specs.Leaving.{requests_due}
 use Rattle.sctp_association.specs.Most.{FewerWherePut, most_data, most_packets, most_replies, packets_in, shutdowns_left}
 use Rattle.sctp_association.specs.Packets.{Adds, with_chunks}
-use Rattle.sctp_chunks.specs.Wire.{Wire, cookie_ack_chunk, cookie_echo_chunk, error_chunk, heartbeat_ack_chunk, heartbeat_chunk, reconfig_chunk, sack_chunk, forward_tsn_chunk}
+use Rattle.sctp_chunks.specs.Wire.{Wire, cookie_ack_chunk, cookie_echo_chunk, error_chunk, heartbeat_ack_chunk, heartbeat_chunk, reconfig_chunk, sack_chunk}
+use Rattle.sctp_chunks.specs.Wire.{forward_tsn_chunk}
 use Rattle.sctp_chunks.specs.Wire.{shutdown_ack_chunk, shutdown_chunk}
 use Rattle.sctp_handshake.specs.declared.answer.Answer.{Answer}
 use Rattle.sctp_handshake.specs.declared.machine.Machine.{Machine}
@@ -157,7 +158,8 @@ module _ (now : ℕ) (a b : Association) (u : IsUnmoved a b) (m : AsksNoMore now
   reconfig-less (Some p) some h = param-less p h
 
   -- what is put was due
-  pub reply_less : b.outbound.is_skip_due ≡ a.outbound.is_skip_due → (w : Wire) → IsDueOnce (owed_at now a) (owed_at now b) w → most_replies (owed_at now b) < most_replies (owed_at now a)
+  pub reply_less : b.outbound.is_skip_due ≡ a.outbound.is_skip_due → (w : Wire) → IsDueOnce (owed_at now a) (owed_at now b) w
+      → most_replies (owed_at now b) < most_replies (owed_at now a)
   reply_less skip (heartbeat_chunk ps) h =
       let f = few-each in
       let less = one-less (beats now a) (beats now b) h.0 h.1 in
@@ -225,8 +227,9 @@ none-longer p old new added draft =
     omega (arith, before, after, same)
 
 module _ (now : ℕ) (a b : Association) (u : IsUnmoved a b) (m : AsksNoMore now a b) where
-  chunks-less : b.outbound.is_skip_due ≡ a.outbound.is_skip_due → (ws : List Wire) → Adds ws a.draft.bytes b.draft.bytes → AllByRecursion (IsDueOnce (owed_at now a) (owed_at now b)) ws → (p : Parts)
-      → IsDraft p a.draft.bytes → length a.draft.bytes < length b.draft.bytes → most_replies (owed_at now b) < most_replies (owed_at now a)
+  chunks-less : b.outbound.is_skip_due ≡ a.outbound.is_skip_due → (ws : List Wire) → Adds ws a.draft.bytes b.draft.bytes
+      → AllByRecursion (IsDueOnce (owed_at now a) (owed_at now b)) ws → (p : Parts) → IsDraft p a.draft.bytes → length a.draft.bytes < length b.draft.bytes
+      → most_replies (owed_at now b) < most_replies (owed_at now a)
   chunks-less skip [] added each p draft more = let same = none-longer p a.draft.bytes b.draft.bytes added draft in absurd (omega (arith, more, same))
   chunks-less skip (w ∷ ws) added each p draft more = reply_less now a b u m skip w each.0
 
@@ -260,7 +263,8 @@ module _ (now : ℕ) (a b : Association) (u : IsUnmoved a b) (m : AsksNoMore now
 pub others_fewer : (now : ℕ) (a b : Association) → PutsOthers a b → (p : Parts) → IsDraft p a.draft.bytes
     → FewerWherePut (most_packets now a) (most_packets now b) a.draft.bytes b.draft.bytes
 others_fewer now a b o p draft =
-    due_fewer now a b o.kept (beats_same now a b o.timed) (once_puts a b now (others_puts a b o)) o.halves.sender (ap (λ (p : Path). p.skip) o.halves.path) p draft
+    due_fewer now a b o.kept (beats_same now a b o.timed)
+    (once_puts a b now (others_puts a b o)) o.halves.sender (ap (λ (p : Path). p.skip) o.halves.path) p draft
 
 pub once_fewer : (now : ℕ) (a b : Association) → PutsOnce a b → IsUnmoved a b → IsAsTimed a b → b.outbound.sender ≡ a.outbound.sender
     → b.outbound.is_skip_due ≡ a.outbound.is_skip_due → (p : Parts) → IsDraft p a.draft.bytes

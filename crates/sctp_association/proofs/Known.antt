@@ -1,10 +1,10 @@
 -- What an input leaves of what the machine knows of its peer, and what of an association stays.
-use Rattle.std.proofs.Common.{◌≡◌, Bool, true, false, Option, None, Some, refl, ap, subst, sym, ◌∙◌}
+use Rattle.std.proofs.Common.{◌≡◌, ◌⊎◌, ℕ, ◌<◌, Bool, true, false, Option, None, Some, inl, inr, refl, ap, subst, sym, ◌∙◌}
 use Rattle.std.proofs.lemmas.Bool.{false≢true}
 use Rattle.std.proofs.lemmas.Option.{none-some}
 use Rattle.std.specs.Prelude.{nat_lt, if◌then◌else◌}
-use Rattle.sctp_association.specs.Beginnings.{KeepsPeer, KnowsNoMore, is_asking, is_standing}
-use Rattle.sctp_association.specs.Kept.{IsKept, IsUnmoved, OwesLess, OwesNoMore, ticket_due}
+use Rattle.sctp_association.specs.Beginnings.{HasFreshTag, KeepsPeer, KnowsNoMore, is_asking, is_standing}
+use Rattle.sctp_association.specs.Kept.{IsKept, IsUnmoved, OwesLess, OwesNoMore, RestStays, ticket_due}
 use Rattle.sctp_association.specs.Lasting.{StaysWithin}
 use Rattle.sctp_association.specs.declared.association.Association.{Association}
 use Rattle.sctp_association.specs.declared.config.Config.{Config}
@@ -20,6 +20,7 @@ use Rattle.sctp_handshake.specs.declared.answer.Answer.{Answer}
 use Rattle.sctp_handshake.specs.declared.answer.Reply.{Reply}
 use Rattle.sctp_handshake.specs.declared.answer.Reply.TheVariants.{CookieEcho, Init, Shutdown, ShutdownAck}
 use Rattle.sctp_handshake.specs.declared.machine.Machine.{Machine}
+use Rattle.sctp_handshake.specs.declared.offer.Offer.{Offer}
 use Rattle.sctp_handshake.specs.declared.state.State.{State}
 use Rattle.sctp_handshake.specs.declared.state.State.TheVariants.{Closed, CookieEchoed, CookieWait, Established, ShutdownPending, ShutdownReceived}
 use Rattle.sctp_handshake.specs.declared.state.State.TheVariants.{ShutdownAckSent, ShutdownSent}
@@ -105,8 +106,9 @@ drained-knows ShutdownReceived m is = knows-into ShutdownAckSent m refl (ap is_s
 drained-knows _ m is = knows_same m m refl
 
 -- the handshake begins again in CookieEchoed, where this side asks, too
-retried-knows : (b : Bool) (m : Machine) → m.state ≡ CookieEchoed → KnowsNoMore m (if b then begun_again m else failed m).machine
-retried-knows true m is = record {
+retried-knows : (b : Bool) (fresh : ℕ) (m : Machine) → m.state ≡ CookieEchoed
+    → KnowsNoMore m (record (if b then begun_again fresh m else failed m).machine { own = m.own })
+retried-knows true fresh m is = record {
   asking = λ e. ap is_asking is;
   standing = λ e. absurd (false≢true e);
   peer = λ o e. absurd (none-some o e);
@@ -114,11 +116,22 @@ retried-knows true m is = record {
   restarted = refl;
   limits = refl;
 }
-retried-knows false m is = knows-closed m
+retried-knows false fresh m is = knows-closed m
 
-stale-knows : (s : State) (m : Machine) → m.state ≡ s → KnowsNoMore m (stale_cookie_row s m).machine
-stale-knows CookieEchoed m is = retried-knows (nat_lt m.stale m.limits.max_init_retransmits) m is
-stale-knows _ m is = knows_same m m refl
+stale-knows : (s : State) (fresh : ℕ) (m : Machine) → m.state ≡ s → KnowsNoMore m (record (stale_cookie_row s fresh m).machine { own = m.own })
+stale-knows CookieEchoed fresh m is = retried-knows (nat_lt m.stale m.limits.max_init_retransmits) fresh m is
+stale-knows _ fresh m is = knows_same m m refl
+
+-- with the same tag or the fresh one
+retried-own : (b : Bool) (fresh : ℕ) (m : Machine) → 0 < fresh
+    → ((if b then begun_again fresh m else failed m).machine.own ≡ m.own) ⊎ HasFreshTag m.own (if b then begun_again fresh m else failed m).machine.own
+retried-own true fresh m some = inr (record { same = refl; some = some })
+retried-own false fresh m some = inl refl
+
+stale-own : (s : State) (fresh : ℕ) (m : Machine) → 0 < fresh
+    → ((stale_cookie_row s fresh m).machine.own ≡ m.own) ⊎ HasFreshTag m.own (stale_cookie_row s fresh m).machine.own
+stale-own CookieEchoed fresh m some = retried-own (nat_lt m.stale m.limits.max_init_retransmits) fresh m some
+stale-own _ fresh m some = inl refl
 
 -- the timer of the state ran out
 again-knows : (b : Bool) (r : Reply) (m : Machine) → KnowsNoMore m (if b then sent_again r m else failed m).machine
@@ -160,8 +173,17 @@ module _ (m n : Machine) (a : Answer) where
   pub knows_timed : Takes (on_timed_out m) n a → KnowsNoMore m n
   knows_timed t = taken (on_timed_out m) (timed-knows m.state m) t
 
-  pub knows_stale : Takes (on_stale_cookie m) n a → KnowsNoMore m n
-  knows_stale t = taken (on_stale_cookie m) (stale-knows m.state m refl) t
+  pub knows_stale : (fresh : ℕ) → Takes (on_stale_cookie fresh m) n a → KnowsNoMore m (record n { own = m.own })
+  knows_stale fresh t = subst (λ (k : Machine). KnowsNoMore m (record k { own = m.own })) (sym t.machine) (stale-knows m.state fresh m refl)
+
+  pub own_stale : (fresh : ℕ) → 0 < fresh → Takes (on_stale_cookie fresh m) n a → (n.own ≡ m.own) ⊎ HasFreshTag m.own n.own
+  own_stale fresh some t =
+      subst (λ (k : Machine). (k.own ≡ m.own) ⊎ HasFreshTag m.own k.own) (sym t.machine) (stale-own m.state fresh m some)
+
+-- so of what this side offers then, where an ERROR told it
+pub fresh_own : {o p q : Offer} {Told : Type 0} → (p ≡ o) ⊎ HasFreshTag o p → q ≡ p → Told → (q ≡ o) ⊎ (Told × HasFreshTag o q)
+fresh_own (inl same) is told = inl (is ∙ same)
+fresh_own {o} (inr fresh) is told = inr (told, subst (HasFreshTag o) (sym is) fresh)
 
 -- the same, where what is dropped tells the machine
 pub knows_abort_of : {m n : Machine} {a : Answer} → (a ≡ silent → n ≡ m) → Takes (on_abort m) n a → KnowsNoMore m n
@@ -325,4 +347,18 @@ unmoved_then a b c f g = record {
   due = less_then f.due g.due;
   sack = λ e. g.sack (f.sack e);
   unknown = λ s e. f.unknown s (g.unknown s e);
+}
+
+-- ## Beside both halves, the requests and the events
+
+pub rest_same : (a : Association) → RestStays a a
+rest_same a = record { due = refl; control = refl; guard = refl; over = refl; wants = refl }
+
+pub rest_then : (a b c : Association) → RestStays a b → RestStays b c → RestStays a c
+rest_then a b c f g = record {
+  due = g.due ∙ f.due;
+  control = g.control ∙ f.control;
+  guard = g.guard ∙ f.guard;
+  over = g.over ∙ f.over;
+  wants = g.wants ∙ f.wants;
 }

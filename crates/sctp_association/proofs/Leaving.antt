@@ -12,7 +12,8 @@ use Rattle.sctp_association.specs.declared.association.Association.{Association}
 use Rattle.sctp_association.specs.declared.due.Due.{Due}
 use Rattle.sctp_association.specs.Kept.{IsUnmoved}
 use Rattle.sctp_association.specs.Kept.{sack_waits, unknown_in}
-use Rattle.sctp_association.specs.Leaving.{AsksNoMore, IsParamOnce, IsReplyOnce, IsSentIn, IsTooLong, IsTooLongIn, Leaves, LeavesInto, Owed, OwesNothingNew, Reaches, Replies, Stands, beats, owed_at, owed_before, owed_of, replies_of, requests_due, responses_due, IsDueOrData}
+use Rattle.sctp_association.specs.Leaving.{AsksNoMore, IsParamOnce, IsReplyOnce, IsSentIn, IsTooLong, IsTooLongIn, Leaves, LeavesInto, Owed, OwesNothingNew}
+use Rattle.sctp_association.specs.Leaving.{Reaches, Replies, Stands, beats, owed_at, owed_before, owed_of, replies_of, requests_due, responses_due, IsDueOrData}
 use Rattle.sctp_association.specs.Packets.{Adds, IsPacketOf, put_where, sum_of, with_chunks}
 use Rattle.sctp_chunks.specs.Wire.{HasEncoding, Wire}
 use Rattle.sctp_association.specs.Rows.{owed_by}

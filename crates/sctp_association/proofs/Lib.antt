@@ -42,6 +42,7 @@ pub mod Paths
 pub mod Moving
 pub mod Cut
 pub mod Named
+pub mod Fresh
 pub mod Fronts
 pub mod Noting
 pub mod Counted
@@ -68,6 +69,7 @@ pub mod Setups
 pub mod SetupPairs
 pub mod PairOrder
 pub mod Telling
+pub mod Timers
 pub mod Told
 pub mod Lasting
 pub mod Limited

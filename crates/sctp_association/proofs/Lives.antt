@@ -8,7 +8,8 @@ use Rattle.sctp_association.proofs.Inits.{init_there}
 use Rattle.sctp_association.proofs.Putting.{there}
 use Rattle.sctp_association.proofs.Readings.{answer_said, init_said}
 use Rattle.sctp_association.specs.Arrivals.{Arrival, ArrivesAs, Does, IsBroughtAs, begins, hears, receives, renews}
-use Rattle.sctp_association.specs.Beginnings.{AnswersInit, ArrivesAsOffered, BeginsToAsk, HasAsked, IsBegunBy, IsEchoed, IsKeptButMtu, IsMadeOf, IsOffered, KeepsPeer}
+use Rattle.sctp_association.specs.Beginnings.{AnswersInit, ArrivesAsOffered, BeginsToAsk, HasAsked, IsBegunBy, IsEchoed, IsKeptButMtu, IsMadeOf, IsOffered}
+use Rattle.sctp_association.specs.Beginnings.{KeepsPeer}
 use Rattle.sctp_association.specs.Beginnings.{OffersInit, by_init_ack, by_kept, by_ticket}
 use Rattle.sctp_association.specs.declared.association.Association.{Association}
 use Rattle.sctp_association.specs.declared.config.Config.{Config}

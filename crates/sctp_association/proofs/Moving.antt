@@ -2,7 +2,8 @@
 use Rattle.std.proofs.Common.{◌≡◌, ℕ, ◌-◌, Bool, true, List, length, None, refl, ap, sym, subst, ◌∙◌}
 use Rattle.std.specs.Prelude.{◌==◌, not, if◌then◌else◌, Result, Ok}
 use Rattle.sctp_association.specs.Acks.{acked_by, grown_by}
-use Rattle.sctp_association.specs.Paths.{FollowsSack, IsAcked, IsMissedBefore, acked_with, advances, cleared_by, gone_by, measured_by, missing_before, sent_once, trips_of}
+use Rattle.sctp_association.specs.Paths.{FollowsSack, IsAcked, IsMissedBefore, acked_with, advances, cleared_by, gone_by, measured_by, missing_before}
+use Rattle.sctp_association.specs.Paths.{sent_once, trips_of}
 use Rattle.sctp_association.specs.Sending.{flight_of, t3_after}
 use Rattle.sctp_association.specs.declared.outbound.Outbound.{Outbound}
 use Rattle.sctp_data.specs.SelectiveAck.{Sack}
@@ -53,7 +54,8 @@ module _ (k : Sack) (now : ℕ) (old : Outbound) where
       → IsAcked k now old new
   acked-by new f =
       let sender : new.sender ≡ acked_with k old.sender = ap (λ (o : Outbound). o.sender) f.rest in
-      let came : new.came_back ≡ (with_sack k old (acked_with k old.sender) (taken_back_by k old.sender)).came_back = ap (λ (o : Outbound). o.came_back) f.rest in
+      let came : new.came_back ≡ (with_sack k old (acked_with k old.sender) (taken_back_by k old.sender)).came_back =
+      ap (λ (o : Outbound). o.came_back) f.rest in
       let window : new.peer_window ≡ k.advertised_receiver_window_credit = ap (λ (o : Outbound). o.peer_window) f.rest in
       record {
         sender = sender;
@@ -82,7 +84,8 @@ module _ (k : Sack) (now : ℕ) (old : Outbound) where
         → u ≡ acked_with k old.sender → mid ≡ with_sack k old u back → IsFollowed now before flight gone mid acked → IsAcked k now old acked
     followed-by before-is flight-is gone-is back-is u-is mid-is f =
         acked-by acked (
-        subst (λ (l : List TakenBack). IsFollowed now before-now flight-now (gone_by k old.sender) (with_sack k old (acked_with k old.sender) l) acked) back-is (
+        subst (λ (l : List TakenBack). IsFollowed now before-now flight-now (gone_by k old.sender) (with_sack k old (acked_with k old.sender) l) acked) back-is
+        (
         subst (λ (t : Transmission). IsFollowed now before-now flight-now (gone_by k old.sender) (with_sack k old t back) acked) u-is (
         subst (λ (g : List Released). IsFollowed now before-now flight-now g (with_sack k old u back) acked) gone-is (
         subst (λ (n : ℕ). IsFollowed now before-now n gone (with_sack k old u back) acked) flight-is (
@@ -120,7 +123,8 @@ module _ (k : Sack) (now : ℕ) (old : Outbound) where
       → IsMissedBefore now (sent_once later) (missing_before k later (not (behind == before)) acked) acked missed
       → new.timer.at ≡ t3_after now missed.rto.rto missed.sender.flight.queue.inflight.chunks missed.timer.at → new ≡ record missed { timer = new.timer }
       → FollowsSack k now old new
-  follows_sack a r u is took before flight before-is flight-is note len twice dups note-is len-is dups-is twice-is gone later gone-is later-is acked missed new f
+  follows_sack a r u is took before flight before-is flight-is note len twice dups note-is len-is dups-is twice-is gone later gone-is later-is acked missed new
+      f
       behind behind-is misses timer rest =
       let P : Result Acked SenderRefusal → Type 0 = λ q. Acknowledges k old.sender u q in
       let h : Acknowledges k old.sender u (Ok a) = subst P is took in

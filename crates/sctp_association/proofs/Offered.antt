@@ -4,8 +4,10 @@ use Rattle.sctp_association.proofs.Arrived.{came_alike, came_same}
 use Rattle.sctp_association.proofs.Arriving.{follows_of, follows_then}
 use Rattle.sctp_association.proofs.Known.{keeps_kept, kept_same, within_same, within_then}
 use Rattle.sctp_association.specs.Arrivals.{Arrival, CallsArrive, Does, IsBroughtAs, IsOfHalf, begins, hears, receives, renews}
-use Rattle.sctp_association.specs.Beginnings.{ArrivesAsOffered, IsBegunBy, IsEchoed, IsOffered, IsOwedFor, IsOwnEchoed, IsOwnOffer, KeepsPeer, begins_by}
-use Rattle.sctp_association.specs.Beginnings.{by_init_ack, by_kept, is_asking}
+use Rattle.sctp_association.specs.Beginnings.{ArrivesAsOffered, IsBegunBy, IsEchoed, IsOffered, IsOwedFor, IsOwnEchoed, IsOwnOffer, KeepsPeer, KeepsPeerButTag}
+use Rattle.sctp_association.specs.Beginnings.{begins_by}
+use Rattle.sctp_association.specs.Beginnings.{HasFreshTag, by_init_ack, by_kept, is_asking}
+use Rattle.sctp_association.specs.Causes.{TellsStale}
 use Rattle.sctp_association.specs.Kept.{IsKept, OwesNoMore, OwesTicket}
 use Rattle.sctp_association.specs.Beginnings.{by_ticket, renews_by}
 use Rattle.sctp_association.specs.Lasting.{KeepsLimits}
@@ -13,11 +15,26 @@ use Rattle.sctp_association.specs.declared.association.Association.{Association}
 use Rattle.sctp_association.specs.declared.config.Config.{Config}
 use Rattle.sctp_association.specs.declared.due.Due.{Due}
 use Rattle.sctp_association.specs.Halves.{HalvesAlike, halves_of}
+use Rattle.sctp_datagram.specs.Carried.{IsChunkOf}
+use Rattle.sctp_datagram.specs.declared.datagram.ChunkPlace.{ChunkPlace}
 use Rattle.sctp_handshake.specs.declared.machine.Machine.{Machine}
 use Rattle.sctp_handshake.specs.declared.offer.Offer.{Offer}
 use Rattle.sctp_handshake.specs.declared.ticket.Ticket.{Ticket}
 
 module _ (d : List ℕ) where
+  -- ## What this side offers
+
+  own_same : (a : Association) {o : Offer} → o ≡ a.machine.own → IsOwnOffer d a o
+  own_same a {o} e = record { base = a.machine.own; is = inl refl; tag = inl e }
+
+  fresh_then : (o p q : Offer) → (p ≡ o) ⊎ (TellsStale d × HasFreshTag o p) → (q ≡ p) ⊎ (TellsStale d × HasFreshTag p q)
+      → (q ≡ o) ⊎ (TellsStale d × HasFreshTag o q)
+  fresh_then o p q (inl e) (inl f) = inl (f ∙ e)
+  fresh_then o p q (inr t) (inl f) = inr (t.0, subst (HasFreshTag o) (sym f) t.1)
+  fresh_then o p q (inl e) (inr t) = inr (t.0, subst (λ (k : Offer). HasFreshTag k q) e t.1)
+  fresh_then o p q (inr s) (inr t) =
+      inr (t.0, record { same = t.1.same ∙ ap (λ (k : Offer). record k { tag = q.tag }) s.1.same; some = t.1.some })
+
   -- ## Calls of halves that are there
 
   half-begun : (a b : Association) (call : Arrival) → IsOfHalf call → IsBegunBy d a b call
@@ -36,7 +53,7 @@ module _ (d : List ℕ) where
     key = k.key;
     asking = k.machine.asking;
     peer = λ o e. inl (k.machine.peer o e);
-    own = inl k.machine.own;
+    own = own_same a k.machine.own;
     owes = λ t e. inl (k.owes t e);
     machine = k.machine.limits;
     sending = k.sending;
@@ -50,6 +67,34 @@ module _ (d : List ℕ) where
 
   pub offered_halves : (a b : Association) → halves_of b ≡ halves_of a → KeepsPeer a b → ArrivesAsOffered d a b
   offered_halves a b e k = offered_calls a b (came_same d (halves_of a) (halves_of b) e) k
+
+  -- behind an ERROR this side may offer a fresh tag
+  pub offered_fresh : (c : ChunkPlace) → IsChunkOf d c → c.typ ≡ 9 → (a b : Association) → halves_of b ≡ halves_of a → KeepsPeerButTag c d a b
+      → ArrivesAsOffered d a b
+  offered_fresh c of typ a b e k =
+      let f = offered_halves a (record b { machine = record b.machine { own = a.machine.own } }) e k.keeps in
+      record {
+        arrives =
+            follows_of (IsBroughtAs IsOfHalf d) (IsBroughtAs (IsBegunBy d a b) d) Does
+            (λ call h. record { brought = h.brought; rule = half-begun a b call h.rule }) (halves_of a) (halves_of b)
+            (came_same d (halves_of a) (halves_of b) e);
+        restarted = f.restarted;
+        config = f.config;
+        key = f.key;
+        asking = f.asking;
+        peer = f.peer;
+        own = record {
+          base = a.machine.own;
+          is = inl refl;
+          tag = elim k.own [
+            | inl same ↦ inl same
+            | inr fresh ↦ inr (record { place = c; own = of; typ = typ; cause = fresh.0 }, fresh.1)
+          ];
+        };
+        owes = f.owes;
+        machine = f.machine;
+        sending = f.sending;
+      }
 
   pub offered_same : (a b : Association) → b ≡ a → ArrivesAsOffered d a b
   offered_same a b e =
@@ -68,7 +113,7 @@ module _ (d : List ℕ) where
     key = ap (λ (x : Association). x.key) e;
     asking = λ asks. subst (λ (m : Machine). is_asking m.state ≡ true) (ap (λ (x : Association). x.machine) e) asks;
     peer = λ o is. inl (sym (ap (λ (x : Association). x.machine.peer) e) ∙ is);
-    own = inl (ap (λ (x : Association). x.machine.own) e);
+    own = own_same a (ap (λ (x : Association). x.machine.own) e);
     owes = owes;
     machine = ap (λ (x : Association). x.machine.limits) e;
     sending = within_same a b (ap (λ (x : Association). x.config) e) (ap (λ (x : Association). x.outbound) e);
@@ -92,11 +137,17 @@ module _ (d : List ℕ) where
 
     -- what this side offers, too, and the INIT ACK that is due
     own-back : (o : Offer) → IsOwnOffer d b o → IsOwnOffer d a o
-    own-back o (inl same) = elim f.own [
-      | inl first ↦ inl (same ∙ first)
-      | inr echoed ↦ inr (subst (λ (o : Offer). IsOwnEchoed d a.key o) (sym same) echoed)
+    own-back o w = elim w.is [
+      | inl same ↦ record {
+        base = f.own.base;
+        is = f.own.is;
+        tag = fresh_then f.own.base b.machine.own o f.own.tag (elim w.tag [
+          | inl is ↦ inl (is ∙ same)
+          | inr t ↦ inr (t.0, subst (λ (k : Offer). HasFreshTag k o) same t.1)
+        ]);
+      }
+      | inr echoed ↦ record { base = w.base; is = inr (subst (λ (k : List ℕ). IsOwnEchoed d k w.base) f.key echoed); tag = w.tag }
     ]
-    own-back o (inr echoed) = inr (subst (λ (k : List ℕ). IsOwnEchoed d k o) f.key echoed)
 
     owes-back : (t : Ticket) → OwesTicket b t ⊎ IsOwedFor d b t → OwesTicket a t ⊎ IsOwedFor d a t
     owes-back t (inl owed) = f.owes t owed

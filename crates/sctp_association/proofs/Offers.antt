@@ -130,10 +130,11 @@ module _ (d : List ℕ) (a b : Association) (Offered Own : Offer → Type 0) (of
           key = kept.key;
           asking = λ e. t.asking (subst (λ (k : Machine). is_asking k.state ≡ true) is e);
           peer = λ o e. elim (t.peer o (sym (ap (λ (k : Machine). k.peer) is) ∙ e)) [ inl old ↦ inl old | inr offered ↦ inr (offers o offered) ];
-          own = elim t.mine [
-            | inl same ↦ inl (own ∙ same)
-            | inr echoed ↦ inr (subst (λ (o : Offer). IsOwnEchoed d a.key o) (sym own) (echoes s.machine.own echoed))
-          ];
+          own = record {
+            base = s.machine.own;
+            is = elim t.mine [ inl same ↦ inl same | inr echoed ↦ inr (echoes s.machine.own echoed) ];
+            tag = inl own;
+          };
           owes = λ k e. inl (kept.owes k e);
           machine = ap (λ (k : Machine). k.limits) is ∙ t.limits;
           sending = kept.sending;
@@ -145,7 +146,8 @@ module _ (d : List ℕ) (a b : Association) (Offered Own : Offer → Type 0) (of
         → (is_standing a.machine.state ≡ false → a.inbound ≡ None)
         → BeginsBy answer.told n a.config (halves_of a) (halves_of b) → ArrivesAsOffered d a b
     begun-so typ has begins' renewed free b' =
-        so (begun typ has begins' renewed (kept.machine ∙ takes.machine) answer.told (sym (ap (λ (k : Answer). k.told) takes.answer)) (halves_of a) (halves_of b)
+        so (begun typ has begins' renewed (kept.machine
+        ∙ takes.machine) answer.told (sym (ap (λ (k : Answer). k.told) takes.answer)) (halves_of a) (halves_of b)
         (λ e. ap (λ (i : Option Inbound). receiver_of i) (free e)) b')
 
 -- ## A COOKIE-ECHO
@@ -337,7 +339,7 @@ module _ (d : List ℕ) (a b : Association) (n : Machine) (answer : Answer) (off
         restarted = λ e. ap (λ (j : Machine). j.has_restarted) is ∙ h.restarted ∙ e;
         config = left.config;
         key = left.key;
-        own = inl (ap (λ (j : Machine). j.own) is ∙ h.own);
+        own = record { base = a.machine.own; is = inl refl; tag = inl (ap (λ (j : Machine). j.own) is ∙ h.own) };
         owes = λ t e. inl (left.owes t e);
         machine = ap (λ (j : Machine). j.limits) is ∙ h.limits;
         sending = left.sending;
@@ -389,9 +391,10 @@ module _ (d : List ℕ) (p : ChunkPlace) (own : IsChunkOf d p) (typ : p.typ ≡ 
   init_answered reads tag some r e Before t (inr is) =
       let of = answers-offer said.offer tag a.machine t (ap Some (sym is) ∙ e) in
       inr (record {
-        offered = record { place = p; own = own; typ = typ; cookie = said.cookie; reads = reads ∙ ap (λ (o : Offer). Ok (record said { offer = o })) (sym of.offer) };
+        offered =
+            record { place = p; own = own; typ = typ; cookie = said.cookie; reads = reads ∙ ap (λ (o : Offer). Ok (record said { offer = o })) (sym of.offer) };
         own = a.machine.own;
-        is = inl refl;
+        is = record { base = a.machine.own; is = inl refl; tag = inl refl };
         tsn = of.tsn;
         tag = elim of.tag-is [ inl same ↦ inl same | inr fresh ↦ inr (omega (arith, some, fresh)) ];
       })

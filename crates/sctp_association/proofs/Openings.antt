@@ -24,12 +24,12 @@ old-is false x y e = elim (cases_Bool (nat_lt x y)) [
 -- the machine took the step of the ticket, and its answer was followed
 pub echoes_by : (tag : ℕ) (cookie : List ℕ) (now : ℕ) (a b : Association) (moment : ℕ) (made : IsSealedAt moment a.key tag cookie) (stale : Bool)
     → IsTrue stale ↔ (a.config.cookie_life < now - moment) → (n : Machine) (r : Answer) → Takes (on_cookie_echo made.ticket stale a.machine) n r
-    → b.machine ≡ n → FollowsAnswer r made.ticket.peer.tag a b → Echoes tag cookie now (on_cookie_echo made.ticket stale a.machine) a b
+    → b.machine ≡ n → FollowsAnswer r made.ticket.peer.tag a.machine.state now a b → Echoes tag cookie now (on_cookie_echo made.ticket stale a.machine) a b
 echoes_by tag cookie now a b moment made stale old n r takes kept h = record {
   moment = moment;
   made = made;
   is = ap (λ (s : Bool). on_cookie_echo made.ticket s a.machine) (old-is stale a.config.cookie_life (now - moment) old);
-  follows = follows_step (on_cookie_echo made.ticket stale a.machine) made.ticket.peer.tag a b n r takes.machine takes.answer kept h;
+  follows = follows_step (on_cookie_echo made.ticket stale a.machine) made.ticket.peer.tag now a b n r takes.machine takes.answer kept h;
 }
 
 -- ## What is expected is not refused

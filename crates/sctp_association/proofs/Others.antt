@@ -1,5 +1,6 @@
 -- Chunks that neither half answers, and the datagram in the end.
-use Rattle.std.proofs.Common.{◌≡◌, ◌⊎◌, inl, inr, ℕ, List, [], ◌∷◌, ◌++◌, length, Bool, true, false, Option, None, Some, Result, Ok, Err, arith, refl, ap, sym, subst, ◌∙◌}
+use Rattle.std.proofs.Common.{◌≡◌, ◌⊎◌, inl, inr, ℕ, List, [], ◌∷◌, ◌++◌, length, Bool, true, false, Option, None, Some, Result, Ok, Err, arith, refl, ap, sym}
+use Rattle.std.proofs.Common.{subst, ◌∙◌}
 use Rattle.std.proofs.lemmas.Bool.{false≢true}
 use Rattle.std.proofs.lemmas.List.{append-nil}
 use Rattle.std.specs.List.{AllByRecursion}
@@ -17,10 +18,12 @@ use Rattle.sctp_association.specs.Kept.{IsUnmoved, sack_waits, unknown_in}
 use Rattle.sctp_association.specs.declared.fault.Fault.{Fault}
 use Rattle.sctp_association.specs.Leaving.{AsksNoMore, IsDueOnce, IsDueOrData, IsParamOnce, IsReplyOnce, OwedAt, OwesNoMoreAt, Reaches, beats, owed_at}
 use Rattle.sctp_association.specs.Leaving.{owed_of, requests_due, responses_due}
-use Rattle.sctp_association.specs.Packets.{Adds, IsOf, IsPacketOf, IsSackOnce, IsSkipOnce, IsWritten, PutsIn, PutsOf, Sides, Transmits, made_in, put_where, sides}
+use Rattle.sctp_association.specs.Packets.{Adds, IsOf, IsPacketOf, IsSackOnce, IsSkipOnce, IsWritten, PutsIn, PutsOf, Sides, Transmits, made_in, put_where}
+use Rattle.sctp_association.specs.Packets.{sides}
 use Rattle.sctp_association.specs.Packets.{sum_of, with_chunks}
 use Rattle.sctp_association.specs.Runs.{ReportsIn, Sends}
-use Rattle.sctp_chunks.specs.Wire.{Wire, cookie_ack_chunk, cookie_echo_chunk, data_chunk, error_chunk, forward_tsn_chunk, heartbeat_ack_chunk, heartbeat_chunk, reconfig_chunk, sack_chunk, shutdown_ack_chunk, shutdown_chunk}
+use Rattle.sctp_chunks.specs.Wire.{Wire, cookie_ack_chunk, cookie_echo_chunk, data_chunk, error_chunk, forward_tsn_chunk, heartbeat_ack_chunk, heartbeat_chunk}
+use Rattle.sctp_chunks.specs.Wire.{reconfig_chunk, sack_chunk, shutdown_ack_chunk, shutdown_chunk}
 use Rattle.sctp_data.specs.SelectiveAck.{Sack}
 use Rattle.sctp_delivery.specs.SenderCalls.{Made}
 use Rattle.sctp_handshake.specs.declared.machine.Machine.{Machine}

@@ -76,7 +76,8 @@ places-all stream ws [] [] at o = refl
 places-all stream ws [] (p ∷ ps) at o = absurd at
 places-all stream ws (m ∷ ms) [] at o = absurd at
 places-all stream ws (m ∷ ms) (p ∷ ps) at o =
-    ap (λ b. if b then p ∷ ordered_places stream ms ps else ordered_places stream ms ps) o.0 ∙ ap (λ (qs : List ℕ). p ∷ qs) (places-all stream ws ms ps at.1 o.1)
+    ap (λ b. if b then p ∷ ordered_places stream ms ps else ordered_places stream ms ps) o.0
+    ∙ ap (λ (qs : List ℕ). p ∷ qs) (places-all stream ws ms ps at.1 o.1)
 
 in-turn : (stream : ℕ) (ws : List Write) (ms : List Message) → AreInOrder ws ms → AreOrderedOn stream ms → length ms ≡ length ws → Are ms ws
 unfolding IsRest

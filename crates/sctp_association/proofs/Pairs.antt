@@ -9,7 +9,8 @@ use Rattle.sctp_association.specs.declared.association.Association.{Association}
 use Rattle.sctp_association.specs.HostCalls.{ActsEach, Leads, Log, host_of, sent_of}
 use Rattle.sctp_association.specs.Hosts.{Act, ArePlainMoves, Host, Hosts, Move, MovesTo, Way, first_host, handles, hosts, one_acts, other_acts, polls}
 use Rattle.sctp_association.specs.Links.{AreInOrder, AreLinked, IsReadAsWritten, Party, host_at, party}
-use Rattle.sctp_association.specs.Pairs.{Comes, Delivers, DeliversOne, Exchanges, IsPlainSince, Led, Transfers, acts_of_write, answer_of, answered, comes, passes}
+use Rattle.sctp_association.specs.Pairs.{Comes, Delivers, DeliversOne, Exchanges, IsPlainSince, Led, Transfers, acts_of_write, answer_of, answered, comes}
+use Rattle.sctp_association.specs.Pairs.{passes}
 use Rattle.sctp_association.specs.Pairs.{read_each, write_of, written_each}
 use Rattle.sctp_data.specs.ChunkSet.{ChunkSet}
 use Rattle.sctp_data.specs.declared.chunk.chunk_payload_data.PayloadProtocolIdentifier.{PayloadProtocolIdentifier}
@@ -73,7 +74,8 @@ pub led-one : (acts : List Act) (old new : Association) (l k : Log) (z : Party) 
 led-one acts old new l k z done = record { moves = map one_acts acts; run = one-acting acts (host_of old l) (host_of new k) (host_at z) (done z.log.sent) }
 
 pub led-other : (acts : List Act) (old new : Association) (l k : Log) (z : Party) → Leads old l acts new k → Led z (party old l) z (party new k)
-led-other acts old new l k z done = record { moves = map other_acts acts; run = other-acting acts (host_of old l) (host_of new k) (host_at z) (done z.log.sent) }
+led-other acts old new l k z done =
+    record { moves = map other_acts acts; run = other-acting acts (host_of old l) (host_of new k) (host_at z) (done z.log.sent) }
 
 -- ## What is read
 
@@ -144,7 +146,8 @@ exchanged-then a b c d e f first then l m =
     record {
       one_sent = y.one_sent;
       other_sent = y.other_sent;
-      led = led-then (party a l) (party b m) (party c k) (party d n) (party e (record k { sent = y.one_sent })) (party f (record n { sent = y.other_sent })) x.led
+      led =
+          led-then (party a l) (party b m) (party c k) (party d n) (party e (record k { sent = y.one_sent })) (party f (record n { sent = y.other_sent })) x.led
           y.led;
     }
 

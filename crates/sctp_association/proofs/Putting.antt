@@ -5,7 +5,8 @@ use Rattle.std.proofs.lemmas.List.Elements.{Contains-append_left, Contains-appen
 use Rattle.std.specs.Prelude.{Contains}
 use Rattle.std.specs.List.{AllByRecursion}
 use Rattle.sctp_association.proofs.Running.{none_in, none_sent, reported_in, reported_once, sent_by, sent_then}
-use Rattle.sctp_association.specs.Packets.{Adds, IsData, IsOf, IsSkipOnce, Puts, PutsOf, PutsOut, PutsSkip, Sides, made_in, made_of, put_where, sides, with_chunks}
+use Rattle.sctp_association.specs.Packets.{Adds, IsData, IsOf, IsSkipOnce, Puts, PutsOf, PutsOut, PutsSkip, Sides, made_in, made_of, put_where, sides}
+use Rattle.sctp_association.specs.Packets.{with_chunks}
 use Rattle.sctp_association.specs.Runs.{AcksBy, SendsBy, made_by, reported_by}
 use Rattle.sctp_chunks.specs.Wire.{Wire, data_chunk, forward_tsn_chunk, i_forward_tsn_chunk, sack_chunk, shutdown_chunk}
 use Rattle.sctp_chunks.specs.Wire.{abort_chunk, cookie_ack_chunk, cookie_echo_chunk, error_chunk, heartbeat_ack_chunk, heartbeat_chunk, init_chunk}

@@ -1,5 +1,6 @@
 -- What is read of an INIT that was written: its tag and its first TSN.
-use Rattle.std.proofs.Common.{◌≡◌, ℕ, zero, suc, ◌<◌, ◌^◌, Bool, true, false, List, [], ◌++◌, length, Option, Some, None, refl, sym, ap, ◌∙◌, append_assoc, arith, length-append}
+use Rattle.std.proofs.Common.{◌≡◌, ℕ, zero, suc, ◌<◌, ◌^◌, Bool, true, false, List, [], ◌++◌, length, Option, Some, None, refl, sym, ap, ◌∙◌, append_assoc}
+use Rattle.std.proofs.Common.{arith, length-append}
 use Rattle.std.specs.Prelude.{Result, Ok, Err, if◌then◌else◌, nat_lt, not, ◌==◌, ◌+◌}
 use Rattle.sctp_util.proofs.Fields.{length_be16, length_be32, u32_at_be32}
 use Rattle.sctp_util.specs.Field.{be16, be32, u32_at}

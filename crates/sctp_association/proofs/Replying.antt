@@ -76,8 +76,8 @@ error_put n z code info old new put size zeros head room =
 -- ## Replies
 
 module _ (kind : AloneKind) (a b : Association) where
-  reply-is : (k : AloneKind) (ws : List Wire) → kind ≡ k → AreReply a.draft.limit a.key a.machine a.due.unknown_params k ws → Adds ws a.draft.bytes b.draft.bytes
-      → AddsReply kind a b
+  reply-is : (k : AloneKind) (ws : List Wire) → kind ≡ k → AreReply a.draft.limit a.key a.machine a.due.unknown_params k ws
+      → Adds ws a.draft.bytes b.draft.bytes → AddsReply kind a b
   reply-is k ws is are added =
       record { chunks = ws; are = subst (λ k. AreReply a.draft.limit a.key a.machine a.due.unknown_params k ws) (sym is) are; added = added }
 

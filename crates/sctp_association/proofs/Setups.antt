@@ -12,7 +12,8 @@ use Rattle.sctp_association.proofs.OneLife.{each-link-delivers-any}
 use Rattle.sctp_association.proofs.Rules.{brought-steps, calls-by}
 use Rattle.sctp_association.specs.Arrivals.{Arrival, Does, Halves, IsBroughtAs, Steps, begins, hears, receives, renews}
 use Rattle.sctp_association.specs.Beginnings.{AnswersInit, ArrivesAsOffered, BeginsToAsk, HasAsked, IsBegunBy, IsEchoed, IsKeptButMtu, IsOffered, IsOwnOffer}
-use Rattle.sctp_association.specs.Beginnings.{KeepsPeer, OffersInit, by_init_ack, by_kept, by_ticket}
+use Rattle.sctp_association.specs.Beginnings.{HasFreshTag, IsOwnEchoed, KeepsPeer, OffersInit, by_init_ack, by_kept, by_ticket}
+use Rattle.sctp_association.specs.Causes.{TellsStale}
 use Rattle.sctp_association.specs.declared.association.Association.{Association}
 use Rattle.sctp_association.specs.declared.config.Config.{Config}
 use Rattle.sctp_association.specs.declared.due.Due.{Due}
@@ -105,8 +106,16 @@ module _ (out back : Way) (life : Life) (d : List ℕ) (a b : Association) (l : 
   was-sealed t e = own-cookies t (subst (λ (k : List ℕ). IsEchoed d k t) h.knows.key e)
 
   own-tsn : (o : Offer) → IsOwnOffer d a o → o.first_tsn ≡ out.tsn
-  own-tsn o (inl same) = ap (λ (k : Offer). k.first_tsn) same ∙ h.own
-  own-tsn o (inr e) = sym (ap (λ (k : Offer). k.first_tsn) e.2) ∙ h.sealed e.0 (was-sealed e.0 e.1)
+  own-tsn o w = tag-tsn w.tag ∙ base-tsn w.is
+    where
+      base-tsn : (w.base ≡ a.machine.own) ⊎ IsOwnEchoed d a.key w.base → w.base.first_tsn ≡ out.tsn
+      base-tsn (inl same) = ap (λ (k : Offer). k.first_tsn) same ∙ h.own
+      base-tsn (inr e) = sym (ap (λ (k : Offer). k.first_tsn) e.2) ∙ h.sealed e.0 (was-sealed e.0 e.1)
+
+      -- a fresh tag leaves it
+      tag-tsn : (o ≡ w.base) ⊎ (TellsStale d × HasFreshTag w.base o) → o.first_tsn ≡ w.base.first_tsn
+      tag-tsn (inl e) = ap (λ (k : Offer). k.first_tsn) e
+      tag-tsn (inr t) = ap (λ (k : Offer). k.first_tsn) t.1.same
 
   -- by whose offer the association may begin, of that the first TSN is the peer's
   offered-tsn : (o : Offer) → IsOffered d a o → o.first_tsn ≡ back.tsn
@@ -238,7 +247,8 @@ each-datagram-keeps f b d a c l z set handed o own none =
 pub each-two-are-set-up : EachTwoAreSetUp
 each-two-are-set-up f b x z c peer-c key peer-key one other made peer-made by peer-by =
     let begun = each-one-life-begins f b x z one other in
-    let nothing : (h : Host) (w : Way) (s : List (List ℕ)) → s ≡ [] → OfferTsn w.tsn s = λ h w s none d there. absurd (omega (arith, (subst (λ (s : List (List ℕ)). Contains s d) none there).1)) in
+    let nothing : (h : Host) (w : Way) (s : List (List ℕ)) → s ≡ []
+    → OfferTsn w.tsn s = λ h w s none d there. absurd (omega (arith, (subst (λ (s : List (List ℕ)). Contains s d) none there).1)) in
     record {
       life = new_life key;
       peer_life = new_life peer-key;

@@ -5,8 +5,9 @@ use Rattle.std.specs.Prelude.{Result, Ok, Err, IfOk, ◌==◌, ◌||◌, not}
 use Rattle.sctp_association.proofs.Beats.{answers_still, beats_still}
 use Rattle.sctp_association.proofs.Rows.{steps_next, steps_stop}
 use Rattle.sctp_association.proofs.Shutting.{shuts_still}
-use Rattle.sctp_association.specs.Single.{AloneAt, AloneOn, OffersOn}
+use Rattle.sctp_association.specs.Single.{AloneAt, AloneOn, CauseOn, OffersOn}
 use Rattle.sctp_association.specs.Beats.{AnswersOn, BeatsOn}
+use Rattle.sctp_association.specs.Causes.{cause_after, cause_in}
 use Rattle.sctp_association.specs.Cookies.{cookie_in}
 use Rattle.sctp_association.specs.Halves.{receiver_of}
 use Rattle.sctp_association.specs.Openings.{EchoesOn, InitAckOn}
@@ -15,8 +16,9 @@ use Rattle.sctp_association.specs.Shutting.{ShutsOn}
 use Rattle.sctp_association.specs.declared.association.Association.{Association}
 use Rattle.sctp_association.specs.declared.association.Reason.{Reason}
 use Rattle.sctp_association.specs.declared.association.arrivals.Step.{Step}
-use Rattle.sctp_association.specs.declared.association.arrivals.Step.TheVariants.{Next, Stop, Refused}
+use Rattle.sctp_association.specs.declared.association.arrivals.Step.TheVariants.{Next, Stop, Cut, Refused}
 use Rattle.sctp_association.specs.declared.due.Due.{Due}
+use Rattle.sctp_association.specs.declared.event.Events.{Events}
 use Rattle.sctp_association.specs.declared.fault.Fault.{Fault}
 use Rattle.sctp_datagram.specs.declared.datagram.ChunkPlace.{ChunkPlace}
 use Rattle.sctp_handshake.specs.declared.answer.Reply.{Reply}
@@ -27,7 +29,7 @@ use Rattle.sctp_util.specs.Field.{u32_at}
 
 -- of a chunk of this type only the row is said
 abbrev pub is_plain : ℕ → Bool
-is_plain typ = not ((typ == 1) || ((typ == 2) || ((typ == 4) || ((typ == 5) || ((typ == 7) || (typ == 10))))))
+is_plain typ = not ((typ == 1) || ((typ == 2) || ((typ == 4) || ((typ == 5) || ((typ == 7) || ((typ == 9) || (typ == 10)))))))
 
 module _ (c : ChunkPlace) (tag : ℕ) (d : List ℕ) (now : ℕ) (a b : Association) where
   pub alone_refused : (r : Reason) → AloneOn c tag d now (Refused r) a b
@@ -37,26 +39,29 @@ module _ (c : ChunkPlace) (tag : ℕ) (d : List ℕ) (now : ℕ) (a b : Associat
     heartbeat = λ is. tt;
     heartbeat_ack = λ is. tt;
     shutdown = λ is. tt;
+    error = λ is. tt;
     cookie_echo = λ is. tt;
     row = λ is. tt;
   }
 
   module _ (r : Result Step Fault) where
-    pub alone_by : (c.typ ≡ 1 → IfOk r (λ s. OffersOn c d s a b)) → (c.typ ≡ 2 → IfOk r (λ s. InitAckOn c d s a b))
+    pub alone_by : (c.typ ≡ 1 → IfOk r (λ s. OffersOn c d now s a b)) → (c.typ ≡ 2 → IfOk r (λ s. InitAckOn c d now s a b))
         → (c.typ ≡ 4 → IfOk r (λ s. AnswersOn c.at d s a b)) → (c.typ ≡ 5 → IfOk r (λ s. BeatsOn c.at d now s a b))
-        → (c.typ ≡ 7 → IfOk r (λ s. ShutsOn c.at d now s a.outbound b.outbound)) → (c.typ ≡ 10 → IfOk r (λ s. EchoesOn tag (cookie_in d c) now s a b))
-        → (has_row c.typ ≡ true → IfOk r (λ s. RowOn c d s a b)) → IfOk r (λ s. AloneOn c tag d now s a b)
-    alone_by init init_ack heartbeat heartbeat_ack shutdown cookie_echo row = by r refl
+        → (c.typ ≡ 7 → IfOk r (λ s. ShutsOn c.at d now s a.outbound b.outbound)) → (c.typ ≡ 9 → IfOk r (λ s. CauseOn c d s a b))
+        → (c.typ ≡ 10 → IfOk r (λ s. EchoesOn tag (cookie_in d c) now s a b))
+        → (has_row c.typ ≡ true → IfOk r (λ s. RowOn c d now s a b)) → IfOk r (λ s. AloneOn c tag d now s a b)
+    alone_by init init_ack heartbeat heartbeat_ack shutdown error cookie_echo row = by r refl
       where
         by : (q : Result Step Fault) → r ≡ q → IfOk q (λ s. AloneOn c tag d now s a b)
         by (Ok s) is = record {
-          init = λ e. subst (λ (x : Result Step Fault). IfOk x (λ s. OffersOn c d s a b)) is (init e);
-          init_ack = λ e. subst (λ (x : Result Step Fault). IfOk x (λ s. InitAckOn c d s a b)) is (init_ack e);
+          init = λ e. subst (λ (x : Result Step Fault). IfOk x (λ s. OffersOn c d now s a b)) is (init e);
+          init_ack = λ e. subst (λ (x : Result Step Fault). IfOk x (λ s. InitAckOn c d now s a b)) is (init_ack e);
           heartbeat = λ e. subst (λ (x : Result Step Fault). IfOk x (λ s. AnswersOn c.at d s a b)) is (heartbeat e);
           heartbeat_ack = λ e. subst (λ (x : Result Step Fault). IfOk x (λ s. BeatsOn c.at d now s a b)) is (heartbeat_ack e);
           shutdown = λ e. subst (λ (x : Result Step Fault). IfOk x (λ s. ShutsOn c.at d now s a.outbound b.outbound)) is (shutdown e);
+          error = λ e. subst (λ (x : Result Step Fault). IfOk x (λ s. CauseOn c d s a b)) is (error e);
           cookie_echo = λ e. subst (λ (x : Result Step Fault). IfOk x (λ s. EchoesOn tag (cookie_in d c) now s a b)) is (cookie_echo e);
-          row = λ e. subst (λ (x : Result Step Fault). IfOk x (λ s. RowOn c d s a b)) is (row e);
+          row = λ e. subst (λ (x : Result Step Fault). IfOk x (λ s. RowOn c d now s a b)) is (row e);
         }
         by (Err e) is = tt
 
@@ -64,20 +69,25 @@ module _ (c : ChunkPlace) (tag : ℕ) (d : List ℕ) (now : ℕ) (a b : Associat
     none : (n k : ℕ) → c.typ ≡ n → is_plain n ≡ true → is_plain k ≡ false → c.typ ≡ k → ⊥
     none n k typ plain other is = false≢true (sym other ∙ sym (ap is_plain is) ∙ ap is_plain typ ∙ plain)
 
-    pub alone_plain : (n : ℕ) → c.typ ≡ n → is_plain n ≡ true → IfOk r (λ s. RowOn c d s a b) → IfOk r (λ s. AloneOn c tag d now s a b)
+    pub alone_plain : (n : ℕ) → c.typ ≡ n → is_plain n ≡ true → IfOk r (λ s. RowOn c d now s a b) → IfOk r (λ s. AloneOn c tag d now s a b)
     alone_plain n typ plain row = alone_by (λ is. absurd (none n 1 typ plain refl is)) (λ is. absurd (none n 2 typ plain refl is))
         (λ is. absurd (none n 4 typ plain refl is)) (λ is. absurd (none n 5 typ plain refl is)) (λ is. absurd (none n 7 typ plain refl is))
-        (λ is. absurd (none n 10 typ plain refl is)) (λ e. row)
+        (λ is. absurd (none n 9 typ plain refl is)) (λ is. absurd (none n 10 typ plain refl is)) (λ e. row)
 
-    pub alone_silent : c.typ ≡ 130 → IfOk r (λ s. AloneOn c tag d now s a b)
-    alone_silent typ = alone_by (λ is. absurd (none 130 1 typ refl refl is)) (λ is. absurd (none 130 2 typ refl refl is))
-        (λ is. absurd (none 130 4 typ refl refl is)) (λ is. absurd (none 130 5 typ refl refl is)) (λ is. absurd (none 130 7 typ refl refl is))
-        (λ is. absurd (none 130 10 typ refl refl is)) (λ row. absurd (false≢true (sym (ap has_row typ) ∙ row)))
+-- an ERROR that is taken tells its cause
+pub cause_on : (c : ChunkPlace) (d : List ℕ) (s : Step) (a b : Association) → (s ≡ Stop → ⊥) → (s ≡ Cut → ⊥)
+    → b.events.peer_error ≡ cause_after (cause_in d c) a.events.peer_error → CauseOn c d s a b
+cause_on c d Next a b stop cut h = h
+cause_on c d Stop a b stop cut h = absurd (stop refl)
+cause_on c d Cut a b stop cut h = absurd (cut refl)
+cause_on c d (Refused r) a b stop cut h = tt
 
 -- none of these types
-pub plain_other : (typ : ℕ) → (typ ≡ 1 → ⊥) → (typ ≡ 2 → ⊥) → (typ ≡ 4 → ⊥) → (typ ≡ 5 → ⊥) → (typ ≡ 7 → ⊥) → (typ ≡ 10 → ⊥) → is_plain typ ≡ true
-plain_other typ n1 n2 n4 n5 n7 n10 =
-    rw (ne_eqb typ 1 n1) (rw (ne_eqb typ 2 n2) (rw (ne_eqb typ 4 n4) (rw (ne_eqb typ 5 n5) (rw (ne_eqb typ 7 n7) (rw (ne_eqb typ 10 n10) refl)))))
+pub plain_other : (typ : ℕ) → (typ ≡ 1 → ⊥) → (typ ≡ 2 → ⊥) → (typ ≡ 4 → ⊥) → (typ ≡ 5 → ⊥) → (typ ≡ 7 → ⊥) → (typ ≡ 9 → ⊥) → (typ ≡ 10 → ⊥)
+    → is_plain typ ≡ true
+plain_other typ n1 n2 n4 n5 n7 n9 n10 =
+    rw (ne_eqb typ 1 n1) (rw (ne_eqb typ 2 n2) (rw (ne_eqb typ 4 n4) (rw (ne_eqb typ 5 n5) (rw (ne_eqb typ 7 n7) (rw (ne_eqb typ 9 n9)
+    (rw (ne_eqb typ 10 n10) refl))))))
 
 -- ## What is said of it is so of its datagram
 
@@ -94,6 +104,7 @@ alone_stop c d now a b h = record {
   heartbeat = λ typ. absurd (h.heartbeat typ);
   heartbeat_ack = λ typ. absurd (h.heartbeat_ack typ);
   shutdown = λ typ. absurd (h.shutdown typ);
+  error = λ typ. absurd (h.error typ);
   cookie_echo = λ typ. let e = h.cookie_echo typ in record {
     step = e.0;
     behind = b;
@@ -101,18 +112,19 @@ alone_stop c d now a b h = record {
     stale = λ is. refl;
     settles = λ is. absurd (false≢true (sym is ∙ e.1));
   };
-  row = λ is. steps_stop c d a b (h.row is);
+  row = λ is. steps_stop c d now a b (h.row is);
 }
 
-pub alone_next : (c : ChunkPlace) (d : List ℕ) (now : ℕ) (a b e : Association) → AloneOn c (u32_at d 4) d now Next a b → Settles b e
-    → receiver_of e.inbound ≡ receiver_of b.inbound → e.heartbeat ≡ b.heartbeat → AloneAt c d now a e
-alone_next c d now a b e h ends came heartbeat = record {
+pub alone_next : (c : ChunkPlace) (d : List ℕ) (now : ℕ) (a b e : Association) → AloneOn c (u32_at d 4) d now Next a b → Settles now b e
+    → receiver_of e.inbound ≡ receiver_of b.inbound → e.heartbeat ≡ b.heartbeat → e.events ≡ b.events → AloneAt c d now a e
+alone_next c d now a b e h ends came heartbeat events = record {
   init = λ typ. absurd (h.init typ);
   init_ack = λ typ. inr (record { behind = b; acks = h.init_ack typ; settles = ends });
   heartbeat = λ typ. answers_still c.at d a b e
       (λ info is. heartbeat-due (settled b).answer.reply b.due e.due ends.due ∙ is) ends.outbound came ends.over (h.heartbeat typ);
   heartbeat_ack = λ typ. beats_still c.at d now a b e ends.outbound heartbeat (h.heartbeat_ack typ);
   shutdown = λ typ. shuts_still c.at d now a.outbound b.outbound e.outbound ends.outbound (h.shutdown typ);
+  error = λ typ. ap (λ (x : Events). x.peer_error) events ∙ h.error typ;
   cookie_echo = λ typ. let k = h.cookie_echo typ in record {
     step = k.0;
     behind = b;
@@ -120,5 +132,5 @@ alone_next c d now a b e h ends came heartbeat = record {
     stale = λ is. absurd (false≢true (sym k.1 ∙ is));
     settles = λ is. ends;
   };
-  row = λ is. steps_next c d a b e (h.row is) ends;
+  row = λ is. steps_next c d now a b e (h.row is) ends;
 }

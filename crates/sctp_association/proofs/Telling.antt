@@ -1,5 +1,6 @@
 -- What waits to be told stays: from one call to the next, and where nothing that is told changes.
-use Rattle.std.proofs.Common.{◌≡◌, ◌⊎◌, inl, inr, ℕ, zero, suc, ◌<◌, ◌≤◌, take, Bool, true, false, List, [], ◌∷◌, length, Option, Some, None, refl, ap, sym, subst, ◌∙◌}
+use Rattle.std.proofs.Common.{◌≡◌, ◌⊎◌, inl, inr, ℕ, zero, suc, ◌<◌, ◌≤◌, take, Bool, true, false, List, [], ◌∷◌, length, Option, Some, None, refl, ap, sym}
+use Rattle.std.proofs.Common.{subst, ◌∙◌}
 use Rattle.std.proofs.lemmas.Bool.{cases_lt, false≢true}
 use Rattle.std.specs.Prelude.{find, is_some, if◌then◌else◌, ◌==◌}
 use Rattle.sctp_association.proofs.Known.{knows_same}
@@ -17,7 +18,8 @@ use Rattle.sctp_association.specs.Reads.{message_in}
 use Rattle.sctp_association.specs.Rooms.{without}
 use Rattle.sctp_association.specs.Runs.{AcksBy, ReportsIn, Runs, reported_by}
 use Rattle.sctp_association.specs.StreamSet.{is_in}
-use Rattle.sctp_association.specs.Telling.{IsPassedOn, KeepsEvents, NotesReadable, PassesOn, Stays, Tells, TellsEnd, TellsIn, TellsTo, opened_in}
+use Rattle.sctp_association.specs.Telling.{IsPassedOn, KeepsEvents, NotesReadable, PassesOn, Stays, Tells, TellsEnd, TellsIn, TellsTo, is_failure, opened_in}
+use Rattle.sctp_association.specs.declared.event.Ending.TheVariants.{Aborted, Unanswered}
 use Rattle.sctp_data.specs.SelectiveAck.{Sack}
 use Rattle.sctp_delivery.specs.ReceiverCalls.{ReceiverCall, forgets, makes_sack}
 use Rattle.sctp_handshake.specs.Beginnings.{init_ack_checked, init_ack_row, on_connect, on_init_ack}
@@ -412,6 +414,11 @@ init-told _ peer m = told-none m _ (λ e. e) refl
 
 pub passes_as : (t o : Told) (a b : Association) → t ≡ o → PassesOn (Some o) a b → PassesOn (Some t) a b
 passes_as t o a b is p = subst (λ k. PassesOn (Some k) a b) (sym is) p
+
+-- what fails tells so, with an ABORT or without
+pub fails_either : (b : Bool) → is_failure (Some (if b then Aborted else Unanswered)) ≡ true
+fails_either true = refl
+fails_either false = refl
 
 pub passes_none : (t : Option Told) (a b : Association) → t ≡ None → TellsEnd a b → PassesOn t a b
 passes_none t a b is end = subst (λ k. PassesOn k a b) (sym is) (record { end = end; told = tt })

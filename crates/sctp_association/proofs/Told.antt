@@ -52,7 +52,8 @@ waited-along : (acts : List Act) (v : Event) (a b : Association) → lasts v ≡
 waited-along [] v a b l run w = inr (subst (λ (x : Association). Waits v x.events) (sym run) w)
 waited-along (calls ∷ acts) v a b l run w =
     later calls acts v b.events (waited-along acts v run.0 b l run.1.1 (kept-waits v a.events run.0.events l run.1.0.end.events.kept w))
-waited-along (polls given ∷ acts) v a b l run w = either v given acts (Waits v run.0.events) b.events (waited-along acts v run.0 b l run.1.1) (run.1.0.others v w)
+waited-along (polls given ∷ acts) v a b l run w =
+    either v given acts (Waits v run.0.events) b.events (waited-along acts v run.0 b l run.1.1) (run.1.0.others v w)
 
 -- ## How it ended
 

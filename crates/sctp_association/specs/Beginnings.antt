@@ -1,5 +1,6 @@
 -- How an association begins (RFC 9260 5.1, 5.2.4).
 use Rattle.std.specs.Prelude.{◌≡◌, ◌⊎◌, ⊤, ℕ, Bool, true, false, List, drop, Option, Some, None, Ok, ◌<◌}
+use Rattle.sctp_association.specs.Causes.{TellsStale, cause_in}
 use Rattle.sctp_association.specs.Arrivals.{Arrival, Arrives, ArrivesAs, Does, Halves, begins, hears, receives, renews}
 use Rattle.sctp_association.specs.Cookies.{IsSealedAt, cookie_in}
 use Rattle.sctp_association.specs.declared.association.Association.{Association}
@@ -160,9 +161,16 @@ IsBegunBy datagram old new (renews tsn size max) =
 abbrev pub IsOwnEchoed : (datagram key : List ℕ) → Offer → Type 0
 IsOwnEchoed datagram key offer = (ticket : Ticket) × IsEchoed datagram key ticket × (ticket.own ≡ offer)
 
--- what this side offers, or what a ticket says that is echoed
-abbrev pub IsOwnOffer : (datagram : List ℕ) → Association → Offer → Type 0
-IsOwnOffer datagram a offer = (offer ≡ a.machine.own) ⊎ IsOwnEchoed datagram a.key offer
+-- it offers the same with another tag, which is not 0 (5.2.6, 5.3.1)
+pub record HasFreshTag (old new : Offer) : Type 0 where
+  pub same : new ≡ record old { tag = new.tag }
+  pub some : 0 < new.tag
+
+-- what this side offers, or what a ticket says that is echoed; with another tag, where an ERROR of the datagram tells that the cookie is stale
+pub record IsOwnOffer (datagram : List ℕ) (a : Association) (offer : Offer) : Type 0 where
+  pub base : Offer
+  pub is : (base ≡ a.machine.own) ⊎ IsOwnEchoed datagram a.key base
+  pub tag : (offer ≡ base) ⊎ (TellsStale datagram × HasFreshTag base offer)
 
 -- the ticket has the offer of an INIT of the datagram, and the first TSN of this side; the tag of this side, or another one, which is not 0
 -- (RFC 9260 5.2.1, 5.2.2, 5.3.1)
@@ -174,7 +182,8 @@ pub record IsOwedFor (datagram : List ℕ) (a : Association) (ticket : Ticket) :
   pub tag : (ticket.own.tag ≡ own.tag) ⊎ (0 < ticket.own.tag)
 
 -- What the datagram brings, where each half that is new begins so. The peer is the one that was known, or one by whose offer the association may
--- begin. This side asks no peer that it did not ask before, and offers what it offered, or what a ticket says that is echoed. An INIT ACK that is
+-- begin. This side asks no peer that it did not ask before, and offers what it offered, or what a ticket says that is echoed, but for a fresh tag (5.2.6). An
+-- INIT ACK that is
 -- due was due before, or its ticket has the offer of an INIT of the datagram, and the first TSN of this side. That the peer has begun again stays noted.
 -- The limits of the machine stay, and those of what is sent, also where the sender begins anew.
 pub record ArrivesAsOffered (datagram : List ℕ) (old new : Association) : Type 0 where
@@ -209,6 +218,15 @@ pub record KeepsPeer (old new : Association) : Type 0 where
   pub machine : KnowsNoMore old.machine new.machine
   pub owes : OwesNoMore old new
   pub sending : StaysWithin old new
+
+-- the same but for the tag of this side, which is fresh at most where this ERROR tells that the cookie is stale
+pub record KeepsPeerButTag (c : ChunkPlace) (datagram : List ℕ) (old new : Association)
+    : Type 0 where
+  pub keeps : KeepsPeer old (record new {
+    machine = record new.machine { own = old.machine.own };
+  })
+  pub own : (new.machine.own ≡ old.machine.own)
+      ⊎ ((cause_in datagram c ≡ Some 3) × HasFreshTag old.machine.own new.machine.own)
 
 -- ## Calls that no datagram brings
 

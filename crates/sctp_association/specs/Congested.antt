@@ -6,7 +6,8 @@ use Rattle.sctp_association.specs.declared.fault.Fault.{Fault}
 use Rattle.sctp_association.specs.declared.outbound.Outbound.{Outbound}
 use Rattle.sctp_association.specs.Idle.{in_flight}
 use Rattle.sctp_association.specs.Runs.{Sends}
-use Rattle.sctp_association.specs.Sending.{base_of, flight_of, idle_times, is_early, is_later, is_none_of, lowered_times, may_drop, may_send_again, may_send_next, sent_at}
+use Rattle.sctp_association.specs.Sending.{base_of, flight_of, idle_times, is_early, is_later, is_none_of, lowered_times, may_drop, may_send_again}
+use Rattle.sctp_association.specs.Sending.{may_send_next, sent_at}
 use Rattle.sctp_data.specs.declared.chunk.chunk_payload_data.ChunkPayloadData.{ChunkPayloadData}
 use Rattle.sctp_outbound.specs.pending_queue.PendingQueue.{chunk_count, next_pending}
 use Rattle.sctp_path.specs.Congestion.{Control, after_resending, after_timeout}

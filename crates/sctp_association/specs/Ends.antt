@@ -2,10 +2,15 @@
 use Rattle.std.specs.Prelude.{◌≡◌, ◌⊎◌, ⊤, ℕ, ◌==◌, ◌&&◌, ◌||◌, Bool, true, false, List, [], drop, Option, Some, None, is_some}
 use Rattle.sctp_association.specs.Halves.{receiver_of}
 use Rattle.sctp_association.specs.Paths.{taken_as}
-use Rattle.sctp_association.specs.Rows.{cause_in}
+use Rattle.sctp_association.specs.Timers.{StopsTimers}
+use Rattle.sctp_association.specs.Causes.{cause_in}
+use Rattle.sctp_association.specs.Failing.{farewell_to}
 use Rattle.sctp_association.specs.declared.association.Association.{Association}
 use Rattle.sctp_association.specs.declared.association.arrivals.Step.{Step}
 use Rattle.sctp_association.specs.declared.association.arrivals.Step.TheVariants.{Next, Stop, Cut, Refused}
+use Rattle.sctp_association.specs.declared.due.AloneKind.{AloneKind}
+use Rattle.sctp_association.specs.declared.due.AloneKind.TheVariants as alone
+use Rattle.sctp_association.specs.declared.event.Ending.TheVariants.{Aborted}
 use Rattle.sctp_association.specs.declared.inbound.Followed.{Followed}
 use Rattle.sctp_association.specs.declared.inbound.Followed.TheVariants.{Abort, Done, NoUserData, Wanting}
 use Rattle.sctp_association.specs.declared.outbound.Outbound.{Outbound}
@@ -17,10 +22,13 @@ use Rattle.sctp_data.specs.SelectiveAck.{Sack}
 use Rattle.sctp_datagram.specs.Carried.{IsChunkOf}
 use Rattle.sctp_datagram.specs.Framing.{StartsWith}
 use Rattle.sctp_datagram.specs.declared.datagram.ChunkPlace.{ChunkPlace}
+use Rattle.sctp_handshake.specs.declared.offer.Offer.{Offer}
+use Rattle.sctp_handshake.specs.declared.state.State.TheVariants.{Closed}
 use Rattle.sctp_receiver.specs.Advice.{advice_for, skip_advice_for}
 use Rattle.sctp_receiver.specs.Receiver.{Reception, arrival_refusal}
 use Rattle.sctp_receiver.specs.Skips.{past_closed_refusal}
 use Rattle.sctp_receiver.specs.declared.advice.AbortCause.{AbortCause}
+use Rattle.sctp_receiver.specs.declared.advice.AbortCause.TheVariants.{OutOfResource, ProtocolViolation}
 use Rattle.sctp_receiver.specs.declared.advice.Advice.TheVariants as advice
 use Rattle.sctp_receiver.specs.declared.advice.SkipAdvice.TheVariants as skip
 use Rattle.sctp_receiver.specs.declared.receiver.refusal.ReceiverRefusal.{ReceiverRefusal}
@@ -30,16 +38,16 @@ use Rattle.sctp_sender.specs.Sender.{take_back_refusal}
 -- ## DATA, a FORWARD-TSN, a SACK
 
 -- the receiver refuses the chunk, and reading makes no room for it: the advice is an ABORT with this cause
-pub record IsRefusedForGood (c : ChunkPayloadData) (r : Reception) : Type 0 where
+pub record IsRefusedForGood (c : ChunkPayloadData) (cause : AbortCause) (r : Reception)
+    : Type 0 where
   pub refusal : ReceiverRefusal
-  pub cause : AbortCause
   pub refused : arrival_refusal c r ≡ Some refusal
   pub advised : advice_for refusal c r ≡ advice.Abort cause
 
 -- so it is of a FORWARD-TSN
-pub record IsSkipRefusedForGood (f : ForwardTsn) (r : Reception) : Type 0 where
+pub record IsSkipRefusedForGood (f : ForwardTsn) (cause : AbortCause) (r : Reception)
+    : Type 0 where
   pub refusal : ReceiverRefusal
-  pub cause : AbortCause
   pub refused : past_closed_refusal f r ≡ Some refusal
   pub advised : skip_advice_for refusal r ≡ skip.Abort cause
 
@@ -47,20 +55,62 @@ pub record IsSkipRefusedForGood (f : ForwardTsn) (r : Reception) : Type 0 where
 abbrev pub EndsData : ChunkPayloadData → Followed → Reception → Type 0
 EndsData c Done r = ⊤
 EndsData c Wanting r = ⊤
-EndsData c (NoUserData tsn) r = c.user_data ≡ []
-EndsData c (Abort cause) r = IsRefusedForGood c r
+EndsData c (NoUserData tsn) r = (c.user_data ≡ []) × (tsn ≡ c.tsn)
+EndsData c (Abort cause) r = IsRefusedForGood c cause r
 
 -- and to a FORWARD-TSN
 abbrev pub EndsSkip : ForwardTsn → Followed → Reception → Type 0
 EndsSkip f Done r = ⊤
 EndsSkip f Wanting r = ⊤
 EndsSkip f (NoUserData tsn) r = ⊥
-EndsSkip f (Abort cause) r = IsSkipRefusedForGood f r
+EndsSkip f (Abort cause) r = IsSkipRefusedForGood f cause r
 
 -- the SACK acknowledges or reports what was not sent, or takes back more than can be in flight
 abbrev pub IsForged : Sack → Outbound → Type 0
 IsForged s o = (is_some (sack_refusal (taken_as s o) o.sender.flight) ≡ true)
     ⊎ (is_some (take_back_refusal (taken_as s o) o.sender) ≡ true)
+
+-- ## The ABORT that ends it
+
+-- the cause that the receiver advises: Out of Resource or Protocol Violation (3.3.10.4, 3.3.10.13)
+abbrev pub advised_code : AbortCause → ℕ
+advised_code OutOfResource = 4
+advised_code ProtocolViolation = 13
+
+-- the ABORT that the association is to end with
+abbrev pub abort_for : Followed → Option AloneKind
+abort_for Done = None
+abort_for Wanting = None
+abort_for (NoUserData tsn) = Some (alone.NoUserData tsn)
+abort_for (Abort cause) = Some (alone.Abort (advised_code cause))
+
+-- This side has ended the association by such an ABORT. That waits to be told, the timers of the state are stopped, and the ABORT is due to the peer
+-- that was known, and again where it is lost (9.1, 8.4).
+pub record IsAborted (kind : AloneKind) (peer : Option Offer) (new : Association) : Type 0 where
+  pub over : new.is_over ≡ true
+  pub state : new.machine.state ≡ Closed
+  pub told : new.events.closed ≡ Some Aborted
+  pub timers : StopsTimers new
+  pub alone : new.due.alone ≡ farewell_to kind peer
+  pub farewell : is_some peer ≡ true → new.due.farewell ≡ farewell_to kind peer
+
+-- DATA without user data: the cause is 9, with its TSN (6.2, 3.3.10.9). DATA or a FORWARD-TSN that is refused for good: the advised cause. A SACK
+-- of what was not sent: Protocol Violation.
+pub data IsAbortedBy (c : ChunkPlace) (datagram : List ℕ) (peer : Option Offer) (new : Association)
+    : Type 0 where
+  by_empty : (chunk : ChunkPayloadData)
+      → StartsWith (drop c.at datagram) (data_chunk (data_of chunk)) → chunk.user_data ≡ [] → IsAborted (alone.NoUserData chunk.tsn) peer new
+      → IsAbortedBy c datagram peer new
+  by_data : (r : Reception) → receiver_of new.inbound ≡ Some r → (chunk : ChunkPayloadData)
+      → StartsWith (drop c.at datagram) (data_chunk (data_of chunk))
+      → (cause : AbortCause) → IsRefusedForGood chunk cause r
+      → IsAborted (alone.Abort (advised_code cause)) peer new → IsAbortedBy c datagram peer new
+  by_skip : (r : Reception) → receiver_of new.inbound ≡ Some r → (f : ForwardTsn)
+      → StartsWith (drop c.at datagram) (forward_tsn_chunk f)
+      → (cause : AbortCause) → IsSkipRefusedForGood f cause r
+      → IsAborted (alone.Abort (advised_code cause)) peer new → IsAbortedBy c datagram peer new
+  by_sack : (s : Sack) → StartsWith (drop c.at datagram) (sack_chunk s) → IsForged s new.outbound
+      → IsAborted (alone.Abort 13) peer new → IsAbortedBy c datagram peer new
 
 -- ## A chunk
 
@@ -68,7 +118,7 @@ abbrev pub is_stale_cause : Option ℕ → Bool
 is_stale_cause None = false
 is_stale_cause (Some code) = code == 3
 
--- By its type: an INIT ACK, ABORT, SHUTDOWN-ACK, SHUTDOWN-COMPLETE, or an ERROR with cause 3. In which state they do, `rows` and `acks` say.
+-- By its type: an INIT ACK, ABORT, SHUTDOWN-ACK, SHUTDOWN-COMPLETE, or an ERROR with cause 3. In which state they do, `alone` says.
 abbrev pub ends_at : (typ : ℕ) → (cause : Option ℕ) → Bool
 ends_at typ cause = (typ == 2) || ((typ == 6) || ((typ == 8) || ((typ == 14)
     || ((typ == 9) && is_stale_cause cause))))
@@ -76,21 +126,14 @@ ends_at typ cause = (typ == 2) || ((typ == 6) || ((typ == 8) || ((typ == 14)
 abbrev pub ends_by_type : ChunkPlace → List ℕ → Bool
 ends_by_type c datagram = ends_at c.typ (cause_in datagram c)
 
--- one of these; or DATA, a FORWARD-TSN or a SACK, as the halves are then
-pub data Ends (c : ChunkPlace) (datagram : List ℕ) (new : Association) : Type 0 where
-  by_type : ends_by_type c datagram ≡ true → Ends c datagram new
-  by_data : (r : Reception) → receiver_of new.inbound ≡ Some r → (chunk : ChunkPayloadData)
-      → StartsWith (drop c.at datagram) (data_chunk (data_of chunk))
-      → (chunk.user_data ≡ []) ⊎ IsRefusedForGood chunk r → Ends c datagram new
-  by_skip : (r : Reception) → receiver_of new.inbound ≡ Some r → (f : ForwardTsn)
-      → StartsWith (drop c.at datagram) (forward_tsn_chunk f)
-      → IsSkipRefusedForGood f r → Ends c datagram new
-  by_sack : (s : Sack) → StartsWith (drop c.at datagram) (sack_chunk s)
-      → IsForged s new.outbound → Ends c datagram new
+-- one of these; or DATA, a FORWARD-TSN or a SACK, by an ABORT to this peer
+abbrev pub Ends : ChunkPlace → List ℕ → Option Offer → (new : Association) → Type 0
+Ends c datagram peer new = (ends_by_type c datagram ≡ true) ⊎ IsAbortedBy c datagram peer new
 
 -- it has ended by this chunk
 abbrev pub EndsNow : ChunkPlace → List ℕ → (old new : Association) → Type 0
-EndsNow c datagram old new = old.is_over ≡ false → new.is_over ≡ true → Ends c datagram new
+EndsNow c datagram old new =
+    old.is_over ≡ false → new.is_over ≡ true → Ends c datagram old.machine.peer new
 
 -- where the datagram goes on, only by the type
 abbrev pub EndsOn : ChunkPlace → List ℕ → Step → (old new : Association) → Type 0
@@ -102,11 +145,12 @@ EndsOn c datagram (Refused r) old new = ⊤
 
 -- ## A datagram
 
--- one of its chunks ended it
+-- one of its chunks ended it, while this peer was known
 pub record IsEndedBy (datagram : List ℕ) (new : Association) : Type 0 where
   pub chunk : ChunkPlace
   pub own : IsChunkOf datagram chunk
-  pub ends : Ends chunk datagram new
+  pub peer : Option Offer
+  pub ends : Ends chunk datagram peer new
 
 abbrev pub EndsIn : List ℕ → (old new : Association) → Type 0
 EndsIn datagram old new = old.is_over ≡ false → new.is_over ≡ true → IsEndedBy datagram new

@@ -18,6 +18,7 @@ use Rattle.sctp_datagram.specs.Places.{TellsAll, place_at}
 use Rattle.sctp_datagram.specs.declared.params.ParamPlace.{ParamPlace}
 use Rattle.sctp_handshake.specs.InitValues.{host_name_of, init_in}
 use Rattle.sctp_handshake.specs.InitValues as values
+use Rattle.sctp_handshake.specs.States.{takes_data, takes_sacks}
 use Rattle.sctp_handshake.specs.declared.answer.Answer.{Answer}
 use Rattle.sctp_handshake.specs.declared.init_value.Said.{Said}
 use Rattle.sctp_handshake.specs.declared.offer.Offer.{Offer}
@@ -42,17 +43,22 @@ is_received _ = false
 abbrev pub may_begin : Association → Bool
 may_begin a = is_standing a.machine.state || is_none a.inbound
 
+-- a RE-CONFIG is taken where DATA or SACKs are (RFC 6525 5.2)
+abbrev pub takes_resets : State → Bool
+takes_resets s = takes_data s || takes_sacks s
+
 -- A control chunk of this type is expected. A HEARTBEAT is, once the peer is known, and its answer, once the association stood (8.3). ABORT, SHUTDOWN,
--- SHUTDOWN-ACK, COOKIE-ACK and SHUTDOWN-COMPLETE are where the row of the state is not empty; and a further SHUTDOWN is (9.2). INIT, INIT ACK,
--- COOKIE-ECHO and RE-CONFIG are not among these. An ERROR and a chunk of an unknown type are expected.
+-- SHUTDOWN-ACK, COOKIE-ACK and SHUTDOWN-COMPLETE are where the row of the state is not empty; and a further SHUTDOWN is (9.2). INIT, INIT ACK
+-- and COOKIE-ECHO are not among these. An ERROR and a chunk of an unknown type are expected, and a RE-CONFIG where it is taken.
 abbrev pub expects : (typ : ℕ) → Association → Bool
 expects typ a =
     if typ == 4 then is_some a.machine.peer
     else (if typ == 5 then is_some a.heartbeat
-    else (if (typ == 6) || ((typ == 8) || (typ == 14)) then speaks (row_at typ None a.machine).answer
-    else (if typ == 7 then speaks (row_at 7 None a.machine).answer || is_received a.machine.state
-    else (if typ == 11 then speaks (row_at 11 None a.machine).answer && may_begin a
-    else not ((typ == 1) || ((typ == 2) || ((typ == 10) || (typ == 130))))))))
+    else (if (typ == 6) || ((typ == 8) || (typ == 14)) then speaks (row_at typ None 0 a.machine).answer
+    else (if typ == 7 then speaks (row_at 7 None 0 a.machine).answer || is_received a.machine.state
+    else (if typ == 11 then speaks (row_at 11 None 0 a.machine).answer && may_begin a
+    else (if typ == 130 then takes_resets a.machine.state
+    else not ((typ == 1) || ((typ == 2) || (typ == 10))))))))
 
 -- once the association is not closed
 abbrev pub is_expected : (typ : ℕ) → Association → Bool

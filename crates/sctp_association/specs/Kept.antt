@@ -40,6 +40,15 @@ pub record IsKept (old new : Association) : Type 0 where
   pub owes : OwesNoMore old new
   pub sending : StaysWithin old new
 
+-- Beside both halves, the requests of both sides and the events: what is due, the timers of the state, whether it is over, and whether a shutdown is
+-- asked for
+pub record RestStays (old new : Association) : Type 0 where
+  pub due : new.due ≡ old.due
+  pub control : new.control ≡ old.control
+  pub guard : new.guard ≡ old.guard
+  pub over : new.is_over ≡ old.is_over
+  pub wants : new.wants_shutdown ≡ old.wants_shutdown
+
 -- DATA came that no SACK told of: one waits, or is due at once (6.2)
 abbrev pub sack_waits : Option Inbound → Bool
 sack_waits None = false

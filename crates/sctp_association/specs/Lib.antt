@@ -6,6 +6,7 @@ pub mod Beats
 pub mod Beginnings
 pub mod Behind
 pub mod Calls
+pub mod Causes
 pub mod Coming
 pub mod Congested
 pub mod Cookies
@@ -18,6 +19,7 @@ pub mod Events
 pub mod Expected
 pub mod Failing
 pub mod Filled
+pub mod Fresh
 pub mod Halves
 pub mod Held
 pub mod HostCalls
@@ -58,5 +60,6 @@ pub mod Still
 pub mod StreamSet
 pub mod Tags
 pub mod Telling
+pub mod Timers
 pub mod Told
 pub mod Waiting

@@ -1,6 +1,7 @@
 -- What an INIT, an INIT ACK and a COOKIE-ECHO make of an association (RFC 9260 5.1, 5.2). Moments are nanoseconds.
 use Rattle.std.specs.Prelude.{◌≡◌, ◌⊎◌, ⊤, ℕ, ◌+◌, ◌-◌, ◌<◌, Bool, true, false, nat_lt, List, slice_range, Option, Some, None, Ok, Err, is_some}
 use Rattle.sctp_association.specs.Cookies.{IsSealedAt, cookie_in}
+use Rattle.sctp_association.specs.Fresh.{fresh_tag}
 use Rattle.sctp_association.specs.Reports.{EndsBegun, to_tag, value_in}
 use Rattle.sctp_association.specs.Rows.{FollowsStep, Settles, owed_by}
 use Rattle.sctp_association.specs.declared.association.Association.{Association}
@@ -41,7 +42,7 @@ pub record Echoes (tag : ℕ) (cookie : List ℕ) (now : ℕ) (step : Step) (old
   pub moment : ℕ
   pub made : IsSealedAt moment old.key tag cookie
   pub is : step ≡ echo_step now moment made.ticket old
-  pub follows : FollowsStep step made.ticket.peer.tag old new
+  pub follows : FollowsStep step made.ticket.peer.tag now old new
 
 -- the answer is that the cookie is stale: nothing more of the packet is looked at (5.1.5)
 abbrev pub is_stale_reply : Option Reply → Bool
@@ -66,16 +67,17 @@ pub record EchoesBy (c : ChunkPlace) (datagram : List ℕ) (now : ℕ) (old new 
   pub behind : Association
   pub echoes : Echoes (u32_at datagram 4) (cookie_in datagram c) now step old behind
   pub stale : is_stale_reply step.answer.reply ≡ true → new ≡ behind
-  pub settles : is_stale_reply step.answer.reply ≡ false → Settles behind new
+  pub settles : is_stale_reply step.answer.reply ≡ false → Settles now behind new
 
 -- ## An INIT ACK
 
 -- It makes this offer: the machine takes the step, and the cookie is kept, to be echoed (5.1 C).
-pub record TakesInitAck (c : ChunkPlace) (datagram : List ℕ) (old new : Association) : Type 0 where
+pub record TakesInitAck (c : ChunkPlace) (datagram : List ℕ) (now : ℕ) (old new : Association)
+    : Type 0 where
   pub offer : Offer
   pub place : ParamPlace
   pub reads : values.cookie_in (init_in (value_in datagram c)) ≡ Ok (offer, place)
-  pub follows : FollowsStep (on_init_ack offer old.machine) offer.tag old new
+  pub follows : FollowsStep (on_init_ack offer old.machine) offer.tag now old new
   pub cookie : (on_init_ack offer old.machine).answer.told ≡ None
       → new.cookie ≡ Some (slice_range (value_in datagram c) place.at (place.at + place.length))
 
@@ -88,20 +90,23 @@ pub record EndsAsked (c : ChunkPlace) (datagram : List ℕ) (old new : Associati
   pub ends : EndsBegun kind raw (u32_at (value_in datagram c) 0) old new
 
 -- so it is of one that is taken
-abbrev pub InitAckOn : ChunkPlace → List ℕ → arrivals.Step → (old new : Association) → Type 0
-InitAckOn c datagram chunk.Next old new = TakesInitAck c datagram old new
-InitAckOn c datagram chunk.Stop old new = EndsAsked c datagram old new
-InitAckOn c datagram chunk.Cut old new = ⊥
-InitAckOn c datagram (chunk.Refused r) old new = ⊤
+abbrev pub InitAckOn : ChunkPlace → List ℕ → (now : ℕ) → arrivals.Step
+    → (old new : Association) → Type 0
+InitAckOn c datagram now chunk.Next old new = TakesInitAck c datagram now old new
+InitAckOn c datagram now chunk.Stop old new = EndsAsked c datagram old new
+InitAckOn c datagram now chunk.Cut old new = ⊥
+InitAckOn c datagram now (chunk.Refused r) old new = ⊤
 
 -- and of a datagram that has only it
-pub record InitAckThen (c : ChunkPlace) (datagram : List ℕ) (old new : Association) : Type 0 where
+pub record InitAckThen (c : ChunkPlace) (datagram : List ℕ) (now : ℕ) (old new : Association)
+    : Type 0 where
   pub behind : Association
-  pub acks : TakesInitAck c datagram old behind
-  pub settles : Settles behind new
+  pub acks : TakesInitAck c datagram now old behind
+  pub settles : Settles now behind new
 
-abbrev pub InitAckBy : ChunkPlace → List ℕ → (old new : Association) → Type 0
-InitAckBy c datagram old new = EndsAsked c datagram old new ⊎ InitAckThen c datagram old new
+abbrev pub InitAckBy : ChunkPlace → List ℕ → (now : ℕ) → (old new : Association) → Type 0
+InitAckBy c datagram now old new =
+    EndsAsked c datagram old new ⊎ InitAckThen c datagram now old new
 
 -- ## An INIT
 
@@ -112,16 +117,14 @@ owed_to_init (Some (reply.InitAck ticket)) tag d =
 owed_to_init r tag d = owed_by r tag d
 
 -- It says this, and the reply of the row is due: an INIT ACK, or an ABORT to an offer that cannot stand, or a SHUTDOWN-ACK (5.1 B, 5.2.1, 5.2.2, 9.2).
--- A fresh tag is not 0 (5.3.1).
-pub record AnswersOffer (value : List ℕ) (old new : Association) : Type 0 where
+pub record AnswersOffer (value : List ℕ) (now : ℕ) (old new : Association) : Type 0 where
   pub said : Said
-  pub tag : ℕ
   pub reads : init_in value ≡ Ok said
-  pub fresh : 0 < tag
   pub due : new.due ≡ record (
-      owed_to_init (init_reply said.offer tag old.machine) said.offer.tag old.due
+      owed_to_init (init_reply said.offer (fresh_tag old.key now said.offer) old.machine)
+      said.offer.tag old.due
       ) { unknown_params = new.due.unknown_params }
 
 -- one without a Host Name Address (5.1.2)
-abbrev pub OffersTo : (value : List ℕ) → (old new : Association) → Type 0
-OffersTo value old new = host_name_of value ≡ None → AnswersOffer value old new
+abbrev pub OffersTo : (value : List ℕ) → (now : ℕ) → (old new : Association) → Type 0
+OffersTo value now old new = host_name_of value ≡ None → AnswersOffer value now old new

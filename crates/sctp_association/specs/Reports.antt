@@ -1,6 +1,7 @@
 -- What this side tells a peer of what it does not know, and why it ends what it began.
 use Rattle.std.specs.Prelude.{◌≡◌, ℕ, ◌+◌, ◌-◌, ◌*◌, ◌/◌, ◌==◌, Bool, true, ◌&&◌, ◌||◌, min, nat_lt, if◌then◌else◌, List, take, drop, slice_range}
 use Rattle.std.specs.Prelude.{[], ◌∷◌, Option, Some, None, is_none, is_some}
+use Rattle.sctp_association.specs.Timers.{StopsTimers}
 use Rattle.sctp_association.specs.declared.association.Association.{Association}
 use Rattle.sctp_association.specs.declared.due.Alone.{Alone}
 use Rattle.sctp_association.specs.declared.due.AloneKind.{AloneKind}
@@ -63,6 +64,7 @@ pub record EndsBegun (kind : AloneKind) (raw : Option (List ℕ)) (tag : ℕ) (o
     unknown_params = raw;
   }
   pub told : new.events ≡ record old.events { closed = Some Aborted }
+  pub timers : StopsTimers new
   pub outbound : new.outbound ≡ old.outbound
 
 -- an INIT with a Host Name Address is answered by an ABORT to its tag, with the parameter (RFC 9260 5.1.2)

@@ -1,9 +1,13 @@
--- What the state machine makes of a chunk that comes (RFC 9260 4, 5, 9), and what follows from its answer.
-use Rattle.std.specs.Prelude.{◌≡◌, ◌⊎◌, ⊤, ℕ, ◌==◌, ◌||◌, Bool, true, false, not, nat_lt, if◌then◌else◌, List, drop, length, Option, Some, None}
+-- What the state machine makes of a chunk that comes (RFC 9260 4, 5, 9), and what follows from its answer. Moments are nanoseconds.
+use Rattle.std.specs.Prelude.{◌≡◌, ◌⊎◌, ⊤, ℕ, ◌==◌, ◌||◌, Bool, true, false, not, if◌then◌else◌, List, Option, Some, None}
+use Rattle.sctp_association.specs.Causes.{cause_in}
 use Rattle.sctp_association.specs.Coming.{goes_on}
+use Rattle.sctp_association.specs.Ends.{IsAbortedBy}
+use Rattle.sctp_association.specs.Fresh.{fresh_tag}
 use Rattle.sctp_association.specs.Reports.{to_tag}
 use Rattle.sctp_association.specs.Sending.{holds_nothing}
 use Rattle.sctp_association.specs.Telling.{IsPassedOn}
+use Rattle.sctp_association.specs.Timers.{RunsTimers}
 use Rattle.sctp_association.specs.declared.association.Association.{Association}
 use Rattle.sctp_association.specs.declared.association.arrivals.Step.TheVariants as chunk
 use Rattle.sctp_association.specs.declared.association.arrivals.Step as arrivals
@@ -26,7 +30,6 @@ use Rattle.sctp_handshake.specs.declared.offer.Offer.{Offer}
 use Rattle.sctp_handshake.specs.declared.state.State.{State}
 use Rattle.sctp_handshake.specs.declared.state.State.TheVariants.{Closed, CookieWait, CookieEchoed, Established}
 use Rattle.sctp_handshake.specs.declared.state.State.TheVariants.{ShutdownPending, ShutdownSent, ShutdownReceived, ShutdownAckSent}
-use Rattle.sctp_util.specs.Field.{u16_at}
 
 -- ## What follows from an answer of the state machine
 
@@ -65,30 +68,39 @@ over_by (Some told.ShutdownBegun) was = was
 over_by (Some told.Closed) was = true
 over_by (Some told.Failed) was = true
 
--- What the machine answers is followed: its reply is due, what it tells waits to be told, and the association is over where that ends it. Beside that
--- a HEARTBEAT-ACK or a report may be due; and where it tells something, a COOKIE-ECHO may be no more.
-pub record FollowsAnswer (a : Answer) (tag : ℕ) (old new : Association) : Type 0 where
-  pub due : new.due ≡ record (owed_by a.reply tag old.due) {
-    cookie_echo = new.due.cookie_echo;
+-- once the association stands no COOKIE-ECHO is due (5.1 C)
+abbrev pub owed_once : Option Told → Due → Due
+owed_once None d = d
+owed_once (Some told.Connected) d = record d { cookie_echo = false }
+owed_once (Some told.Restarted) d = record d { cookie_echo = false }
+owed_once (Some told.ShutdownBegun) d = d
+owed_once (Some told.Closed) d = d
+owed_once (Some told.Failed) d = d
+
+-- What the machine answers is followed: its reply is due, what it tells waits to be told, and the association is over where that ends it. The timers
+-- of the state run. Beside that a HEARTBEAT-ACK or a report may be due.
+pub record FollowsAnswer (a : Answer) (tag : ℕ) (before : State) (now : ℕ)
+    (old new : Association) : Type 0 where
+  pub due : new.due ≡ record (owed_once a.told (owed_by a.reply tag old.due)) {
     heartbeat = new.due.heartbeat;
     report = new.due.report;
   }
-  pub echo : a.told ≡ None → new.due.cookie_echo ≡ (owed_by a.reply tag old.due).cookie_echo
+  pub timers : RunsTimers a before now old new
   pub over : new.is_over ≡ over_by a.told old.is_over
   pub told : IsPassedOn a.told new.events
   pub wants : new.wants_shutdown ≡ old.wants_shutdown
 
 -- the machine takes the step, and what it answers is followed
-pub record FollowsStep (s : Step) (tag : ℕ) (old new : Association) : Type 0 where
+pub record FollowsStep (s : Step) (tag now : ℕ) (old new : Association) : Type 0 where
   pub machine : new.machine ≡ s.machine
-  pub answer : FollowsAnswer s.answer tag old new
+  pub answer : FollowsAnswer s.answer tag old.machine.state now old new
 
 -- so it is of a chunk that is taken; it ends no datagram
-abbrev pub StepsOn : Step → (tag : ℕ) → arrivals.Step → (old new : Association) → Type 0
-StepsOn s tag chunk.Next old new = FollowsStep s tag old new
-StepsOn s tag chunk.Stop old new = ⊥
-StepsOn s tag chunk.Cut old new = ⊥
-StepsOn s tag (chunk.Refused r) old new = ⊤
+abbrev pub StepsOn : Step → (tag now : ℕ) → arrivals.Step → (old new : Association) → Type 0
+StepsOn s tag now chunk.Next old new = FollowsStep s tag now old new
+StepsOn s tag now chunk.Stop old new = ⊥
+StepsOn s tag now chunk.Cut old new = ⊥
+StepsOn s tag now (chunk.Refused r) old new = ⊤
 
 -- ## The end of a datagram
 
@@ -120,44 +132,42 @@ abbrev pub settled : Association → Step
 settled a =
     drained_where (holds_nothing a.outbound.sender) (asked_for a.wants_shutdown a.machine)
 
-pub record Settles (old new : Association) : Type 0 where
+-- the timers of the state run as behind the answer to that
+pub record Settles (now : ℕ) (old new : Association) : Type 0 where
   pub machine : new.machine ≡ (settled old).machine
   pub due : new.due ≡ owed_by (settled old).answer.reply 0 old.due
   pub over : new.is_over ≡ old.is_over
   pub outbound : new.outbound ≡ old.outbound
   pub wants : new.wants_shutdown ≡ still_wants old.machine.state old.wants_shutdown
+  pub timers : RunsTimers (settled old).answer
+      (asked_for old.wants_shutdown old.machine).state now old new
 
 -- ## The row of a chunk
 
--- the code of the first cause of an ERROR, if it has one (3.3.10)
-abbrev pub cause_in : List ℕ → ChunkPlace → Option ℕ
-cause_in datagram c =
-    if nat_lt c.length 8 || nat_lt (length (drop c.at datagram)) 8 then None
-    else Some (u16_at (drop c.at datagram) 4)
-
--- cause 3: the cookie is stale (5.2.6); another one changes nothing
-abbrev pub error_row : Option ℕ → Machine → Step
-error_row None m = dropped m
-error_row (Some code) m = if code == 3 then on_stale_cookie m else dropped m
+-- cause 3: the cookie is stale, and the next INIT has a fresh tag (5.2.6); another one changes nothing
+abbrev pub error_row : Option ℕ → (fresh : ℕ) → Machine → Step
+error_row None fresh m = dropped m
+error_row (Some code) fresh m = if code == 3 then on_stale_cookie fresh m else dropped m
 
 -- What the machine makes of a chunk of this type: of DATA, ABORT, SHUTDOWN, SHUTDOWN-ACK, ERROR, COOKIE-ACK, SHUTDOWN-COMPLETE; of others nothing
-abbrev pub row_at : (typ : ℕ) → (cause : Option ℕ) → Machine → Step
-row_at typ cause m =
+abbrev pub row_at : (typ : ℕ) → (cause : Option ℕ) → (fresh : ℕ) → Machine → Step
+row_at typ cause fresh m =
     if typ == 0 then on_packet_arrived true m
     else (if typ == 6 then on_abort m
     else (if typ == 7 then on_shutdown m
     else (if typ == 8 then on_shutdown_ack m
-    else (if typ == 9 then error_row cause m
+    else (if typ == 9 then error_row cause fresh m
     else (if typ == 11 then on_cookie_ack m
     else (if typ == 14 then on_shutdown_complete m
     else dropped m))))))
 
-abbrev pub row_of : ChunkPlace → List ℕ → Machine → Step
-row_of c datagram m = row_at c.typ (cause_in datagram c) m
+abbrev pub row_of : ChunkPlace → List ℕ → (now : ℕ) → Association → Step
+row_of c datagram now a =
+    row_at c.typ (cause_in datagram c) (fresh_tag a.key now a.machine.own) a.machine
 
--- INIT, INIT ACK, COOKIE-ECHO and RE-CONFIG are not among them
+-- INIT, INIT ACK and COOKIE-ECHO are not among them
 abbrev pub has_row : ℕ → Bool
-has_row typ = not ((typ == 1) || ((typ == 2) || ((typ == 10) || (typ == 130))))
+has_row typ = not ((typ == 1) || ((typ == 2) || (typ == 10)))
 
 abbrev pub tag_of : Option Offer → ℕ
 tag_of None = 0
@@ -167,23 +177,25 @@ tag_of (Some peer) = peer.tag
 abbrev pub tag_to : (typ : ℕ) → Machine → ℕ
 tag_to typ m = if typ == 8 then tag_of m.peer else 0
 
--- it is taken so; the datagram ends with an ABORT, and with DATA, a SACK or a FORWARD-TSN that ends the association
-abbrev pub RowOn : ChunkPlace → List ℕ → arrivals.Step → (old new : Association) → Type 0
-RowOn c datagram chunk.Next old new =
-    FollowsStep (row_of c datagram old.machine) (tag_to c.typ old.machine) old new
-RowOn c datagram chunk.Stop old new =
-    ((c.typ ≡ 6) × FollowsStep (on_abort old.machine) 0 old new)
-    ⊎ ((goes_on c.typ ≡ true) × (new.is_over ≡ true))
-RowOn c datagram chunk.Cut old new = ⊤
-RowOn c datagram (chunk.Refused r) old new = ⊤
+-- it is taken so; the datagram ends with an ABORT, and with DATA, a SACK or a FORWARD-TSN by which this side ends the association
+abbrev pub RowOn : ChunkPlace → List ℕ → (now : ℕ) → arrivals.Step → (old new : Association)
+    → Type 0
+RowOn c datagram now chunk.Next old new =
+    FollowsStep (row_of c datagram now old) (tag_to c.typ old.machine) now old new
+RowOn c datagram now chunk.Stop old new =
+    ((c.typ ≡ 6) × FollowsStep (on_abort old.machine) 0 now old new)
+    ⊎ ((goes_on c.typ ≡ true) × IsAbortedBy c datagram old.machine.peer new)
+RowOn c datagram now chunk.Cut old new = ⊤
+RowOn c datagram now (chunk.Refused r) old new = ⊤
 
 -- the step is taken, and the datagram has ended
-pub record StepsTo (s : Step) (tag : ℕ) (old new : Association) : Type 0 where
+pub record StepsTo (s : Step) (tag now : ℕ) (old new : Association) : Type 0 where
   pub behind : Association
-  pub follows : FollowsStep s tag old behind
-  pub settles : Settles behind new
+  pub follows : FollowsStep s tag now old behind
+  pub settles : Settles now behind new
 
--- so it is of the only chunk of a datagram; or that is DATA, a SACK or a FORWARD-TSN that ends the association
-abbrev pub StepsBy : ChunkPlace → List ℕ → (old new : Association) → Type 0
-StepsBy c datagram old new = ((goes_on c.typ ≡ true) × (new.is_over ≡ true))
-    ⊎ StepsTo (row_of c datagram old.machine) (tag_to c.typ old.machine) old new
+-- so it is of the only chunk of a datagram; or that is DATA, a SACK or a FORWARD-TSN by which this side ends the association
+abbrev pub StepsBy : ChunkPlace → List ℕ → (now : ℕ) → (old new : Association) → Type 0
+StepsBy c datagram now old new =
+    ((goes_on c.typ ≡ true) × IsAbortedBy c datagram old.machine.peer new)
+    ⊎ StepsTo (row_of c datagram now old) (tag_to c.typ old.machine) now old new

@@ -4,6 +4,8 @@ use Rattle.sctp_association.specs.Beginnings.{is_standing}
 use Rattle.sctp_association.specs.Reads.{message_in}
 use Rattle.sctp_association.specs.StreamSet.{is_in}
 use Rattle.sctp_association.specs.declared.association.Association.{Association}
+use Rattle.sctp_association.specs.declared.event.Ending.{Ending}
+use Rattle.sctp_association.specs.declared.event.Ending.TheVariants.{Shutdown, AbortedByPeer, Aborted, Unanswered}
 use Rattle.sctp_association.specs.declared.event.Events.{Events}
 use Rattle.sctp_association.specs.declared.inbound.Inbound.{Inbound}
 use Rattle.sctp_handshake.specs.declared.answer.Told.{Told}
@@ -80,14 +82,22 @@ pub record Tells (old new : Association) : Type 0 where
 
 -- ## What the state machine tells
 
--- it is passed on: it waits to be told
+-- the association ended otherwise than by SHUTDOWN (9.1, 8.1)
+abbrev pub is_failure : Option Ending → Bool
+is_failure None = false
+is_failure (Some Shutdown) = false
+is_failure (Some AbortedByPeer) = true
+is_failure (Some Aborted) = true
+is_failure (Some Unanswered) = true
+
+-- It is passed on: it waits to be told. One that is closed ended by SHUTDOWN, and one that failed did not.
 abbrev pub IsPassedOn : Option Told → Events → Type 0
 IsPassedOn None e = ⊤
 IsPassedOn (Some told.Connected) e = e.connected ≡ true
 IsPassedOn (Some told.Restarted) e = e.restarted ≡ true
 IsPassedOn (Some told.ShutdownBegun) e = e.shutdown ≡ true
-IsPassedOn (Some told.Closed) e = is_some e.closed ≡ true
-IsPassedOn (Some told.Failed) e = is_some e.closed ≡ true
+IsPassedOn (Some told.Closed) e = e.closed ≡ Some Shutdown
+IsPassedOn (Some told.Failed) e = is_failure e.closed ≡ true
 
 -- behind an input of the machine what it told is passed on, and what waited is kept
 pub record PassesOn (t : Option Told) (old new : Association) : Type 0 where

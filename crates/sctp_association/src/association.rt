@@ -143,6 +143,7 @@ impl Association {
     ghost use Rattle.sctp_association.specs.Reads.{AreReadOff, IsSameBeside, length_of, message_in};
     ghost use Rattle.sctp_association.specs.Lasting.{BeginsWithin, LastsNoLonger};
     ghost use Rattle.sctp_association.specs.Telling.{HasPlaces, Tells};
+    ghost use Rattle.sctp_association.specs.Timers.{StartsTimers, StopsTimers};
     ghost use Rattle.sctp_association.specs.declared.due.AloneKind.TheVariants.{Abort};
 
     /// No association yet: it waits for a peer's INIT, or for `connect`. Refuses with `BadConfig`. It takes no memory.
@@ -194,6 +195,8 @@ impl Association {
         ensures unbegun { IsUnbegun self.old → IsOk result }
         ensures asked { OnOk result (HasAsked self.new) }
         ensures begins { OnOk result (BeginsToAsk self.old self.new) }
+        // T1-init runs (RFC 9260 5.1 A).
+        ensures timers { OnOk result (StartsTimers now self.old self.new) }
         ensures left { LastsNoLonger self.old self.new }
         ensures refused { IfErr result (λ e. e ≡ WrongState) }
         // The receiving half stays: so the peer may use the same streams.
@@ -340,6 +343,7 @@ impl Association {
         // Where the peer is known the ABORT is due.
         ensures owed { OnOk result (self.new.due.alone
             ≡ farewell_to (Abort 12) self.old.machine.peer) }
+        ensures timers { OnOk result (StopsTimers self.new) }
         ensures left { LastsNoLonger self.old self.new }
         ensures refused { IfErr result (λ e. e ≡ WrongState) }
         // The receiving half stays: so the peer may use the same streams.
@@ -381,6 +385,7 @@ impl Association {
     fn end(&mut self, ending: Ending)
         ensures over { self.new.is_over ≡ true }
         ensures told { self.new.events ≡ record self.old.events { closed = Some ending } }
+        ensures timers { StopsTimers self.new }
         ensures rest { self.new ≡ record self.old {
           is_over = self.new.is_over;
           control = self.new.control;

@@ -182,12 +182,30 @@ old_cookie = refl
 
 -- ## 5.2.6: the cookie was stale
 
-retry : answers_to (stale_cookie ∷ init_ack (fitted_offer 22 200) ∷ cookie_ack ∷ []) (after (init_ack (fitted_offer 22 200) ∷ []) a_waits)
+retry : answers_to (stale_cookie 12 ∷ init_ack (fitted_offer 22 200) ∷ cookie_ack ∷ []) (after (init_ack (fitted_offer 22 200) ∷ []) a_waits)
     ≡ replied reply.Init ∷ replied reply.CookieEcho ∷ noticed told.Connected ∷ []
 retry = refl
 
-stale_for_ever : answers_to (init_ack (offer 22 200) ∷ stale_cookie ∷ init_ack (offer 22 200) ∷ stale_cookie ∷ init_ack (offer 22 200) ∷ stale_cookie ∷ [])
-    a_waits
+-- the new INIT has the fresh tag
+anew : after (stale_cookie 12 ∷ []) (after (init_ack (fitted_offer 22 200) ∷ []) a_waits) ≡ record a_waits { own = offer 12 100; stale = 1 }
+anew = refl
+
+-- Z stands with tags 33 and 11, its COOKIE ACKs were lost, and A begins again with tag 12: row A
+anew_init : init_reply (offer 12 100) 34 z_up
+    ≡ Some (reply.InitAck (record { own = fitted_offer 34 200; peer = offer 12 100; tie_tags = tie 33 11 }))
+anew_init = refl
+
+anew_restarts : answers_to (cookie_echo (record { own = fitted_offer 34 200; peer = offer 12 100; tie_tags = tie 33 11 }) false ∷ []) z_up
+    ≡ both reply.CookieAck told.Restarted ∷ []
+anew_restarts = refl
+
+-- with the earlier tag no row took the cookie
+not_anew : answers_to (cookie_echo (record { own = fitted_offer 34 200; peer = offer 11 100; tie_tags = tie 33 11 }) false ∷ []) z_up ≡ silent ∷ []
+not_anew = refl
+
+stale_for_ever : answers_to (
+    init_ack (offer 22 200) ∷ stale_cookie 12 ∷ init_ack (offer 22 200) ∷ stale_cookie 13 ∷ init_ack (offer 22 200) ∷ stale_cookie 14 ∷ []
+    ) a_waits
     ≡ replied reply.CookieEcho ∷ replied reply.Init ∷ replied reply.CookieEcho ∷ replied reply.Init ∷ replied reply.CookieEcho ∷ noticed told.Failed ∷ []
 stale_for_ever = refl
 

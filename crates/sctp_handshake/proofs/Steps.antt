@@ -71,9 +71,9 @@ module _ (m : Machine) (h : KnowsPeer m) where
   cookie_ack_valid CookieEchoed e = e
   cookie_ack_valid _ e = h
 
-  stale_cookie_valid : (s : State) → KnowsPeer (stale_cookie_row s m).machine
-  stale_cookie_valid CookieEchoed = choice KnowsPeer (nat_lt m.stale m.limits.max_init_retransmits) (begun_again m) (failed m) refl refl
-  stale_cookie_valid _ = h
+  stale_cookie_valid : (fresh : ℕ) (s : State) → KnowsPeer (stale_cookie_row s fresh m).machine
+  stale_cookie_valid fresh CookieEchoed = choice KnowsPeer (nat_lt m.stale m.limits.max_init_retransmits) (begun_again fresh m) (failed m) refl refl
+  stale_cookie_valid fresh _ = h
 
   shutdown_asked_valid : (s : State) → is_some m.peer ≡ knows_peer s → KnowsPeer (shutdown_asked_row s m).machine
   shutdown_asked_valid CookieWait e = refl
@@ -124,7 +124,7 @@ module _ (m : Machine) (h : KnowsPeer m) where
   on_valid (init_ack peer) = init_ack_valid m.state peer
   on_valid (cookie_echo t stale) = cookie_valid (row_of t m) t stale
   on_valid cookie_ack = cookie_ack_valid m.state h
-  on_valid stale_cookie = stale_cookie_valid m.state
+  on_valid (stale_cookie fresh) = stale_cookie_valid fresh m.state
   on_valid shutdown_asked = shutdown_asked_valid m.state h
   on_valid drained = drained_valid m.state h
   on_valid shutdown = shutdown_valid m.state h
@@ -162,9 +162,9 @@ module _ (m : Machine) (h : IsDown m) where
   init_ack_down CookieWait peer = init_ack_checked_down (offer_fault peer) peer
   init_ack_down _ peer = h
 
-  stale_cookie_down : (s : State) → IsDown (stale_cookie_row s m).machine
-  stale_cookie_down CookieEchoed = choice IsDown (nat_lt m.stale m.limits.max_init_retransmits) (begun_again m) (failed m) (λ e. cc) (λ e. cc)
-  stale_cookie_down _ = h
+  stale_cookie_down : (fresh : ℕ) (s : State) → IsDown (stale_cookie_row s fresh m).machine
+  stale_cookie_down fresh CookieEchoed = choice IsDown (nat_lt m.stale m.limits.max_init_retransmits) (begun_again fresh m) (failed m) (λ e. cc) (λ e. cc)
+  stale_cookie_down fresh _ = h
 
   shutdown_asked_down : (s : State) → IsDown (shutdown_asked_row s m).machine
   shutdown_asked_down CookieWait = λ e. cc
@@ -215,7 +215,7 @@ module _ (m : Machine) (h : IsDown m) where
   on_down (init_ack peer) n = init_ack_down m.state peer
   on_down (cookie_echo t stale) n = absurd n
   on_down cookie_ack n = absurd n
-  on_down stale_cookie n = stale_cookie_down m.state
+  on_down (stale_cookie fresh) n = stale_cookie_down fresh m.state
   on_down shutdown_asked n = shutdown_asked_down m.state
   on_down drained n = drained_down m.state
   on_down shutdown n = shutdown_down m.state

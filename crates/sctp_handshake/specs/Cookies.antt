@@ -125,25 +125,37 @@ on_cookie_ack m = cookie_ack_row m.state m
 
 -- ## `stale_cookie` (RFC 9260 5.2.6)
 
-abbrev pub begun_again : Machine → Step
-begun_again m = record {
-  machine = record m { state = CookieWait; peer = None; attempts = 0; stale = m.stale + 1 };
+-- What this side offers, with a fresh tag. The peer may have an association with the earlier one, whose COOKIE ACK was lost: by row A of 5.2.4 a cookie
+-- with the fresh tag begins that anew, and no row takes one with the earlier tag.
+abbrev pub offered_anew : (fresh : ℕ) → Machine → Offer
+offered_anew fresh m = record m.own { tag = fresh }
+
+abbrev pub begun_again : (fresh : ℕ) → Machine → Step
+begun_again fresh m = record {
+  machine = record m {
+    state = CookieWait;
+    own = offered_anew fresh m;
+    peer = None;
+    attempts = 0;
+    stale = m.stale + 1;
+  };
   answer = replied reply.Init;
 }
 
 -- the handshake begins again, as often as an INIT may be sent again
-abbrev pub retried : Machine → Step
-retried m = if nat_lt m.stale m.limits.max_init_retransmits then begun_again m else failed m
+abbrev pub retried : (fresh : ℕ) → Machine → Step
+retried fresh m =
+    if nat_lt m.stale m.limits.max_init_retransmits then begun_again fresh m else failed m
 
-abbrev pub stale_cookie_row : State → Machine → Step
-stale_cookie_row Closed m = dropped m
-stale_cookie_row CookieWait m = dropped m
-stale_cookie_row CookieEchoed m = retried m
-stale_cookie_row Established m = dropped m
-stale_cookie_row ShutdownPending m = dropped m
-stale_cookie_row ShutdownSent m = dropped m
-stale_cookie_row ShutdownReceived m = dropped m
-stale_cookie_row ShutdownAckSent m = dropped m
+abbrev pub stale_cookie_row : State → (fresh : ℕ) → Machine → Step
+stale_cookie_row Closed fresh m = dropped m
+stale_cookie_row CookieWait fresh m = dropped m
+stale_cookie_row CookieEchoed fresh m = retried fresh m
+stale_cookie_row Established fresh m = dropped m
+stale_cookie_row ShutdownPending fresh m = dropped m
+stale_cookie_row ShutdownSent fresh m = dropped m
+stale_cookie_row ShutdownReceived fresh m = dropped m
+stale_cookie_row ShutdownAckSent fresh m = dropped m
 
-abbrev pub on_stale_cookie : Machine → Step
-on_stale_cookie m = stale_cookie_row m.state m
+abbrev pub on_stale_cookie : (fresh : ℕ) → Machine → Step
+on_stale_cookie fresh m = stale_cookie_row m.state fresh m

@@ -1,5 +1,5 @@
 -- What inputs do one after another.
-use Rattle.std.specs.Prelude.{Bool, List, [], ◌∷◌}
+use Rattle.std.specs.Prelude.{ℕ, Bool, List, [], ◌∷◌}
 use Rattle.sctp_handshake.specs.declared.answer.Answer.{Answer}
 use Rattle.sctp_handshake.specs.declared.machine.Machine.{Machine}
 use Rattle.sctp_handshake.specs.declared.offer.Offer.{Offer}
@@ -20,7 +20,7 @@ pub data Input : Type 0 where
   init_ack : Offer → Input
   cookie_echo : Ticket → Bool → Input
   cookie_ack : Input
-  stale_cookie : Input
+  stale_cookie : (fresh : ℕ) → Input
   shutdown_asked : Input
   drained : Input
   shutdown : Input
@@ -47,7 +47,7 @@ on connect m = connect_row m.state m
 on (init_ack peer) m = on_init_ack peer m
 on (cookie_echo ticket stale) m = on_cookie_echo ticket stale m
 on cookie_ack m = on_cookie_ack m
-on stale_cookie m = on_stale_cookie m
+on (stale_cookie fresh) m = on_stale_cookie fresh m
 on shutdown_asked m = on_shutdown_asked m
 on drained m = on_drained m
 on shutdown m = on_shutdown m

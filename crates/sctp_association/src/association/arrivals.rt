@@ -4,26 +4,23 @@ ghost use Rattle.std.specs.Prelude.{◌≡◌, ◌⊎◌, ◌<◌, ◌≤◌, �
 ghost use Rattle.std.specs.List.{AllByRecursion};
 ghost use Rattle.sctp_association.specs.Single.{AloneAt, AloneOn};
 ghost use Rattle.sctp_association.specs.Arrivals.{Arrives, CallsArrive};
-ghost use Rattle.sctp_association.specs.Behind.{FirstOf, FirstOn, StillAs, StillOn};
-ghost use Rattle.sctp_association.specs.Beats.{AnswersAt, BeatsAt};
+ghost use Rattle.sctp_association.specs.Behind.{FirstOf, FirstOn, IsAbortedIn, StillAs, StillOn, has_data};
 ghost use Rattle.sctp_association.specs.Beginnings.{ArrivesAsOffered, BeginsByDatagram, BeginsByTicket, KeepsPeer};
 ghost use Rattle.sctp_association.specs.Kept.{IsKept, OwesNoMore, ticket_in_kind};
 ghost use Rattle.sctp_association.specs.Coming.{FollowsData, GoesOn, TakesDataAt, TakesDataOf, TakesEachOf, TakesOnlyData, goes_on, is_due};
 ghost use Rattle.sctp_association.specs.Cookies.{IsAlive, IsSealed, cookie_in};
-ghost use Rattle.sctp_association.specs.Ends.{EndsIn, EndsOn};
+ghost use Rattle.sctp_association.specs.Ends.{EndsIn, EndsOn, IsAborted, abort_for};
 ghost use Rattle.sctp_association.specs.Entering.{usable_in};
 ghost use Rattle.sctp_association.specs.Halves.{HalvesAlike, halves_of};
 ghost use Rattle.sctp_association.specs.Expected.{IsDue, IsExpected};
 ghost use Rattle.sctp_association.specs.Lasting.{KeepsLimits};
 ghost use Rattle.sctp_association.specs.Sacks.{HearsFirstOf, HearsOn, TakesSacksOf};
-ghost use Rattle.sctp_association.specs.Openings.{EchoesBy, InitAckBy, OffersTo};
 ghost use Rattle.sctp_association.specs.Paths.{MovesBehind, MovesByFirstOf, MovesOn, all_go_on};
 ghost use Rattle.sctp_association.specs.Reached.{most_user_data};
-ghost use Rattle.sctp_association.specs.Reports.{value_in};
-ghost use Rattle.sctp_association.specs.Rows.{RowOn, Settles, StepsBy, has_row};
-ghost use Rattle.sctp_association.specs.Shutting.{ShutsAt};
+ghost use Rattle.sctp_association.specs.Rows.{RowOn, Settles};
 ghost use Rattle.sctp_association.specs.Steps.{is_accepted, is_taken};
 ghost use Rattle.sctp_association.specs.Telling.{Tells, TellsEnd};
+ghost use Rattle.sctp_association.specs.Timers.{KeepsTimers};
 ghost use Rattle.sctp_association.specs.Tags.{AdmitsFirst, BeginsByCookie, EndsWithFirst, FirstIs, FirstIsAlive, IsFor, first_type, is_admitted, is_all_or_nothing};
 ghost use Rattle.sctp_association.specs.declared.association.Reason.{Reason};
 ghost use Rattle.sctp_association.specs.declared.association.Reason.TheVariants.{Tag, Unexpected};
@@ -52,7 +49,7 @@ use sctp_chunks::ChunkForwardTsn;
 use sctp_data::chunk::chunk_payload_data::ChunkPayloadData;
 use sctp_datagram::in_place::{data_in, read_sack};
 use sctp_datagram::{ChunkPlace, Datagram, ZeroChecksum};
-use sctp_handshake::{Answer, State};
+use sctp_handshake::State;
 use sctp_packets::Crc32c;
 use sctp_receiver::advice::AbortCause;
 use sctp_util::error::Error;
@@ -133,6 +130,7 @@ fn past(reason: Reason) -> Step
 // The ABORT that what came asks for.
 #[inline(always)]
 fn ending_of(followed: Followed) -> Option<AloneKind>
+    ensures is { result ≡ abort_for followed }
     ensures silent { IfSome result (λ kind. ticket_in_kind kind ≡ None) }
     ensures none { result ≡ None → (followed ≡ Done) ⊎ (followed ≡ Wanting) }
     ensures some { IfSome result (λ kind. (followed ≡ Done → ⊥) × (followed ≡ Wanting → ⊥)) }
@@ -201,47 +199,20 @@ impl Association {
             → (chunks : List ChunkPlace) → TellsAll place_at datagram.now chunks
             → all_go_on chunks ≡ true
             → MovesByFirstOf chunks datagram.now now self.old self.new }
-        // It ends the association only by an INIT ACK, ABORT, SHUTDOWN-ACK, SHUTDOWN-COMPLETE or a stale cookie; by DATA without user data; by a SACK of
-        // what was not sent; or by DATA or a FORWARD-TSN that is refused for good (RFC 9260 3.3.10, 5.1, 6.2, 9).
+        // It ends the association only by an INIT ACK, ABORT, SHUTDOWN-ACK, SHUTDOWN-COMPLETE or a stale cookie; by DATA without user data; by a SACK
+        // of what was not sent; or by DATA or a FORWARD-TSN that is refused for good. By these three an ABORT is due, with that cause (RFC 9260
+        // 3.3.10, 5.1, 6.2, 9).
         ensures over { EndsIn datagram.now self.old self.new }
-        // A HEARTBEAT that is accepted as the only chunk is answered: the HEARTBEAT-ACK is due with its information. The sender and the receiver stay
-        // (RFC 9260 8.3).
-        ensures answers { EndsWithFirst datagram.now → first_type datagram.now ≡ 4
-            → result ≡ Ok Accepted → self.old.is_over ≡ false
-            → AnswersAt 12 datagram.now self.old self.new }
-        // A HEARTBEAT-ACK that is accepted as the only chunk measures a round trip for the RTO, and clears the failures, only where a HEARTBEAT with
-        // its nonce waits for the answer. Then none waits, and nothing else of the sending half changes (RFC 9260 6.3.1, 8.1, 8.3).
-        ensures beats { EndsWithFirst datagram.now → first_type datagram.now ≡ 5
-            → result ≡ Ok Accepted → self.old.is_over ≡ false
-            → BeatsAt 12 datagram.now now self.old self.new }
-        // A SHUTDOWN that is accepted as the only chunk acknowledges up to its TSN: the sending half is what that makes of it. One that is outdated, or
-        // acknowledges what was not sent, changes nothing of it (RFC 9260 3.3.8, 6.3, 7.2, 9.2).
-        ensures shuts { EndsWithFirst datagram.now → first_type datagram.now ≡ 7
-            → result ≡ Ok Accepted → self.old.is_over ≡ false
-            → ShutsAt 12 datagram.now now self.old.outbound self.new.outbound }
-        // Of a chunk that is accepted as the only one the state machine makes what the row of its state says. Its reply is due, and no other; what it
-        // tells waits to be told; and the association is over where the row ends it. DATA, a SACK or a FORWARD-TSN may end it (RFC 9260 4, 5, 9).
-        ensures rows { EndsWithFirst datagram.now → has_row (first_type datagram.now) ≡ true
-            → result ≡ Ok Accepted → self.old.is_over ≡ false
-            → StepsBy (place_at datagram.now 12) datagram.now self.old self.new }
-        // A COOKIE-ECHO that is accepted as the only chunk is of this side. The machine takes the step of its ticket: the association stands, or stands
-        // anew, and a COOKIE-ACK is due; or an ERROR is (RFC 9260 5.1 D, 5.2.4).
-        ensures echoes { EndsWithFirst datagram.now → first_type datagram.now ≡ 10
-            → result ≡ Ok Accepted → self.old.is_over ≡ false
-            → EchoesBy (place_at datagram.now 12) datagram.now now self.old self.new }
-        // So is an INIT ACK: its cookie is kept, and a COOKIE-ECHO is due; or what was begun ends (RFC 9260 5.1 C).
-        ensures acks { EndsWithFirst datagram.now → first_type datagram.now ≡ 2
-            → result ≡ Ok Accepted → self.old.is_over ≡ false
-            → InitAckBy (place_at datagram.now 12) datagram.now self.old self.new }
-        // So it is of the first chunk, where DATA, SACKs and FORWARD-TSNs alone stand behind it: it is taken, or its state does not expect it. They leave
-        // the state, and what is due but a SHUTDOWN; or the association is over (RFC 9260 5.2.5, 6.10).
+        // What RFC 9260 says of its type is so of a chunk that is accepted as the only one: `AloneAt` has a field for each (4, 5, 6, 8.3, 9).
+        ensures alone { EndsWithFirst datagram.now → result ≡ Ok Accepted
+            → self.old.is_over ≡ false
+            → AloneAt (place_at datagram.now 12) datagram.now now self.old self.new }
+        // So it is of the first chunk, where DATA, SACKs and FORWARD-TSNs alone stand behind it: it is taken, or its state does not expect it. They
+        // leave the state, and what is due, but that DATA may make a SHUTDOWN due; or by one of them this side ends the association (RFC 9260 5.2.5,
+        // 6.10, 9.2).
         ensures behind { result ≡ Ok Accepted → self.old.is_over ≡ false
             → (chunks : List ChunkPlace) → TellsAll place_at datagram.now chunks
             → FirstOf chunks datagram.now now self.old self.new }
-        // An INIT that is accepted is answered: an INIT ACK is due, to its tag, with a ticket of both offers; or what else its row says (RFC 9260 5.1 B).
-        ensures offers { EndsWithFirst datagram.now → first_type datagram.now ≡ 1
-            → result ≡ Ok Accepted → self.old.is_over ≡ false
-            → OffersTo (value_in datagram.now (place_at datagram.now 12)) self.old self.new }
     {
         let zero = if self.config.zero_checksum {
             ZeroChecksum::Allowed
@@ -369,7 +340,8 @@ impl Association {
         ensures usable { (s : ℕ) → usable_in s self.new.inbound ≡ usable_in s self.old.inbound }
         ensures sending { self.new.outbound ≡ self.old.outbound }
         ensures heartbeat { self.new.heartbeat ≡ self.old.heartbeat }
-        ensures settles { Settles self.old self.new }
+        ensures events { self.new.events ≡ self.old.events }
+        ensures settles { Settles now self.old self.new }
     {
         self.datagram_ended(now);
         self.settle(now);
@@ -385,7 +357,9 @@ impl Association {
         ensures sending { self.new.outbound ≡ self.old.outbound }
         ensures heartbeat { self.new.heartbeat ≡ self.old.heartbeat }
         ensures due { self.new.due ≡ self.old.due }
+        ensures events { self.new.events ≡ self.old.events }
         ensures wants { self.new.wants_shutdown ≡ self.old.wants_shutdown }
+        ensures timers { KeepsTimers self.old self.new }
     {
         if let Some(inbound) = &mut self.inbound {
             inbound.datagram_ended(now);
@@ -469,7 +443,8 @@ impl Association {
             self.old.outbound self.new.outbound }
         ensures over { EndsIn datagram.now self.old self.new }
         ensures still { all_go_on chunks.entry.left ≡ true → result ≡ true
-            → (self.new.is_over ≡ true) ⊎ StillAs self.old self.new }
+            → IsAbortedIn datagram.now self.old self.new
+            ⊎ StillAs (has_data chunks.entry.left) self.old self.new }
     {
         let mut chunks = chunks;
         let tag = chunks.header().verification_tag;
@@ -516,7 +491,7 @@ impl Association {
             → (r : Reason) → result ≡ Ok (step.Refused r) → ⊥ }
         ensures over { IfOk result (λ s. EndsOn chunk datagram.now s self.old self.new) }
         ensures still { goes_on chunk.typ ≡ true
-            → IfOk result (λ s. StillOn s self.old self.new) }
+            → IfOk result (λ s. StillOn chunk datagram.now s self.old self.new) }
         ensures refused { (r : Reason) → result ≡ Ok (step.Refused r) → self.new ≡ self.old }
         ensures err { OnErr result (self.new ≡ self.old) }
     {
@@ -593,7 +568,7 @@ impl Association {
             (λ s. MovesOn chunk datagram.now now s self.old.outbound self.new.outbound) }
         ensures over { IfOk result (λ s. EndsOn chunk datagram.now s self.old self.new) }
         ensures still { goes_on chunk.typ ≡ true
-            → IfOk result (λ s. StillOn s self.old self.new) }
+            → IfOk result (λ s. StillOn chunk datagram.now s self.old self.new) }
         ensures alone { IfOk result
             (λ s. AloneOn chunk tag datagram.now now s self.old self.new) }
     {
@@ -634,9 +609,8 @@ impl Association {
         ensures sacks { (tag : ℕ) → TakesSacksOf tag self.old
             → IfOk result (λ s. HearsOn chunk tag datagram.now s self.old self.new) }
         ensures sending { self.new.outbound ≡ self.old.outbound }
-        ensures over { IfOk result (λ s. EndsOn chunk datagram.now s self.old self.new) }
-        ensures still { IfOk result (λ s. StillOn s self.old self.new) }
-        ensures row { IfOk result (λ s. RowOn chunk datagram.now s self.old self.new) }
+        ensures still { IfOk result (λ s. StillOn chunk datagram.now s self.old self.new) }
+        ensures row { IfOk result (λ s. RowOn chunk datagram.now now s self.old self.new) }
     {
         if !self.machine.state().takes_data() {
             return Ok(Step::Refused(Reason::Unexpected));
@@ -651,27 +625,8 @@ impl Association {
         }
         let before = self.machine.state();
         let answer = self.machine.packet_arrived(true);
-        self.run_again(answer, now);
         self.follow(before, answer, 0, now);
         Ok(self.end_by(followed))
-    }
-
-    // T2-shutdown begins again, where DATA is answered by a SHUTDOWN (RFC 9260 9.2).
-    fn run_again(&mut self, answer: Answer, now: u64)
-        ensures tells { TellsEnd self.old self.new }
-        ensures kept { IsKept self.old self.new }
-        ensures halves { HalvesAlike self.old self.new }
-        ensures sending { self.new.outbound ≡ self.old.outbound }
-        ensures over { self.new.is_over ≡ self.old.is_over }
-        ensures inbound { self.new.inbound ≡ self.old.inbound }
-        ensures rest { self.new ≡ record self.old {
-          control = self.new.control;
-          guard = self.new.guard;
-        } }
-    {
-        if answer.reply.is_some() {
-            self.run_control(now);
-        }
     }
 
     // Takes a FORWARD-TSN. Where memory is wanting for a stream that it names, others may be open.
@@ -692,9 +647,8 @@ impl Association {
         ensures sacks { (tag : ℕ) → TakesSacksOf tag self.old
             → IfOk result (λ s. HearsOn chunk tag datagram.now s self.old self.new) }
         ensures sending { self.new.outbound ≡ self.old.outbound }
-        ensures over { IfOk result (λ s. EndsOn chunk datagram.now s self.old self.new) }
-        ensures still { IfOk result (λ s. StillOn s self.old self.new) }
-        ensures row { IfOk result (λ s. RowOn chunk datagram.now s self.old self.new) }
+        ensures still { IfOk result (λ s. StillOn chunk datagram.now s self.old self.new) }
+        ensures row { IfOk result (λ s. RowOn chunk datagram.now now s self.old self.new) }
     {
         if !self.machine.state().takes_data() {
             return Ok(Step::Refused(Reason::Unexpected));
@@ -718,6 +672,8 @@ impl Association {
         ensures never { (r : Reason) → result ≡ step.Refused r → ⊥ }
         ensures next { result ≡ step.Next → (followed ≡ Done) ⊎ (followed ≡ Wanting) }
         ensures over { result ≡ step.Stop → self.new.is_over ≡ true }
+        ensures aborts { IfSome (abort_for followed)
+            (λ kind. IsAborted kind self.old.machine.peer self.new) }
         ensures stops { result ≡ step.Stop → (followed ≡ Done → ⊥) × (followed ≡ Wanting → ⊥) }
         ensures halves { HalvesAlike self.old self.new }
         ensures peer { KeepsPeer self.old self.new }
@@ -751,9 +707,8 @@ impl Association {
             → IfOk result (λ s. HearsOn chunk tag datagram.now s self.old self.new) }
         ensures path { IfOk result
             (λ s. MovesOn chunk datagram.now now s self.old.outbound self.new.outbound) }
-        ensures over { IfOk result (λ s. EndsOn chunk datagram.now s self.old self.new) }
-        ensures still { IfOk result (λ s. StillOn s self.old self.new) }
-        ensures row { IfOk result (λ s. RowOn chunk datagram.now s self.old self.new) }
+        ensures still { IfOk result (λ s. StillOn chunk datagram.now s self.old self.new) }
+        ensures row { IfOk result (λ s. RowOn chunk datagram.now now s self.old self.new) }
     {
         if !self.machine.state().takes_sacks() {
             return Ok(Step::Refused(Reason::Unexpected));

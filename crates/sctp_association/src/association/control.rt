@@ -1,18 +1,21 @@
 //! What the state machine is answered and tells.
 
-ghost use Rattle.std.specs.Prelude.{◌≡◌, ◌<◌, if◌then◌else◌, true, false, None, Some};
+ghost use Rattle.std.specs.Prelude.{◌≡◌, ◌≢◌, ◌⊎◌, if◌then◌else◌, true, false, None, Some, is_some};
 ghost use Rattle.sctp_association.specs.Beginnings.{Begins, BeginsBy, KeepsPeer, OwesInit};
 ghost use Rattle.sctp_association.specs.Kept.{IsKept, OwesNoMore, ticket_due, ticket_in_kind};
+ghost use Rattle.sctp_association.specs.Ends.{IsAborted};
 ghost use Rattle.sctp_association.specs.Failing.{IsGuarded, farewell_to};
+ghost use Rattle.sctp_association.specs.Fresh.{fresh_tag};
 ghost use Rattle.sctp_association.specs.Halves.{HalvesAlike, halves_of};
 ghost use Rattle.sctp_association.specs.Lasting.{LastsNoLonger};
 ghost use Rattle.sctp_association.specs.Leaving.{AsksNoMore, OwesNothingNew, StaysDue, owed_of, replies_of};
-ghost use Rattle.sctp_association.specs.Rows.{FollowsAnswer, Settles, cause_code, drained_where, over_by, owed_by};
+ghost use Rattle.sctp_association.specs.Rows.{FollowsAnswer, Settles, cause_code, drained_where, over_by, owed_by, owed_once};
 ghost use Rattle.sctp_association.specs.Most.{shutdowns_left};
 ghost use Rattle.sctp_association.specs.Sending.{holds_nothing};
 ghost use Rattle.sctp_association.specs.Telling.{PassesOn, TellsEnd};
+ghost use Rattle.sctp_association.specs.Timers.{KeepsTimers, RunsTimers, StartsTimers, StopsTimers, guard_in, stops};
 ghost use Rattle.sctp_association.specs.declared.event.Ending.TheVariants.{Aborted, Unanswered};
-ghost use Rattle.sctp_handshake.specs.declared.answer.Reply.TheVariants.{Init};
+ghost use Rattle.sctp_handshake.specs.declared.answer.Reply.TheVariants.{Init, Shutdown};
 ghost use Rattle.sctp_handshake.specs.declared.answer.Told.TheVariants.{Failed, ShutdownBegun};
 ghost use Rattle.sctp_handshake.specs.Endings.{on_drained};
 ghost use Rattle.sctp_handshake.specs.States.{accepts_writes};
@@ -27,6 +30,7 @@ use sctp_handshake::{AbortCause, Answer, Offer, Reply, State, Told};
 use sctp_path::Heartbeat;
 use sctp_receiver::receiver::limits::Limits;
 use sctp_reset::{OwnRequests, PeerRequests};
+use sctp_util::field::read_u32;
 
 // The code of a cause (RFC 9260 3.3.10).
 fn code_of(cause: AbortCause) -> u16
@@ -59,13 +63,14 @@ impl Association {
         ensures sending { answer.told ≡ None → self.new.outbound ≡ self.old.outbound }
         ensures inbound { answer.told ≡ None → self.new.inbound ≡ self.old.inbound }
         ensures heartbeat { answer.told ≡ None → self.new.heartbeat ≡ self.old.heartbeat }
+        ensures events { answer.told ≡ None → self.new.events ≡ self.old.events }
         ensures requests { answer.told ≡ None → self.new.requests ≡ self.old.requests }
         ensures peer_requests { answer.told ≡ None
             → self.new.peer_requests ≡ self.old.peer_requests }
         ensures begun { BeginsBy answer.told self.old.machine self.old.config
             (halves_of self.old) (halves_of self.new) }
         ensures init { answer.reply ≡ Some Init → answer.told ≡ None → OwesInit self.new }
-        ensures answer { FollowsAnswer answer tag self.old self.new }
+        ensures answer { FollowsAnswer answer tag before now self.old self.new }
         ensures over { answer.told ≡ None → self.new.is_over ≡ self.old.is_over }
         ensures stays { answer.told ≡ None → StaysDue self.old self.new }
         ensures due { answer.told ≡ None
@@ -88,13 +93,14 @@ impl Association {
         ensures sending { answer.told ≡ None → self.new.outbound ≡ self.old.outbound }
         ensures inbound { answer.told ≡ None → self.new.inbound ≡ self.old.inbound }
         ensures heartbeat { answer.told ≡ None → self.new.heartbeat ≡ self.old.heartbeat }
+        ensures events { answer.told ≡ None → self.new.events ≡ self.old.events }
         ensures requests { answer.told ≡ None → self.new.requests ≡ self.old.requests }
         ensures peer_requests { answer.told ≡ None
             → self.new.peer_requests ≡ self.old.peer_requests }
         ensures begun { BeginsBy answer.told self.old.machine self.old.config
             (halves_of self.old) (halves_of self.new) }
         ensures init { answer.reply ≡ Some Init → answer.told ≡ None → OwesInit self.new }
-        ensures answer { FollowsAnswer answer tag self.old self.new }
+        ensures answer { FollowsAnswer answer tag before now self.old self.new }
         ensures over { answer.told ≡ None → self.new.is_over ≡ self.old.is_over }
         ensures stays { answer.told ≡ None → StaysDue self.old self.new }
         ensures due { answer.told ≡ None
@@ -102,8 +108,7 @@ impl Association {
         ensures shutdown { answer.told ≡ Some ShutdownBegun
             → self.new.outbound ≡ self.old.outbound }
     {
-        let state = self.machine.state();
-        if state != before {
+        if self.begins_timer(before, answer.reply) {
             self.run_control(now);
         }
         if let Some(reply) = answer.reply {
@@ -111,6 +116,19 @@ impl Association {
         }
         if let Some(told) = answer.told {
             self.tell(told, answer.reply.is_some(), now);
+        }
+    }
+
+    // Whether the timer of the state begins: the state is another one, or DATA is answered by a SHUTDOWN (RFC 9260 9.2).
+    fn begins_timer(&self, before: State, reply: Option<Reply>) -> bool
+        ensures begins { result ≡ true
+            → (self.now.machine.state ≢ before) ⊎ (reply ≡ Some Shutdown) }
+        ensures stays { result ≡ false
+            → (self.now.machine.state ≡ before) × (reply ≢ Some Shutdown) }
+    {
+        match reply {
+            Some(Reply::Shutdown) => true,
+            _ => self.machine.state() != before,
         }
     }
 
@@ -126,6 +144,7 @@ impl Association {
         ensures peer_requests { self.new.peer_requests ≡ self.old.peer_requests }
         ensures over { self.new.is_over ≡ self.old.is_over }
         ensures replies { replies_of self.new ≡ replies_of self.old }
+        ensures timers { StartsTimers now self.old self.new }
         ensures rest { self.new ≡ record self.old {
           control = self.new.control;
           guard = self.new.guard;
@@ -141,6 +160,8 @@ impl Association {
     /// T5-shutdown-guard runs from the first SHUTDOWN of this side on (RFC 9260 9.2).
     pub(super) fn run_guard(&mut self, now: u64)
         ensures runs { IsGuarded self.new }
+        ensures guard { self.new.guard.at ≡ guard_in self.old.machine.state
+            now self.old.config.shutdown_guard self.old.guard.at }
         ensures rest { self.new ≡ record self.old { guard = self.new.guard } }
     {
         if self.machine.state() == State::ShutdownSent {
@@ -209,9 +230,10 @@ impl Association {
         ensures shutdown { told ≡ ShutdownBegun → self.new.outbound ≡ self.old.outbound }
         ensures over { self.new.is_over ≡ over_by (Some told) self.old.is_over }
         ensures wants { self.new.wants_shutdown ≡ self.old.wants_shutdown }
-        ensures due { self.new.due ≡ record self.old.due {
-          cookie_echo = self.new.due.cookie_echo;
-        } }
+        ensures due { self.new.due ≡ owed_once (Some told) self.old.due }
+        ensures stop { stops (Some told) ≡ true → StopsTimers self.new }
+        ensures keep { stops (Some told) ≡ false → KeepsTimers self.old self.new }
+        ensures rto { stops (Some told) ≡ false → self.new.outbound.rto ≡ self.old.outbound.rto }
     {
         match told {
             Told::Connected => {
@@ -223,6 +245,7 @@ impl Association {
                 let first_tsn = self.machine.own().first_tsn;
                 self.outbound = Outbound::new(self.alloc, outbound_config(&self.config, first_tsn));
                 self.requests = OwnRequests::new(self.alloc, first_tsn);
+                self.control.stop();
                 self.guard.stop();
                 self.begin(now);
                 self.events.restarted = true;
@@ -243,10 +266,11 @@ impl Association {
             (halves_of self.old) (halves_of self.new) }
         ensures over { self.new.is_over ≡ self.old.is_over }
         ensures wants { self.new.wants_shutdown ≡ self.old.wants_shutdown }
-        ensures due { self.new.due ≡ record self.old.due {
-          cookie_echo = self.new.due.cookie_echo;
-        } }
+        ensures due { self.new.due ≡ record self.old.due { cookie_echo = false } }
+        ensures timers { KeepsTimers self.old self.new }
+        ensures rto { self.new.outbound.rto ≡ self.old.outbound.rto }
     {
+        self.due.cookie_echo = false;
         let (Some(peer), Some(agreed)) = (self.machine.peer(), self.machine.agreed()) else {
             return;
         };
@@ -268,7 +292,6 @@ impl Association {
         self.peer_requests = Some(PeerRequests::new(peer.first_tsn));
         self.heartbeat = Some(Heartbeat::new(now, self.config.heartbeat));
         self.cookie = None;
-        self.due.cookie_echo = false;
     }
 
     /// Begins the shutdown that was asked for before the association stood, and goes on with one where nothing waits or is in flight (RFC
@@ -281,13 +304,14 @@ impl Association {
         ensures inbound { self.new.inbound ≡ self.old.inbound }
         ensures sending { self.new.outbound ≡ self.old.outbound }
         ensures heartbeat { self.new.heartbeat ≡ self.old.heartbeat }
+        ensures events { self.new.events ≡ self.old.events }
         ensures left { LastsNoLonger self.old self.new }
         ensures writes { accepts_writes self.old.machine.state ≡ false
             → accepts_writes self.new.machine.state ≡ false }
         ensures stays { StaysDue self.old self.new }
         ensures asks { OwesNothingNew (owed_of self.old) (owed_of self.new) }
         ensures moments { AsksNoMore now self.old self.new }
-        ensures settles { Settles self.old self.new }
+        ensures settles { Settles now self.old self.new }
         ensures alone { self.new.due.alone ≡ self.old.due.alone }
         ensures shut { shutdowns_left self.old.machine.state ≡ 0
             → self.new.machine.state ≡ self.old.machine.state }
@@ -311,6 +335,7 @@ impl Association {
         ensures inbound { self.new.inbound ≡ self.old.inbound }
         ensures sending { self.new.outbound ≡ self.old.outbound }
         ensures heartbeat { self.new.heartbeat ≡ self.old.heartbeat }
+        ensures events { self.new.events ≡ self.old.events }
         ensures left { LastsNoLonger self.old self.new }
         ensures writes { accepts_writes self.old.machine.state ≡ false
             → accepts_writes self.new.machine.state ≡ false }
@@ -320,6 +345,8 @@ impl Association {
         ensures due { self.new.due ≡ owed_by (drained_where
             (holds_nothing self.old.outbound.sender) self.old.machine).answer.reply 0 self.old.due }
         ensures wants { self.new.wants_shutdown ≡ self.old.wants_shutdown }
+        ensures timers { RunsTimers (drained_where (holds_nothing self.old.outbound.sender)
+            self.old.machine).answer self.old.machine.state now self.old self.new }
         ensures alone { self.new.due.alone ≡ self.old.due.alone }
         ensures shut { shutdowns_left self.old.machine.state ≡ 0
             → self.new.machine.state ≡ self.old.machine.state }
@@ -337,6 +364,8 @@ impl Association {
         ensures tells { TellsEnd self.old self.new }
         ensures over { self.new.is_over ≡ true }
         ensures owed { self.new.due.alone ≡ farewell_to kind self.old.machine.peer }
+        ensures timers { StopsTimers self.new }
+        ensures aborted { IsAborted kind self.old.machine.peer self.new }
         ensures outbound { self.new.outbound ≡ self.old.outbound }
         ensures inbound { self.new.inbound ≡ self.old.inbound }
         ensures halves { HalvesAlike self.old self.new }
@@ -350,6 +379,8 @@ impl Association {
     // The packet is due by which the association ends, where the peer is known; else none is.
     fn owe_end(&mut self, kind: AloneKind)
         ensures owed { self.new.due.alone ≡ farewell_to kind self.old.machine.peer }
+        ensures again { is_some self.old.machine.peer ≡ true
+            → self.new.due.farewell ≡ farewell_to kind self.old.machine.peer }
         ensures owes { ticket_in_kind kind ≡ None → ticket_due self.new.due.alone ≡ None }
         ensures rest { self.new ≡ record self.old { due = self.new.due } }
     {
@@ -360,15 +391,15 @@ impl Association {
         self.owe_farewell(peer.tag, kind);
     }
 
-    /// A tag for one INIT (RFC 9260 5.2.2, 5.3.1): nobody without the key can guess it.
+    /// A tag for one INIT (RFC 9260 5.2.2, 5.2.6, 5.3.1): nobody without the key can guess it.
     pub(super) fn fresh_tag(&self, peer: Offer, now: u64) -> u32
-        ensures { 0 < result }
+        ensures { result ≡ fresh_tag self.now.key now peer }
     {
-        let mut message = [0u8; 16];
-        message[..8].copy_from_slice(&now.to_be_bytes());
-        message[8..12].copy_from_slice(&peer.tag.to_be_bytes());
-        message[12..].copy_from_slice(&peer.first_tsn.to_be_bytes());
+        let [a, b, c, d, e, f, g, h] = now.to_be_bytes();
+        let [i, j, k, l] = peer.tag.to_be_bytes();
+        let [m, n, o, p] = peer.first_tsn.to_be_bytes();
+        let message = [a, b, c, d, e, f, g, h, i, j, k, l, m, n, o, p];
         let code = HmacSha256.code(&self.key, &message);
-        u32::from_be_bytes([code[0], code[1], code[2], code[3]]).max(1)
+        read_u32(&code, 0).max(1)
     }
 }

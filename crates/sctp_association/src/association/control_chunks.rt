@@ -4,11 +4,13 @@ ghost use Rattle.std.specs.Prelude.{◌≡◌, ◌||◌, ℕ, List, [], ◌∷�
 ghost use Rattle.sctp_association.specs.Single.{AloneOn, IsOther};
 ghost use Rattle.sctp_association.specs.Arrivals.{CallsArrive};
 ghost use Rattle.sctp_association.specs.Beats.{AnswersOn, BeatsOn, IsBeaten, nonce_in};
-ghost use Rattle.sctp_association.specs.Beginnings.{ArrivesAsOffered, BeginsBy, KeepsPeer};
+ghost use Rattle.sctp_association.specs.Beginnings.{ArrivesAsOffered, BeginsBy, KeepsPeer, KeepsPeerButTag};
+ghost use Rattle.sctp_association.specs.Causes.{cause_after, cause_in};
 ghost use Rattle.sctp_association.specs.Kept.{IsKept};
 ghost use Rattle.sctp_association.specs.Halves.{HalvesAlike, halves_of};
 ghost use Rattle.sctp_association.specs.Expected.{IsReadable, expects, is_received, speaks};
-ghost use Rattle.sctp_association.specs.Rows.{FollowsAnswer, FollowsStep, StepsOn, cause_in, error_row, tag_of};
+ghost use Rattle.sctp_association.specs.Fresh.{fresh_tag};
+ghost use Rattle.sctp_association.specs.Rows.{FollowsAnswer, FollowsStep, StepsOn, error_row, tag_of};
 ghost use Rattle.sctp_association.specs.Shutting.{ShutsOn};
 ghost use Rattle.sctp_association.specs.Telling.{PassesOn, Tells, TellsEnd};
 ghost use Rattle.sctp_association.specs.declared.association.Reason.{Reason};
@@ -144,7 +146,8 @@ impl Association {
         ensures begun { BeginsBy answer.told self.old.machine self.old.config
             (halves_of self.old) (halves_of self.new) }
         ensures whole { result ≡ step.Cut → ⊥ }
-        ensures answer { result ≡ step.Next → FollowsAnswer answer tag self.old self.new }
+        ensures answer { result ≡ step.Next
+            → FollowsAnswer answer tag before now self.old self.new }
         ensures next { result ≡ step.Stop → ⊥ }
     {
         if answer.reply.is_none() && answer.told.is_none() {
@@ -162,8 +165,8 @@ impl Association {
         ensures peer { KeepsPeer self.old self.new }
         ensures whole { result ≡ step.Cut → ⊥ }
         ensures next { result ≡ step.Next → ⊥ }
-        ensures row { result ≡ step.Stop
-            → FollowsStep (on_abort self.old.machine) 0 self.old self.new }
+        ensures row { result ≡ step.Stop → (now : ℕ)
+            → FollowsStep (on_abort self.old.machine) 0 now self.old self.new }
         ensures expected { speaks (on_abort self.old.machine).answer ≡ true
             → (r : Reason) → result ≡ step.Refused r → ⊥ }
     {
@@ -193,7 +196,7 @@ impl Association {
         ensures shuts { IfOk result
             (λ s. ShutsOn chunk.at datagram.now now s self.old.outbound self.new.outbound) }
         ensures row { IfOk result
-            (λ s. StepsOn (on_shutdown self.old.machine) 0 s self.old self.new) }
+            (λ s. StepsOn (on_shutdown self.old.machine) 0 now s self.old self.new) }
         ensures expected { (speaks (on_shutdown self.old.machine).answer
             || is_received self.old.machine.state) ≡ true
             → (tsn : ℕ) → StartsWith (drop chunk.at datagram.now) (shutdown_chunk tsn)
@@ -231,8 +234,8 @@ impl Association {
         ensures whole { result ≡ Ok step.Cut → ⊥ }
         ensures answers { IfOk result
             (λ s. AnswersOn chunk.at datagram.now s self.old self.new) }
-        ensures row { IfOk result
-            (λ s. StepsOn (dropped self.old.machine) 0 s self.old self.new) }
+        ensures row { (now : ℕ) → IfOk result
+            (λ s. StepsOn (dropped self.old.machine) 0 now s self.old self.new) }
         ensures expected { is_some self.old.machine.peer ≡ true → (info : List ℕ)
             → StartsWith (drop chunk.at datagram.now)
             (heartbeat_chunk (heartbeat_info info ∷ []))
@@ -268,7 +271,7 @@ impl Association {
         ensures beats { IfOk result
             (λ s. BeatsOn chunk.at datagram.now now s self.old self.new) }
         ensures row { IfOk result
-            (λ s. StepsOn (dropped self.old.machine) 0 s self.old self.new) }
+            (λ s. StepsOn (dropped self.old.machine) 0 now s self.old self.new) }
         ensures expected { is_some self.old.heartbeat ≡ true → (info : List ℕ)
             → StartsWith (drop chunk.at datagram.now)
             (heartbeat_ack_chunk (heartbeat_info info ∷ []))
@@ -305,15 +308,19 @@ impl Association {
         }
     }
 
-    // An ERROR came: its first cause is told; a stale cookie begins the handshake again (RFC 9260 5.2.6, 3.3.10).
+    // An ERROR came: its first cause is told; a stale cookie begins the handshake again, with a fresh tag (RFC 9260 5.2.6, 3.3.10).
     fn take_error(&mut self, datagram: &Bytes, chunk: ChunkPlace, now: u64) -> Step
         ensures tells { TellsEnd self.old self.new }
         ensures refused { (r : Reason) → result ≡ step.Refused r → self.new ≡ self.old }
         ensures halves { halves_of self.new ≡ halves_of self.old }
-        ensures peer { KeepsPeer self.old self.new }
+        ensures peer { KeepsPeerButTag chunk datagram.now self.old self.new }
         ensures whole { result ≡ step.Cut → ⊥ }
-        ensures row { StepsOn (error_row (cause_in datagram.now chunk) self.old.machine) 0
+        ensures row { StepsOn (error_row (cause_in datagram.now chunk)
+            (fresh_tag self.old.key now self.old.machine.own) self.old.machine) 0 now
             result self.old self.new }
+        ensures cause { self.new.events.peer_error
+            ≡ cause_after (cause_in datagram.now chunk) self.old.events.peer_error }
+        ensures next { result ≡ step.Stop → ⊥ }
         ensures never { (r : Reason) → result ≡ step.Refused r → ⊥ }
     {
         let Some(code) = cause_of(datagram, chunk) else {
@@ -321,7 +328,8 @@ impl Association {
         };
         if code == 3 {
             let before = self.machine.state();
-            let answer = self.machine.stale_cookie();
+            let tag = self.fresh_tag(self.machine.own(), now);
+            let answer = self.machine.stale_cookie(tag);
             self.follow(before, answer, 0, now);
         }
         self.events.peer_error = Some(code);

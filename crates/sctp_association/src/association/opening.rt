@@ -59,7 +59,7 @@ impl Association {
         ensures whole { result ≡ Ok step.Cut → ⊥ }
         ensures host { result ≡ Ok step.Stop
             → AnswersHostName (value_in datagram.now chunk) self.new }
-        ensures offers { IfOk result (λ s. OffersOn chunk datagram.now s self.old self.new) }
+        ensures offers { IfOk result (λ s. OffersOn chunk datagram.now now s self.old self.new) }
         ensures expected { IsInitExpected chunk datagram.now
             → (r : Reason) → result ≡ Ok (step.Refused r) → ⊥ }
     {
@@ -117,7 +117,7 @@ impl Association {
         ensures passed { result ≡ Ok step.Next → host_name_of (value_in datagram.now chunk) ≡ None }
         ensures host { result ≡ Ok step.Stop
             → EndsByHostName (value_in datagram.now chunk) self.old self.new }
-        ensures row { IfOk result (λ s. InitAckOn chunk datagram.now s self.old self.new) }
+        ensures row { IfOk result (λ s. InitAckOn chunk datagram.now now s self.old self.new) }
         ensures expected { IsInitAckExpected chunk datagram.now self.old
             → (r : Reason) → result ≡ Ok (step.Refused r) → ⊥ }
     {
@@ -264,7 +264,7 @@ impl Association {
         ensures came { ArrivesAsOffered datagram.now self.old self.new }
         ensures refused { (r : Reason) → result ≡ step.Refused r → self.new ≡ self.old }
         ensures whole { result ≡ step.Cut → ⊥ }
-        ensures row { StepsOn (on_cookie_ack self.old.machine) 0 result self.old self.new }
+        ensures row { StepsOn (on_cookie_ack self.old.machine) 0 now result self.old self.new }
         ensures expected { speaks (on_cookie_ack self.old.machine).answer ≡ true
             → may_begin self.old ≡ true → (r : Reason) → result ≡ step.Refused r → ⊥ }
     {

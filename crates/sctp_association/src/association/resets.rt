@@ -2,8 +2,9 @@
 
 ghost use Rattle.std.specs.Prelude.{◌≡◌, ◌⊎◌, ◌<◌, ◌≤◌, true, false, Ok, Err, IfErr, IfOk, IfSome, IsOk, OnOk, OnErr, drop, is_some};
 ghost use Rattle.sctp_association.specs.Arrivals.{CallsArrive, HearsBy, Does, Follows, IsReset, IsResetAt, IsRestart, ParamAsks, ParamAsksIn, ReceivedIn};
-ghost use Rattle.sctp_association.specs.Kept.{IsKept, IsUnmoved};
+ghost use Rattle.sctp_association.specs.Kept.{IsKept, IsUnmoved, RestStays};
 ghost use Rattle.sctp_association.specs.Calls.{is_resettable};
+ghost use Rattle.sctp_association.specs.Expected.{takes_resets};
 ghost use Rattle.sctp_association.specs.Halves.{HalvesAlike, PutsDue, halves_of, receiver_of};
 ghost use Rattle.sctp_association.specs.Idle.{sack_delay};
 ghost use Rattle.sctp_association.specs.Leaving.{AsksNoMore, IsReconfigOf, PutsReconfig, replies_of, requests_due, responses_due};
@@ -276,7 +277,10 @@ impl Association {
         ensures kept { IsKept self.old self.new }
         ensures refused { (r : Reason) → result ≡ Ok (step.Refused r) → self.new ≡ self.old }
         ensures err { OnErr result (self.new ≡ self.old) }
-        ensures over { self.new.is_over ≡ self.old.is_over }
+        ensures rest { RestStays self.old self.new }
+        ensures goes_on { result ≡ Ok step.Stop → ⊥ }
+        ensures expected { takes_resets self.old.machine.state ≡ true
+            → (r : Reason) → result ≡ Ok (step.Refused r) → ⊥ }
     {
         if !self.machine.state().takes_data() && !self.machine.state().takes_sacks() {
             return Ok(Step::Refused(Reason::Unexpected));
@@ -314,7 +318,7 @@ impl Association {
         ensures came { Follows (ParamAsksIn (drop at raw.now)) Does
             (halves_of self.old) (halves_of self.new) }
         ensures kept { IsKept self.old self.new }
-        ensures over { self.new.is_over ≡ self.old.is_over }
+        ensures rest { RestStays self.old self.new }
     {
         match typ {
             13 | 16 => {}
@@ -339,7 +343,7 @@ impl Association {
         ensures tells { TellsEnd self.old self.new }
         ensures halves { HalvesAlike self.old self.new }
         ensures kept { IsKept self.old self.new }
-        ensures over { self.new.is_over ≡ self.old.is_over }
+        ensures rest { RestStays self.old self.new }
     {
         let Some(peer) = &mut self.peer_requests else {
             return;
@@ -360,7 +364,7 @@ impl Association {
         ensures came { Follows (ParamAsks (outgoing_reset_request (reset_request_of request.now)))
             Does (halves_of self.old) (halves_of self.new) }
         ensures kept { IsKept self.old self.new }
-        ensures over { self.new.is_over ≡ self.old.is_over }
+        ensures rest { RestStays self.old self.new }
     {
         let Some(peer) = &mut self.peer_requests else {
             return Ok(());
@@ -383,7 +387,7 @@ impl Association {
         ensures came { Follows (ParamAsks (outgoing_reset_request (reset_request_of request.now)))
             Does (halves_of self.old) (halves_of self.new) }
         ensures kept { IsKept self.old self.new }
-        ensures over { self.new.is_over ≡ self.old.is_over }
+        ensures rest { RestStays self.old self.new }
     {
         if request.stream_identifiers.is_empty() {
             return self.perform_all(request.sender_last_tsn);
@@ -406,7 +410,7 @@ impl Association {
         ensures received { ReceivedIn (IsResetAt last_tsn)
             (receiver_of self.old.inbound) (receiver_of self.new.inbound) }
         ensures kept { IsKept self.old self.new }
-        ensures over { self.new.is_over ≡ self.old.is_over }
+        ensures rest { RestStays self.old self.new }
     {
         let streams = match self.machine.agreed() {
             Some(agreed) => agreed.inbound_streams,
@@ -432,7 +436,7 @@ impl Association {
         ensures received { ReceivedIn (IsReset stream last_tsn)
             (receiver_of self.old.inbound) (receiver_of self.new.inbound) }
         ensures kept { IsKept self.old self.new }
-        ensures over { self.new.is_over ≡ self.old.is_over }
+        ensures rest { RestStays self.old self.new }
     {
         match &mut self.inbound {
             Some(inbound) => inbound.reset(stream, last_tsn, is_named, &mut self.events),
@@ -447,7 +451,7 @@ impl Association {
             self.old.outbound.sender self.new.outbound.sender }
         ensures inbound { self.new.inbound ≡ self.old.inbound }
         ensures kept { IsKept self.old self.new }
-        ensures over { self.new.is_over ≡ self.old.is_over }
+        ensures rest { RestStays self.old self.new }
     {
         let rto = self.outbound.rto.get();
         let number = response.reconfig_response_sequence_number;

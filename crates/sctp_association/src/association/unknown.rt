@@ -1,6 +1,6 @@
 //! What the peer sent and this side does not know (RFC 9260 3.2, 3.2.1, 3.2.2).
 
-ghost use Rattle.std.specs.Prelude.{◌≡◌, ◌⊎◌, ◌+◌, ◌<◌, ◌≤◌, None, Ok, IfOk, IfSome, OnOk, OnErr, length};
+ghost use Rattle.std.specs.Prelude.{◌≡◌, ◌⊎◌, ◌+◌, ◌<◌, ◌≤◌, ℕ, None, Ok, IfOk, IfSome, OnOk, OnErr, length};
 ghost use Rattle.sctp_association.specs.Halves.{PutsOthers};
 ghost use Rattle.sctp_association.specs.Kept.{OwesNoMore};
 ghost use Rattle.sctp_association.specs.Leaving.{replies_of};
@@ -62,8 +62,8 @@ impl Association {
         ensures rest { self.new ≡ record self.old { due = self.new.due } }
         ensures owes { OwesNoMore self.old self.new }
         ensures err { OnErr result (self.new ≡ self.old) }
-        ensures row { IfOk result
-            (λ s. StepsOn (dropped self.old.machine) 0 s self.old self.new) }
+        ensures row { (now : ℕ) → IfOk result
+            (λ s. StepsOn (dropped self.old.machine) 0 now s self.old self.new) }
     {
         let is_reported = chunk.is_reported || chunk.typ == I_FORWARD_TSN;
         if !is_reported || self.due.report.is_some() || self.machine.peer().is_none() {

@@ -135,10 +135,11 @@ impl Machine {
         Answer::noticed(Told::Connected)
     }
 
-    /// An ERROR with the cause Stale Cookie came (RFC 9260 5.2.6). In `CookieEchoed` the handshake begins again with the same INIT, at most
-    /// Max.Init.Retransmits times (as usrsctp counts them); in other states it is dropped.
-    pub fn stale_cookie(&mut self) -> Answer
-        ensures takes { Takes (on_stale_cookie self.old) self.new result }
+    /// An ERROR with the cause Stale Cookie came (RFC 9260 5.2.6). In `CookieEchoed` the handshake begins again with a new INIT, at most
+    /// Max.Init.Retransmits times (as usrsctp counts them); in other states it is dropped. `tag` is the tag of that INIT: not 0, and drawn for
+    /// it alone. So a peer that has an association with the earlier tag takes the next cookie for a restart (5.2.4 A).
+    pub fn stale_cookie(&mut self, tag: u32) -> Answer
+        ensures takes { Takes (on_stale_cookie tag self.old) self.new result }
         // What is not answered changes nothing.
         ensures dropped { result ≡ silent → self.new ≡ self.old }
     {
@@ -150,6 +151,7 @@ impl Machine {
             return Answer::noticed(Told::Failed);
         }
         self.enter(State::CookieWait);
+        self.own.tag = tag;
         self.peer = None;
         self.stale += 1;
         Answer::replied(Reply::Init)

@@ -13,12 +13,13 @@ returns-clause-peer c =
     keeps_by _ _ _ (knows_abort _ _ _ c.abort-answer.ensures.takes) (ap (λ (x : Association). x.config) ended ∙ ap (λ (x : Association). x.config) owed)
     (ap (λ (x : Association). x.key) ended ∙ ap (λ (x : Association). x.key) owed)
     (ap (λ (x : Association). x.machine) ended ∙ ap (λ (x : Association). x.machine) owed)
-    (owes_none c.args.self.now c.end.new.self (ap (λ (x : Association). ticket_due x.due.alone) ended ∙ ap (λ (d : Due). ticket_due d.alone) c.owe_farewell.ensures.due
-    ∙ c.requires.no_ticket))
+    (owes_none c.args.self.now c.end.new.self (ap (λ (x : Association). ticket_due x.due.alone) ended
+    ∙ ap (λ (d : Due). ticket_due d.alone) c.owe_farewell.ensures.due ∙ c.requires.no_ticket))
     (within_same c.args.self.now c.end.new.self (ap (λ (x : Association). x.config) ended ∙ ap (λ (x : Association). x.config) owed)
     (ap (λ (x : Association). x.outbound) ended ∙ ap (λ (x : Association). x.outbound) owed))
 
 pub returns-clause-tells : goal.returns-clause-tells
 returns-clause-tells c =
     let owed = c.owe_farewell.ensures.rest in
-    end_then (end_same _ _ owed) (to_over _ _ _ _ _ _ _ (ap (λ (x : Association). streams_in x.inbound) c.end.ensures.rest) c.end.ensures.told c.end.ensures.over)
+    end_then (end_same _ _ owed)
+    (to_over _ _ _ _ _ _ _ (ap (λ (x : Association). streams_in x.inbound) c.end.ensures.rest) c.end.ensures.told c.end.ensures.over)

@@ -7,7 +7,8 @@ use Rattle.sctp_association.proofs.Congested.{from_skip, full_of, full_then, wit
 use Rattle.sctp_association.proofs.Idle.{added_longer, no_shutdown, on_ok, on_ok_so}
 use Rattle.sctp_association.proofs.Known.{still_none, unmoved_then}
 use Rattle.sctp_path.specs.Timers.{is_due}
-use Rattle.sctp_association.proofs.Others.{beats_same, beats_then, due_then, once_puts, others_once, others_puts, others_then, skip_kept, skip_so, timed_then, data_then, due_data}
+use Rattle.sctp_association.proofs.Others.{beats_same, beats_then, due_then, once_puts, others_once, others_puts, others_then, skip_kept, skip_so, timed_then}
+use Rattle.sctp_association.proofs.Others.{data_then, due_data}
 use Rattle.sctp_association.proofs.association.Association.fill.Goals as goal
 
 pub returns-in_err-put_sack-clause-made : goal.returns-in_err-put_sack-clause-made
@@ -200,7 +201,8 @@ returns-in_err-put_sack-clause-fewer c p draft =
     let cookies = c.put_cookies.ensures.others in
     let one = others_fewer c.args.now c.args.self.now c.put_cookies.new.self cookies p draft in
     let sack = c.put_sack.ensures in
-    let two = once_fewer c.args.now c.put_cookies.new.self c.put_sack.new.self sack.made sack.kept sack.timed (ap (λ (p : Path). p.sender) sack.full.path) sack.skip _
+    let two =
+    once_fewer c.args.now c.put_cookies.new.self c.put_sack.new.self sack.made sack.kept sack.timed (ap (λ (p : Path). p.sender) sack.full.path) sack.skip _
     (cookies.added.draft p draft) in
     let acked = fewer_then _ _ _ _ _ _ one two in
     acked
@@ -210,11 +212,13 @@ returns-in_err-put_control-clause-fewer c p draft =
     let cookies = c.put_cookies.ensures.others in
     let one = others_fewer c.args.now c.args.self.now c.put_cookies.new.self cookies p draft in
     let sack = c.put_sack.ensures in
-    let two = once_fewer c.args.now c.put_cookies.new.self c.put_sack.new.self sack.made sack.kept sack.timed (ap (λ (p : Path). p.sender) sack.full.path) sack.skip _
+    let two =
+    once_fewer c.args.now c.put_cookies.new.self c.put_sack.new.self sack.made sack.kept sack.timed (ap (λ (p : Path). p.sender) sack.full.path) sack.skip _
     (cookies.added.draft p draft) in
     let acked = fewer_then _ _ _ _ _ _ one two in
     let control = c.put_control.ensures in
-    let three = due_fewer c.args.now c.put_sack.new.self c.put_control.new.self control.kept control.moments control.made (ap (λ (p : Path). p.sender) control.full.path)
+    let three = due_fewer c.args.now c.put_sack.new.self c.put_control.new.self control.kept control.moments control.made
+    (ap (λ (p : Path). p.sender) control.full.path)
     control.skip _
     (sack.made.added.draft _ (cookies.added.draft p draft)) in
     let controlled = fewer_then _ _ _ _ _ _ acked three in
@@ -225,11 +229,13 @@ returns-clause-fewer c p draft =
     let cookies = c.put_cookies.ensures.others in
     let one = others_fewer c.args.now c.args.self.now c.put_cookies.new.self cookies p draft in
     let sack = c.put_sack.ensures in
-    let two = once_fewer c.args.now c.put_cookies.new.self c.put_sack.new.self sack.made sack.kept sack.timed (ap (λ (p : Path). p.sender) sack.full.path) sack.skip _
+    let two =
+    once_fewer c.args.now c.put_cookies.new.self c.put_sack.new.self sack.made sack.kept sack.timed (ap (λ (p : Path). p.sender) sack.full.path) sack.skip _
     (cookies.added.draft p draft) in
     let acked = fewer_then _ _ _ _ _ _ one two in
     let control = c.put_control.ensures in
-    let three = due_fewer c.args.now c.put_sack.new.self c.put_control.new.self control.kept control.moments control.made (ap (λ (p : Path). p.sender) control.full.path)
+    let three = due_fewer c.args.now c.put_sack.new.self c.put_control.new.self control.kept control.moments control.made
+    (ap (λ (p : Path). p.sender) control.full.path)
     control.skip _
     (sack.made.added.draft _ (cookies.added.draft p draft)) in
     let controlled = fewer_then _ _ _ _ _ _ acked three in

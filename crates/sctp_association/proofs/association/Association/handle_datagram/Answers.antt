@@ -46,15 +46,9 @@ returns-in-Err c = record {
   memory = on_err _ refl;
   partly = λ e. absurd (never_told _ _ e refl c.dropped_by.ensures.never);
   takes = λ one typ e. absurd (never_told _ _ e refl c.dropped_by.ensures.never);
-  answers = λ one typ e. absurd (never_told _ _ e refl c.dropped_by.ensures.never);
-  beats = λ one typ e. absurd (never_told _ _ e refl c.dropped_by.ensures.never);
-  shuts = λ one typ e. absurd (never_told _ _ e refl c.dropped_by.ensures.never);
-  echoes = λ one typ e. absurd (never_told _ _ e refl c.dropped_by.ensures.never);
-  acks = λ one typ e. absurd (never_told _ _ e refl c.dropped_by.ensures.never);
-  offers = λ one typ e. absurd (never_told _ _ e refl c.dropped_by.ensures.never);
   over = λ going over. absurd (false≢true (sym going ∙ over));
   behind = λ e. absurd (never_told _ _ e refl c.dropped_by.ensures.never);
-  rows = λ one row e. absurd (never_told _ _ e refl c.dropped_by.ensures.never);
+  alone = λ one e. absurd (never_told _ _ e refl c.dropped_by.ensures.never);
   due = λ due r e.
       let zero : zero_checksum_of c.args.self.now.config ≡ c.if-self.zero = elim c.if-self.branch [
         | then-self w ↦ rw w.if-self.true (sym w.zero-is)
@@ -110,7 +104,8 @@ returns-then-self-2-clause-takes c one typ is = inl (ap (λ (a : Association). a
 pub returns-clause-takes : goal.returns-clause-takes
 returns-clause-takes c one typ is =
     let all : TellsAll place_at c.args.datagram.now c.in-Ok.chunks.left = search rules in
-    only_data _ _ _ _ c.args.self.now c.take_chunks.new.self all one typ (if_ok _ _ _ is c.take_chunks.ensures.accepted refl) (λ first are t. c.take_chunks.ensures.takes first are t is)
+    only_data _ _ _ _ c.args.self.now c.take_chunks.new.self all one typ (if_ok _ _ _ is c.take_chunks.ensures.accepted refl)
+    (λ first are t. c.take_chunks.ensures.takes first are t is)
 
 -- ## What is due, and each DATA chunk
 
@@ -159,68 +154,14 @@ returns-clause-path c takes is chunks tells each =
 
 -- ## A chunk that comes alone
 
-pub returns-then-self-2-clause-answers : goal.returns-then-self-2-clause-answers
-returns-then-self-2-clause-answers c one typ is going = absurd (false≢true (sym going ∙ c.if-self-2.true))
+pub returns-then-self-2-clause-alone : goal.returns-then-self-2-clause-alone
+returns-then-self-2-clause-alone c one is going = absurd (false≢true (sym going ∙ c.if-self-2.true))
 
-pub returns-then-self-2-clause-beats : goal.returns-then-self-2-clause-beats
-returns-then-self-2-clause-beats c one typ is going = absurd (false≢true (sym going ∙ c.if-self-2.true))
-
-pub returns-then-self-2-clause-shuts : goal.returns-then-self-2-clause-shuts
-returns-then-self-2-clause-shuts c one typ is going = absurd (false≢true (sym going ∙ c.if-self-2.true))
-
-pub returns-then-self-2-clause-offers : goal.returns-then-self-2-clause-offers
-returns-then-self-2-clause-offers c one typ is going = absurd (false≢true (sym going ∙ c.if-self-2.true))
-
-pub returns-then-self-2-clause-acks : goal.returns-then-self-2-clause-acks
-returns-then-self-2-clause-acks c one typ is going = absurd (false≢true (sym going ∙ c.if-self-2.true))
-
-pub returns-then-self-2-clause-echoes : goal.returns-then-self-2-clause-echoes
-returns-then-self-2-clause-echoes c one typ is going = absurd (false≢true (sym going ∙ c.if-self-2.true))
-
-pub returns-then-self-2-clause-rows : goal.returns-then-self-2-clause-rows
-returns-then-self-2-clause-rows c one row is going = absurd (false≢true (sym going ∙ c.if-self-2.true))
-
-pub returns-clause-offers : goal.returns-clause-offers
-returns-clause-offers c one typ is going =
+pub returns-clause-alone : goal.returns-clause-alone
+returns-clause-alone c one is going =
     let all : TellsAll place_at c.args.datagram.now c.in-Ok.chunks.left = search rules in
-    (only_one (λ p. AloneAt p c.args.datagram.now c.args.now c.args.self.now c.take_chunks.new.self) _ _ _ _ _ all one refl
-    (if_ok _ _ _ is c.take_chunks.ensures.accepted refl) (λ first are t. c.take_chunks.ensures.alone first are is)).init typ
-
-pub returns-clause-acks : goal.returns-clause-acks
-returns-clause-acks c one typ is going =
-    let all : TellsAll place_at c.args.datagram.now c.in-Ok.chunks.left = search rules in
-    (only_one (λ p. AloneAt p c.args.datagram.now c.args.now c.args.self.now c.take_chunks.new.self) _ _ _ _ _ all one refl
-    (if_ok _ _ _ is c.take_chunks.ensures.accepted refl) (λ first are t. c.take_chunks.ensures.alone first are is)).init_ack typ
-
-pub returns-clause-answers : goal.returns-clause-answers
-returns-clause-answers c one typ is going =
-    let all : TellsAll place_at c.args.datagram.now c.in-Ok.chunks.left = search rules in
-    (only_one (λ p. AloneAt p c.args.datagram.now c.args.now c.args.self.now c.take_chunks.new.self) _ _ _ _ _ all one refl
-    (if_ok _ _ _ is c.take_chunks.ensures.accepted refl) (λ first are t. c.take_chunks.ensures.alone first are is)).heartbeat typ
-
-pub returns-clause-beats : goal.returns-clause-beats
-returns-clause-beats c one typ is going =
-    let all : TellsAll place_at c.args.datagram.now c.in-Ok.chunks.left = search rules in
-    (only_one (λ p. AloneAt p c.args.datagram.now c.args.now c.args.self.now c.take_chunks.new.self) _ _ _ _ _ all one refl
-    (if_ok _ _ _ is c.take_chunks.ensures.accepted refl) (λ first are t. c.take_chunks.ensures.alone first are is)).heartbeat_ack typ
-
-pub returns-clause-shuts : goal.returns-clause-shuts
-returns-clause-shuts c one typ is going =
-    let all : TellsAll place_at c.args.datagram.now c.in-Ok.chunks.left = search rules in
-    (only_one (λ p. AloneAt p c.args.datagram.now c.args.now c.args.self.now c.take_chunks.new.self) _ _ _ _ _ all one refl
-    (if_ok _ _ _ is c.take_chunks.ensures.accepted refl) (λ first are t. c.take_chunks.ensures.alone first are is)).shutdown typ
-
-pub returns-clause-echoes : goal.returns-clause-echoes
-returns-clause-echoes c one typ is going =
-    let all : TellsAll place_at c.args.datagram.now c.in-Ok.chunks.left = search rules in
-    (only_one (λ p. AloneAt p c.args.datagram.now c.args.now c.args.self.now c.take_chunks.new.self) _ _ _ _ _ all one refl
-    (if_ok _ _ _ is c.take_chunks.ensures.accepted refl) (λ first are t. c.take_chunks.ensures.alone first are is)).cookie_echo typ
-
-pub returns-clause-rows : goal.returns-clause-rows
-returns-clause-rows c one typ is going =
-    let all : TellsAll place_at c.args.datagram.now c.in-Ok.chunks.left = search rules in
-    (only_one (λ p. AloneAt p c.args.datagram.now c.args.now c.args.self.now c.take_chunks.new.self) _ _ _ _ _ all one refl
-    (if_ok _ _ _ is c.take_chunks.ensures.accepted refl) (λ first are t. c.take_chunks.ensures.alone first are is)).row typ
+    only_one (λ p. AloneAt p c.args.datagram.now c.args.now c.args.self.now c.take_chunks.new.self) _ _ _ _ _ all one refl
+    (if_ok _ _ _ is c.take_chunks.ensures.accepted refl) (λ first are t. c.take_chunks.ensures.alone first are is)
 
 -- ## What ends the association
 

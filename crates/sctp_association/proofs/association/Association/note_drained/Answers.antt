@@ -38,6 +38,9 @@ returns-clause-sending c = c.follow.ensures.sending (drained_told _ _ c.drained-
 pub returns-clause-heartbeat : goal.returns-clause-heartbeat
 returns-clause-heartbeat c = c.follow.ensures.heartbeat (drained_told _ _ c.drained-answer.ensures.answer)
 
+pub returns-clause-events : goal.returns-clause-events
+returns-clause-events c = c.follow.ensures.events (drained_told _ _ c.drained-answer.ensures.answer)
+
 -- ## What may still come to be due
 
 pub returns-clause-alone : goal.returns-clause-alone

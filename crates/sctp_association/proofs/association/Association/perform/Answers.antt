@@ -1,5 +1,5 @@
 use Rattle.sctp_association.proofs.Telling.{end_then, to_same}
-use Rattle.std.proofs.Common.{ap, arith, get_or, length, refl, rules, subst, ◌<◌, ◌≡◌, [], ◌∙◌}
+use Rattle.std.proofs.Common.{ap, arith, get_or, length, refl, rules, subst, ◌<◌, ◌≡◌, []}
 use Rattle.std.proofs.lemmas.Bool.Decides.{nat_tests}
 use Rattle.std.proofs.lemmas.List.{nil_from_length}
 use Rattle.std.proofs.lemmas.List.Elements.{Contains-get_or}
@@ -7,7 +7,7 @@ use Rattle.std.specs.Prelude.{Contains}
 use Rattle.sctp_params.specs.ResetRequest.{reset_request_of}
 use Rattle.sctp_association.proofs.Arrived.{all_reset, one_reset}
 use Rattle.sctp_association.proofs.Arriving.{follows_same, follows_then}
-use Rattle.sctp_association.proofs.Known.{kept_then}
+use Rattle.sctp_association.proofs.Known.{kept_then, rest_same, rest_then}
 use Rattle.sctp_association.proofs.association.Association.perform.Goals as goal
 
 pub returns-then-is_empty-clause-came : goal.returns-then-is_empty-clause-came
@@ -28,7 +28,7 @@ loop-stream-init c = record {
     sending = (λ e. e, λ e. e);
   };
   tells = to_same;
-  over = refl;
+  rest = rest_same _;
 }
 
 pub loop-stream-preserved : goal.loop-stream-preserved
@@ -44,7 +44,7 @@ loop-stream-preserved c =
           (ap (λ o. o.sender) c.perform_one.ensures.outbound) _ _ _ named c.perform_one.ensures.received);
       kept = kept_then _ _ _ c.loop-stream.invariant.kept c.perform_one.ensures.kept;
       tells = end_then c.loop-stream.invariant.tells c.perform_one.ensures.tells;
-      over = c.perform_one.ensures.over ∙ c.loop-stream.invariant.over;
+      rest = rest_then _ _ _ c.loop-stream.invariant.rest c.perform_one.ensures.rest;
     }
 
 pub returns-in_err-wrong-clause-came : goal.returns-in_err-wrong-clause-came

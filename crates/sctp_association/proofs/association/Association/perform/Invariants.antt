@@ -1,6 +1,5 @@
-use Rattle.std.proofs.Common.{◌≡◌}
 use Rattle.sctp_association.specs.Arrivals.{Does, Follows, ParamAsks}
-use Rattle.sctp_association.specs.Kept.{IsKept}
+use Rattle.sctp_association.specs.Kept.{IsKept, RestStays}
 use Rattle.sctp_association.specs.Halves.{halves_of}
 use Rattle.sctp_params.specs.Param.{outgoing_reset_request}
 use Rattle.sctp_params.specs.ResetRequest.{reset_request_of}
@@ -13,5 +12,5 @@ invariant-loop-stream l = record {
   came : Follows (ParamAsks (outgoing_reset_request (reset_request_of l.request))) Does (halves_of l.initial.self) (halves_of l.self);
   kept : IsKept l.initial.self l.self;
   tells : TellsEnd l.initial.self l.self;
-  over : l.self.is_over ≡ l.initial.self.is_over;
+  rest : RestStays l.initial.self l.self;
 }

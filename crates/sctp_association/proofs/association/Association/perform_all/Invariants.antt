@@ -1,6 +1,6 @@
 use Rattle.std.proofs.Common.{◌≡◌}
 use Rattle.sctp_association.specs.Arrivals.{IsResetAt, ReceivedIn}
-use Rattle.sctp_association.specs.Kept.{IsKept}
+use Rattle.sctp_association.specs.Kept.{IsKept, RestStays}
 use Rattle.sctp_association.specs.Halves.{receiver_of}
 use Rattle.sctp_association.specs.Telling.{TellsEnd}
 use Rattle.sctp_association.proofs.association.Association.perform_all.Given as goal
@@ -12,5 +12,5 @@ invariant-loop-stream l = record {
   received : ReceivedIn (IsResetAt l.last_tsn) (receiver_of l.initial.self.inbound) (receiver_of l.self.inbound);
   kept : IsKept l.initial.self l.self;
   tells : TellsEnd l.initial.self l.self;
-  over : l.self.is_over ≡ l.initial.self.is_over;
+  rest : RestStays l.initial.self l.self;
 }

@@ -5,7 +5,8 @@ use Rattle.sctp_association.proofs.Fewer.{data_same, replies_few, settled_few, s
 use Rattle.sctp_association.specs.Most.{most_data}
 use Rattle.sctp_association.proofs.Telling.{tells_kept, tells_peer, tells_same, tells_then, to_same, transmits_end, unmoved_end}
 use Rattle.std.proofs.lemmas.Option.{none-some}
-use Rattle.sctp_association.proofs.Congested.{as_full, dropped_due, full_of, goes_on, over_not, sends_after, sends_alike, sends_same, stops, unknown_not, unsent_of}
+use Rattle.sctp_association.proofs.Congested.{as_full, dropped_due, full_of, goes_on, over_not, sends_after, sends_alike, sends_same, stops, unknown_not}
+use Rattle.sctp_association.proofs.Congested.{unsent_of}
 use Rattle.sctp_association.proofs.Known.{keeps_then, knows_same, unmoved_keeps, unmoved_within}
 use Rattle.sctp_association.proofs.Leaving.{leaves_later, leaves_same, new_then, new_unmoved, once_after, stays_leave}
 use Rattle.sctp_association.proofs.Lasting.{lasts_same, lasts_then, lasts_unmoved}
@@ -169,7 +170,8 @@ returns-in-Some-clause-within c = sends_same c.args.now _ c.args.self.now.outbou
     (full_of _ c.put_alone.new.self c.put_alone.ensures.halves c.put_alone.ensures.kept.rto)
 
 pub returns-then-self-clause-within : goal.returns-then-self-clause-within
-returns-then-self-clause-within c = sends_same c.args.now _ c.args.self.now.outbound c.args.self.now.outbound (over_not (Ok false) c.args.self.now c.if-self.true) (as_full _ _ refl)
+returns-then-self-clause-within c =
+    sends_same c.args.now _ c.args.self.now.outbound c.args.self.now.outbound (over_not (Ok false) c.args.self.now c.if-self.true) (as_full _ _ refl)
 
 pub returns-in_err-abandon-clause-within : goal.returns-in_err-abandon-clause-within
 returns-in_err-abandon-clause-within c = sends_alike c.args.now _ c.args.self.now.outbound c.abandon.new.self c.abandon.new.self

@@ -180,12 +180,15 @@ returns-in_err-put_heartbeats-clause-skip c = ap (λ (p : Path). p.skip) c.put_h
 
 pub returns-in_err-put_unknown_stream-clause-skip : goal.returns-in_err-put_unknown_stream-clause-skip
 returns-in_err-put_unknown_stream-clause-skip c =
-    ap (λ (p : Path). p.skip) c.put_unknown_stream.ensures.others.halves.path ∙ ap (λ (p : Path). p.skip) c.put_heartbeats.ensures.halves.path ∙ c.put_shutdown.ensures.skip
+    ap (λ (p : Path). p.skip) c.put_unknown_stream.ensures.others.halves.path ∙ ap (λ (p : Path). p.skip) c.put_heartbeats.ensures.halves.path
+    ∙ c.put_shutdown.ensures.skip
 
 pub returns-in_err-put_report-clause-skip : goal.returns-in_err-put_report-clause-skip
-returns-in_err-put_report-clause-skip c = ap (λ (p : Path). p.skip) c.put_report.ensures.others.halves.path ∙ ap (λ (p : Path). p.skip) c.put_unknown_stream.ensures.others.halves.path
-    ∙ ap (λ (p : Path). p.skip) c.put_heartbeats.ensures.halves.path ∙ c.put_shutdown.ensures.skip
+returns-in_err-put_report-clause-skip c = ap (λ (p : Path). p.skip) c.put_report.ensures.others.halves.path
+    ∙ ap (λ (p : Path). p.skip) c.put_unknown_stream.ensures.others.halves.path ∙ ap (λ (p : Path). p.skip) c.put_heartbeats.ensures.halves.path
+    ∙ c.put_shutdown.ensures.skip
 
 pub returns-clause-skip : goal.returns-clause-skip
 returns-clause-skip c = ap (λ (p : Path). p.skip) c.put_resets.ensures.halves.path ∙ ap (λ (p : Path). p.skip) c.put_report.ensures.others.halves.path
-    ∙ ap (λ (p : Path). p.skip) c.put_unknown_stream.ensures.others.halves.path ∙ ap (λ (p : Path). p.skip) c.put_heartbeats.ensures.halves.path ∙ c.put_shutdown.ensures.skip
+    ∙ ap (λ (p : Path). p.skip) c.put_unknown_stream.ensures.others.halves.path ∙ ap (λ (p : Path). p.skip) c.put_heartbeats.ensures.halves.path
+    ∙ c.put_shutdown.ensures.skip

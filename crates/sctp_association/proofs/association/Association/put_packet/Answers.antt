@@ -23,7 +23,8 @@ returns-in_err-filled-clause-made c = none_sent_so _ _ _ c.from_residual-in_err-
     )
 
 pub returns-then-is_empty-clause-made : goal.returns-then-is_empty-clause-made
-returns-then-is_empty-clause-made c = sent_same _ _ _ _ _ _ (ap (λ o. o.sender) c.pause.ensures) (unsent_after _ _ _ _ _ _ _ c.fill-filled.ensures.made c.args.header
+returns-then-is_empty-clause-made c =
+    sent_same _ _ _ _ _ _ (ap (λ o. o.sender) c.pause.ensures) (unsent_after _ _ _ _ _ _ _ c.fill-filled.ensures.made c.args.header
     c.in_ok-begin.ensures.begun (leb-true _ 12 (sym c.is_empty.ensures ∙ c.if-is_empty.true)) _)
 
 pub returns-clause-made : goal.returns-clause-made

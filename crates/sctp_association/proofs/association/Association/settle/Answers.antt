@@ -1,5 +1,6 @@
 use Rattle.sctp_association.specs.Most.{shutdowns_left}
-use Rattle.std.proofs.Common.{◌≡◌, ◌∙◌}
+use Rattle.std.proofs.Common.{rules, ◌≡◌, ◌∙◌}
+use Rattle.sctp_association.proofs.Rows.{Asked, asked_begins, asked_idle, settles_by}
 use Rattle.sctp_association.proofs.Fewer.{asked_shut}
 use Rattle.sctp_association.specs.Telling.{TellsEnd}
 use Rattle.sctp_association.proofs.Telling.{end_same, end_then}
@@ -12,7 +13,7 @@ use Rattle.sctp_association.proofs.Others.{beats_same, beats_then}
 use Rattle.sctp_association.specs.Leaving.{AsksNoMore}
 use Rattle.sctp_association.specs.Still.{heartbeat_time}
 use Rattle.sctp_association.proofs.association.Association.settle.Goals as goal
-use Rattle.sctp_association.proofs.association.Association.settle.Goals.{else-self, then-self+then-eq}
+use Rattle.sctp_association.proofs.association.Association.settle.Goals.{else-self, else-self-via-else-self, else-self-via-then-self+else-eq, then-self+then-eq}
 
 pub returns-clause-peer : goal.returns-clause-peer
 returns-clause-peer c =
@@ -69,3 +70,26 @@ returns-clause-shut c none =
       | else-self w ↦ ap (λ (x : Association). x.machine.state) w.self-is
     ] in
     c.note_drained.ensures.shut (ap shutdowns_left first ∙ none) ∙ first
+
+-- ## The machine takes both steps
+
+pub returns-clause-settles : goal.returns-clause-settles
+returns-clause-settles c =
+    let old = c.args.self.now in
+    let noted = c.note_drained.ensures in
+    let asked : Asked old c.if-self.self = elim c.if-self.branch [
+      | then-self+then-eq w ↦ let begins = asked_begins old (search rules) (search rules) in record {
+        machine = ap (λ (x : Association). x.machine) w.self-is ∙ w.shutdown_asked-answer.ensures.machine ∙ begins.0;
+        wants = ap (λ (x : Association). x.wants_shutdown) w.self-is ∙ begins.1;
+        due = ap (λ (x : Association). x.due) w.self-is;
+        over = ap (λ (x : Association). x.is_over) w.self-is;
+        outbound = ap (λ (x : Association). x.outbound) w.self-is;
+        control = ap (λ (x : Association). x.control) w.self-is;
+        guard = ap (λ (x : Association). x.guard) w.self-is;
+      }
+      | else-self w ↦ asked_idle old c.if-self.self w.self-is (elim w.else-self.branch [
+        | else-self-via-then-self+else-eq v ↦ λ _ stands. absurd (search rules)
+        | else-self-via-else-self v ↦ λ wants _. absurd (search rules)
+      ])
+    ] in
+    settles_by c.args.now old c.if-self.self c.note_drained.new.self asked noted.waits noted.drained noted.due noted.over noted.sending noted.wants noted.timers

@@ -13,7 +13,8 @@ pub returns-clause-peer : goal.returns-clause-peer
 returns-clause-peer c =
     let rest = c.end.ensures.rest in
     keeps_by _ _ _ (knows_abort _ _ _ c.abort-answer.ensures.takes) (ap (λ (x : Association). x.config) rest)
-    (ap (λ (x : Association). x.key) rest) (ap (λ (x : Association). x.machine) rest) (owes_same c.args.self.now c.end.new.self (ap (λ (x : Association). x.due) rest))
+    (ap (λ (x : Association). x.key) rest) (ap (λ (x : Association). x.machine) rest)
+    (owes_same c.args.self.now c.end.new.self (ap (λ (x : Association). x.due) rest))
     (within_same c.args.self.now c.end.new.self (ap (λ (x : Association). x.config) rest) (ap (λ (x : Association). x.outbound) rest))
 
 pub returns-clause-tells : goal.returns-clause-tells

@@ -1,11 +1,13 @@
+use Rattle.sctp_association.proofs.Rows.{row_reset}
 use Rattle.std.proofs.Common.{Ok}
+use Rattle.sctp_association.proofs.Behind.{still_ends}
 use Rattle.sctp_association.proofs.Ends.{ends_echo, ends_init_ack, ends_row, ends_same_of, if_then, off_other, row_has}
 use Rattle.sctp_association.specs.declared.association.Association.{Association}
-use Rattle.sctp_association.proofs.Expected.{expected_at, expected_begun, expected_control, expected_echo, expected_init, expected_init_ack, expected_none}
+use Rattle.sctp_association.proofs.Expected.{expected_at, expected_begun, expected_control, expected_echo, expected_init, expected_init_ack}
 use Rattle.sctp_association.proofs.Telling.{tells_due, tells_peer, tells_same, tells_still}
 use Rattle.std.proofs.Common.{ap, arith, refl, rules, sym, ◌≡◌, ◌∙◌}
 use Rattle.std.proofs.lemmas.Bool.{false≢true}
-use Rattle.sctp_association.proofs.Single.{alone_by, alone_plain, alone_refused, alone_silent}
+use Rattle.sctp_association.proofs.Single.{alone_by, alone_plain, alone_refused}
 use Rattle.sctp_association.specs.Rows.{has_row}
 use Rattle.sctp_association.proofs.Offered.{offered_calls, offered_due, offered_kept, offered_same}
 use Rattle.sctp_association.proofs.Paths.{moves_none}
@@ -77,7 +79,8 @@ returns-then-not-is_beginning-clause-alone c = alone_refused c.args.chunk c.args
 pub returns-in-0-clause-alone : goal.returns-in-0-clause-alone
 returns-in-0-clause-alone c =
     let typ : c.args.chunk.typ ≡ 0 = search rules in
-    alone_plain c.args.chunk c.args.tag c.args.datagram.now c.args.now c.args.self.now c.take_data.new.self c.take_data.result 0 typ refl c.take_data.ensures.row
+    alone_plain c.args.chunk c.args.tag c.args.datagram.now c.args.now c.args.self.now c.take_data.new.self c.take_data.result 0 typ refl
+    c.take_data.ensures.row
 
 pub returns-in-1-clause-alone : goal.returns-in-1-clause-alone
 returns-in-1-clause-alone c =
@@ -85,7 +88,7 @@ returns-in-1-clause-alone c =
     alone_by c.args.chunk c.args.tag c.args.datagram.now c.args.now c.args.self.now c.take_init.new.self c.take_init.result
     (λ is. c.take_init.ensures.offers) (λ is. absurd (omega (arith, is, typ))) (λ is. absurd (omega (arith, is, typ)))
     (λ is. absurd (omega (arith, is, typ))) (λ is. absurd (omega (arith, is, typ))) (λ is. absurd (omega (arith, is, typ)))
-    (λ row. absurd (false≢true (sym (ap has_row typ) ∙ row)))
+    (λ is. absurd (omega (arith, is, typ))) (λ row. absurd (false≢true (sym (ap has_row typ) ∙ row)))
 
 pub returns-in-2-clause-alone : goal.returns-in-2-clause-alone
 returns-in-2-clause-alone c =
@@ -93,31 +96,35 @@ returns-in-2-clause-alone c =
     alone_by c.args.chunk c.args.tag c.args.datagram.now c.args.now c.args.self.now c.take_init_ack.new.self c.take_init_ack.result
     (λ is. absurd (omega (arith, is, typ))) (λ is. c.take_init_ack.ensures.row) (λ is. absurd (omega (arith, is, typ)))
     (λ is. absurd (omega (arith, is, typ))) (λ is. absurd (omega (arith, is, typ))) (λ is. absurd (omega (arith, is, typ)))
-    (λ row. absurd (false≢true (sym (ap has_row typ) ∙ row)))
+    (λ is. absurd (omega (arith, is, typ))) (λ row. absurd (false≢true (sym (ap has_row typ) ∙ row)))
 
 pub returns-in-3-clause-alone : goal.returns-in-3-clause-alone
 returns-in-3-clause-alone c =
     let typ : c.args.chunk.typ ≡ 3 = search rules in
-    alone_plain c.args.chunk c.args.tag c.args.datagram.now c.args.now c.args.self.now c.take_sack.new.self c.take_sack.result 3 typ refl c.take_sack.ensures.row
+    alone_plain c.args.chunk c.args.tag c.args.datagram.now c.args.now c.args.self.now c.take_sack.new.self c.take_sack.result 3 typ refl
+    c.take_sack.ensures.row
 
 pub returns-in-10-clause-alone : goal.returns-in-10-clause-alone
 returns-in-10-clause-alone c =
     let typ : c.args.chunk.typ ≡ 10 = search rules in
     alone_by c.args.chunk c.args.tag c.args.datagram.now c.args.now c.args.self.now c.take_cookie.new.self c.take_cookie.result
     (λ is. absurd (omega (arith, is, typ))) (λ is. absurd (omega (arith, is, typ))) (λ is. absurd (omega (arith, is, typ)))
-    (λ is. absurd (omega (arith, is, typ))) (λ is. absurd (omega (arith, is, typ))) (λ is. c.take_cookie.ensures.row)
+    (λ is. absurd (omega (arith, is, typ))) (λ is. absurd (omega (arith, is, typ))) (λ is. absurd (omega (arith, is, typ))) (λ is. c.take_cookie.ensures.row)
     (λ row. absurd (false≢true (sym (ap has_row typ) ∙ row)))
 
--- of a RE-CONFIG nothing is said
 pub returns-in-130-clause-alone : goal.returns-in-130-clause-alone
 returns-in-130-clause-alone c =
     let typ : c.args.chunk.typ ≡ 130 = search rules in
-    alone_silent c.args.chunk c.args.tag c.args.datagram.now c.args.now c.args.self.now c.take_reconfig.new.self c.take_reconfig.result typ
+    alone_plain c.args.chunk c.args.tag c.args.datagram.now c.args.now c.args.self.now c.take_reconfig.new.self c.take_reconfig.result 130 typ refl (
+    row_reset c.args.chunk c.args.datagram.now c.args.now c.args.self.now c.take_reconfig.new.self typ c.take_reconfig.ensures.kept
+    c.take_reconfig.ensures.rest c.take_reconfig.result c.take_reconfig.ensures.goes_on
+    )
 
 pub returns-in-192-clause-alone : goal.returns-in-192-clause-alone
 returns-in-192-clause-alone c =
     let typ : c.args.chunk.typ ≡ 192 = search rules in
-    alone_plain c.args.chunk c.args.tag c.args.datagram.now c.args.now c.args.self.now c.take_skip.new.self c.take_skip.result 192 typ refl c.take_skip.ensures.row
+    alone_plain c.args.chunk c.args.tag c.args.datagram.now c.args.now c.args.self.now c.take_skip.new.self c.take_skip.result 192 typ refl
+    c.take_skip.ensures.row
 
 pub returns-in_default-clause-alone : goal.returns-in_default-clause-alone
 returns-in_default-clause-alone c = c.take_control.ensures.alone (search rules, search rules, search rules, search rules) c.args.tag
@@ -131,7 +138,8 @@ returns-then-not-is_beginning-clause-due c admitted expected r is =
 pub returns-in-0-clause-due : goal.returns-in-0-clause-due
 returns-in-0-clause-due c admitted expected =
     let typ : c.args.chunk.typ ≡ 0 = search rules in
-    c.take_data.ensures.due (expected_at c.args.chunk c.args.tag c.args.datagram.now c.args.now c.args.self.now expected 0 typ (λ e. omega (arith, e)) (λ e. omega (arith, e)) (λ e. omega (arith, e))).0
+    c.take_data.ensures.due (expected_at c.args.chunk c.args.tag c.args.datagram.now c.args.now c.args.self.now expected 0 typ (λ e. omega (arith, e))
+    (λ e. omega (arith, e)) (λ e. omega (arith, e))).0
 
 pub returns-in-1-clause-due : goal.returns-in-1-clause-due
 returns-in-1-clause-due c admitted expected =
@@ -146,7 +154,8 @@ returns-in-2-clause-due c admitted expected =
 pub returns-in-3-clause-due : goal.returns-in-3-clause-due
 returns-in-3-clause-due c admitted expected =
     let typ : c.args.chunk.typ ≡ 3 = search rules in
-    c.take_sack.ensures.due (expected_at c.args.chunk c.args.tag c.args.datagram.now c.args.now c.args.self.now expected 3 typ (λ e. omega (arith, e)) (λ e. omega (arith, e)) (λ e. omega (arith, e))).0
+    c.take_sack.ensures.due (expected_at c.args.chunk c.args.tag c.args.datagram.now c.args.now c.args.self.now expected 3 typ (λ e. omega (arith, e))
+    (λ e. omega (arith, e)) (λ e. omega (arith, e))).0
 
 pub returns-in-10-clause-due : goal.returns-in-10-clause-due
 returns-in-10-clause-due c admitted expected =
@@ -154,19 +163,22 @@ returns-in-10-clause-due c admitted expected =
     c.take_cookie.ensures.expected (expected_echo c.args.chunk c.args.tag c.args.datagram.now c.args.now c.args.self.now expected typ)
 
 pub returns-in-130-clause-due : goal.returns-in-130-clause-due
-returns-in-130-clause-due c admitted expected r is =
+returns-in-130-clause-due c admitted expected =
     let typ : c.args.chunk.typ ≡ 130 = search rules in
-    expected_none c.args.self.now 130 refl refl
-    (expected_at c.args.chunk c.args.tag c.args.datagram.now c.args.now c.args.self.now expected 130 typ (λ e. omega (arith, e)) (λ e. omega (arith, e)) (λ e. omega (arith, e))).0
+    let at = expected_at c.args.chunk c.args.tag c.args.datagram.now c.args.now c.args.self.now expected 130 typ (λ e. omega (arith, e))
+    (λ e. omega (arith, e)) (λ e. omega (arith, e)) in
+    c.take_reconfig.ensures.expected (expected_control c.args.self.now 130 (λ e. omega (arith, e)) (λ e. omega (arith, e)) (λ e. omega (arith, e)) at.0).1
 
 pub returns-in-192-clause-due : goal.returns-in-192-clause-due
 returns-in-192-clause-due c admitted expected =
     let typ : c.args.chunk.typ ≡ 192 = search rules in
-    c.take_skip.ensures.due (expected_at c.args.chunk c.args.tag c.args.datagram.now c.args.now c.args.self.now expected 192 typ (λ e. omega (arith, e)) (λ e. omega (arith, e)) (λ e. omega (arith, e))).0
+    c.take_skip.ensures.due (expected_at c.args.chunk c.args.tag c.args.datagram.now c.args.now c.args.self.now expected 192 typ (λ e. omega (arith, e))
+    (λ e. omega (arith, e)) (λ e. omega (arith, e))).0
 
 pub returns-in_default-clause-due : goal.returns-in_default-clause-due
 returns-in_default-clause-due c admitted expected =
-    let at = expected_at c.args.chunk c.args.tag c.args.datagram.now c.args.now c.args.self.now expected c.args.chunk.typ refl (search rules) (search rules) (search rules) in
+    let at = expected_at c.args.chunk c.args.tag c.args.datagram.now c.args.now c.args.self.now expected c.args.chunk.typ refl (search rules) (search rules)
+    (search rules) in
     let control = expected_control c.args.self.now c.args.chunk.typ (search rules) (search rules) (search rules) at.0 in
     c.take_control.ensures.expected control.0 control.1 at.1
 
@@ -178,6 +190,18 @@ returns-then-not-admits-clause-over c = tt
 pub returns-then-not-is_beginning-clause-over : goal.returns-then-not-is_beginning-clause-over
 returns-then-not-is_beginning-clause-over c = tt
 
+pub returns-in-0-clause-over : goal.returns-in-0-clause-over
+returns-in-0-clause-over c =
+    if_then c.take_data.result (λ s is h. still_ends c.args.chunk c.args.datagram.now c.args.self.now c.take_data.new.self s h) c.take_data.ensures.still
+
+pub returns-in-3-clause-over : goal.returns-in-3-clause-over
+returns-in-3-clause-over c =
+    if_then c.take_sack.result (λ s is h. still_ends c.args.chunk c.args.datagram.now c.args.self.now c.take_sack.new.self s h) c.take_sack.ensures.still
+
+pub returns-in-192-clause-over : goal.returns-in-192-clause-over
+returns-in-192-clause-over c =
+    if_then c.take_skip.result (λ s is h. still_ends c.args.chunk c.args.datagram.now c.args.self.now c.take_skip.new.self s h) c.take_skip.ensures.still
+
 pub returns-in-1-clause-over : goal.returns-in-1-clause-over
 returns-in-1-clause-over c =
     ends_same_of c.args.chunk c.args.datagram.now c.args.self.now c.take_init.new.self
@@ -186,7 +210,7 @@ returns-in-1-clause-over c =
 pub returns-in-2-clause-over : goal.returns-in-2-clause-over
 returns-in-2-clause-over c =
     let typ : c.args.chunk.typ ≡ 2 = search rules in
-    if_then c.take_init_ack.result (λ s is h. ends_init_ack c.args.chunk c.args.datagram.now c.args.self.now c.take_init_ack.new.self typ s h)
+    if_then c.take_init_ack.result (λ s is h. ends_init_ack c.args.chunk c.args.datagram.now c.args.self.now c.take_init_ack.new.self c.args.now typ s h)
     c.take_init_ack.ensures.row
 
 pub returns-in-10-clause-over : goal.returns-in-10-clause-over
@@ -196,7 +220,7 @@ returns-in-10-clause-over c =
 
 pub returns-in-130-clause-over : goal.returns-in-130-clause-over
 returns-in-130-clause-over c =
-    ends_same_of c.args.chunk c.args.datagram.now c.args.self.now c.take_reconfig.new.self c.take_reconfig.ensures.over c.take_reconfig.result
+    ends_same_of c.args.chunk c.args.datagram.now c.args.self.now c.take_reconfig.new.self c.take_reconfig.ensures.rest.over c.take_reconfig.result
 
 pub returns-in_default-clause-over : goal.returns-in_default-clause-over
 returns-in_default-clause-over c =
@@ -205,10 +229,9 @@ returns-in_default-clause-over c =
     let n2 : c.args.chunk.typ ≡ 2 → ⊥ = search rules in
     let n3 : c.args.chunk.typ ≡ 3 → ⊥ = search rules in
     let n10 : c.args.chunk.typ ≡ 10 → ⊥ = search rules in
-    let n130 : c.args.chunk.typ ≡ 130 → ⊥ = search rules in
     let n192 : c.args.chunk.typ ≡ 192 → ⊥ = search rules in
     if_then c.take_control.result (λ s is h. ends_row c.args.chunk c.args.datagram.now c.args.self.now c.take_control.new.self
-    (off_other c.args.chunk.typ n0 n3 n192) s (λ cut. c.take_control.ensures.whole (is ∙ ap Ok cut)) (h.row (row_has c.args.chunk.typ n1 n2 n10 n130)))
+    c.args.now (off_other c.args.chunk.typ n0 n3 n192) s (λ cut. c.take_control.ensures.whole (is ∙ ap Ok cut)) (h.row (row_has c.args.chunk.typ n1 n2 n10)))
     (c.take_control.ensures.alone (n0, n1, n2, n10) c.args.tag)
 
 -- ## What a chunk leaves behind which the datagram goes on

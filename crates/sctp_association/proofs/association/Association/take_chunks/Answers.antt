@@ -166,7 +166,8 @@ returns-clause-takes c first are typ is =
     let came = if_ok _ _ _ next (c.take_first.ensures.takes alone (ap (λ (p : ChunkPlace). p.typ) same.0 ∙ typ)) in
     let idle = (c.take_others-is_whole.ensures.none same.1).1 in
     inr (subst (λ (p : ChunkPlace). TakesDataAt p.at c.args.datagram.now c.args.self.now c.end_datagram-2.new.self) same.0
-    (takes_still _ _ c.args.self.now c.take_first.new.self c.end_datagram-2.new.self (c.end_datagram-2.ensures.halves.receiver ∙ ap (λ (a : Association). receiver_of a.inbound) idle) came))
+    (takes_still _ _ c.args.self.now c.take_first.new.self c.end_datagram-2.new.self (c.end_datagram-2.ensures.halves.receiver
+    ∙ ap (λ (a : Association). receiver_of a.inbound) idle) came))
 
 -- ## What is due, and each DATA chunk
 
@@ -326,8 +327,9 @@ returns-clause-alone c first are is =
     subst (λ (n : ℕ). AloneOn c.in-Some.first n c.args.datagram.now c.args.now step.Next c.args.self.now c.take_first.new.self)
     (c.header-tag.ensures.verification_tag ∙ ap (λ l. u32_at l 4) c.requires.whole) (if_ok _ _ _ next (c.take_first.ensures.alone alone))
     )
-    (subst (λ (x : Association). Settles x c.end_datagram-2.new.self) idle ended.settles)
-    (ended.halves.receiver ∙ ap (λ (a : Association). receiver_of a.inbound) idle) (ended.heartbeat ∙ ap (λ (a : Association). a.heartbeat) idle))
+    (subst (λ (x : Association). Settles c.args.now x c.end_datagram-2.new.self) idle ended.settles)
+    (ended.halves.receiver ∙ ap (λ (a : Association). receiver_of a.inbound) idle) (ended.heartbeat ∙ ap (λ (a : Association). a.heartbeat) idle)
+    (ended.events ∙ ap (λ (a : Association). a.events) idle))
 
 -- ## What ends the association
 
@@ -335,32 +337,38 @@ pub returns-in-Stop-clause-over : goal.returns-in-Stop-clause-over
 returns-in-Stop-clause-over c =
     ended_stop _ c.args.self.now c.args.self.now c.take_first.new.self c.in-Some.first
     (next_own _ _ _ _ c.in-Some.ensures.place (all_own _ _ c.requires.all)).0 (ended_first c.args.datagram.now c.args.self.now)
-    (if_ok (λ s. EndsOn c.in-Some.first c.args.datagram.now s c.args.self.now c.take_first.new.self) c.take_first.result step.Stop (search rules) c.take_first.ensures.over)
+    (if_ok (λ s. EndsOn c.in-Some.first c.args.datagram.now s c.args.self.now c.take_first.new.self) c.take_first.result step.Stop
+    (search rules) c.take_first.ensures.over)
 
 pub returns-in-Cut-clause-over : goal.returns-in-Cut-clause-over
 returns-in-Cut-clause-over c =
     ended_same _ c.args.self.now c.args.self.now c.end_datagram.new.self (ended_first c.args.datagram.now c.args.self.now) (c.end_datagram.ensures.over
-    ∙ if_ok (λ s. EndsOn c.in-Some.first c.args.datagram.now s c.args.self.now c.take_first.new.self) c.take_first.result step.Cut (search rules) c.take_first.ensures.over)
+    ∙ if_ok (λ s. EndsOn c.in-Some.first c.args.datagram.now s c.args.self.now c.take_first.new.self) c.take_first.result step.Cut
+    (search rules) c.take_first.ensures.over)
 
 pub returns-then-not-is_whole-clause-over : goal.returns-then-not-is_whole-clause-over
 returns-then-not-is_whole-clause-over c =
     let ended = c.end_datagram-2.ensures in
-    ended_still _ c.args.self.now c.take_others-is_whole.new.self c.end_datagram-2.new.self ended.halves.receiver ended.sending ended.over (
+    ended_still c.args.now c.take_others-is_whole.new.self c.end_datagram-2.new.self ended.halves.receiver ended.events ended.settles
+    c.args.datagram.now c.args.self.now (
     ended_then _ c.args.self.now c.take_first.new.self c.take_others-is_whole.new.self (
     ended_next _ c.args.self.now c.args.self.now c.take_first.new.self c.in-Some.first
     (next_own _ _ _ _ c.in-Some.ensures.place (all_own _ _ c.requires.all)).0 (ended_first c.args.datagram.now c.args.self.now)
-    (if_ok (λ s. EndsOn c.in-Some.first c.args.datagram.now s c.args.self.now c.take_first.new.self) c.take_first.result step.Next (search rules) c.take_first.ensures.over)
+    (if_ok (λ s. EndsOn c.in-Some.first c.args.datagram.now s c.args.self.now c.take_first.new.self) c.take_first.result step.Next
+    (search rules) c.take_first.ensures.over)
     ) c.take_others-is_whole.ensures.over
     )
 
 pub returns-clause-over : goal.returns-clause-over
 returns-clause-over c =
     let ended = c.end_datagram-2.ensures in
-    ended_still _ c.args.self.now c.take_others-is_whole.new.self c.end_datagram-2.new.self ended.halves.receiver ended.sending ended.over (
+    ended_still c.args.now c.take_others-is_whole.new.self c.end_datagram-2.new.self ended.halves.receiver ended.events ended.settles
+    c.args.datagram.now c.args.self.now (
     ended_then _ c.args.self.now c.take_first.new.self c.take_others-is_whole.new.self (
     ended_next _ c.args.self.now c.args.self.now c.take_first.new.self c.in-Some.first
     (next_own _ _ _ _ c.in-Some.ensures.place (all_own _ _ c.requires.all)).0 (ended_first c.args.datagram.now c.args.self.now)
-    (if_ok (λ s. EndsOn c.in-Some.first c.args.datagram.now s c.args.self.now c.take_first.new.self) c.take_first.result step.Next (search rules) c.take_first.ensures.over)
+    (if_ok (λ s. EndsOn c.in-Some.first c.args.datagram.now s c.args.self.now c.take_first.new.self) c.take_first.result step.Next
+    (search rules) c.take_first.ensures.over)
     ) c.take_others-is_whole.ensures.over
     )
 
@@ -382,4 +390,5 @@ returns-clause-behind c is =
     (subst (λ (n : ℕ). FirstOn c.in-Some.first n c.args.datagram.now c.args.now step.Next c.args.self.now c.take_first.new.self) tag
     (if_ok (λ s. FirstOn c.in-Some.first c.header-tag.result.verification_tag c.args.datagram.now c.args.now s c.args.self.now c.take_first.new.self)
     c.take_first.result step.Next (search rules) c.take_first.ensures.first))
-    (λ all. c.take_others-is_whole.ensures.still all c.if-not-is_whole.false) c.end_datagram-2.ensures.settles
+    (λ all. c.take_others-is_whole.ensures.still all c.if-not-is_whole.false) c.end_datagram-2.ensures.halves.receiver c.end_datagram-2.ensures.events
+    c.end_datagram-2.ensures.settles

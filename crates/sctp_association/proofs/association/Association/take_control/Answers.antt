@@ -4,9 +4,11 @@ use Rattle.sctp_association.specs.declared.association.arrivals.Step.TheVariants
 use Rattle.sctp_association.proofs.Telling.{tells_due, tells_peer, tells_still}
 use Rattle.std.proofs.Common.{Ok, ap, arith, refl, rules, sym, ◌≡◌, ◌∙◌}
 use Rattle.std.specs.Prelude.{true}
-use Rattle.sctp_association.proofs.Single.{alone_by, alone_plain, is_plain, plain_other}
-use Rattle.sctp_association.proofs.Rows.{follows_step, row_abort, row_other, row_steps, steps_on, tag_other}
-use Rattle.sctp_association.specs.Rows.{FollowsStep, cause_in, error_row, row_at, tag_to}
+use Rattle.sctp_association.proofs.Single.{alone_by, alone_plain, cause_on, is_plain, plain_other}
+use Rattle.sctp_association.proofs.Rows.{follows_from, follows_step, row_abort, row_other, row_steps, row_typ, steps_on, tag_other}
+use Rattle.sctp_association.specs.Fresh.{fresh_tag}
+use Rattle.sctp_association.specs.Causes.{cause_in}
+use Rattle.sctp_association.specs.Rows.{FollowsStep, error_row, tag_to}
 use Rattle.sctp_association.specs.declared.association.arrivals.Step.TheVariants.{Next}
 use Rattle.sctp_handshake.specs.Cookies.{on_cookie_ack}
 use Rattle.sctp_handshake.specs.Endings.{on_shutdown, on_shutdown_ack, on_shutdown_complete}
@@ -14,7 +16,7 @@ use Rattle.sctp_handshake.specs.Machines.{dropped}
 use Rattle.sctp_association.proofs.Arrived.{came_alike, came_same}
 use Rattle.sctp_association.proofs.Begun.{quiet_complete, quiet_shutdown_ack}
 use Rattle.sctp_association.proofs.Known.{keeps_by, knows_complete, knows_shutdown_ack}
-use Rattle.sctp_association.proofs.Offered.{offered_alike, offered_halves, offered_calls, offered_kept, offered_less}
+use Rattle.sctp_association.proofs.Offered.{offered_alike, offered_calls, offered_fresh, offered_kept, offered_less}
 use Rattle.sctp_association.proofs.association.Association.take_control.Goals as goal
 
 pub returns-in-4-clause-came : goal.returns-in-4-clause-came
@@ -36,7 +38,7 @@ returns-in-8-clause-came c =
     (keeps_by _ _ _ (knows_shutdown_ack _ _ _ c.shutdown_ack-answer.ensures.takes) kept.config kept.key kept.machine kept.owes kept.sending)
 
 pub returns-in-9-clause-came : goal.returns-in-9-clause-came
-returns-in-9-clause-came c = offered_halves _ _ _ c.take_error.ensures.halves c.take_error.ensures.peer
+returns-in-9-clause-came c = offered_fresh _ c.args.chunk c.requires.own (search rules) _ _ c.take_error.ensures.halves c.take_error.ensures.peer
 
 pub returns-in-11-clause-came : goal.returns-in-11-clause-came
 returns-in-11-clause-came c = c.take_cookie_ack.ensures.came
@@ -69,7 +71,10 @@ returns-in-8-clause-tells c =
     c.take_answer.ensures.tells.end
 
 pub returns-in-9-clause-tells : goal.returns-in-9-clause-tells
-returns-in-9-clause-tells c = tells_peer _ _ c.take_error.ensures.peer c.take_error.ensures.tells
+returns-in-9-clause-tells c =
+    let end = c.take_error.ensures.tells in
+    let told = tells_peer _ _ c.take_error.ensures.peer.keeps (record { events = end.events; over = end.over; ended = end.ended }) in
+    record { end = end; begun = told.begun; restarted = told.restarted }
 
 pub returns-in-14-clause-tells : goal.returns-in-14-clause-tells
 returns-in-14-clause-tells c =
@@ -89,9 +94,10 @@ returns-in-4-clause-alone c other tag =
     alone_by c.args.chunk tag d c.args.now c.args.self.now c.take_heartbeat.new.self c.take_heartbeat.result
     (λ is. absurd (omega (arith, is, typ))) (λ is. absurd (omega (arith, is, typ))) (λ is. c.take_heartbeat.ensures.answers)
     (λ is. absurd (omega (arith, is, typ))) (λ is. absurd (omega (arith, is, typ))) (λ is. absurd (omega (arith, is, typ)))
+    (λ is. absurd (omega (arith, is, typ)))
     (λ e. row_steps c.args.chunk d c.args.now c.args.self.now c.take_heartbeat.new.self (dropped c.args.self.now.machine) 0
-    (ap (λ n. row_at n (cause_in d c.args.chunk) c.args.self.now.machine) typ) (ap (λ n. tag_to n c.args.self.now.machine) typ)
-    c.take_heartbeat.result c.take_heartbeat.ensures.row)
+    (row_typ c.args.chunk d c.args.now c.args.self.now _ typ) (ap (λ n. tag_to n c.args.self.now.machine) typ)
+    c.take_heartbeat.result (c.take_heartbeat.ensures.row c.args.now))
 
 pub returns-in-5-clause-alone : goal.returns-in-5-clause-alone
 returns-in-5-clause-alone c other tag =
@@ -100,8 +106,9 @@ returns-in-5-clause-alone c other tag =
     alone_by c.args.chunk tag d c.args.now c.args.self.now c.take_heartbeat_ack.new.self c.take_heartbeat_ack.result
     (λ is. absurd (omega (arith, is, typ))) (λ is. absurd (omega (arith, is, typ))) (λ is. absurd (omega (arith, is, typ)))
     (λ is. c.take_heartbeat_ack.ensures.beats) (λ is. absurd (omega (arith, is, typ))) (λ is. absurd (omega (arith, is, typ)))
+    (λ is. absurd (omega (arith, is, typ)))
     (λ e. row_steps c.args.chunk d c.args.now c.args.self.now c.take_heartbeat_ack.new.self (dropped c.args.self.now.machine) 0
-    (ap (λ n. row_at n (cause_in d c.args.chunk) c.args.self.now.machine) typ) (ap (λ n. tag_to n c.args.self.now.machine) typ)
+    (row_typ c.args.chunk d c.args.now c.args.self.now _ typ) (ap (λ n. tag_to n c.args.self.now.machine) typ)
     c.take_heartbeat_ack.result c.take_heartbeat_ack.ensures.row)
 
 pub returns-in-6-clause-alone : goal.returns-in-6-clause-alone
@@ -109,7 +116,7 @@ returns-in-6-clause-alone c other tag =
     let typ : c.args.chunk.typ ≡ 6 = search rules in
     alone_plain c.args.chunk tag c.args.datagram.now c.args.now c.args.self.now c.take_abort.new.self (Ok c.take_abort.result) 6 typ refl
     (row_abort c.args.chunk c.args.datagram.now c.args.now c.args.self.now c.take_abort.new.self c.take_abort.result typ
-    c.take_abort.ensures.next c.take_abort.ensures.row)
+    c.take_abort.ensures.next (λ is. c.take_abort.ensures.row is c.args.now))
 
 pub returns-in-7-clause-alone : goal.returns-in-7-clause-alone
 returns-in-7-clause-alone c other tag =
@@ -118,8 +125,9 @@ returns-in-7-clause-alone c other tag =
     alone_by c.args.chunk tag d c.args.now c.args.self.now c.take_shutdown.new.self c.take_shutdown.result
     (λ is. absurd (omega (arith, is, typ))) (λ is. absurd (omega (arith, is, typ))) (λ is. absurd (omega (arith, is, typ)))
     (λ is. absurd (omega (arith, is, typ))) (λ is. c.take_shutdown.ensures.shuts) (λ is. absurd (omega (arith, is, typ)))
+    (λ is. absurd (omega (arith, is, typ)))
     (λ e. row_steps c.args.chunk d c.args.now c.args.self.now c.take_shutdown.new.self (on_shutdown c.args.self.now.machine) 0
-    (ap (λ n. row_at n (cause_in d c.args.chunk) c.args.self.now.machine) typ) (ap (λ n. tag_to n c.args.self.now.machine) typ)
+    (row_typ c.args.chunk d c.args.now c.args.self.now _ typ) (ap (λ n. tag_to n c.args.self.now.machine) typ)
     c.take_shutdown.result c.take_shutdown.ensures.row)
 
 pub returns-in-8-clause-alone : goal.returns-in-8-clause-alone
@@ -127,22 +135,28 @@ returns-in-8-clause-alone c other tag =
     let typ : c.args.chunk.typ ≡ 8 = search rules in
     let d = c.args.datagram.now in
     let took = c.shutdown_ack-answer.ensures.takes in
-    let steps : c.take_answer.result ≡ Next → FollowsStep (on_shutdown_ack c.args.self.now.machine) c.peer_tag-tag.result c.args.self.now c.take_answer.new.self = λ is.
-    follows_step _ _ _ _ _ _ took.machine took.answer c.take_answer.ensures.kept.machine (
-    let h = c.take_answer.ensures.answer is in record { due = h.due; echo = h.echo; over = h.over; told = h.told; wants = h.wants }
+    let steps : c.take_answer.result ≡ Next → FollowsStep (on_shutdown_ack c.args.self.now.machine) c.peer_tag-tag.result c.args.now c.args.self.now
+    c.take_answer.new.self = λ is.
+    follows_step _ _ _ _ _ _ _ took.machine took.answer c.take_answer.ensures.kept.machine (
+    follows_from _ _ c.args.self.now.machine.state _ _ c.args.self.now _ _ (c.take_answer.ensures.answer is) c.state-before.ensures refl refl refl refl refl
     ) in
     alone_plain c.args.chunk tag d c.args.now c.args.self.now c.take_answer.new.self (Ok c.take_answer.result) 8 typ refl
     (row_steps c.args.chunk d c.args.now c.args.self.now c.take_answer.new.self (on_shutdown_ack c.args.self.now.machine) c.peer_tag-tag.result
-    (ap (λ n. row_at n (cause_in d c.args.chunk) c.args.self.now.machine) typ) (ap (λ n. tag_to n c.args.self.now.machine) typ ∙ sym c.peer_tag-tag.ensures)
-    (Ok c.take_answer.result) (steps_on _ _ _ _ c.take_answer.result steps c.take_answer.ensures.next c.take_answer.ensures.whole))
+    (row_typ c.args.chunk d c.args.now c.args.self.now _ typ) (ap (λ n. tag_to n c.args.self.now.machine) typ ∙ sym c.peer_tag-tag.ensures)
+    (Ok c.take_answer.result) (steps_on _ _ _ _ _ c.take_answer.result steps c.take_answer.ensures.next c.take_answer.ensures.whole))
 
 pub returns-in-9-clause-alone : goal.returns-in-9-clause-alone
 returns-in-9-clause-alone c other tag =
     let typ : c.args.chunk.typ ≡ 9 = search rules in
     let d = c.args.datagram.now in
-    alone_plain c.args.chunk tag d c.args.now c.args.self.now c.take_error.new.self (Ok c.take_error.result) 9 typ refl
-    (row_steps c.args.chunk d c.args.now c.args.self.now c.take_error.new.self (error_row (cause_in d c.args.chunk) c.args.self.now.machine) 0
-    (ap (λ n. row_at n (cause_in d c.args.chunk) c.args.self.now.machine) typ) (ap (λ n. tag_to n c.args.self.now.machine) typ)
+    alone_by c.args.chunk tag d c.args.now c.args.self.now c.take_error.new.self (Ok c.take_error.result)
+    (λ is. absurd (omega (arith, is, typ))) (λ is. absurd (omega (arith, is, typ))) (λ is. absurd (omega (arith, is, typ)))
+    (λ is. absurd (omega (arith, is, typ))) (λ is. absurd (omega (arith, is, typ)))
+    (λ is. cause_on c.args.chunk d c.take_error.result c.args.self.now c.take_error.new.self c.take_error.ensures.next c.take_error.ensures.whole
+    c.take_error.ensures.cause) (λ is. absurd (omega (arith, is, typ)))
+    (λ e. row_steps c.args.chunk d c.args.now c.args.self.now c.take_error.new.self (error_row (cause_in d c.args.chunk)
+    (fresh_tag c.args.self.now.key c.args.now c.args.self.now.machine.own) c.args.self.now.machine) 0
+    (row_typ c.args.chunk d c.args.now c.args.self.now _ typ) (ap (λ n. tag_to n c.args.self.now.machine) typ)
     (Ok c.take_error.result) c.take_error.ensures.row)
 
 pub returns-in-11-clause-alone : goal.returns-in-11-clause-alone
@@ -151,7 +165,7 @@ returns-in-11-clause-alone c other tag =
     let d = c.args.datagram.now in
     alone_plain c.args.chunk tag d c.args.now c.args.self.now c.take_cookie_ack.new.self (Ok c.take_cookie_ack.result) 11 typ refl
     (row_steps c.args.chunk d c.args.now c.args.self.now c.take_cookie_ack.new.self (on_cookie_ack c.args.self.now.machine) 0
-    (ap (λ n. row_at n (cause_in d c.args.chunk) c.args.self.now.machine) typ) (ap (λ n. tag_to n c.args.self.now.machine) typ)
+    (row_typ c.args.chunk d c.args.now c.args.self.now _ typ) (ap (λ n. tag_to n c.args.self.now.machine) typ)
     (Ok c.take_cookie_ack.result) c.take_cookie_ack.ensures.row)
 
 pub returns-in-14-clause-alone : goal.returns-in-14-clause-alone
@@ -159,25 +173,28 @@ returns-in-14-clause-alone c other tag =
     let typ : c.args.chunk.typ ≡ 14 = search rules in
     let d = c.args.datagram.now in
     let took = c.shutdown_complete-answer.ensures.takes in
-    let steps : c.take_answer-in-14.result ≡ Next → FollowsStep (on_shutdown_complete c.args.self.now.machine) 0 c.args.self.now c.take_answer-in-14.new.self = λ is.
-    follows_step _ _ _ _ _ _ took.machine took.answer c.take_answer-in-14.ensures.kept.machine (
-    let h = c.take_answer-in-14.ensures.answer is in record { due = h.due; echo = h.echo; over = h.over; told = h.told; wants = h.wants }
+    let steps : c.take_answer-in-14.result ≡ Next → FollowsStep (on_shutdown_complete c.args.self.now.machine) 0 c.args.now c.args.self.now
+    c.take_answer-in-14.new.self = λ is.
+    follows_step _ _ _ _ _ _ _ took.machine took.answer c.take_answer-in-14.ensures.kept.machine (
+    follows_from _ _ c.args.self.now.machine.state _ _ c.args.self.now _ _ (c.take_answer-in-14.ensures.answer is) c.state-before-in-14.ensures
+    refl refl refl refl refl
     ) in
     alone_plain c.args.chunk tag d c.args.now c.args.self.now c.take_answer-in-14.new.self (Ok c.take_answer-in-14.result) 14 typ refl
     (row_steps c.args.chunk d c.args.now c.args.self.now c.take_answer-in-14.new.self (on_shutdown_complete c.args.self.now.machine) 0
-    (ap (λ n. row_at n (cause_in d c.args.chunk) c.args.self.now.machine) typ) (ap (λ n. tag_to n c.args.self.now.machine) typ)
-    (Ok c.take_answer-in-14.result) (steps_on _ _ _ _ c.take_answer-in-14.result steps c.take_answer-in-14.ensures.next c.take_answer-in-14.ensures.whole))
+    (row_typ c.args.chunk d c.args.now c.args.self.now _ typ) (ap (λ n. tag_to n c.args.self.now.machine) typ)
+    (Ok c.take_answer-in-14.result) (steps_on _ _ _ _ _ c.take_answer-in-14.result steps c.take_answer-in-14.ensures.next c.take_answer-in-14.ensures.whole))
 
 -- a chunk of another type makes nothing of the machine
 pub returns-in_default-clause-alone : goal.returns-in_default-clause-alone
 returns-in_default-clause-alone c other tag =
     let d = c.args.datagram.now in
-    let plain : is_plain c.args.chunk.typ ≡ true = plain_other c.args.chunk.typ other.1 other.2 (search rules) (search rules) (search rules) other.3 in
+    let plain : is_plain c.args.chunk.typ ≡ true = plain_other c.args.chunk.typ other.1 other.2 (search rules) (search rules) (search rules)
+    (search rules) other.3 in
     alone_plain c.args.chunk tag d c.args.now c.args.self.now c.note_unknown.new.self c.note_unknown.result c.args.chunk.typ refl plain
     (row_steps c.args.chunk d c.args.now c.args.self.now c.note_unknown.new.self (dropped c.args.self.now.machine) 0
-    (row_other c.args.chunk.typ (cause_in d c.args.chunk) c.args.self.now.machine other.0 (search rules) (search rules) (search rules)
+    (row_other c.args.chunk.typ (cause_in d c.args.chunk) _ c.args.self.now.machine other.0 (search rules) (search rules) (search rules)
     (search rules) (search rules) (search rules)) (tag_other c.args.chunk.typ c.args.self.now.machine (search rules))
-    c.note_unknown.result c.note_unknown.ensures.row)
+    c.note_unknown.result (c.note_unknown.ensures.row c.args.now))
 
 -- ## What is expected is not refused
 

@@ -10,6 +10,7 @@ use Rattle.sctp_association.proofs.Kept.{same_machine}
 use Rattle.sctp_association.proofs.Offered.{offered_kept, offered_same}
 use Rattle.sctp_association.proofs.Offers.{cookie_offered}
 use Rattle.sctp_association.proofs.Stale.{stale_keeps}
+use Rattle.sctp_association.proofs.Rows.{follows_from}
 use Rattle.sctp_association.proofs.Openings.{echo_expected, echoes_by, err_ok, ok_same}
 use Rattle.sctp_association.specs.Openings.{is_stale_reply}
 use Rattle.sctp_association.specs.Beginnings.{IsEchoed, is_standing}
@@ -21,7 +22,8 @@ use Rattle.std.specs.Prelude.{slice_range}
 use Rattle.sctp_chunks.specs.Framing.{declared_length}
 use Rattle.sctp_datagram.specs.declared.datagram.ChunkPlace.{ChunkPlace}
 use Rattle.sctp_association.proofs.association.Association.take_cookie.Goals as goal
-use Rattle.sctp_association.proofs.association.Association.take_cookie.Goals.{then-chunk-raw-via-then-chunk-raw, then-chunk-raw-via-else-chunk-raw+then-chunk-lt4}
+use Rattle.sctp_association.proofs.association.Association.take_cookie.Goals.{then-chunk-raw-via-then-chunk-raw}
+use Rattle.sctp_association.proofs.association.Association.take_cookie.Goals.{then-chunk-raw-via-else-chunk-raw+then-chunk-lt4}
 use Rattle.sctp_handshake.specs.declared.answer.Reply.TheVariants as reply
 
 pub returns-then-chunk-raw-clause-came : goal.returns-then-chunk-raw-clause-came
@@ -150,13 +152,16 @@ returns-then-is_none-2-clause-tells c =
     tells_kept _ _ (knows_same _ _ same) to_same
 
 pub returns-in-Some-StaleCookie-clause-tells : goal.returns-in-Some-StaleCookie-clause-tells
-returns-in-Some-StaleCookie-clause-tells c = tells_cookie _ _ _ _ c.follow.ensures.kept.machine c.follow.ensures.tells.end c.follow.ensures.tells.told _ _ c.cookie_echo-answer.ensures.takes
+returns-in-Some-StaleCookie-clause-tells c =
+    tells_cookie _ _ _ _ c.follow.ensures.kept.machine c.follow.ensures.tells.end c.follow.ensures.tells.told _ _ c.cookie_echo-answer.ensures.takes
 
 pub returns-in_default-reply-clause-tells : goal.returns-in_default-reply-clause-tells
-returns-in_default-reply-clause-tells c = tells_cookie _ _ _ _ c.follow.ensures.kept.machine c.follow.ensures.tells.end c.follow.ensures.tells.told _ _ c.cookie_echo-answer.ensures.takes
+returns-in_default-reply-clause-tells c =
+    tells_cookie _ _ _ _ c.follow.ensures.kept.machine c.follow.ensures.tells.end c.follow.ensures.tells.told _ _ c.cookie_echo-answer.ensures.takes
 
 pub returns-in_default-reply-2-clause-tells : goal.returns-in_default-reply-2-clause-tells
-returns-in_default-reply-2-clause-tells c = tells_cookie _ _ _ _ c.follow.ensures.kept.machine c.follow.ensures.tells.end c.follow.ensures.tells.told _ _ c.cookie_echo-answer.ensures.takes
+returns-in_default-reply-2-clause-tells c =
+    tells_cookie _ _ _ _ c.follow.ensures.kept.machine c.follow.ensures.tells.end c.follow.ensures.tells.told _ _ c.cookie_echo-answer.ensures.takes
 
 -- ## The row of its ticket
 
@@ -175,7 +180,9 @@ returns-in-Some-StaleCookie-clause-row c =
       _,
       ap is_stale_reply (sym (ap (λ a. a.reply) takes.answer) ∙ found),
       echoes_by c.args.tag _ c.args.now c.args.self.now c.follow.new.self c.in-Some.moment made c.is_stale-is_old.result c.is_stale-is_old.ensures _ _ takes
-          c.follow.ensures.kept.machine (record { due = h.due; echo = h.echo; over = h.over; told = h.told; wants = h.wants }),
+          c.follow.ensures.kept.machine (
+          follows_from _ _ c.args.self.now.machine.state _ _ c.args.self.now _ _ h c.state-before.ensures refl refl refl refl refl
+          ),
     )
 
 pub returns-in_default-reply-clause-row : goal.returns-in_default-reply-clause-row
@@ -193,7 +200,9 @@ returns-in_default-reply-clause-row c =
       _,
       ap is_stale_reply (sym (ap (λ a. a.reply) takes.answer)) ∙ fresh,
       echoes_by c.args.tag _ c.args.now c.args.self.now c.follow.new.self c.in-Some.moment made c.is_stale-is_old.result c.is_stale-is_old.ensures _ _ takes
-          c.follow.ensures.kept.machine (record { due = h.due; echo = h.echo; over = h.over; told = h.told; wants = h.wants }),
+          c.follow.ensures.kept.machine (
+          follows_from _ _ c.args.self.now.machine.state _ _ c.args.self.now _ _ h c.state-before.ensures refl refl refl refl refl
+          ),
     )
 
 pub returns-in_default-reply-2-clause-row : goal.returns-in_default-reply-2-clause-row
@@ -211,7 +220,9 @@ returns-in_default-reply-2-clause-row c =
       _,
       ap is_stale_reply (sym (ap (λ a. a.reply) takes.answer)) ∙ fresh,
       echoes_by c.args.tag _ c.args.now c.args.self.now c.follow.new.self c.in-Some.moment made c.is_stale-is_old.result c.is_stale-is_old.ensures _ _ takes
-          c.follow.ensures.kept.machine (record { due = h.due; echo = h.echo; over = h.over; told = h.told; wants = h.wants }),
+          c.follow.ensures.kept.machine (
+          follows_from _ _ c.args.self.now.machine.state _ _ c.args.self.now _ _ h c.state-before.ensures refl refl refl refl refl
+          ),
     )
 
 -- ## What is expected is not refused
@@ -231,25 +242,32 @@ returns-then-chunk-raw-clause-expected c expected r is =
     ]
 
 pub returns-in_default-clause-expected : goal.returns-in_default-clause-expected
-returns-in_default-clause-expected c expected r is = c.in_default.ensures.only expected.moment expected.made.payload expected.long (cut_as c.args.chunk.length c.bytes_of-raw.ensures expected.made.code)
+returns-in_default-clause-expected c expected r is =
+    c.in_default.ensures.only expected.moment expected.made.payload expected.long (cut_as c.args.chunk.length c.bytes_of-raw.ensures expected.made.code)
 
 pub returns-in_default-read-clause-expected : goal.returns-in_default-read-clause-expected
 returns-in_default-read-clause-expected c expected r is =
-    let same = c.in-Some.ensures.only expected.moment expected.made.payload expected.long (cut_as c.args.chunk.length c.bytes_of-raw.ensures expected.made.code) in
+    let same =
+    c.in-Some.ensures.only expected.moment expected.made.payload expected.long (cut_as c.args.chunk.length c.bytes_of-raw.ensures expected.made.code) in
     err_ok expected.made.ticket _ (sym c.in_default-read.is ∙ c.read.ensures ∙ ap ticket_in same.1 ∙ expected.made.holds)
 
 pub returns-then-ticket-tag-clause-expected : goal.returns-then-ticket-tag-clause-expected
 returns-then-ticket-tag-clause-expected c expected r is =
-    let same = c.in-Some.ensures.only expected.moment expected.made.payload expected.long (cut_as c.args.chunk.length c.bytes_of-raw.ensures expected.made.code) in
+    let same =
+    c.in-Some.ensures.only expected.moment expected.made.payload expected.long (cut_as c.args.chunk.length c.bytes_of-raw.ensures expected.made.code) in
     let ticket : c.in-Ok.ticket ≡ expected.made.ticket = ok_same c.read.result _ _ c.in-Ok.is (c.read.ensures ∙ ap ticket_in same.1 ∙ expected.made.holds) in
     let own : c.in-Ok.ticket.own.tag ≡ c.args.tag = ap (λ (t : Ticket). t.own.tag) ticket ∙ expected.made.own in
     absurd (search (rules, own))
 
 pub returns-then-is_none-2-clause-expected : goal.returns-then-is_none-2-clause-expected
 returns-then-is_none-2-clause-expected c expected r is =
-    let same = c.in-Some.ensures.only expected.moment expected.made.payload expected.long (cut_as c.args.chunk.length c.bytes_of-raw.ensures expected.made.code) in
+    let same =
+    c.in-Some.ensures.only expected.moment expected.made.payload expected.long (cut_as c.args.chunk.length c.bytes_of-raw.ensures expected.made.code) in
     let ticket : c.in-Ok.ticket ≡ expected.made.ticket = ok_same c.read.result _ _ c.in-Ok.is (c.read.ensures ∙ ap ticket_in same.1 ∙ expected.made.holds) in
     let reply : c.cookie_echo-answer.result.reply ≡ None = search rules in
     let told : c.cookie_echo-answer.result.told ≡ None = search rules in
     echo_expected c.args.now c.args.self.now c.in-Some.moment c.in-Ok.ticket c.is_stale-is_old.result c.is_stale-is_old.ensures _ _
     c.cookie_echo-answer.ensures.takes _ _ same.0 ticket expected.speaks reply told
+
+pub returns-then-not-may_begin-clause-came : goal.returns-then-not-may_begin-clause-came
+returns-then-not-may_begin-clause-came c = offered_same _ _ _ refl

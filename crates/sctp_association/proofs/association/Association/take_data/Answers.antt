@@ -1,13 +1,13 @@
-use Rattle.sctp_association.proofs.Behind.{still_arrived, still_by}
+use Rattle.sctp_association.proofs.Behind.{arrived_peer, still_arrived, still_by, still_stop}
 use Rattle.sctp_association.specs.Behind.{StillAs}
 use Rattle.sctp_association.specs.Rows.{owed_by}
 use Rattle.sctp_association.proofs.Coming.{if_ok}
-use Rattle.sctp_association.proofs.Ends.{data_why, ends_by}
-use Rattle.sctp_association.specs.Ends.{by_data}
-use Rattle.std.specs.Prelude.{true}
-use Rattle.sctp_association.proofs.Rows.{follows_from, follows_step, row_goes}
+use Rattle.sctp_association.proofs.Ends.{data_aborts}
+use Rattle.std.specs.Prelude.{true, ◌==◌}
+use Rattle.sctp_association.proofs.Rows.{follows_from, follows_step, row_goes, row_typ}
 use Rattle.sctp_association.specs.Coming.{goes_on}
-use Rattle.sctp_association.specs.Rows.{FollowsStep, cause_in, row_at, tag_to}
+use Rattle.sctp_association.specs.Rows.{FollowsAnswer, FollowsStep, tag_to}
+use Rattle.sctp_handshake.specs.declared.state.State.{State}
 use Rattle.sctp_handshake.specs.Timeouts.{on_packet_arrived}
 use Rattle.sctp_association.proofs.Telling.{end_then, to_in}
 use Rattle.std.proofs.Common.{arith, Ok, Some, ap, refl, subst, sym, ◌≡◌, ◌∙◌}
@@ -51,10 +51,8 @@ returns-clause-came c =
     came_then _ _ _ _ (
     receiver_came _ _ c.requires.own _ c.in_ok-data.ensures.found _ _ _ _ c.take_data.new.self c.in-Some.is refl c.take_data.ensures.received
     ) (
-    came_then _ _ _ _ (came_alike _ _ _ c.run_again.ensures.halves) (
     came_then _ _ _ _ (came_same _ _ _ (quiet_arrived _ _ _ _ _ _ c.follow.ensures.begun c.packet_arrived-answer.ensures.answer))
     (came_alike _ _ _ c.end_by.ensures.halves)
-    )
     )
 
 pub returns-in_err-followed-clause-err : goal.returns-in_err-followed-clause-err
@@ -66,19 +64,17 @@ returns-in_default-clause-refused c = λ r e. same_machine c.args.self.now c.arg
 
 pub returns-clause-peer : goal.returns-clause-peer
 returns-clause-peer c =
-    let again = c.run_again.ensures.kept in
     let on = c.follow.ensures.kept in
     keeps_then c.args.self.now c.follow.new.self _
-    (keeps_by _ _ _ (knows_arrived _ _ _ c.packet_arrived-answer.ensures) (on.config ∙ again.config) (on.key ∙ again.key) (on.machine ∙ again.machine)
-    (λ t e. again.owes t (on.owes t e)) (λ e. on.sending.0 (again.sending.0 e), λ e. on.sending.1 (again.sending.1 e)))
+    (keeps_by _ _ _ (knows_arrived _ _ _ c.packet_arrived-answer.ensures) on.config on.key on.machine (λ t e. on.owes t e)
+    (λ e. on.sending.0 e, λ e. on.sending.1 e))
     c.end_by.ensures.peer
 
 pub returns-clause-takes : goal.returns-clause-takes
 returns-clause-takes c =
     let chunk = c.in_ok-data.data in
     let still = c.end_by.ensures.halves.receiver
-    ∙ ap (λ (h : Halves). h.receiver) (quiet_arrived _ _ _ _ _ _ c.follow.ensures.begun c.packet_arrived-answer.ensures.answer)
-    ∙ c.run_again.ensures.halves.receiver in
+    ∙ ap (λ (h : Halves). h.receiver) (quiet_arrived _ _ _ _ _ _ c.follow.ensures.begun c.packet_arrived-answer.ensures.answer) in
     follows_data _ _ _ c.args.self.now _ (λ next.
     let done : c.take_data.result ≡ Ok Done =
     c.in_ok-followed.was ∙ ap Ok (done_unless _ _ (c.end_by.ensures.next next) c.in_default-followed.not-Wanting (λ e. e)) in
@@ -98,7 +94,7 @@ returns-in-Wanting-clause-tells c = to_in _ _ _ _ _ _ c.in-Some.is c.take_data.e
 pub returns-clause-tells : goal.returns-clause-tells
 returns-clause-tells c =
     end_then (to_in _ _ _ _ _ _ c.in-Some.is c.take_data.ensures.tells)
-    (end_then c.run_again.ensures.tells (end_then c.follow.ensures.tells.end c.end_by.ensures.tells))
+    (end_then c.follow.ensures.tells.end c.end_by.ensures.tells)
 
 -- ## DATA is taken as before
 
@@ -106,20 +102,20 @@ pub returns-clause-on : goal.returns-clause-on
 returns-clause-on c tag takes =
     let old = c.args.self.now in
     let quiet = arrived_told old.machine _ _ c.packet_arrived-answer.ensures in
-    let kept = c.follow.ensures.kept.machine ∙ c.run_again.ensures.kept.machine in
+    let kept = c.follow.ensures.kept.machine in
     let goes : TakesDataOf tag c.follow.new.self =
-    takes_on tag old c.follow.new.self takes (c.follow.ensures.over quiet ∙ c.run_again.ensures.over)
+    takes_on tag old c.follow.new.self takes (c.follow.ensures.over quiet)
     (ap (λ (m : Machine). m.state) kept ∙ arrived_state old.machine _ _ c.packet_arrived-answer.ensures)
     (ap (λ (m : Machine). m.own) kept ∙ (knows_arrived old.machine _ _ c.packet_arrived-answer.ensures).own)
-    (served_alike (Some c.take_data.new.self) c.follow.new.self.inbound ((c.follow.ensures.quiet quiet).receiver ∙ c.run_again.ensures.halves.receiver) refl) in
+    (served_alike (Some c.take_data.new.self) c.follow.new.self.inbound ((c.follow.ensures.quiet quiet).receiver) refl) in
     goes_by c.args.chunk tag c.args.datagram.now c.end_by.result old c.end_by.new.self (λ r e. absurd (c.end_by.ensures.never r e)) c.end_by.ensures.over
     (λ next.
     let done : c.take_data.result ≡ Ok Done =
     c.in_ok-followed.was ∙ ap Ok (done_unless _ _ (c.end_by.ensures.next next) c.in_default-followed.not-Wanting (λ e. e)) in
     let there : c.end_by.new.self.inbound ≡ Some c.take_data.new.self =
-    ap (λ (a : Association). a.inbound) (c.end_by.ensures.on next) ∙ c.follow.ensures.inbound quiet ∙ c.run_again.ensures.inbound in
+    ap (λ (a : Association). a.inbound) (c.end_by.ensures.on next) ∙ c.follow.ensures.inbound quiet in
     let sender : c.end_by.new.self.outbound.sender ≡ old.outbound.sender =
-    ap (λ (a : Association). a.outbound.sender) (c.end_by.ensures.on next) ∙ (c.follow.ensures.quiet quiet).sender ∙ c.run_again.ensures.halves.sender in (
+    ap (λ (a : Association). a.outbound.sender) (c.end_by.ensures.on next) ∙ (c.follow.ensures.quiet quiet).sender in (
       subst (TakesDataOf tag) (sym (c.end_by.ensures.on next)) goes,
       record {
         calls = calls_then _ _ _ _ _ (calls_of_receiver c.args.chunk.at c.args.datagram.now _ c.in_ok-data.ensures.found old.outbound.sender old.inbound _ _
@@ -137,9 +133,9 @@ pub returns-clause-sacks : goal.returns-clause-sacks
 returns-clause-sacks c tag takes =
     let old = c.args.self.now in
     let quiet = arrived_told old.machine _ _ c.packet_arrived-answer.ensures in
-    let kept = c.follow.ensures.kept.machine ∙ c.run_again.ensures.kept.machine in
+    let kept = c.follow.ensures.kept.machine in
     let there : TakesSacksOf tag c.follow.new.self =
-    sacks_on tag old c.follow.new.self takes (c.follow.ensures.over quiet ∙ c.run_again.ensures.over)
+    sacks_on tag old c.follow.new.self takes (c.follow.ensures.over quiet)
     (ap (λ (m : Machine). m.state) kept ∙ arrived_state old.machine _ _ c.packet_arrived-answer.ensures)
     (ap (λ (m : Machine). m.own) kept ∙ (knows_arrived old.machine _ _ c.packet_arrived-answer.ensures).own) in
     hears_by c.args.chunk tag c.args.datagram.now c.end_by.result c.args.self.now c.end_by.new.self
@@ -150,7 +146,31 @@ returns-clause-sacks c tag takes =
 pub returns-clause-sending : goal.returns-clause-sending
 returns-clause-sending c =
     let quiet = arrived_told c.args.self.now.machine _ _ c.packet_arrived-answer.ensures in
-    c.end_by.ensures.sending ∙ c.follow.ensures.sending quiet ∙ c.run_again.ensures.sending
+    c.end_by.ensures.sending ∙ c.follow.ensures.sending quiet
+
+-- ## What it leaves, and what ends the association
+
+pub returns-clause-still : goal.returns-clause-still
+returns-clause-still c =
+    let old = c.args.self.now in
+    let took = c.packet_arrived-answer.ensures in
+    let quiet = arrived_told old.machine _ _ took in
+    let kept = c.follow.ensures.kept.machine in
+    let owed : c.follow.new.self.due ≡ owed_by c.packet_arrived-answer.result.reply 0 old.due = c.follow.ensures.due quiet in
+    let there : receiver_of c.end_by.new.self.inbound ≡ Some c.take_data.new.self.receiver =
+    c.end_by.ensures.halves.receiver
+    ∙ ap (λ (h : Halves). h.receiver) (quiet_arrived _ _ _ _ _ _ c.follow.ensures.begun c.packet_arrived-answer.ensures.answer) in
+    let came = if_ok _ _ _ c.in_ok-followed.was c.take_data.ensures.ends in
+    let peer : c.follow.new.self.machine.peer ≡ old.machine.peer =
+    ap (λ (m : Machine). m.peer) kept ∙ arrived_peer old.machine _ _ took in
+    still_by c.args.chunk c.args.datagram.now old c.end_by.new.self true (ap (λ n. n == 0) c.requires.typ) c.end_by.result (
+    λ next. subst (λ (x : Association). StillAs true old x) (sym (c.end_by.ensures.on next)) (
+    still_arrived old c.follow.new.self _ _ took kept owed
+    (c.follow.ensures.over quiet) c.follow.ensures.answer.wants
+    )
+    )
+    (λ stop. data_aborts c.args.chunk c.args.datagram.now old.machine.peer _ peer c.end_by.new.self _ there c.in_ok-data.data c.in_ok-data.ensures.found
+    _ came (c.end_by.ensures.stops stop).0 (c.end_by.ensures.stops stop).1 c.end_by.ensures.aborts) c.end_by.ensures.whole
 
 -- ## The row of DATA
 
@@ -158,48 +178,13 @@ pub returns-clause-row : goal.returns-clause-row
 returns-clause-row c =
     let old = c.args.self.now in
     let took = c.packet_arrived-answer.ensures in
-    let again = c.run_again.ensures.rest in
     let step = on_packet_arrived true old.machine in
-    row_goes c.args.chunk c.args.datagram.now 0 old c.end_by.new.self step 0
-    (ap (λ n. row_at n (cause_in c.args.datagram.now c.args.chunk) old.machine) c.requires.typ) (ap (λ n. tag_to n old.machine) c.requires.typ)
+    row_goes c.args.chunk c.args.datagram.now c.args.now old c.end_by.new.self step 0
+    (row_typ c.args.chunk c.args.datagram.now c.args.now old _ c.requires.typ) (ap (λ n. tag_to n old.machine) c.requires.typ)
     (ap goes_on c.requires.typ) c.end_by.result (
-    λ next. subst (λ (x : Association). FollowsStep step 0 old x) (sym (c.end_by.ensures.on next)) (
-    follows_step step 0 old c.follow.new.self _ _ took.machine took.answer (c.follow.ensures.kept.machine ∙ c.run_again.ensures.kept.machine) (
-    follows_from _ 0 old c.run_again.new.self c.follow.new.self (ap (λ (x : Association). x.due) again) (ap (λ (x : Association). x.is_over) again)
-    (ap (λ (x : Association). x.wants_shutdown) again) c.follow.ensures.answer
+    λ next. subst (λ (x : Association). FollowsStep step 0 c.args.now old x) (sym (c.end_by.ensures.on next)) (
+    follows_step step 0 c.args.now old c.follow.new.self _ _ took.machine took.answer (c.follow.ensures.kept.machine) (
+    follows_from _ 0 old.machine.state _ c.args.now old _ c.follow.new.self c.follow.ensures.answer c.state-before.ensures refl refl refl refl refl
     )
     )
-    ) c.end_by.ensures.over
-
--- ## What ends the association
-
-pub returns-clause-over : goal.returns-clause-over
-returns-clause-over c =
-    let old = c.args.self.now in
-    let quiet = arrived_told old.machine _ _ c.packet_arrived-answer.ensures in
-    let still : receiver_of c.end_by.new.self.inbound ≡ Some c.take_data.new.self.receiver =
-    c.end_by.ensures.halves.receiver
-    ∙ ap (λ (h : Halves). h.receiver) (quiet_arrived _ _ _ _ _ _ c.follow.ensures.begun c.packet_arrived-answer.ensures.answer)
-    ∙ c.run_again.ensures.halves.receiver in
-    let came = if_ok _ _ _ c.in_ok-followed.was c.take_data.ensures.ends in
-    ends_by c.args.chunk c.args.datagram.now old c.end_by.new.self c.end_by.result
-    (λ next. ap (λ (a : Association). a.is_over) (c.end_by.ensures.on next) ∙ c.follow.ensures.over quiet ∙ c.run_again.ensures.over)
-    (λ stop. by_data _ still c.in_ok-data.data c.in_ok-data.ensures.found
-    (data_why c.in_ok-data.data _ _ came (c.end_by.ensures.stops stop).0 (c.end_by.ensures.stops stop).1)) c.end_by.ensures.whole
-
--- ## What it leaves
-
-pub returns-clause-still : goal.returns-clause-still
-returns-clause-still c =
-    let old = c.args.self.now in
-    let took = c.packet_arrived-answer.ensures in
-    let quiet = arrived_told old.machine _ _ took in
-    let again = c.run_again.ensures.rest in
-    let owed : c.follow.new.self.due ≡ owed_by c.packet_arrived-answer.result.reply 0 old.due =
-    c.follow.ensures.due quiet ∙ ap (λ (x : Association). owed_by c.packet_arrived-answer.result.reply 0 x.due) again in
-    still_by old c.end_by.new.self c.end_by.result (
-    λ next. subst (λ (x : Association). StillAs old x) (sym (c.end_by.ensures.on next)) (
-    still_arrived old c.follow.new.self _ _ took (c.follow.ensures.kept.machine ∙ c.run_again.ensures.kept.machine) owed
-    (c.follow.ensures.over quiet ∙ c.run_again.ensures.over) (c.follow.ensures.answer.wants ∙ ap (λ (x : Association). x.wants_shutdown) again)
-    )
-    ) c.end_by.ensures.over
+    ) (still_stop c.args.chunk c.args.datagram.now old c.end_by.new.self c.end_by.result (returns-clause-still c))

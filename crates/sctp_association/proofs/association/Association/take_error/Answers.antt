@@ -1,32 +1,44 @@
 use Rattle.sctp_association.specs.Telling.{TellsEnd}
 use Rattle.sctp_association.proofs.Telling.{end_same, end_then, to_error}
-use Rattle.std.proofs.Common.{ap, ◌∙◌}
-use Rattle.sctp_association.proofs.Known.{keeps_by, keeps_kept, knows_stale, owes_same, within_same, within_then}
-use Rattle.sctp_association.specs.Beginnings.{KeepsPeer}
+use Rattle.std.proofs.Common.{inl, rules, subst, sym, ap, ◌∙◌, ◌<◌}
+use Rattle.sctp_association.proofs.Known.{fresh_own, keeps_by, keeps_kept, knows_stale, own_stale, owes_same, within_same, within_then}
+use Rattle.sctp_association.proofs.Fresh.{fresh_some}
+use Rattle.sctp_association.specs.Beginnings.{KeepsPeerButTag}
+use Rattle.sctp_handshake.specs.declared.machine.Machine.{Machine}
 use Rattle.sctp_association.specs.declared.association.Association.{Association}
 use Rattle.sctp_association.proofs.association.Association.take_error.Goals as goal
 use Rattle.sctp_association.proofs.association.Association.take_error.Goals.{else-code-eq3, then-code-eq3}
 
 pub returns-clause-peer : goal.returns-clause-peer
 returns-clause-peer c =
-    let first : KeepsPeer c.args.self.now c.if-code-eq3.self = elim c.if-code-eq3.branch [
-      | then-code-eq3 w ↦ keeps_by _ _ _ (knows_stale _ _ _ w.stale_cookie-answer.ensures.takes)
-          (ap (λ (x : Association). x.config) w.self-is ∙ w.follow.ensures.kept.config)
-          (ap (λ (x : Association). x.key) w.self-is ∙ w.follow.ensures.kept.key)
-          (ap (λ (x : Association). x.machine) w.self-is ∙ w.follow.ensures.kept.machine)
-          (λ t e. w.follow.ensures.kept.owes t (owes_same w.follow.new.self c.if-code-eq3.self (ap (λ (x : Association). x.due) w.self-is) t e))
-          (within_then c.args.self.now w.follow.new.self c.if-code-eq3.self (λ e. w.follow.ensures.kept.sending.0 e, λ e. w.follow.ensures.kept.sending.1 e)
-          (within_same w.follow.new.self c.if-code-eq3.self (ap (λ (x : Association). x.config) w.self-is) (ap (λ (x : Association). x.outbound) w.self-is)))
-      | else-code-eq3 w ↦ keeps_kept _ _ (record {
-        config = ap (λ (x : Association). x.config) w.self-is;
-        key = ap (λ (x : Association). x.key) w.self-is;
-        machine = ap (λ (x : Association). x.machine) w.self-is;
-        owes = owes_same c.args.self.now c.if-code-eq3.self (ap (λ (x : Association). x.due) w.self-is);
-        sending = within_same c.args.self.now c.if-code-eq3.self (ap (λ (x : Association). x.config) w.self-is)
-            (ap (λ (x : Association). x.outbound) w.self-is);
-      })
+    let first : KeepsPeerButTag c.args.chunk c.args.datagram.now c.args.self.now c.if-code-eq3.self = elim c.if-code-eq3.branch [
+      | then-code-eq3 w ↦ record {
+        keeps = keeps_by _ _ _ (knows_stale c.args.self.now.machine w.stale_cookie-answer.new.self _ _ w.stale_cookie-answer.ensures.takes)
+            (ap (λ (x : Association). x.config) w.self-is ∙ w.follow.ensures.kept.config)
+            (ap (λ (x : Association). x.key) w.self-is ∙ w.follow.ensures.kept.key)
+            (ap (λ (x : Association). record x.machine { own = c.args.self.now.machine.own }) w.self-is
+            ∙ ap (λ (m : Machine). record m { own = c.args.self.now.machine.own }) w.follow.ensures.kept.machine)
+            (λ t e. w.follow.ensures.kept.owes t (owes_same w.follow.new.self c.if-code-eq3.self (ap (λ (x : Association). x.due) w.self-is) t e))
+            (within_then c.args.self.now w.follow.new.self c.if-code-eq3.self (λ e. w.follow.ensures.kept.sending.0 e, λ e. w.follow.ensures.kept.sending.1 e)
+            (within_same w.follow.new.self c.if-code-eq3.self (ap (λ (x : Association). x.config) w.self-is) (ap (λ (x : Association). x.outbound) w.self-is)));
+        own = fresh_own (own_stale c.args.self.now.machine w.stale_cookie-answer.new.self _ _
+            (subst (λ n. 0 < n) (sym w.fresh_tag-tag.ensures) (fresh_some c.args.self.now.key c.args.now w.own.result)) w.stale_cookie-answer.ensures.takes)
+            (ap (λ (x : Association). x.machine.own) w.self-is ∙ ap (λ (m : Machine). m.own) w.follow.ensures.kept.machine) (search rules);
+      }
+      | else-code-eq3 w ↦ record {
+        keeps = keeps_kept _ _ (record {
+          config = ap (λ (x : Association). x.config) w.self-is;
+          key = ap (λ (x : Association). x.key) w.self-is;
+          machine = ap (λ (x : Association). record x.machine { own = c.args.self.now.machine.own }) w.self-is;
+          owes = owes_same c.args.self.now c.if-code-eq3.self (ap (λ (x : Association). x.due) w.self-is);
+          sending = within_same c.args.self.now c.if-code-eq3.self (ap (λ (x : Association). x.config) w.self-is)
+              (ap (λ (x : Association). x.outbound) w.self-is);
+        });
+        own = inl (ap (λ (x : Association). x.machine.own) w.self-is);
+      }
     ] in
-    record { config = first.config; key = first.key; machine = first.machine; owes = first.owes; sending = first.sending }
+    let k = first.keeps in
+    record { keeps = record { config = k.config; key = k.key; machine = k.machine; owes = k.owes; sending = k.sending }; own = first.own }
 
 pub returns-clause-tells : goal.returns-clause-tells
 returns-clause-tells c =

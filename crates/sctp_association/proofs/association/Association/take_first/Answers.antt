@@ -29,7 +29,8 @@ pub returns-in-Refused-Unexpected-clause-path : goal.returns-in-Refused-Unexpect
 returns-in-Refused-Unexpected-clause-path c takes going =
     let is : c.take_chunk-2.result ≡ Ok (Refused Unexpected) = search rules in
     let was : HearsOn c.args.chunk c.args.tag c.args.datagram.now (Refused Unexpected) c.args.self.now c.take_chunk-2.new.self =
-    if_ok (λ s. HearsOn c.args.chunk c.args.tag c.args.datagram.now s c.args.self.now c.take_chunk-2.new.self) _ _ is (c.take_chunk-2.ensures.sacks takes going) in
+    if_ok (λ s. HearsOn c.args.chunk c.args.tag c.args.datagram.now s c.args.self.now c.take_chunk-2.new.self) _ _ is
+    (c.take_chunk-2.ensures.sacks takes going) in
     moves_still c.args.chunk c.args.datagram.now c.args.now Next c.args.self.now.outbound c.take_chunk-2.new.self.outbound was.1
     (ap (λ (a : Association). a.outbound) (c.take_chunk-2.ensures.refused Unexpected is))
 

@@ -5,4 +5,5 @@ use Rattle.sctp_association.proofs.association.Association.take_heartbeat.Goals 
 
 -- a HEARTBEAT is read
 pub returns-in_default-clause-expected : goal.returns-in_default-clause-expected
-returns-in_default-clause-expected c known info reads r is = c.in_ok-heartbeat.ensures.some (heartbeat_chunk (heartbeat_info info ∷ [])) tt reads (ap Ok c.in_default.is)
+returns-in_default-clause-expected c known info reads r is =
+    c.in_ok-heartbeat.ensures.some (heartbeat_chunk (heartbeat_info info ∷ [])) tt reads (ap Ok c.in_default.is)

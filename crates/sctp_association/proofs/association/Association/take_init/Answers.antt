@@ -2,9 +2,10 @@ use Rattle.sctp_association.proofs.Kept.{same_due}
 use Rattle.sctp_association.proofs.Expected.{offer_answered, value_found}
 use Rattle.sctp_association.proofs.Openings.{ok_same}
 use Rattle.sctp_handshake.specs.declared.init_value.Said.{Said}
-use Rattle.std.proofs.Common.{Ok, Option, Some, ap, drop, inl, rules, sym, ◌≡◌, ◌∙◌}
+use Rattle.std.proofs.Common.{Ok, Option, Some, ap, drop, inl, rules, subst, sym, ◌≡◌, ◌<◌, ◌∙◌}
 use Rattle.sctp_association.specs.Openings.{owed_to_init}
 use Rattle.sctp_handshake.specs.declared.answer.Reply.{Reply}
+use Rattle.sctp_association.proofs.Fresh.{fresh_some}
 use Rattle.sctp_association.proofs.Offers.{init_answered}
 use Rattle.sctp_association.proofs.association.Association.take_init.Goals as goal
 use Rattle.sctp_chunks.specs.Framing.{value_at}
@@ -16,7 +17,8 @@ pub returns-in_ok-self-in-Some-2-clause-owes : goal.returns-in_ok-self-in-Some-2
 returns-in_ok-self-in-Some-2-clause-owes c t owed =
     let reads : init_in (value_at (drop c.args.chunk.at c.args.datagram.now)) ≡ Ok c.in-Ok-read_init.said = search rules in
     let answer : Some c.in-Some.reply ≡ init_reply c.in-Ok-read_init.said.offer c.fresh_tag-tag.result c.args.self.now.machine = search rules in
-    init_answered _ _ c.requires.own c.requires.typ _ _ reads _ c.fresh_tag-tag.ensures _ answer _ t (c.owe_answer.ensures.owes t owed)
+    init_answered _ _ c.requires.own c.requires.typ _ _ reads _ (subst (λ n. 0 < n) (sym c.fresh_tag-tag.ensures)
+    (fresh_some c.args.self.now.key c.args.now c.in-Ok-read_init.said.offer)) _ answer _ t (c.owe_answer.ensures.owes t owed)
 
 -- the reply of the row is due
 pub returns-in_ok-self-in-Some-2-clause-offers : goal.returns-in_ok-self-in-Some-2-clause-offers
@@ -28,12 +30,10 @@ returns-in_ok-self-in-Some-2-clause-offers c none =
     ) { unknown_params = c.owe_answer.new.self.due.unknown_params } = search rules in
     record {
       said = c.in-Ok-read_init.said;
-      tag = c.fresh_tag-tag.result;
       reads = reads;
-      fresh = c.fresh_tag-tag.ensures;
       due = due ∙ ap (λ (r : Option Reply). record (owed_to_init r c.in-Ok-read_init.said.offer.tag c.args.self.now.due) {
         unknown_params = c.owe_answer.new.self.due.unknown_params;
-      }) answer;
+      }) (answer ∙ ap (λ n. init_reply c.in-Ok-read_init.said.offer n c.args.self.now.machine) c.fresh_tag-tag.ensures);
     }
 
 -- ## What is expected is not refused

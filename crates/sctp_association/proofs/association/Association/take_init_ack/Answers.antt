@@ -1,3 +1,5 @@
+use Rattle.sctp_association.specs.Rows.{FollowsAnswer}
+use Rattle.sctp_handshake.specs.declared.state.State.{State}
 use Rattle.sctp_association.proofs.Expected.{init_ack_answered, said_of, value_found}
 use Rattle.sctp_association.proofs.Rows.{follows_noted, follows_step}
 use Rattle.sctp_association.proofs.Known.{knows_same, within_same, within_then}
@@ -7,7 +9,7 @@ use Rattle.std.specs.Prelude.{slice_range}
 use Rattle.sctp_association.specs.Reports.{value_in}
 use Rattle.sctp_association.proofs.Arrived.{came_same}
 use Rattle.sctp_association.proofs.Kept.{same_machine}
-use Rattle.sctp_association.proofs.Offered.{offered_kept}
+use Rattle.sctp_association.proofs.Offered.{offered_alike, offered_kept, offered_same}
 use Rattle.sctp_association.proofs.Offers.{init_ack_offered}
 use Rattle.sctp_association.specs.Beginnings.{AnswersInit, BeginsBy}
 use Rattle.sctp_association.specs.declared.association.Association.{Association}
@@ -68,15 +70,16 @@ returns-clause-row c =
     let old = c.args.self.now in
     let takes = c.init_ack-answer.ensures.takes in
     let rest = c.note_params.ensures.rest in
-    let h = c.follow.ensures.answer in
+    let h = subst (λ (s : State). FollowsAnswer c.init_ack-answer.result c.in-Ok-read_init_ack.read.0.tag s c.args.now c.note_params.new.self c.follow.new.self)
+    c.state-before.ensures c.follow.ensures.answer in
     record {
       offer = c.in-Ok-read_init_ack.read.0;
       place = c.in-Ok-read_init_ack.read.1;
       reads = search rules;
-      follows = follows_step _ _ old c.follow.new.self _ _ takes.machine takes.answer
+      follows = follows_step _ _ c.args.now old c.follow.new.self _ _ takes.machine takes.answer
           (c.follow.ensures.kept.machine ∙ ap (λ (x : Association). x.machine) rest)
-          (follows_noted _ _ old c.note_params.new.self c.follow.new.self c.note_params.ensures.due (ap (λ (x : Association). x.is_over) rest)
-          (ap (λ (x : Association). x.wants_shutdown) rest) h);
+          (follows_noted _ _ _ c.args.now old c.note_params.new.self c.follow.new.self c.note_params.ensures.due (ap (λ (x : Association). x.is_over) rest)
+          (ap (λ (x : Association). x.wants_shutdown) rest) (ap (λ (x : Association). x.control) rest) (ap (λ (x : Association). x.guard) rest) h);
       cookie = λ none.
           let kept : c.note_params.new.self.cookie
           ≡ Some (slice_range (value_in c.args.datagram.now c.args.chunk) c.in-Ok-read_init_ack.read.1.at
@@ -97,3 +100,28 @@ returns-then-is_none-2-clause-expected c expected r is =
     let reply : c.init_ack-answer.result.reply ≡ None = search rules in
     let told : c.init_ack-answer.result.told ≡ None = search rules in
     init_ack_answered _ _ c.init_ack-answer.result expected.waits c.init_ack-answer.ensures.takes.answer reply told
+
+pub returns-in_default-clause-came : goal.returns-in_default-clause-came
+returns-in_default-clause-came c = offered_same _ _ _ refl
+
+pub returns-in_err-raw-clause-came : goal.returns-in_err-raw-clause-came
+returns-in_err-raw-clause-came c = offered_same _ _ _ refl
+
+pub returns-in-Some-clause-came : goal.returns-in-Some-clause-came
+returns-in-Some-clause-came c = offered_alike _ _ _ c.end_begun.ensures.halves c.end_begun.ensures.peer
+
+pub returns-in-Err-MissingCookie-clause-came : goal.returns-in-Err-MissingCookie-clause-came
+returns-in-Err-MissingCookie-clause-came c =
+    offered_alike _ _ _ c.end_begun-in-Err-MissingCookie.ensures.halves c.end_begun-in-Err-MissingCookie.ensures.peer
+
+pub returns-in-Err-clause-came : goal.returns-in-Err-clause-came
+returns-in-Err-clause-came c = offered_same _ _ _ refl
+
+pub returns-in_default-get-clause-came : goal.returns-in_default-get-clause-came
+returns-in_default-get-clause-came c = offered_same _ _ _ refl
+
+pub returns-in_err-cookie-clause-came : goal.returns-in_err-cookie-clause-came
+returns-in_err-cookie-clause-came c = offered_same _ _ _ refl
+
+pub returns-in_err-reported-clause-came : goal.returns-in_err-reported-clause-came
+returns-in_err-reported-clause-came c = offered_same _ _ _ refl

@@ -24,7 +24,8 @@ returns-in-Refused-clause-never c takes going x e =
     let is : c.take_chunk.result ≡ Ok (Refused c.in-Refused.reason) = search rules in
     let was : GoesOn c.args.chunk c.args.tag c.args.datagram.now (Refused c.in-Refused.reason) c.args.self.now c.take_chunk.new.self =
     if_ok (λ s. GoesOn c.args.chunk c.args.tag c.args.datagram.now s c.args.self.now c.take_chunk.new.self) _ _ is (c.take_chunk.ensures.on takes going) in
-    past_never c.args.chunk c.args.tag c.args.datagram.now c.in-Refused.reason x c.past.result c.args.self.now c.take_chunk.new.self was c.past.ensures.unexpected
+    past_never c.args.chunk c.args.tag c.args.datagram.now c.in-Refused.reason x c.past.result c.args.self.now c.take_chunk.new.self was
+    c.past.ensures.unexpected
     (step_same _ _ e)
 
 pub returns-in-Refused-clause-sacks : goal.returns-in-Refused-clause-sacks

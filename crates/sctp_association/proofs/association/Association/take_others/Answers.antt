@@ -1,6 +1,7 @@
-use Rattle.std.proofs.Common.{◌≡◌, Ok, ap, arith, inl, inr, length, refl, rules, sym, ◌∙◌}
+use Rattle.std.proofs.Common.{◌≡◌, Ok, ap, arith, inl, inr, length, refl, rules, subst, sym, ◌∙◌}
 use Rattle.std.proofs.lemmas.Bool.{false≢true}
-use Rattle.sctp_association.proofs.Each.{data_counts, none_left, one_less, owed_at, owed_first, owed_next, owed_none, owed_passed, owed_refused, owed_stop, tagged}
+use Rattle.sctp_association.proofs.Each.{data_counts, none_left, one_less, owed_at, owed_first, owed_next, owed_none, owed_passed, owed_refused, owed_stop}
+use Rattle.sctp_association.proofs.Each.{tagged}
 use Rattle.sctp_association.proofs.Arrived.{arrives_of}
 use Rattle.sctp_association.proofs.Paths.{move_at, move_next, move_none, move_noted, move_passed, move_refused, move_stop, owed_move}
 use Rattle.sctp_association.proofs.Sacks.{owed_sack, sack_at, sack_next, sack_none, sack_noted, sack_passed, sack_refused, sack_stop}
@@ -11,11 +12,12 @@ use Rattle.sctp_util.specs.Field.{u32_at}
 use Rattle.sctp_association.proofs.Offered.{offered_same, offered_then}
 use Rattle.sctp_association.proofs.Telling.{tells_same, tells_then}
 use Rattle.sctp_association.proofs.Carrying.{next_own}
-use Rattle.sctp_association.proofs.Behind.{go_on_next, still_as, still_same, still_then}
+use Rattle.sctp_association.proofs.Behind.{data_next, go_on_next, still_as, still_same, still_then}
 use Rattle.sctp_association.proofs.Coming.{if_ok}
 use Rattle.sctp_association.specs.Behind.{StillOn}
 use Rattle.sctp_association.proofs.Ends.{ended_first, ended_next, ended_same, ended_stop}
-use Rattle.sctp_association.specs.Ends.{EndsOn}
+use Rattle.sctp_association.specs.Ends.{EndsOn, IsAbortedBy}
+use Rattle.sctp_handshake.specs.declared.machine.Machine.{Machine}
 use Rattle.sctp_association.specs.declared.association.Association.{Association}
 use Rattle.sctp_association.specs.declared.association.arrivals.Step.TheVariants.{Cut, Next, Stop}
 use Rattle.sctp_association.proofs.association.Association.take_others.Goals as goal
@@ -32,7 +34,7 @@ loop-init c = record {
   count = omega arith;
   idle = λ e. refl;
   over = ended_first c.args.datagram.now c.args.self.now;
-  still = λ all. (all, still_same _);
+  still = λ all. (all, λ e. e, still_same _ _);
 }
 
 pub loop-preserved-then-not-counts : goal.loop-preserved-then-not-counts
@@ -49,13 +51,17 @@ loop-preserved-then-not-counts c = record {
       sack_passed c.header-tag.result.verification_tag c.args.datagram.now c.in-Some.chunk c.next.new.self.left c.loop.self c.args.chunks.left
       (halves_of c.args.self.now) c.loop.once (sym c.if-not-counts.ensures.value)
       (sack_at _ _ _ _ _ _ _ _ c.in-Some.ensures.place (c.loop.invariant.sacks other takes)));
-  path = λ takes all. move_noted c.header-tag.result.verification_tag c.args.datagram.now c.args.now _ _ c.next.new.self.left c.loop.self (seen c.in-Some.chunk.typ c.loop.once) _ c.if-not-counts.ensures.noted (
-      move_passed c.header-tag.result.verification_tag c.args.datagram.now c.args.now _ _ c.in-Some.chunk c.next.new.self.left c.loop.self c.loop.once (sym c.if-not-counts.ensures.value)
+  path = λ takes all. move_noted c.header-tag.result.verification_tag c.args.datagram.now c.args.now _ _ c.next.new.self.left c.loop.self
+      (seen c.in-Some.chunk.typ c.loop.once) _ c.if-not-counts.ensures.noted (
+      move_passed c.header-tag.result.verification_tag c.args.datagram.now c.args.now _ _ c.in-Some.chunk c.next.new.self.left c.loop.self c.loop.once
+      (sym c.if-not-counts.ensures.value)
       (move_at c.header-tag.result.verification_tag c.args.datagram.now c.args.now _ _ _ _ _ _ c.in-Some.ensures.place (c.loop.invariant.path takes all)));
   count = one_less _ _ _ _ _ c.in-Some.ensures.place c.loop.invariant.count;
   idle = λ e. absurd (omega (arith, c.left-end.ensures, ap length e, c.loop-test.true));
   over = c.loop.invariant.over;
-  still = λ all. let h = c.loop.invariant.still all in ((go_on_next _ _ _ c.in-Some.ensures.place h.0).1, h.1);
+  still = λ all.
+      let h = c.loop.invariant.still all in
+      ((go_on_next _ _ _ c.in-Some.ensures.place h.0).1, (data_next _ _ _ c.in-Some.ensures.place _ h.1).1, h.2);
 }
 
 pub loop-preserved : goal.loop-preserved
@@ -71,20 +77,26 @@ loop-preserved c = record {
       sack_next c.header-tag.result.verification_tag c.args.datagram.now c.in-Some.chunk c.next.new.self.left c.loop.self c.take_other.new.self
       c.args.chunks.left (halves_of c.args.self.now) c.loop.once c.take_other.result (arrives_of _ _ _ _ c.take_other.ensures.came.arrives)
       c.take_other.ensures.sacks (search rules) (sack_at _ _ _ _ _ _ _ _ c.in-Some.ensures.place (c.loop.invariant.sacks other takes)));
-  path = λ takes all. move_noted c.header-tag.result.verification_tag c.args.datagram.now c.args.now _ _ c.next.new.self.left c.take_other.new.self (seen c.in-Some.chunk.typ c.loop.once) _ c.if-not-counts.ensures.noted (
-      move_next c.header-tag.result.verification_tag c.args.datagram.now c.args.now _ _ c.in-Some.chunk c.next.new.self.left c.loop.self c.loop.once c.take_other.new.self c.take_other.result
+  path = λ takes all. move_noted c.header-tag.result.verification_tag c.args.datagram.now c.args.now _ _ c.next.new.self.left c.take_other.new.self
+      (seen c.in-Some.chunk.typ c.loop.once) _ c.if-not-counts.ensures.noted (
+      move_next c.header-tag.result.verification_tag c.args.datagram.now c.args.now _ _ c.in-Some.chunk c.next.new.self.left c.loop.self c.loop.once
+      c.take_other.new.self c.take_other.result
       c.take_other.ensures.sacks c.take_other.ensures.path (search rules) (sym c.if-not-counts.ensures.value)
       (move_at c.header-tag.result.verification_tag c.args.datagram.now c.args.now _ _ _ _ _ _ c.in-Some.ensures.place (c.loop.invariant.path takes all)));
   count = one_less _ _ _ _ _ c.in-Some.ensures.place c.loop.invariant.count;
   idle = λ e. absurd (omega (arith, c.left-end.ensures, ap length e, c.loop-test.true));
   over = ended_next _ c.args.self.now c.loop.self c.take_other.new.self c.in-Some.chunk (next_own _ _ _ _ c.in-Some.ensures.place c.loop.invariant.own).0
       c.loop.invariant.over
-      (if_ok (λ s. EndsOn c.in-Some.chunk c.args.datagram.now s c.loop.self c.take_other.new.self) c.take_other.result Next (search rules) c.take_other.ensures.over);
+      (if_ok (λ s. EndsOn c.in-Some.chunk c.args.datagram.now s c.loop.self c.take_other.new.self) c.take_other.result Next
+      (search rules) c.take_other.ensures.over);
   still = λ all. let h = c.loop.invariant.still all in
-      let goes = go_on_next _ _ _ c.in-Some.ensures.place h.0 in (
+      let goes = go_on_next _ _ _ c.in-Some.ensures.place h.0 in
+      let has = data_next _ _ _ c.in-Some.ensures.place _ h.1 in (
         goes.1,
-        still_then c.args.self.now c.loop.self c.take_other.new.self h.1
-            (if_ok (λ s. StillOn s c.loop.self c.take_other.new.self) c.take_other.result Next (search rules) (c.take_other.ensures.still goes.0)),
+        has.1,
+        still_then _ _ c.args.self.now c.loop.self c.take_other.new.self has.0 h.2
+            (if_ok (λ s. StillOn c.in-Some.chunk c.args.datagram.now s c.loop.self c.take_other.new.self) c.take_other.result Next (search rules)
+            (c.take_other.ensures.still goes.0)),
       );
 }
 
@@ -99,7 +111,8 @@ returns-in-Ok-Cut c = record {
   none = λ e. absurd (omega (arith, c.left-end.ensures, ap length e, c.loop-test.true));
   came = offered_then _ _ _ c.loop.invariant.came _ c.take_other.ensures.came;
   tells = tells_then _ _ _ c.loop.invariant.tells c.take_other.ensures.tells;
-  over = ended_same _ c.args.self.now c.loop.self c.take_other.new.self c.loop.invariant.over (if_ok (λ s. EndsOn c.in-Some.chunk c.args.datagram.now s c.loop.self c.take_other.new.self) c.take_other.result Cut (search rules) c.take_other.ensures.over);
+  over = ended_same _ c.args.self.now c.loop.self c.take_other.new.self c.loop.invariant.over (if_ok
+      (λ s. EndsOn c.in-Some.chunk c.args.datagram.now s c.loop.self c.take_other.new.self) c.take_other.result Cut (search rules) c.take_other.ensures.over);
   still = λ all is. absurd (false≢true is);
 }
 
@@ -131,7 +144,7 @@ returns-after-loop c = record {
   tells = c.loop.invariant.tells;
   none = λ e. (refl, c.loop.invariant.idle e);
   over = ended_same _ c.args.self.now c.loop.self c.loop.self c.loop.invariant.over refl;
-  still = λ all is. inr (c.loop.invariant.still all).1;
+  still = λ all is. inr (c.loop.invariant.still all).2;
 }
 
 pub returns-in_default : goal.returns-in_default
@@ -142,26 +155,29 @@ returns-in_default c = record {
   sacks = λ other takes is. inr (sack_none c.header-tag.result.verification_tag c.args.datagram.now c.loop.chunks.left c.args.chunks.left c.loop.self
       (halves_of c.args.self.now) c.loop.once (search rules)
       (c.loop.invariant.sacks other (sacks_tagged _ _ _ (c.header-tag.ensures.verification_tag ∙ ap (λ l. u32_at l 4) c.requires.whole) takes)));
-  path = λ takes is all. inr (move_none c.header-tag.result.verification_tag c.args.datagram.now c.args.now _ _ c.loop.chunks.left c.loop.self c.loop.once (search rules) (c.loop.invariant.path
+  path = λ takes is all. inr (move_none c.header-tag.result.verification_tag c.args.datagram.now c.args.now _ _ c.loop.chunks.left c.loop.self c.loop.once
+      (search rules) (c.loop.invariant.path
       (sacks_tagged _ _ _ (c.header-tag.ensures.verification_tag ∙ ap (λ l. u32_at l 4) c.requires.whole) takes) all));
   came = c.loop.invariant.came;
   tells = c.loop.invariant.tells;
   none = λ e. (refl, c.loop.invariant.idle e);
   over = ended_same _ c.args.self.now c.loop.self c.loop.self c.loop.invariant.over refl;
-  still = λ all is. inr (c.loop.invariant.still all).1;
+  still = λ all is. inr (c.loop.invariant.still all).2;
 }
 
 pub returns-in-Ok-Stop : goal.returns-in-Ok-Stop
 returns-in-Ok-Stop c = record {
   each = λ takes is. owed_stop c.header-tag.result.verification_tag c.args.datagram.now c.in-Some.chunk c.next.new.self.left c.loop.self c.take_other.new.self
       c.args.chunks.left c.args.self.now (arrives_of _ _ _ _ c.take_other.ensures.came.arrives) c.take_other.result c.take_other.ensures.on
-      (search rules) (owed_at _ _ _ _ _ _ _ c.in-Some.ensures.place (c.loop.invariant.each (tagged _ _ _ (c.header-tag.ensures.verification_tag ∙ ap (λ l. u32_at l 4) c.requires.whole) takes)));
+      (search rules) (owed_at _ _ _ _ _ _ _ c.in-Some.ensures.place
+      (c.loop.invariant.each (tagged _ _ _ (c.header-tag.ensures.verification_tag ∙ ap (λ l. u32_at l 4) c.requires.whole) takes)));
   sacks = λ other takes is. sack_stop c.header-tag.result.verification_tag c.args.datagram.now c.in-Some.chunk c.next.new.self.left c.loop.self
       c.take_other.new.self c.args.chunks.left (halves_of c.args.self.now) c.loop.once c.take_other.result
       (arrives_of _ _ _ _ c.take_other.ensures.came.arrives) c.take_other.ensures.sacks (search rules)
       (sack_at _ _ _ _ _ _ _ _ c.in-Some.ensures.place (c.loop.invariant.sacks other
       (sacks_tagged _ _ _ (c.header-tag.ensures.verification_tag ∙ ap (λ l. u32_at l 4) c.requires.whole) takes)));
-  path = λ takes is all. inl (move_stop c.header-tag.result.verification_tag c.args.datagram.now c.args.now _ _ c.in-Some.chunk c.next.new.self.left c.loop.self c.loop.once c.take_other.new.self
+  path = λ takes is all. inl (move_stop c.header-tag.result.verification_tag c.args.datagram.now c.args.now _ _ c.in-Some.chunk c.next.new.self.left c.loop.self
+      c.loop.once c.take_other.new.self
       c.take_other.result c.take_other.ensures.sacks c.take_other.ensures.path (search rules)
       (move_at c.header-tag.result.verification_tag c.args.datagram.now c.args.now _ _ _ _ _ _ c.in-Some.ensures.place (c.loop.invariant.path
       (sacks_tagged _ _ _ (c.header-tag.ensures.verification_tag ∙ ap (λ l. u32_at l 4) c.requires.whole) takes) all)));
@@ -169,24 +185,34 @@ returns-in-Ok-Stop c = record {
   tells = tells_then _ _ _ c.loop.invariant.tells c.take_other.ensures.tells;
   none = λ e. absurd (omega (arith, c.left-end.ensures, ap length e, c.loop-test.true));
   over = ended_stop _ c.args.self.now c.loop.self c.take_other.new.self c.in-Some.chunk (next_own _ _ _ _ c.in-Some.ensures.place c.loop.invariant.own).0
-      c.loop.invariant.over (if_ok (λ s. EndsOn c.in-Some.chunk c.args.datagram.now s c.loop.self c.take_other.new.self) c.take_other.result Stop (search rules) c.take_other.ensures.over);
+      c.loop.invariant.over (if_ok (λ s. EndsOn c.in-Some.chunk c.args.datagram.now s c.loop.self c.take_other.new.self) c.take_other.result Stop
+      (search rules) c.take_other.ensures.over);
   still = λ all is. let h = c.loop.invariant.still all in
-      inl (if_ok (λ s. StillOn s c.loop.self c.take_other.new.self) c.take_other.result Stop (search rules)
-      (c.take_other.ensures.still (go_on_next _ _ _ c.in-Some.ensures.place h.0).0));
+      inl (record {
+        chunk = c.in-Some.chunk;
+        own = (next_own _ _ _ _ c.in-Some.ensures.place c.loop.invariant.own).0;
+        ends = subst (λ (m : Machine). IsAbortedBy c.in-Some.chunk c.args.datagram.now m.peer c.take_other.new.self) h.2.machine
+            (if_ok (λ s. StillOn c.in-Some.chunk c.args.datagram.now s c.loop.self c.take_other.new.self) c.take_other.result Stop (search rules)
+            (c.take_other.ensures.still (go_on_next _ _ _ c.in-Some.ensures.place h.0).0));
+      });
 }
 
 pub returns-in-Ok-Refused : goal.returns-in-Ok-Refused
 returns-in-Ok-Refused c = record {
-  each = λ takes is. inr (owed_refused c.header-tag.result.verification_tag c.args.datagram.now c.in-Some.chunk c.next.new.self.left c.loop.self c.take_other.new.self
+  each = λ takes is.
+      inr (owed_refused c.header-tag.result.verification_tag c.args.datagram.now c.in-Some.chunk c.next.new.self.left c.loop.self c.take_other.new.self
       c.args.chunks.left c.args.self.now (arrives_of _ _ _ _ c.take_other.ensures.came.arrives) c.take_other.result c.take_other.ensures.on
-      (λ t going. c.take_other.ensures.never t going c.in-Ok-Refused.field-0-0 (c.in-Ok-Refused.is ∙ ap Ok c.in-Ok-Refused.field-0-is)) (owed_at _ _ _ _ _ _ _ c.in-Some.ensures.place (c.loop.invariant.each (tagged _ _ _ (c.header-tag.ensures.verification_tag ∙ ap (λ l. u32_at l 4) c.requires.whole) takes))));
+      (λ t going. c.take_other.ensures.never t going c.in-Ok-Refused.field-0-0 (c.in-Ok-Refused.is ∙ ap Ok c.in-Ok-Refused.field-0-is))
+      (owed_at _ _ _ _ _ _ _ c.in-Some.ensures.place
+      (c.loop.invariant.each (tagged _ _ _ (c.header-tag.ensures.verification_tag ∙ ap (λ l. u32_at l 4) c.requires.whole) takes))));
   sacks = λ other takes is. inr (sack_refused c.header-tag.result.verification_tag c.args.datagram.now c.in-Some.chunk c.next.new.self.left c.loop.self
       c.take_other.new.self c.args.chunks.left (halves_of c.args.self.now) c.loop.once c.take_other.result
       (arrives_of _ _ _ _ c.take_other.ensures.came.arrives) c.take_other.ensures.sacks
       (λ t going. c.take_other.ensures.never_sacks t going c.in-Ok-Refused.field-0-0 (c.in-Ok-Refused.is ∙ ap Ok c.in-Ok-Refused.field-0-is))
       (sack_at _ _ _ _ _ _ _ _ c.in-Some.ensures.place (c.loop.invariant.sacks other
       (sacks_tagged _ _ _ (c.header-tag.ensures.verification_tag ∙ ap (λ l. u32_at l 4) c.requires.whole) takes))));
-  path = λ takes is all. move_refused c.header-tag.result.verification_tag c.args.datagram.now c.args.now _ _ c.in-Some.chunk c.next.new.self.left c.loop.self c.loop.once
+  path = λ takes is all.
+      move_refused c.header-tag.result.verification_tag c.args.datagram.now c.args.now _ _ c.in-Some.chunk c.next.new.self.left c.loop.self c.loop.once
       (λ t going. c.take_other.ensures.never_sacks t going c.in-Ok-Refused.field-0-0 (c.in-Ok-Refused.is ∙ ap Ok c.in-Ok-Refused.field-0-is))
       (move_at c.header-tag.result.verification_tag c.args.datagram.now c.args.now _ _ _ _ _ _ c.in-Some.ensures.place (c.loop.invariant.path
       (sacks_tagged _ _ _ (c.header-tag.ensures.verification_tag ∙ ap (λ l. u32_at l 4) c.requires.whole) takes) all));
@@ -195,6 +221,6 @@ returns-in-Ok-Refused c = record {
   none = λ e. absurd (omega (arith, c.left-end.ensures, ap length e, c.loop-test.true));
   over = ended_same _ c.args.self.now c.loop.self c.take_other.new.self c.loop.invariant.over
       (ap (λ (a : Association). a.is_over) (c.take_other.ensures.refused c.in-Ok-Refused.field-0-0 (c.in-Ok-Refused.is ∙ ap Ok c.in-Ok-Refused.field-0-is)));
-  still = λ all is. inr (still_then c.args.self.now c.loop.self c.take_other.new.self (c.loop.invariant.still all).1
-      (still_as _ _ (c.take_other.ensures.refused c.in-Ok-Refused.field-0-0 (c.in-Ok-Refused.is ∙ ap Ok c.in-Ok-Refused.field-0-is))));
+  still = λ all is. inr (still_then _ _ c.args.self.now c.loop.self c.take_other.new.self (λ e. e) (c.loop.invariant.still all).2
+      (still_as _ _ _ (c.take_other.ensures.refused c.in-Ok-Refused.field-0-0 (c.in-Ok-Refused.is ∙ ap Ok c.in-Ok-Refused.field-0-is))));
 }

@@ -5,7 +5,7 @@ use Rattle.sctp_association.proofs.Ends.{EndedSo}
 use Rattle.sctp_association.proofs.Paths.{OwedMove}
 use Rattle.sctp_association.proofs.Sacks.{OwedSack}
 use Rattle.sctp_association.specs.Beginnings.{ArrivesAsOffered}
-use Rattle.sctp_association.specs.Behind.{StillAs}
+use Rattle.sctp_association.specs.Behind.{StillAs, has_data}
 use Rattle.sctp_association.specs.Telling.{Tells}
 use Rattle.sctp_association.specs.Coming.{TakesDataOf}
 use Rattle.sctp_association.specs.Halves.{halves_of}
@@ -30,5 +30,6 @@ invariant-loop l = record {
   count : l.counter + length l.chunks.left ≡ length l.initial.chunks.left;
   idle : l.initial.chunks.left ≡ [] → l.self ≡ l.initial.self;
   over : EndedSo l.datagram l.initial.self l.self;
-  still : all_go_on l.initial.chunks.left ≡ true → (all_go_on l.chunks.left ≡ true) × StillAs l.initial.self l.self;
+  still : all_go_on l.initial.chunks.left ≡ true → (all_go_on l.chunks.left ≡ true)
+      × (has_data l.chunks.left ≡ true → has_data l.initial.chunks.left ≡ true) × StillAs (has_data l.initial.chunks.left) l.initial.self l.self;
 }

@@ -1,9 +1,11 @@
 use Rattle.sctp_association.proofs.Telling.{end_then, to_same}
-use Rattle.std.proofs.Common.{arith, refl, ◌∙◌}
+use Rattle.std.proofs.Common.{arith, refl}
 use Rattle.sctp_association.proofs.Arrived.{came_same, came_then, param_came}
+use Rattle.sctp_association.proofs.Carrying.{place_within}
 use Rattle.sctp_association.proofs.Cut.{cut_whole}
-use Rattle.sctp_association.proofs.Known.{kept_then}
+use Rattle.sctp_association.proofs.Known.{kept_then, rest_same, rest_then}
 use Rattle.sctp_association.proofs.association.Association.take_reconfig.Goals as goal
+use Rattle.sctp_association.proofs.association.Association.take_reconfig.Goals.{then-end-len-via-else-end-len+then-chunk-end, then-end-len-via-then-end-len}
 
 pub returns-then-not-takes_sacks-clause-came : goal.returns-then-not-takes_sacks-clause-came
 returns-then-not-takes_sacks-clause-came c = came_same _ _ _ refl
@@ -22,7 +24,7 @@ loop-init c = record {
     sending = (λ e. e, λ e. e);
   };
   tells = to_same;
-  over = refl;
+  rest = rest_same _;
 }
 
 pub returns-in_err-raw-clause-came : goal.returns-in_err-raw-clause-came
@@ -44,8 +46,18 @@ loop-preserved c =
       came = came_then _ _ _ _ c.loop.invariant.came (param_came _ _ c.requires.own c.requires.typ _ _ cut _ _ c.take_param.ensures.came);
       kept = kept_then _ _ _ c.loop.invariant.kept c.take_param.ensures.kept;
       tells = end_then c.loop.invariant.tells c.take_param.ensures.tells;
-      over = c.take_param.ensures.over ∙ c.loop.invariant.over;
+      rest = rest_then _ _ _ c.loop.invariant.rest c.take_param.ensures.rest;
     }
 
 pub returns-in_default-take_param-clause-tells : goal.returns-in_default-take_param-clause-tells
 returns-in_default-take_param-clause-tells c = end_then c.loop.invariant.tells c.take_param.ensures.tells
+
+-- its bytes are there
+pub returns-then-end-len-clause-expected : goal.returns-then-end-len-clause-expected
+returns-then-end-len-clause-expected c takes r is =
+    let within = place_within _ _ c.requires.place in
+    elim c.then-end-len.branch [
+      | then-end-len-via-then-end-len w ↦ omega (arith, within, c.saturating_add-end.ensures, c.len.ensures.value, c.len.ensures.bound, w.if-end-len.true)
+      | then-end-len-via-else-end-len+then-chunk-end w ↦
+          omega (arith, within, c.saturating_add-end.ensures, c.len.ensures.value, c.len.ensures.bound, w.if-chunk-end.true)
+    ]

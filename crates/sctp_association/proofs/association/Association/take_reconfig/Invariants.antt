@@ -1,6 +1,5 @@
-use Rattle.std.proofs.Common.{◌≡◌}
 use Rattle.sctp_association.specs.Arrivals.{CallsArrive}
-use Rattle.sctp_association.specs.Kept.{IsKept}
+use Rattle.sctp_association.specs.Kept.{IsKept, RestStays}
 use Rattle.sctp_association.specs.Halves.{halves_of}
 use Rattle.sctp_association.specs.Telling.{TellsEnd}
 use Rattle.sctp_association.proofs.association.Association.take_reconfig.Given as goal
@@ -11,5 +10,5 @@ invariant-loop l = record {
   came : CallsArrive l.datagram (halves_of l.initial.self) (halves_of l.self);
   kept : IsKept l.initial.self l.self;
   tells : TellsEnd l.initial.self l.self;
-  over : l.self.is_over ≡ l.initial.self.is_over;
+  rest : RestStays l.initial.self l.self;
 }

@@ -1,7 +1,7 @@
 use Rattle.sctp_association.proofs.Telling.{end_then, stays_insert, to_by_us, to_same}
 use Rattle.std.proofs.Common.{refl}
 use Rattle.sctp_association.proofs.Arriving.{acknowledged_restart_by, acknowledged_same, acknowledged_then}
-use Rattle.sctp_association.proofs.Known.{kept_by}
+use Rattle.sctp_association.proofs.Known.{kept_by, rest_same}
 use Rattle.sctp_association.proofs.association.Association.take_response.Goals as goal
 
 pub loop-stream-init : goal.loop-stream-init
@@ -16,7 +16,7 @@ loop-stream-init c = (
     sending = (λ e. e, λ e. e);
   },
   to_same,
-  refl,
+  rest_same _,
 )
 
 pub loop-stream-preserved : goal.loop-stream-preserved
@@ -26,7 +26,13 @@ loop-stream-preserved c = (
   c.loop-stream.invariant.1,
   kept_by c.loop-stream.invariant.2 refl refl refl (λ t e. e) (λ e. e, λ e. e),
   end_then c.loop-stream.invariant.3 (to_by_us _ _ _ _ (stays_insert _ _ _ c.insert.ensures.value c.insert.ensures.full)),
-  c.loop-stream.invariant.4,
+  record {
+    due = c.loop-stream.invariant.4.due;
+    control = c.loop-stream.invariant.4.control;
+    guard = c.loop-stream.invariant.4.guard;
+    over = c.loop-stream.invariant.4.over;
+    wants = c.loop-stream.invariant.4.wants;
+  },
 )
 
 pub returns-in-Err : goal.returns-in-Err
@@ -42,7 +48,13 @@ returns-in-Err c = record {
     sending = c.loop-stream.invariant.2.sending;
   };
   tells = c.loop-stream.invariant.3;
-  over = c.loop-stream.invariant.4;
+  rest = record {
+    due = c.loop-stream.invariant.4.due;
+    control = c.loop-stream.invariant.4.control;
+    guard = c.loop-stream.invariant.4.guard;
+    over = c.loop-stream.invariant.4.over;
+    wants = c.loop-stream.invariant.4.wants;
+  };
 }
 
 pub returns-after-loop-stream-clause-hearing : goal.returns-after-loop-stream-clause-hearing

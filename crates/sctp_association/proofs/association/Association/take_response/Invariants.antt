@@ -1,6 +1,6 @@
 use Rattle.std.proofs.Common.{◌≡◌}
 use Rattle.sctp_association.specs.Arrivals.{HearsBy, IsRestart}
-use Rattle.sctp_association.specs.Kept.{IsKept}
+use Rattle.sctp_association.specs.Kept.{IsKept, RestStays}
 use Rattle.sctp_association.specs.Telling.{TellsEnd}
 use Rattle.sctp_association.proofs.association.Association.take_response.Given as goal
 
@@ -8,9 +8,9 @@ use Rattle.sctp_association.proofs.association.Association.take_response.Given a
 abbrev pub invariant-loop-stream : goal.invariant-loop-stream
 invariant-loop-stream l =
     HearsBy IsRestart l.initial.self.outbound.sender l.self.outbound.sender × (l.self.inbound ≡ l.initial.self.inbound)
-    × IsKept l.initial.self l.self × TellsEnd l.initial.self l.self × (l.self.is_over ≡ l.initial.self.is_over)
+    × IsKept l.initial.self l.self × TellsEnd l.initial.self l.self × RestStays l.initial.self l.self
 
 abbrev pub invariant-loop-stream-2 : goal.invariant-loop-stream-2
 invariant-loop-stream-2 l =
     (l.self.outbound ≡ l.initial.self.outbound) × (l.self.inbound ≡ l.initial.self.inbound) × IsKept l.initial.self l.self × TellsEnd l.initial.self l.self
-    × (l.self.is_over ≡ l.initial.self.is_over)
+    × RestStays l.initial.self l.self

@@ -1,12 +1,11 @@
-use Rattle.std.proofs.Common.{Ok, sym, ◌≡◌}
-use Rattle.std.proofs.lemmas.Bool.{false≢true}
+use Rattle.std.proofs.Common.{Ok, ◌≡◌}
 use Rattle.sctp_association.proofs.Ends.{forged_still, sack_there}
 use Rattle.sctp_association.specs.Ends.{by_sack}
 use Rattle.sctp_association.specs.declared.outbound.acks.SackTaken.TheVariants.{Forged}
 use Rattle.std.proofs.Common.{ap, inr}
-use Rattle.sctp_association.proofs.Rows.{follows_still, row_is}
+use Rattle.sctp_association.proofs.Rows.{follows_still, row_is, row_typ}
 use Rattle.sctp_association.specs.Coming.{goes_on}
-use Rattle.sctp_association.specs.Rows.{cause_in, row_at, tag_to}
+use Rattle.sctp_association.specs.Rows.{tag_to}
 use Rattle.sctp_association.specs.declared.association.arrivals.Step.TheVariants.{Next}
 use Rattle.sctp_handshake.specs.Machines.{dropped}
 use Rattle.sctp_association.proofs.Telling.{end_then, to_low, to_same}
@@ -106,22 +105,17 @@ returns-in-Taken-clause-path c = (
 pub returns-in-Taken-clause-row : goal.returns-in-Taken-clause-row
 returns-in-Taken-clause-row c =
     let old = c.args.self.now in
-    row_is c.args.chunk c.args.datagram.now 0 old _ (dropped old.machine) 0
-    (ap (λ n. row_at n (cause_in c.args.datagram.now c.args.chunk) old.machine) c.requires.typ) (ap (λ n. tag_to n old.machine) c.requires.typ)
-    Next (follows_still 0 old _ refl refl refl refl)
+    row_is c.args.chunk c.args.datagram.now c.args.now old _ (dropped old.machine) 0
+    (row_typ c.args.chunk c.args.datagram.now c.args.now old _ c.requires.typ) (ap (λ n. tag_to n old.machine) c.requires.typ)
+    Next (follows_still 0 c.args.now old _ refl refl refl refl refl refl)
 
-pub returns-clause-row : goal.returns-clause-row
-returns-clause-row c = inr (ap goes_on c.requires.typ, c.end_with.ensures.over)
-
--- ## What ends the association
-
-pub returns-in-Taken-clause-over : goal.returns-in-Taken-clause-over
-returns-in-Taken-clause-over c going over = absurd (false≢true (sym going ∙ over))
-
--- a forged one
-pub returns-clause-over : goal.returns-clause-over
-returns-clause-over c going over =
+-- by a forged one the association ends
+pub returns-clause-still : goal.returns-clause-still
+returns-clause-still c =
     let forged : c.take_sack.result ≡ Ok Forged = search rules in
     by_sack _ (sack_there c.args.chunk.at c.args.datagram.now _ c.bytes_of.result.now c.bytes_of.ensures c.in-Ok.ensures.found)
     (forged_still _ c.args.self.now.outbound c.end_with.new.self.outbound (c.end_with.ensures.outbound ∙ c.take_sack.ensures.forged forged)
-    (c.take_sack.ensures.claims forged))
+    (c.take_sack.ensures.claims forged)) c.end_with.ensures.aborted
+
+pub returns-clause-row : goal.returns-clause-row
+returns-clause-row c = inr (ap goes_on c.requires.typ, returns-clause-still c)

@@ -1,11 +1,11 @@
-use Rattle.sctp_association.proofs.Behind.{still_by}
+use Rattle.sctp_association.proofs.Behind.{still_by, still_stop}
 use Rattle.sctp_association.specs.Behind.{StillAs}
 use Rattle.sctp_association.proofs.Coming.{if_ok}
-use Rattle.sctp_association.proofs.Ends.{ends_by, skip_why}
-use Rattle.sctp_association.specs.Ends.{by_skip}
-use Rattle.sctp_association.proofs.Rows.{follows_still, row_goes}
+use Rattle.sctp_association.proofs.Ends.{skip_aborts}
+use Rattle.std.specs.Prelude.{false, ◌==◌}
+use Rattle.sctp_association.proofs.Rows.{follows_still, row_goes, row_typ}
 use Rattle.sctp_association.specs.Coming.{goes_on}
-use Rattle.sctp_association.specs.Rows.{FollowsStep, cause_in, row_at, tag_to}
+use Rattle.sctp_association.specs.Rows.{FollowsStep, tag_to}
 use Rattle.sctp_handshake.specs.Machines.{dropped}
 use Rattle.sctp_association.proofs.Telling.{end_then, to_in}
 use Rattle.std.proofs.Common.{arith, drop, refl, rules, Ok, Some, ap, subst, sym, ◌≡◌}
@@ -98,35 +98,28 @@ returns-clause-sacks c tag takes =
     (λ is. absurd (omega (arith, c.requires.typ, is))) (λ r e. absurd (c.end_by.ensures.never r e)) c.end_by.ensures.over (λ next.
     subst (TakesSacksOf tag) (sym (c.end_by.ensures.on next)) (record { going = takes.going; state = takes.state; own = takes.own }))
 
+-- ## What it leaves, and what ends the association
+
+pub returns-clause-still : goal.returns-clause-still
+returns-clause-still c =
+    let old = c.args.self.now in
+    let reads : StartsWith (drop c.args.chunk.at c.args.datagram.now) (forward_tsn_chunk (forward_tsn_of c.in-Some.skip)) = search rules in
+    let came = if_ok _ _ _ c.in-Ok.is c.take_skip.ensures.ends in
+    still_by c.args.chunk c.args.datagram.now old c.end_by.new.self false (ap (λ n. n == 0) c.requires.typ) c.end_by.result
+    (λ next. subst (λ (x : Association). StillAs false old x) (sym (c.end_by.ensures.on next))
+    (record { machine = refl; due = refl; shutdown = λ e. e; same = λ off. (refl, refl); over = refl; wants = refl }))
+    (λ stop. skip_aborts c.args.chunk c.args.datagram.now _ _ refl c.end_by.new.self _ c.end_by.ensures.halves.receiver (forward_tsn_of c.in-Some.skip) reads
+    _ came (c.end_by.ensures.stops stop).0 (c.end_by.ensures.stops stop).1 c.end_by.ensures.aborts) c.end_by.ensures.whole
+
 -- ## The row of a FORWARD-TSN
 
 pub returns-clause-row : goal.returns-clause-row
 returns-clause-row c =
     let old = c.args.self.now in
     let step = dropped old.machine in
-    row_goes c.args.chunk c.args.datagram.now 0 old c.end_by.new.self step 0
-    (ap (λ n. row_at n (cause_in c.args.datagram.now c.args.chunk) old.machine) c.requires.typ) (ap (λ n. tag_to n old.machine) c.requires.typ)
+    row_goes c.args.chunk c.args.datagram.now c.args.now old c.end_by.new.self step 0
+    (row_typ c.args.chunk c.args.datagram.now c.args.now old _ c.requires.typ) (ap (λ n. tag_to n old.machine) c.requires.typ)
     (ap goes_on c.requires.typ) c.end_by.result
-    (λ next. subst (λ (x : Association). FollowsStep step 0 old x) (sym (c.end_by.ensures.on next)) (follows_still 0 old _ refl refl refl refl))
-    c.end_by.ensures.over
-
--- ## What ends the association
-
-pub returns-clause-over : goal.returns-clause-over
-returns-clause-over c =
-    let reads : StartsWith (drop c.args.chunk.at c.args.datagram.now) (forward_tsn_chunk (forward_tsn_of c.in-Some.skip)) = search rules in
-    let came = if_ok _ _ _ c.in-Ok.is c.take_skip.ensures.ends in
-    ends_by c.args.chunk c.args.datagram.now c.args.self.now c.end_by.new.self c.end_by.result
-    (λ next. ap (λ (a : Association). a.is_over) (c.end_by.ensures.on next))
-    (λ stop. by_skip _ c.end_by.ensures.halves.receiver (forward_tsn_of c.in-Some.skip) reads
-    (skip_why (forward_tsn_of c.in-Some.skip) _ _ came (c.end_by.ensures.stops stop).0 (c.end_by.ensures.stops stop).1)) c.end_by.ensures.whole
-
--- ## What it leaves
-
-pub returns-clause-still : goal.returns-clause-still
-returns-clause-still c =
-    let old = c.args.self.now in
-    still_by old c.end_by.new.self c.end_by.result (
-    λ next. subst (λ (x : Association). StillAs old x) (sym (c.end_by.ensures.on next))
-    (record { machine = refl; due = refl; shutdown = λ e. e; over = refl; wants = refl })
-    ) c.end_by.ensures.over
+    (λ next. subst (λ (x : Association). FollowsStep step 0 c.args.now old x) (sym (c.end_by.ensures.on next))
+    (follows_still 0 c.args.now old _ refl refl refl refl refl refl))
+    (still_stop c.args.chunk c.args.datagram.now old c.end_by.new.self c.end_by.result (returns-clause-still c))

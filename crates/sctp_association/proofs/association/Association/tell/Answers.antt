@@ -1,7 +1,7 @@
-use Rattle.std.specs.Prelude.{is_some}
+use Rattle.sctp_association.specs.Telling.{is_failure}
 use Rattle.sctp_association.specs.declared.event.Events.{Events}
 use Rattle.sctp_association.specs.declared.association.Association.{Association}
-use Rattle.sctp_association.proofs.Telling.{end_then, passes_as, streams_in, to_connected, to_none, to_over, to_restarted, to_shutdown}
+use Rattle.sctp_association.proofs.Telling.{end_then, fails_either, passes_as, streams_in, to_connected, to_none, to_over, to_restarted, to_shutdown}
 use Rattle.std.proofs.Common.{None, Some, ap, refl, rules, ◌≡◌, ◌∙◌}
 use Rattle.sctp_association.proofs.Begun.{begun_by}
 use Rattle.sctp_association.specs.Arrivals.{halves, new_sender}
@@ -63,7 +63,7 @@ returns-in-Closed-clause-tells c =
     let rest = c.end.ensures.rest in
     passes_as _ _ _ _ is (record {
       end = to_over _ _ _ _ _ _ _ (ap (λ (x : Association). streams_in x.inbound) rest) c.end.ensures.told c.end.ensures.over;
-      told = ap (λ (e : Events). is_some e.closed) c.end.ensures.told;
+      told = ap (λ (e : Events). e.closed) c.end.ensures.told;
     })
 
 pub returns-in-Failed-clause-tells : goal.returns-in-Failed-clause-tells
@@ -72,7 +72,8 @@ returns-in-Failed-clause-tells c =
     let rest = c.end-in-Failed.ensures.rest in
     passes_as _ _ _ _ is (record {
       end = to_over _ _ _ _ _ _ _ (ap (λ (x : Association). streams_in x.inbound) rest) c.end-in-Failed.ensures.told c.end-in-Failed.ensures.over;
-      told = ap (λ (e : Events). is_some e.closed) c.end-in-Failed.ensures.told;
+      told = ap (λ (e : Events). is_failure e.closed) c.end-in-Failed.ensures.told ∙ ap (λ e. is_failure (Some e)) c.failure.ensures
+          ∙ fails_either c.args.has_reply;
     })
 
 pub returns-in-Failed-clause-failed : goal.returns-in-Failed-clause-failed

@@ -13,7 +13,8 @@ pub returns-then-not-sna32lt-clause-received : goal.returns-then-not-sna32lt-cla
 returns-then-not-sna32lt-clause-received c = received_same _ _ _ refl
 
 pub loop-named-init : goal.loop-named-init
-loop-named-init c = record { tells = tells_same _ _; received = received_same _ _ _ refl; limits = refl; streams = refl; same = λ n. refl; place = refl; served = All-nil _ }
+loop-named-init c =
+    record { tells = tells_same _ _; received = received_same _ _ _ refl; limits = refl; streams = refl; same = λ n. refl; place = refl; served = All-nil _ }
 
 pub returns-in_err-open-clause-received : goal.returns-in_err-open-clause-received
 returns-in_err-open-clause-received c =

@@ -29,7 +29,7 @@ returns-in-Abort c =
       named = λ ahead. skipped_served _ c.open_named.new.self _ _ _ _ c.forward_tsn.ensures refl refl (c.in_ok-open_named.ensures.served refl ahead);
       limits = search rules;
       same = c.in_ok-open_named.ensures.same;
-      ends = record { refusal = c.in-Err.refusal; cause = c.in-Abort.cause; refused = search rules; advised = search rules };
+      ends = record { refusal = c.in-Err.refusal; refused = search rules; advised = search rules };
     }
 
 pub returns-clause-received : goal.returns-clause-received

@@ -16,7 +16,8 @@ returns-in_default-clause-made c = λ r. nothing _
 
 pub returns-in-Some-clause-made : goal.returns-in-Some-clause-made
 returns-in-Some-clause-made c =
-    skip_put_where c.args.self.now.is_skip_due c.room.result _ _ _ _ _ _ c.if-not-self.false c.in-Some.is c.in_ok-skip.ensures.past c.in_ok-skip.ensures.ended c.in_ok-skip.ensures.names c.put.ensures.added
+    skip_put_where c.args.self.now.is_skip_due c.room.result _ _ _ _ _ _ c.if-not-self.false c.in-Some.is c.in_ok-skip.ensures.past c.in_ok-skip.ensures.ended
+    c.in_ok-skip.ensures.names c.put.ensures.added
 
 pub returns-then-not-self-clause-fewer : goal.returns-then-not-self-clause-fewer
 returns-then-not-self-clause-fewer c = fewer_same _ _ _ _ refl refl

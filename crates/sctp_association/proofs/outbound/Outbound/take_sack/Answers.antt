@@ -24,7 +24,8 @@ returns-in-Err c = record {
   counts = search rules;
   limits = search rules;
   forged = search rules;
-  claims = λ is. forged_by _ _ c.args.self.now c.acked.result c.pass_over_blocks.ensures.taken (λ x e. cc (e, c.in-Err.is)) (λ e. search (rules, e)) c.acked.ensures.refused;
+  claims = λ is. forged_by _ _ c.args.self.now c.acked.result c.pass_over_blocks.ensures.taken (λ x e. cc (e, c.in-Err.is))
+      (λ e. search (rules, e)) c.acked.ensures.refused;
   err = search rules;
 }
 
@@ -62,7 +63,8 @@ returns-clause-path c taken =
       λ current. subst (λ (k : Sack). FollowsSack k c.args.now c.args.self.now c.run_timer.new.self) c.pass_over_blocks.ensures.taken (
           follows_sack _ c.args.now c.args.self.now c.in-Ok.acked _ c.acked.new.self c.in-Ok.is c.acked.ensures c.acked_tsn-before.result
           c.flight-flight.result c.acked_tsn-before.ensures c.flight-flight.ensures c.note_back.new.self c.len.result c.came_twice.new.self
-          c.deref-2.result.now c.note_back.ensures (c.len.ensures ∙ sym many) c.deref-2.ensures.value c.came_twice.ensures c.deref-3.result.now c.deref-4.result.now
+          c.deref-2.result.now c.note_back.ensures (c.len.ensures
+          ∙ sym many) c.deref-2.ensures.value c.came_twice.ensures c.deref-3.result.now c.deref-4.result.now
           c.deref-3.ensures.value c.deref-4.ensures.value c.follow.new.self c.count_missing.new.self c.run_timer.new.self (record {
             grown = c.follow.ensures.grown;
             trips = c.follow.ensures.trips;
