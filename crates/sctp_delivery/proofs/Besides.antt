@@ -214,7 +214,8 @@ module _ (p n : ℕ) (few : n < 2 ^ 31) (s k : Session) (i : IsInStep p n s) (x 
     after-is : t.sending.sender.flight ≡ flight_with (record k.sending.sender.flight {
       queue = sent_next k.sending.sender.flight.queue k.sending.sender.flight.next_tsn now;
       next_tsn = next_after_send k.sending.sender.flight;
-    }) (sent_next (with_inflight k.sending.sender.flight.queue s.sending.sender.flight.queue.inflight.chunks) k.sending.sender.flight.next_tsn now).inflight.chunks
+    }) (sent_next
+        (with_inflight k.sending.sender.flight.queue s.sending.sender.flight.queue.inflight.chunks) k.sending.sender.flight.next_tsn now).inflight.chunks
     after-is = grind (arith, nat_tests, common_steps, next-same)
 
     same-bytes : total_bytes (sent_next k.sending.sender.flight.queue k.sending.sender.flight.next_tsn now) ≡ total_bytes k.sending.sender.flight.queue
@@ -230,7 +231,8 @@ module _ (p n : ℕ) (few : n < 2 ^ 31) (s k : Session) (i : IsInStep p n s) (x 
     sent-beside = record {
       flight = after-is ∙ ap (flight_with sent.sending.sender.flight) (sym (ap (λ (g : Flight). g.queue.inflight.chunks) after-is));
       like = subst (AreLike (kept_of u.kept) (sent_next q u.flight.next_tsn now).inflight.chunks) (sym (ap (λ (g : Flight). g.queue.inflight.chunks) after-is))
-          (are-sent p n u.flight (kept_of u.kept) ds x.like few numbered-so now (let e = started-so now in record { ordered = e.ordered; unordered = e.unordered }));
+          (are-sent p n u.flight (kept_of u.kept) ds x.like few numbered-so now (let e = started-so now in
+          record { ordered = e.ordered; unordered = e.unordered }));
       receiving = ap (λ (y : Session). y.receiving) f.after ∙ x.receiving;
       made = made-same;
       written = ap (λ (y : Session). y.written) f.after ∙ x.written;
@@ -472,7 +474,8 @@ module _ (p n : ℕ) (few : n < 2 ^ 31) (s u t : Session) (w : ℕ) (f : Receive
     flight = acked-is ∙ ap (flight_with acked.sending.sender.flight) (sym (ap (λ (h : Flight). h.queue.inflight.chunks) acked-is));
     like = subst (AreLike (kept_of acked.sending.sender.kept) (flying acked)) (sym (ap (λ (h : Flight). h.queue.inflight.chunks) acked-is))
         (kept-sacked sack v (chunks_of (after_sack sack (flight_with v others))) k.sending.sender.kept
-        (are-sacked sack sack bare p n v (kept_of k.sending.sender.kept) others like-back few (subst (IsNumbered p n) y.flight i.numbered) fits unrefused-then));
+        (are-sacked sack sack bare p n v (kept_of k.sending.sender.kept) others like-back few
+        (subst (IsNumbered p n) y.flight i.numbered) fits unrefused-then));
     receiving = ap (λ (z : Session). z.receiving) g.after;
     made = ap (λ (z : Session). z.made) g.after ∙ y.made;
     written = ap (λ (z : Session). z.written) g.after ∙ y.written;

@@ -1,6 +1,7 @@
 -- Of calls of two hosts that both send, those of each way are a session.
 use Rattle.sctp_delivery.proofs.Names.{◌≡◌, List, [], ◌∷◌, ap, subst, Follows, RunsTo, Session}
-use Rattle.sctp_delivery.specs.BothWays.{AreReadBothWays, AreReadBothWaysSo, AreReadBothWaysWhileYoung, EachWayIsASession, EachWayIsASessionSo, Pair, PairCall, PairRunsTo, both_begun}
+use Rattle.sctp_delivery.specs.BothWays.{AreReadBothWays, AreReadBothWaysSo, AreReadBothWaysWhileYoung, EachWayIsASession, EachWayIsASessionSo, Pair, PairCall}
+use Rattle.sctp_delivery.specs.BothWays.{PairRunsTo, both_begun}
 use Rattle.sctp_delivery.specs.BothWays.{both_begun_with, comes, coming, goes, going}
 use Rattle.sctp_delivery.specs.Returns.{FollowsOrReturns, RunsWithReturns}
 use Rattle.sctp_delivery.proofs.FewYoung as few_young

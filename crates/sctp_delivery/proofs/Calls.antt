@@ -1,5 +1,6 @@
 -- Each call of a sender, and what it makes of all that got TSNs.
-use Rattle.sctp_delivery.proofs.Names.{◌≡◌, ℕ, ◌<◌, Bool, true, List, [], ◌∷◌, length, Option, Some, None, inl, refl, ap, sym, subst, ◌∙◌, arith, zero, suc, Contains}
+use Rattle.sctp_delivery.proofs.Names.{◌≡◌, ℕ, ◌<◌, Bool, true, List, [], ◌∷◌, length, Option, Some, None, inl, refl, ap, sym, subst, ◌∙◌, arith, zero, suc}
+use Rattle.sctp_delivery.proofs.Names.{Contains}
 use Rattle.sctp_delivery.proofs.Names.{find, slice_index_or, nat_tests, ChunkPayloadData, ForwardTsn, is_outstanding, with_retransmit, all_started}
 use Rattle.sctp_delivery.proofs.Names.{expiring_tail, message_of, next_pending, KeepsMessage, has_tsn, ExpiredMessage, AbandonedMessage, Name, named_up_to}
 use Rattle.sctp_delivery.proofs.Names.{is_outstanding_in, message_to_abandon, late_order, worn_order, has_number, with_low, with_mode, count_again, sent_again}
@@ -13,7 +14,8 @@ use Rattle.sctp_delivery.proofs.InFlight.{IsKnownOn}
 use Rattle.sctp_delivery.proofs.OrderedRest.{names-known}
 use Rattle.sctp_delivery.proofs.Numbers.{all-open, counts-sized, number_of, numbers-sized, opened, sized-all, steady-changed, steady-same, there-sized}
 use Rattle.sctp_delivery.proofs.Queues.{started}
-use Rattle.sctp_delivery.proofs.Senders.{IsHeldOn, ResultOn, abandons-all, abandons-message, acked, calm, changed, first-changed, renumbered, sends-next, steady}
+use Rattle.sctp_delivery.proofs.Senders.{IsHeldOn, ResultOn, abandons-all, abandons-message, acked, calm, changed, first-changed, renumbered, sends-next}
+use Rattle.sctp_delivery.proofs.Senders.{steady}
 use Rattle.sctp_delivery.proofs.Sent.{Entry, Numbered}
 use Rattle.sctp_delivery.proofs.Writing.{accepted-stream, expires-one, writes-some}
 use Rattle.sctp_delivery.proofs.Every.{every-found}

@@ -31,8 +31,8 @@ record KeepsCounts (g : OutboundStream → OutboundStream) : Type 0 where
 counts-kept : (ws : List Write) (g : OutboundStream → OutboundStream) → KeepsCounts g → (l : OutboundStream) → Counts ws l → Counts ws (g l)
 counts-kept ws g k l h = grind (arith, nat_tests)
 
-changed-counts : (ws : List Write) (p : OutboundStream → Bool) (g : OutboundStream → OutboundStream) → KeepsCounts g → (ls : List OutboundStream) → Every (Counts ws) ls
-    → Every (Counts ws) (change_where p g ls)
+changed-counts : (ws : List Write) (p : OutboundStream → Bool) (g : OutboundStream → OutboundStream) → KeepsCounts g → (ls : List OutboundStream)
+    → Every (Counts ws) ls → Every (Counts ws) (change_where p g ls)
 changed-counts ws p g k ls h = every-changed (Counts ws) p g (λ l _ i. counts-kept ws g k l i) ls h
 
 less-keeps : (bytes : ℕ) → KeepsCounts (less_by bytes)

@@ -1,7 +1,8 @@
 -- Each message that is read was written.
 use Rattle.sctp_delivery.proofs.Names.{◌≡◌, ℕ, zero, suc, ◌+◌, ◌%◌, ◌^◌, ◌<◌, ◌≤◌, Bool, true, false, not, List, [], ◌∷◌, ◌++◌, length, Option, inl, inr, refl}
 use Rattle.sctp_delivery.proofs.Names.{ap, sym, subst, ◌∙◌, arith, get_or, ⊤, All, Contains, fails, ◌==◌, ◌&&◌, if◌then◌else◌, slice_index_or, list_all}
-use Rattle.sctp_delivery.proofs.Names.{AllPass-from_list_all, negated, same-is, same-yes, both, not_both, ChunkPayloadData, Data, data_of, completes, is_complete, Limits}
+use Rattle.sctp_delivery.proofs.Names.{AllPass-from_list_all, negated, same-is, same-yes, both, not_both, ChunkPayloadData, Data, data_of, completes}
+use Rattle.sctp_delivery.proofs.Names.{is_complete, Limits}
 use Rattle.sctp_delivery.proofs.Names.{Message, is_one_message, is_on, AfterEachFitSession, AreWrites, IsWrite, WhileTsnsLast, tsns_given, written_after, Made}
 use Rattle.sctp_delivery.proofs.Names.{SenderCall, Write, data_chunk, forward_tsn, AreMade, AreMessages, Call, ReceiverFollows, RunsTo, SenderFollows, Session}
 use Rattle.sctp_delivery.proofs.Names.{at_start, of_receiver, of_sender}

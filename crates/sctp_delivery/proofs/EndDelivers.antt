@@ -153,7 +153,8 @@ module _ (first size max most : ℕ) (limits : Option Limits) (cs : List Call) (
   each-to-come = every-of-all (λ c. is_due s.receiving.accepted c ≡ true → is_to_come s.receiving.receiver c ≡ true) (in_flight s) (λ k d lt e.
       let c = get_or (in_flight s) k d in
       let parts = due-parts s.receiving.accepted c e in
-      let g = every-at (λ (x : ChunkPayloadData). IsGiven (base first) n x.tsn) (in_flight s) k d lt (flight-given (base first) n (flight_of s) step.numbered) in
+      let g = every-at (λ (x : ChunkPayloadData). IsGiven (base first) n x.tsn)
+      (in_flight s) k d lt (flight-given (base first) n (flight_of s) step.numbered) in
       let fresh = fails (has_come c.tsn (filter_of s.receiving.receiver)) (λ h. elim (or-split (was_taken c.tsn s) (was_passed c.tsn s)
       (come-known (base first) n (known s) s.receiving.receiver few step.arrived c.tsn g h)) [
         | inl t ↦ not_both (sym parts.untaken ∙ t)

@@ -276,8 +276,8 @@ module _ (tsn size max most : ℕ) (limits : Option Limits) (cs : List Call) (s 
   }
 
   -- so the session ends, where there is room
-  ends : (enough : nat_le s.sending.sender.max_message_size s.receiving.receiver.max_message_size ≡ true) → ((b : Setting) → Grows b) → RoomIn limits s → (now : ℕ)
-      → Ends (setting enough now) s
+  ends : (enough : nat_le s.sending.sender.max_message_size s.receiving.receiver.max_message_size ≡ true) → ((b : Setting) → Grows b) → RoomIn limits s
+      → (now : ℕ) → Ends (setting enough now) s
   ends enough grows room now =
       let b = setting enough now in
       ends-from b (grows b) (chunks_left s.sending.sender) (tsns_given (at_start tsn size max most limits) cs s run) s
@@ -302,7 +302,7 @@ module _ (tsn size max most : ℕ) (limits : Option Limits) (cs : List Call) (s 
       }
 
   -- and so does each beside it
-  pub ends-beside : nat_le s.sending.sender.max_message_size s.receiving.receiver.max_message_size ≡ true → ((b : Setting) → Grows b) → RoomIn limits s → (now : ℕ)
-      → EachEnds now (abandoned_in (at_start tsn size max most limits) cs s run) (length s.sacks + chunks_left s.sending.sender)
+  pub ends-beside : nat_le s.sending.sender.max_message_size s.receiving.receiver.max_message_size ≡ true → ((b : Setting) → Grows b) → RoomIn limits s
+      → (now : ℕ) → EachEnds now (abandoned_in (at_start tsn size max most limits) cs s run) (length s.sacks + chunks_left s.sending.sender)
       (length s.made + 3 * chunks_left s.sending.sender) s
   ends-beside enough grows room now = (ends enough grows room now).beside

@@ -454,7 +454,8 @@ module _ (b : Setting) where
       let f = reads-on r.number s r.there in
       let lt = r.fewer in
       receiver-before b n (reads r.number) s t i f
-      (read-all m n t (at-same b n (of_receiver (reads r.number)) s t f refl refl refl (omega arith) (omega arith) (let less = read-cost r.number s.receiving.receiver.streams in
+      (read-all m n t (at-same b n (of_receiver (reads r.number)) s t f refl refl refl (omega arith) (omega arith) (let less =
+      read-cost r.number s.receiving.receiver.streams in
       omega (arith, less)) i) (omega (arith, le, lt)) (λ u j x none.
       next u j (rests-then s t u (record { sending = refl; accepted = refl; cumulative = refl; made = refl; sacks = refl }) x) none)))
 

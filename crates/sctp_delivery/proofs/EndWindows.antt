@@ -241,7 +241,8 @@ module _ (b : Setting) (n : ℕ) (s : Session) (i : At b n s) (none : length (in
 -- ## The law
 
 pub room-each : (o : Option Limits) (s : Session)
-    → due_by price s.receiving.accepted (in_flight s) ≤ sum_by price (filter (is_to_come s.receiving.receiver) (in_flight s)) → has_window o s.sending.sender s.receiving.receiver ≡ true → RoomIn o s
+    → due_by price s.receiving.accepted (in_flight s) ≤ sum_by price (filter (is_to_come s.receiving.receiver) (in_flight s))
+    → has_window o s.sending.sender s.receiving.receiver ≡ true → RoomIn o s
 room-each h0 h1 h2 h3 = grind (arith, nat_tests, common_steps, both, all-every)
 
 pub all-end : AfterEachSessionWithTsnsLeft EndsWhereTaken

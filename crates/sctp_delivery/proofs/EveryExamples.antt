@@ -14,7 +14,8 @@ use Rattle.sctp_delivery.specs.EveryCall.{AnyCall, RunsAny, SenderDoes, is_singl
 use Rattle.sctp_delivery.specs.ReceiverCalls as incoming
 use Rattle.sctp_delivery.specs.ReceiverCalls.{reports}
 use Rattle.sctp_delivery.specs.SenderCalls as outgoing
-use Rattle.sctp_delivery.proofs.Examples.{acks, after_chunk, after_send, by-receiver, by-sender, chunk, first_chunk, in_flight, opened, opens, receiving, sack_of}
+use Rattle.sctp_delivery.proofs.Examples.{acks, after_chunk, after_send, by-receiver, by-sender, chunk, first_chunk, in_flight, opened, opens, receiving}
+use Rattle.sctp_delivery.proofs.Examples.{sack_of}
 use Rattle.sctp_delivery.proofs.Examples.{sending, sends-one, start, taken, takes-one, both_open, opens-too, writes-byte, written, writes-one}
 
 -- the message came, and was not read; it is acknowledged
@@ -106,7 +107,13 @@ calls =
 goes-on : RunsAny taken rest both_read
 goes-on = (
   reported,
-  (reports-one, (acknowledged, (takes-sack, (reset, (resets-it, (two_written, (writes-two, (two_sent, (sends-two, (two_taken, (takes-two, (both_read, (reads-both, refl))))))))))))),
+  (
+    reports-one,
+    (
+      acknowledged,
+      (takes-sack, (reset, (resets-it, (two_written, (writes-two, (two_sent, (sends-two, (two_taken, (takes-two, (both_read, (reads-both, refl))))))))))),
+    ),
+  ),
 )
 
 session : RunsAny start calls both_read

@@ -17,7 +17,8 @@ use Rattle.sctp_delivery.specs.EveryCall.{AfterEachAny, AnyCall, AreSingle, AreS
 use Rattle.sctp_delivery.specs.EveryCall.{makes, of_receiving, of_sending, renews, SenderDoes, takes_back, AreToldApart, is_single, is_steady, single_messages}
 use Rattle.sctp_delivery.specs.EveryCall.{tsns_given_any, was_dropped}
 use Rattle.sctp_receiver.specs.ReceiverRuns.{AreComplete, AreOfOneMessage}
-use Rattle.sctp_delivery.specs.EveryEnd.{IsLeftOn, IsOrderedReadInTheEnd, IsReadOn, IsSentReadInTheEnd, IsUnorderedReadInTheEnd, IsUnorderedReadOrHeld, IsUnorderedSentReadInTheEnd}
+use Rattle.sctp_delivery.specs.EveryEnd.{IsLeftOn, IsOrderedReadInTheEnd, IsReadOn, IsSentReadInTheEnd, IsUnorderedReadInTheEnd, IsUnorderedReadOrHeld}
+use Rattle.sctp_delivery.specs.EveryEnd.{IsUnorderedSentReadInTheEnd}
 use Rattle.sctp_delivery.specs.EveryEnd.{abandoned_any, dropped_any, is_unnamed}
 use Rattle.sctp_delivery.specs.EveryOrder.{AreSingleReadAsWritten, AreSingleReadInOrder, breaks, goes_on, is_unbroken, opens_incoming, plain_calls}
 use Rattle.sctp_delivery.specs.Messages.{AreParts, AreSame}

@@ -3,7 +3,8 @@ use Rattle.sctp_delivery.proofs.Names.{◌≡◌, ℕ, ◌+◌, ◌<◌, ◌^◌
 use Rattle.sctp_delivery.proofs.Names.{◌∙◌, arith, distance, not_both, or-left, or-right, filter, change_where, Limits, Modes, OutboundStream}
 use Rattle.sctp_delivery.proofs.Names.{Call, Follows, Session, bytes_written, of_receiver, of_sender, at_first, has_number, Transmission}
 use Rattle.sctp_delivery.proofs.Names.{abandoned_by, append-nil, append_assoc, SenderCall, Made, ForwardTsn, is_pair_of, list_any_at, made_after}
-use Rattle.sctp_delivery.proofs.Names.{stream_of, ◌||◌, Mode, both, inl, inr, is_open, modes_from, negated, or-split, Some, None, none-some, nat_eq, list_any-append, ChunkPayloadData}
+use Rattle.sctp_delivery.proofs.Names.{stream_of, ◌||◌, Mode, both, inl, inr, is_open, modes_from, negated, or-split, Some, None, none-some, nat_eq}
+use Rattle.sctp_delivery.proofs.Names.{list_any-append, ChunkPayloadData}
 use Rattle.sctp_delivery.proofs.Names.{has_come, has_tsn, filter_of, ⊤}
 use Rattle.sctp_delivery.proofs.Names.{IsAccounted, Contains, at_start, list_any, same-yes, sum_by, Write, data_chunk, forward_tsn, data_of, if◌then◌else◌}
 use Rattle.sctp_receiver.specs.ReceiverRuns as receiver_runs

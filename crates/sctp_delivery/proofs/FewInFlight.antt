@@ -2,7 +2,8 @@
 use Rattle.sctp_delivery.proofs.Names.{◌≡◌, ℕ, ◌+◌, ◌<◌, ◌≤◌, ◌^◌, Bool, true, false, not, List, [], ◌∷◌, length, ⊤, Option, Some, None, refl, ap}
 use Rattle.sctp_delivery.proofs.Names.{sym, subst, arith, nat_tests, filter, insert_before, change_where, Contains, if◌then◌else◌}
 use Rattle.sctp_delivery.proofs.Names.{comes_before, at_or_before, tsn, tsns, has_tsn, Sack, Flight, ChunkPayloadData, Transmission, Reception}
-use Rattle.sctp_delivery.proofs.Names.{after_sack, take_sack, is_outdated, sack_refusal, all_started, sent_next, next_after_send, after_forward_tsn, changed-run}
+use Rattle.sctp_delivery.proofs.Names.{after_sack, take_sack, is_outdated, sack_refusal, all_started, sent_next, next_after_send, after_forward_tsn}
+use Rattle.sctp_delivery.proofs.Names.{changed-run}
 use Rattle.sctp_delivery.proofs.Names.{after_misses, abandoned_each, after_abandonment, with_inflight, with_room, expired_of, with_message, fragments_with_mode}
 use Rattle.sctp_delivery.proofs.Names.{can_miss, missed, started-inflight, next_pending, as_sent, option_map, ForwardTsn, Released}
 use Rattle.sctp_delivery.proofs.Names.{Session, SenderFollows, ReceiverFollows, SenderCall, ReceiverCall, Made, made_after, with_chunk, data_chunk, forward_tsn}
@@ -18,7 +19,8 @@ use Rattle.sctp_delivery.specs.SenderCalls.{IsAccepted}
 use Rattle.sctp_delivery.specs.Modes.{AreFewInFlight}
 use Rattle.sctp_delivery.specs.Session.{Call, Follows, IsReported, RunsTo, at_start, count_in_flight, of_receiver, of_sender}
 use Rattle.sctp_delivery.proofs.Cases.{at-test}
-use Rattle.sctp_delivery.proofs.Changes.{Change, Keeps, acknowledges, all_start, changes, each-call, each_leaves, flight_after, front_expires, more_room, nothing}
+use Rattle.sctp_delivery.proofs.Changes.{Change, Keeps, acknowledges, all_start, changes, each-call, each_leaves, flight_after, front_expires, more_room}
+use Rattle.sctp_delivery.proofs.Changes.{nothing}
 use Rattle.sctp_delivery.proofs.Changes.{one_leaves, some_marked, some_missed}
 use Rattle.sctp_delivery.proofs.Every.{Every, every-all, every-contained, every-found, every-inserted, every-of, every-passing}
 use Rattle.sctp_delivery.proofs.GivenTsns.{IsNumbered, Raises, flight-given, passable-end, passable-skip, raises-abandoned, raises-each, raises-sent, rebased}
@@ -159,7 +161,11 @@ module _ (call : SenderCall) (old new : Session) (f : SenderFollows call old new
   }
 
   unmarked : EachIs IsUnmarked (λ c. ⊤) u.flight.queue
-  unmarked = record { ordered = i.regular.fresh.ordered; unordered = i.regular.fresh.unordered; inflight = every-all (λ (c : ChunkPayloadData). ⊤) (λ c. tt) u.flight.queue.inflight.chunks }
+  unmarked = record {
+    ordered = i.regular.fresh.ordered;
+    unordered = i.regular.fresh.unordered;
+    inflight = every-all (λ (c : ChunkPayloadData). ⊤) (λ c. tt) u.flight.queue.inflight.chunks;
+  }
 
   sender-fresh : (c : SenderCall) → SenderFollows c old new → EachIs IsUnmarked (λ c. ⊤) new.sending.sender.flight.queue
   sender-fresh (outgoing.writes stream ppi (b ∷ bs)) g =

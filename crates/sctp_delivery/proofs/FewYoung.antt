@@ -2,12 +2,14 @@
 use Rattle.sctp_delivery.proofs.Names.{◌≡◌, ℕ, zero, suc, ◌+◌, ◌-◌, ◌%◌, ◌<◌, ◌≤◌, ◌^◌, true, List, [], ◌∷◌, ◌++◌, length, map, Option, Some, None, refl, ap}
 use Rattle.sctp_delivery.proofs.Names.{sym, subst, ◌∙◌, arith, nat_tests, inl, inr, ⊤, list_all, Contains, slice_index_or, both}
 use Rattle.sctp_delivery.proofs.Names.{ChunkPayloadData, Data, data_of, is_on, fragments_on, stream_of, Made, data_chunk, forward_tsn, with_chunk, tsn}
-use Rattle.sctp_delivery.proofs.Names.{distance-tsn, tsns_given, next_chunk, made_after, Transmission, Call, RunsTo, Session, SenderCall, ReceiverCall, SenderFollows}
+use Rattle.sctp_delivery.proofs.Names.{distance-tsn, tsns_given, next_chunk, made_after, Transmission, Call, RunsTo, Session, SenderCall, ReceiverCall}
+use Rattle.sctp_delivery.proofs.Names.{SenderFollows}
 use Rattle.sctp_delivery.proofs.Names.{ReceiverFollows, Stand, at_start, of_receiver, of_sender}
 use Rattle.sctp_util.specs.Serial.{comes_before, distance}
 use Rattle.std.proofs.lemmas.List.Elements.{Contains-append_right}
 use Rattle.sctp_delivery.specs.ReceiverCalls as incoming
-use Rattle.sctp_delivery.specs.Recent.{AfterEachYoungRun, Aged, AreForwardsYoung, AreRecent, AreYoung, FewTsnsAreYoung, HoldsRecent, WhileReliableAndYoung, IsAmongYoung, IsForwardYoung, IsRecent, IsYoung}
+use Rattle.sctp_delivery.specs.Recent.{AfterEachYoungRun, Aged, AreForwardsYoung, AreRecent, AreYoung, FewTsnsAreYoung, HoldsRecent, WhileReliableAndYoung}
+use Rattle.sctp_delivery.specs.Recent.{IsAmongYoung, IsForwardYoung, IsRecent, IsYoung}
 use Rattle.sctp_delivery.specs.Complete.{AfterEachReliableSession}
 use Rattle.sctp_delivery.specs.Messages.{AreWritesOfTheirOwn, WhileFewTsns}
 use Rattle.sctp_delivery.specs.Modes.{AfterEachRunOfFewTsns, AreReadAsWritten}
@@ -199,7 +201,8 @@ module _ (first n : ℕ) (call : SenderCall) (old new : Session) (ns : List Numb
   sender-places : HavePlaces old sent ages → HavePlaces new x.more (aged_after (of_sender call) old new ages)
   sender-places p =
       let y = sender-young first call old new ns sent ages f (record { holds = i.spread.holds; placed = p.0; held = p.1; read = p.2 }) (recent-then p) in
-      subst (λ more. HavePlaces new more (aged_after (of_sender call) old new ages)) (same-more first n call old new ns sent i.spread few f) (y.placed, y.held, y.read)
+      subst (λ more. HavePlaces new more (aged_after (of_sender call) old new ages)) (same-more first n call old new ns sent i.spread few f)
+      (y.placed, y.held, y.read)
 
   sender-recent : IsRecent (of_sender call) old
   sender-recent = by call f.handed
@@ -281,9 +284,14 @@ few-then first n (of_sender call ∷ cs) old new ns sent ages r few i a p =
     let less : n + distance (next_tsn old) (next_tsn r.0) < 2 ^ 31 = omega (arith, few) in
     let j = sender-unwrapped first n call old r.0 ns sent ages less r.1.0 i in
     let more = (sender-spreads first n call old r.0 ns sent i.spread less r.1.0).more in
-    let next = few-then first (n + distance (next_tsn old) (next_tsn r.0)) cs r.0 new (numbered_after call ns) more (aged_after (of_sender call) old r.0 ages) r.1.1
+    let next =
+    few-then first (n + distance (next_tsn old) (next_tsn r.0)) cs r.0 new (numbered_after call ns) more (aged_after (of_sender call) old r.0 ages) r.1.1
     (omega (arith, few)) j (sender-aged first n call old r.0 ns sent ages less r.1.0 i a) (sender-places first n call old r.0 ns sent ages less r.1.0 i p) in (
-      (sender-recent first n call old r.0 ns sent ages less r.1.0 i, few-flying first (n + distance (next_tsn old) (next_tsn r.0)) r.0 (numbered_after call ns) more less j, next.0),
+      (
+        sender-recent first n call old r.0 ns sent ages less r.1.0 i,
+        few-flying first (n + distance (next_tsn old) (next_tsn r.0)) r.0 (numbered_after call ns) more less j,
+        next.0,
+      ),
       (tt, recent-then first n call old r.0 ns sent ages less r.1.0 i p, next.1),
       (tt, next.2),
     )

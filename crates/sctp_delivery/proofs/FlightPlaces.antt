@@ -2,9 +2,11 @@
 use Rattle.sctp_delivery.proofs.Names.{◌≡◌, ℕ, zero, suc, ◌+◌, ◌%◌, ◌<◌, ◌^◌, Bool, true, false, List, [], ◌∷◌, ◌++◌, length, take, drop, refl}
 use Rattle.sctp_delivery.proofs.Names.{ap, sym, subst, ◌∙◌, arith, inl, inr, if◌then◌else◌, Option, Some, None, change_where}
 use Rattle.sctp_delivery.proofs.Names.{insert_before, length-append, length-drop, find, option_map, tsn, tsns}
-use Rattle.sctp_delivery.proofs.Names.{ChunkPayloadData, data_of, chunk_before, as_abandoned, as_acknowledged, as_sent, is_of, terminal_chunk, has_tsn, following_tsn}
+use Rattle.sctp_delivery.proofs.Names.{ChunkPayloadData, data_of, chunk_before, as_abandoned, as_acknowledged, as_sent, is_of, terminal_chunk, has_tsn}
+use Rattle.sctp_delivery.proofs.Names.{following_tsn}
 use Rattle.sctp_delivery.proofs.Names.{all_started, started-inflight, with_inflight, with_room, expired_of, after_abandonment, after_sack}
-use Rattle.sctp_delivery.proofs.Names.{take_sack, is_outdated, sack_refusal, reports_anew, message_to_abandon, abandoned_at, abandoned_each, after_misses, can_miss}
+use Rattle.sctp_delivery.proofs.Names.{take_sack, is_outdated, sack_refusal, reports_anew, message_to_abandon, abandoned_at, abandoned_each, after_misses}
+use Rattle.sctp_delivery.proofs.Names.{can_miss}
 use Rattle.sctp_delivery.proofs.Names.{missed, sent_next, next_after_send, next_pending, last_removed, no_last, waits, partially_sent, IsRunFrom, tsns_from}
 use Rattle.sctp_delivery.proofs.Names.{changed-run, past-is, Flight, Sack, Released, Transmission, SenderCall, SenderFollows, Session, Outbound, sent_of}
 use Rattle.sctp_delivery.proofs.Names.{with_terminal_chunk, fragments_with_mode, with_message, is_ordered_on, found-partial, peeked_all_started}

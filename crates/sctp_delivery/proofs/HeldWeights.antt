@@ -1,6 +1,7 @@
 -- What a stream holds weighs no more after a call than before, but for a chunk that is taken; and no less than the message that is read of it.
 use Rattle.sctp_delivery.proofs.Names.{◌≡◌, ℕ, ◌+◌, ◌≤◌, Bool, true, false, List, [], ◌∷◌, Option, Some, None, refl, ap, sym, subst, ◌∙◌, arith, ◌==◌}
-use Rattle.sctp_delivery.proofs.Names.{if◌then◌else◌, find, option_map, option_or, find-append, ChunkPayloadData, ForwardTsn, InboundStream, Reception, stream_of}
+use Rattle.sctp_delivery.proofs.Names.{if◌then◌else◌, find, option_map, option_or, find-append, ChunkPayloadData, ForwardTsn, InboundStream, Reception}
+use Rattle.sctp_delivery.proofs.Names.{stream_of}
 use Rattle.sctp_delivery.proofs.Names.{new_stream, stream_read, with_queue, Accepts, ReassemblyState, message_on, is_on, held_weight, weight, skipped_each}
 use Rattle.sctp_delivery.proofs.Names.{unassembled_forwarded, stream_forwarded, incomplete_forwarded, follow_forward_tsn, without_incomplete, after_forward_tsn}
 use Rattle.sctp_delivery.proofs.Names.{is_stale, ssns_of, same-yes, ReceiverCall, ReceiverFollows, Session, New, Repeat}

@@ -34,7 +34,8 @@ is_upto p m t = nat_le (distance (tsn p 0) t) m
 
 pub upto-place : (p m y t : ℕ) → t ≡ tsn p y → y < 2 ^ 32 → is_upto p m t ≡ nat_le y m
 upto-place p m y t is few =
-    let d : distance (tsn p 0) t ≡ y = ap (distance (tsn p 0)) is ∙ distance-tsn p 0 y (omega arith) (omega (arith, few)) ∙ (let e : y - 0 ≡ y = omega arith in e) in
+    let d : distance (tsn p 0) t ≡ y = ap (distance (tsn p 0)) is ∙ distance-tsn p 0 y (omega arith) (omega (arith, few))
+    ∙ (let e : y - 0 ≡ y = omega arith in e) in
     ap (λ k. nat_le k m) d
 
 module _ (first : ℕ) (sent : List Entry) (st : ℕ) where

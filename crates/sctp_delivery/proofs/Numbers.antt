@@ -88,7 +88,8 @@ pub apart-changed : (p : OutboundStream → Bool) (f : OutboundStream → Outbou
 apart-changed p f same ls a s = let e = counts-changed p f same s ls in let k = a s in omega (arith, e, k)
 
 numbers-changed : (p : OutboundStream → Bool) (f : OutboundStream → OutboundStream) → ((l : OutboundStream) → (f l).stream_identifier ≡ l.stream_identifier)
-    → ((l : OutboundStream) → (f l).sequence_number ≡ l.sequence_number) → (s : ℕ) (ls : List OutboundStream) → number_of s (change_where p f ls) ≡ number_of s ls
+    → ((l : OutboundStream) → (f l).sequence_number ≡ l.sequence_number) → (s : ℕ) (ls : List OutboundStream)
+    → number_of s (change_where p f ls) ≡ number_of s ls
 numbers-changed p f same number s [] = refl
 numbers-changed p f same number s (l ∷ ls) = grind (arith, nat_tests, numbers-changed p f same number s ls)
 

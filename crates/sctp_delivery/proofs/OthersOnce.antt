@@ -1,6 +1,7 @@
 -- In the end each write is read exactly once, but for those whose messages were abandoned; in a reliable session none was.
 use Rattle.sctp_delivery.proofs.Names.{length, arith, ◌≡◌, ◌<◌, true, subst, both, stream_of, EachOtherIsReadOnce, abandoned_in}
-use Rattle.sctp_delivery.proofs.Names.{AfterEachReliableSession, is_all_acknowledged, reads_nothing, WhileFewTsns, was_passed, at_start, RunsTo, Session, Call, Limits, Option, List, [], ℕ, ◌^◌}
+use Rattle.sctp_delivery.proofs.Names.{AfterEachReliableSession, is_all_acknowledged, reads_nothing, WhileFewTsns, was_passed, at_start, RunsTo, Session, Call}
+use Rattle.sctp_delivery.proofs.Names.{Limits, Option, List, [], ℕ, ◌^◌}
 use Rattle.sctp_delivery.specs.Abandoned.{AfterEachSessionOfMessages, AreOfWrites, IsEachOtherReadInTheEnd, IsHeldReadOrPassed, OnlyTheirsAreMarked}
 use Rattle.sctp_delivery.specs.Complete.{IsAllReadInTheEnd}
 use Rattle.sctp_delivery.specs.Modes.{AreFewInFlight}

@@ -1,5 +1,6 @@
 -- In each session of few TSNs: each FORWARD-TSN passes abandoned messages, and what was taken, alone (RFC 3758 3.5).
-use Rattle.sctp_delivery.proofs.Names.{◌≡◌, ℕ, ◌+◌, ◌<◌, ◌≤◌, ◌^◌, Bool, true, not, List, [], ◌∷◌, ◌++◌, length, take, Option, Some, None, inl, inr, refl, ap, sym}
+use Rattle.sctp_delivery.proofs.Names.{◌≡◌, ℕ, ◌+◌, ◌<◌, ◌≤◌, ◌^◌, Bool, true, not, List, [], ◌∷◌, ◌++◌, length, take, Option, Some, None, inl, inr, refl, ap}
+use Rattle.sctp_delivery.proofs.Names.{sym}
 use Rattle.sctp_delivery.proofs.Names.{subst, ◌∙◌, arith, suc, ◌||◌, if◌then◌else◌, nat_le, option_map, ◌==◌, filter, cases_lt, nat_tests, none-some}
 use Rattle.sctp_delivery.proofs.Names.{common_steps, at_or_before, distance, or-left, or-right, or-split, same-is, some-same, both, not_both, tsn}
 use Rattle.sctp_delivery.proofs.Names.{ChunkPayloadData, ForwardTsn, Data, data_of, ends, has_tsn, Limits, ahead, can_skip_to, ends_in, is_end, last_end}

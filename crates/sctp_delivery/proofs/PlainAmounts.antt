@@ -12,7 +12,8 @@ use Rattle.sctp_sender.specs.Flight.{is_outdated}
 use Rattle.sctp_sender.specs.Keeping.{after_returns, answered_back, back_each, more_by, restored, takes_back as is_back}
 use Rattle.sctp_sender.specs.Sender.{back_by, stream_of, taken_back_by}
 use Rattle.sctp_delivery.specs.Amounts.{AmountsEnd, EachIsTold, told_by, told_on, written_by, written_on}
-use Rattle.sctp_delivery.specs.Returns.{AfterEachWithReturnsOfFewInFlight, AmountsAreLeftSo, AreFewInFlightSo, CallOrReturn, EachReturnIsTold, IsOfMade, RunsWithReturns, TakesBack}
+use Rattle.sctp_delivery.specs.Returns.{AfterEachWithReturnsOfFewInFlight, AmountsAreLeftSo, AreFewInFlightSo, CallOrReturn, EachReturnIsTold, IsOfMade}
+use Rattle.sctp_delivery.specs.Returns.{RunsWithReturns, TakesBack}
 use Rattle.sctp_delivery.specs.Returns.{abandoned_so, at_start_with, bytes_back_on, makes, other_calls, returned_by, returned_on, takes_back, tsns_given_so}
 use Rattle.sctp_delivery.specs.Session.{count_in_flight}
 use Rattle.sctp_delivery.proofs.AmountLaws.{AllOf, AreCounted, IsOf, WasMade, all-told, counted-in, counted-then, each-made, ends-of, made-in, moved}
@@ -51,7 +52,8 @@ module _ (ws : List Write) (sack : Sack) where
       bs : List (Option (List ℕ))
       bs = back_each sack cs ks
 
-      more : Comes ws cs ds (back_each sack cs ks) → Every (λ (r : TakenBack). r.bytes ≤ weigh (only r.stream) (d ∷ ds)) (answered_back (back_each sack cs ks) cs)
+      more : Comes ws cs ds (back_each sack cs ks)
+          → Every (λ (r : TakenBack). r.bytes ≤ weigh (only r.stream) (d ∷ ds)) (answered_back (back_each sack cs ks) cs)
       more rest = every-of (λ (r : TakenBack). r.bytes ≤ weigh (only r.stream) ds) (λ (r : TakenBack). r.bytes ≤ weigh (only r.stream) (d ∷ ds))
           (λ r le. let n = sum_by-cons (size (only r.stream)) d ds in omega (arith, n, le)) (answered_back bs cs) rest.within
 
@@ -99,8 +101,9 @@ module _ (ws : List Write) (sack : Sack) where
 
 -- it is something, so each stream is open
 module _ (st : ℕ) where
-  amount-returned : (rs : List TakenBack) (ls : List OutboundStream) → Every (λ (r : TakenBack). 0 < r.bytes → is_some (find (has_number r.stream) ls) ≡ true) rs
-      → amount st ls + bytes_back_on st rs < 2 ^ 64 → amount st (after_returns rs ls) ≡ amount st ls + bytes_back_on st rs
+  amount-returned : (rs : List TakenBack) (ls : List OutboundStream)
+      → Every (λ (r : TakenBack). 0 < r.bytes → is_some (find (has_number r.stream) ls) ≡ true) rs → amount st ls + bytes_back_on st rs < 2 ^ 64
+      → amount st (after_returns rs ls) ≡ amount st ls + bytes_back_on st rs
   amount-returned [] ls e few = omega arith
   amount-returned (r ∷ rs) ls e few =
       let more = change_where (has_number r.stream) (more_by r.bytes) ls in

@@ -116,7 +116,8 @@ module _ (p n : ℕ) (f : Flight) (ks : List (Option (List ℕ))) (ds : List Chu
       let longer = are-long ks cs es b in
       let total = h.total in
       let run : IsRunFrom first es = same ∙ h.run ∙ ap (tsns_from first) (sym long) in
-      subst (λ xs. AreLike ks (insert_before chunk_before x cs) xs) (sym (put-behind x es first (tsn-small p (h.acked + 1)) (omega (arith, long, total, few)) run
+      subst (λ xs. AreLike ks (insert_before chunk_before x cs) xs)
+      (sym (put-behind x es first (tsn-small p (h.acked + 1)) (omega (arith, long, total, few)) run
       (omega (arith, is, h.next_is, total, long))))
       (subst (λ xs. AreLike ks xs (es ++ x ∷ [])) (sym (put-behind x cs first (tsn-small p (h.acked + 1)) (omega (arith, long, longer, total, few))
       (are-tsns ks cs es b ∙ run ∙ ap (tsns_from first) (sym longer)) (omega (arith, is, h.next_is, total, long, longer))))

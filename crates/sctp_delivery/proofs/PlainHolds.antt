@@ -1,5 +1,6 @@
 -- A session of a sender that keeps what is reported holds what the session beside it does: what got TSNs, and how all that waits follows on.
-use Rattle.sctp_delivery.proofs.Names.{arith, nat_tests, common_steps, ◌≡◌, ℕ, ◌<◌, ◌^◌, Bool, true, List, [], ◌∷◌, map, refl, ap, sym, subst, ◌∙◌, if◌then◌else◌}
+use Rattle.sctp_delivery.proofs.Names.{arith, nat_tests, common_steps, ◌≡◌, ℕ, ◌<◌, ◌^◌, Bool, true, List, [], ◌∷◌, map, refl, ap, sym, subst, ◌∙◌}
+use Rattle.sctp_delivery.proofs.Names.{if◌then◌else◌}
 use Rattle.sctp_delivery.proofs.Names.{◌==◌, ◌||◌, Option, list_any, negated, both, ChunkPayloadData, OutboundStream, Limits, Transmission, Session, Modes}
 use Rattle.sctp_delivery.proofs.Names.{is_of, is_outstanding, data_of, sum_by-cons}
 use Rattle.sctp_delivery.proofs.AmountLaws.{HasMade, made-in}
@@ -55,7 +56,8 @@ pub outstanding-like : (k : Option (List ℕ)) (c d : ChunkPayloadData) → IsLi
     → (is_outstanding d ≡ true) × (data_of c ≡ data_of d)
 outstanding-like k c d i o = grind (arith, nat_tests, common_steps, both, negated)
 
-known-like : (on : ℕ → Bool) (first : ℕ) (sent : List Entry) (k : Option (List ℕ)) (c d : ChunkPayloadData) → IsLike k c d → Unit {0} → IsKnownOn on first sent d → IsKnownOn on first sent c
+known-like : (on : ℕ → Bool) (first : ℕ) (sent : List Entry) (k : Option (List ℕ)) (c d : ChunkPayloadData) → IsLike k c d → Unit {0}
+    → IsKnownOn on first sent d → IsKnownOn on first sent c
 known-like on first sent k c d i h6 h = (
   λ o. let x = outstanding-like k c d i o in subst (WasSent sent) (sym x.1) (h.0 x.0),
   placed-alike on first sent d c (record {

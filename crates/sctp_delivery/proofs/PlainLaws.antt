@@ -12,7 +12,8 @@ use Rattle.sctp_delivery.specs.Modes.{Sending, numbered_in}
 use Rattle.sctp_delivery.specs.EveryCall.{SenderDoes, takes_back}
 use Rattle.sctp_delivery.specs.Messages.{AreSame}
 use Rattle.sctp_delivery.specs.SenderCalls.{TakesBackAndSack}
-use Rattle.sctp_delivery.specs.Returns.{AfterEachWithReturnsOfFewInFlight, AfterEachWithReturnsOfFewTsns, AreFewInFlightSo, CallOrReturn, EachAckedIsTwoCalls, NoneIsRefusedSo, RunsWithReturns, after_return}
+use Rattle.sctp_delivery.specs.Returns.{AfterEachWithReturnsOfFewInFlight, AfterEachWithReturnsOfFewTsns, AreFewInFlightSo, CallOrReturn, EachAckedIsTwoCalls}
+use Rattle.sctp_delivery.specs.Returns.{NoneIsRefusedSo, RunsWithReturns, after_return}
 use Rattle.sctp_delivery.specs.Returns.{at_start_with, other_calls}
 use Rattle.sctp_sender.specs.declared.sender.flight.Released.{Released}
 use Rattle.sctp_sender.specs.declared.sender.flight.kept.TakenBack.{TakenBack}

@@ -97,7 +97,8 @@ module _ (reported : Reported) (first size max most : ℕ) (limits : Option Limi
       let t = s.sending.sender in
       let ks = kept_of t.kept in
       subst (MayMake f) (sym w.sender) (elim h [
-        | inl a ↦ inl (a.0, (a.1.0 ∙ sym (skip-same t.flight ks w.chunks w.like a.0), named-same t.flight ks w.chunks w.like f.streams f.new_cumulative_tsn a.1.1))
+        | inl a ↦
+            inl (a.0, (a.1.0 ∙ sym (skip-same t.flight ks w.chunks w.like a.0), named-same t.flight ks w.chunks w.like f.streams f.new_cumulative_tsn a.1.1))
         | inr a ↦ inr (
           a.0,
           (

@@ -1,5 +1,6 @@
 -- A write waits behind what waits already, and a message that was not sent leaves.
-use Rattle.sctp_delivery.proofs.Names.{◌≡◌, ℕ, ◌+◌, ◌%◌, ◌^◌, Bool, true, false, List, [], ◌∷◌, ◌++◌, map, Option, Some, None, refl, ap, sym, subst, ◌∙◌, arith, not, ◌==◌}
+use Rattle.sctp_delivery.proofs.Names.{◌≡◌, ℕ, ◌+◌, ◌%◌, ◌^◌, Bool, true, false, List, [], ◌∷◌, ◌++◌, map, Option, Some, None, refl, ap, sym, subst, ◌∙◌, arith}
+use Rattle.sctp_delivery.proofs.Names.{not, ◌==◌}
 use Rattle.sctp_delivery.proofs.Names.{◌&&◌, if◌then◌else◌, list_any, none-some, change_where, by_same, or-left, same-is, same-yes, some-same, fails, not_both}
 use Rattle.sctp_delivery.proofs.Names.{ChunkPayloadData, Selected, is_of, Outbound, append_chunks, expired_of, with_message, with_message_id, closed_up}
 use Rattle.sctp_delivery.proofs.Names.{next_pending, one_lower, without, without_message, GoesOn, IsMessage, goes_on, made, KeepsMessage, is_on, list_any-those}

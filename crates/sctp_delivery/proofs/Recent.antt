@@ -19,7 +19,8 @@ use Rattle.sctp_delivery.specs.ReceiverCalls as incoming
 use Rattle.sctp_delivery.specs.SenderCalls as outgoing
 use Rattle.sctp_delivery.specs.Session.{count_in_flight}
 use Rattle.sctp_delivery.proofs.ArrivedTsns.{IsArrived, IsKnown, advanced}
-use Rattle.sctp_delivery.proofs.Changes.{Change, Keeps, acknowledges, all_start, changes, each-call, each_leaves, flight_after, front_expires, more_room, nothing}
+use Rattle.sctp_delivery.proofs.Changes.{Change, Keeps, acknowledges, all_start, changes, each-call, each_leaves, flight_after, front_expires, more_room}
+use Rattle.sctp_delivery.proofs.Changes.{nothing}
 use Rattle.sctp_delivery.proofs.Changes.{one_leaves, some_marked, some_missed}
 use Rattle.sctp_delivery.proofs.Every.{Every, every-both, every-contained, every-inserted, every-of, every-passing}
 use Rattle.sctp_delivery.proofs.FewInFlight.{AreRegular, IsInRun, IsMadeSmall, IsSmall, regular-first, regular-then, sack-place}

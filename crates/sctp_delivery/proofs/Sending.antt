@@ -1,7 +1,8 @@
 -- A fragment is sent: it goes on where the last entry ends, and what waits behind it goes on with it.
 use Rattle.sctp_delivery.proofs.Names.{◌≡◌, ℕ, ◌+◌, ◌%◌, ◌^◌, ◌≤◌, Bool, true, false, not, List, [], ◌∷◌, length, Option, Some, None, slice_get, inl, inr, refl}
 use Rattle.sctp_delivery.proofs.Names.{ap, sym, subst, ◌∙◌, arith, ⊤, ◌==◌, if◌then◌else◌, none-some, nat_tests, some-same, same-yes, and, not_both}
-use Rattle.sctp_delivery.proofs.Names.{ChunkPayloadData, Data, data_of, Selected, as_sent, Pending, list_to_pop, next_pending, rest_after, rest_from, selected_after}
+use Rattle.sctp_delivery.proofs.Names.{ChunkPayloadData, Data, data_of, Selected, as_sent, Pending, list_to_pop, next_pending, rest_after, rest_from}
+use Rattle.sctp_delivery.proofs.Names.{selected_after}
 use Rattle.sctp_delivery.proofs.Names.{IsSendable, IsWhole, begun, free, made}
 use Rattle.std.proofs.Common.{◌⊎◌}
 use Rattle.sctp_delivery.proofs.Cases.{Where, where-map, where-yes}

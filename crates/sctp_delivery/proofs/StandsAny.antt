@@ -186,7 +186,8 @@ receiver-other-steps call old new u st is m taken h =
 
 pub acked-steps : EachAckedStepsAny
 acked-steps sack back gone old new r st is x handed room =
-    let w = messages.two-calls st.reported st.tsn st.size st.max st.most st.limits st.calls st.session st.run st.small st.some st.few st.short sack back gone new
+    let w =
+    messages.two-calls st.reported st.tsn st.size st.max st.most st.limits st.calls st.session st.run st.small st.some st.few st.short sack back gone new
     handed (subst (λ y. TakesBackAndSack sack back gone y new) (sym is.sends) x) in
     let none = same-way st in
     let few = st.few in

@@ -175,8 +175,9 @@ amount-mapped s f number same [] = refl
 amount-mapped s f number same (l ∷ ls) = grind (arith, nat_tests, amount-mapped s f number same ls)
 
 -- some are changed, and their amounts stay
-pub amount-kept : (s : ℕ) (p : OutboundStream → Bool) (f : OutboundStream → OutboundStream) → ((l : OutboundStream) → (f l).stream_identifier ≡ l.stream_identifier)
-    → ((l : OutboundStream) → (f l).buffered_amount ≡ l.buffered_amount) → (ls : List OutboundStream) → amount s (change_where p f ls) ≡ amount s ls
+pub amount-kept : (s : ℕ) (p : OutboundStream → Bool) (f : OutboundStream → OutboundStream)
+    → ((l : OutboundStream) → (f l).stream_identifier ≡ l.stream_identifier) → ((l : OutboundStream) → (f l).buffered_amount ≡ l.buffered_amount)
+    → (ls : List OutboundStream) → amount s (change_where p f ls) ≡ amount s ls
 amount-kept s p f number same ls = grind (arith, nat_tests, amount-mapped, change_where-map)
 
 -- one is changed
@@ -185,8 +186,8 @@ module _ (s r : ℕ) (f : OutboundStream → OutboundStream) (number : (l : Outb
   after-one ls = change_where (has_number r) f ls
 
   -- its amount becomes g of what it was
-  pub amount-changed : (g : ℕ → ℕ) → ((l : OutboundStream) → (f l).buffered_amount ≡ g l.buffered_amount) → 0 ≡ g 0 → (r == s) ≡ true → (ls : List OutboundStream)
-      → amount s (after-one ls) ≡ g (amount s ls)
+  pub amount-changed : (g : ℕ → ℕ) → ((l : OutboundStream) → (f l).buffered_amount ≡ g l.buffered_amount) → 0 ≡ g 0 → (r == s) ≡ true
+      → (ls : List OutboundStream) → amount s (after-one ls) ≡ g (amount s ls)
   amount-changed g is z same [] = z
   amount-changed g is z same (l ∷ ls) = grind (arith, nat_tests, same-is, amount-changed g is z same ls)
 

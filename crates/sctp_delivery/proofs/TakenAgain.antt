@@ -1,6 +1,7 @@
 -- Sessions of a whole life: no TSN is taken more often than it was given out. One that is in flight, and has not come, was taken less often.
 use Rattle.sctp_delivery.proofs.Names.{◌≡◌, ℕ, ◌+◌, ◌<◌, ◌≤◌, ◌^◌, Bool, true, false, List, [], ◌∷◌, length, refl, ap, sym, subst, ◌∙◌, arith}
-use Rattle.sctp_delivery.proofs.Names.{nat_tests, inl, inr, ◌⊎◌, cases_lt, filter, if◌then◌else◌, not_both, list_any, ◌==◌, same-is, fails, None, Sack, sack_refusal, Stand, Ledger}
+use Rattle.sctp_delivery.proofs.Names.{nat_tests, inl, inr, ◌⊎◌, cases_lt, filter, if◌then◌else◌, not_both, list_any, ◌==◌, same-is, fails, None, Sack}
+use Rattle.sctp_delivery.proofs.Names.{sack_refusal, Stand, Ledger}
 use Rattle.sctp_delivery.proofs.Names.{tsn, distance-tsn, has_tsn, ChunkPayloadData, Reception, is_stale, New, Repeat, is_outdated, after_sack}
 use Rattle.sctp_delivery.proofs.Names.{Session, SenderFollows, ReceiverFollows, SenderCall, ReceiverCall, RunsTo, Call, of_sender, of_receiver, at_start}
 use Rattle.sctp_delivery.proofs.Names.{Flight, take_sack, data_of, data_chunk, forward_tsn, after_forward_tsn, without_incomplete, follow_forward_tsn}

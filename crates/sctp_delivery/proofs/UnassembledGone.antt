@@ -1,7 +1,8 @@
 -- Where what is held, read or lost is said of ordered chunks, too: an unordered fragment that stays unassembled, up to a place that a FORWARD-TSN goes
 -- to, is of a message that is gone.
 use Rattle.sctp_delivery.proofs.Names.{◌≡◌, ℕ, ◌<◌, ◌≤◌, ◌^◌, true, false, List, [], ◌∷◌, length, Some, None, Option, sym, ◌∙◌, arith, All, both}
-use Rattle.sctp_delivery.proofs.Names.{list_all, filter, is_on, sum_by, at_or_before, fails, not_both, tsn, ChunkPayloadData, ChunkSet, Data, data_of, data_chunk, is_complete}
+use Rattle.sctp_delivery.proofs.Names.{list_all, filter, is_on, sum_by, at_or_before, fails, not_both, tsn, ChunkPayloadData, ChunkSet, Data, data_of}
+use Rattle.sctp_delivery.proofs.Names.{data_chunk, is_complete}
 use Rattle.sctp_delivery.proofs.Names.{InboundStream, stream_of, is_one_message, all_complete, is_unmixed, are_apart, was_taken, Session, Contains}
 use Rattle.sctp_delivery.proofs.Names.{◌&&◌, completes, slice_index_or}
 use Rattle.sctp_delivery.proofs.Delivered.{AreInner, EachSent, each-from, found-sent, follows, from-few, inner-of}

@@ -1,10 +1,12 @@
 -- Fragments of unordered messages that are held: none is of a message of which all fragments were taken, so one that a FORWARD-TSN takes out is of a
 -- message that is gone. Of unordered chunks alone it is said how many were taken, read, and are held.
 use Rattle.sctp_delivery.proofs.Names.{◌≡◌, ℕ, zero, suc, ◌+◌, ◌<◌, ◌≤◌, ◌^◌, Bool, true, false, List, [], ◌∷◌, ◌++◌, length, Some, inl, inr, refl, ap, sym}
-use Rattle.sctp_delivery.proofs.Names.{subst, ◌∙◌, arith, ◌||◌, ◌==◌, if◌then◌else◌, filter, list_all, list_any, sum_by, cases_lt, eq-eqb, Contains, Option, None}
+use Rattle.sctp_delivery.proofs.Names.{subst, ◌∙◌, arith, ◌||◌, ◌==◌, if◌then◌else◌, filter, list_all, list_any, sum_by, cases_lt, eq-eqb, Contains, Option}
+use Rattle.sctp_delivery.proofs.Names.{None}
 use Rattle.sctp_delivery.proofs.Names.{sum_by-cons, nat_tests, common_steps, at_or_before, or-split, same-is, both, fails, not_both, tsn, ChunkPayloadData}
 use Rattle.sctp_delivery.proofs.Names.{ChunkSet, Data, data_of, data_chunk, is_complete, Reassembly, ReassemblyState, InboundStream, stream_of, fragments_read}
-use Rattle.sctp_delivery.proofs.Names.{held_weight, set_weight, has_tsn, is_on, are_apart, was_taken, Session, Message, all_complete, take, drop, slice_index_or}
+use Rattle.sctp_delivery.proofs.Names.{held_weight, set_weight, has_tsn, is_on, are_apart, was_taken, Session, Message, all_complete, take, drop}
+use Rattle.sctp_delivery.proofs.Names.{slice_index_or}
 use Rattle.sctp_delivery.proofs.Names.{Pushes, PushesAs, BecomesComplete, insert_before, chunk_before, comes_before16, set_of_run, HasNoRun, rest_read}
 use Rattle.sctp_delivery.proofs.Names.{rest_among, front_readable, after_read}
 use Rattle.sctp_receiver.proofs.CompleteMessages.{pushed-complete, rest-complete}

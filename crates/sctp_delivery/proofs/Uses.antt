@@ -3,7 +3,8 @@
 use Rattle.sctp_delivery.proofs.Names.{◌≡◌, ℕ, zero, suc, ◌+◌, ◌<◌, ◌≤◌, Bool, true, false, List, [], ◌∷◌, ◌++◌, length, slice_index_or, refl, ap, sym, subst}
 use Rattle.sctp_delivery.proofs.Names.{◌∙◌, arith, inl, inr, ◌⊎◌, All, AllPairs, Contains, cases_lt, Option, distance, not_both, append_assoc, ChunkSet}
 use Rattle.sctp_delivery.proofs.Names.{IsWrite, StandAt, Message, Session, Write, ChunkPayloadData, is_complete, of_receiver, of_sender, AllPass-from_list_all}
-use Rattle.sctp_delivery.proofs.Names.{Unknown, written_after, SenderCall, length-append, filter, if◌then◌else◌, ◌-◌, Some, None, Reception, message_on, ◌==◌, same-yes, same-is}
+use Rattle.sctp_delivery.proofs.Names.{Unknown, written_after, SenderCall, length-append, filter, if◌then◌else◌, ◌-◌, Some, None, Reception, message_on, ◌==◌}
+use Rattle.sctp_delivery.proofs.Names.{same-yes, same-is}
 use Rattle.std.proofs.Common.{◌≢◌}
 use Rattle.std.proofs.lemmas.List.{get_or_append_left, get_or-append_right}
 use Rattle.std.proofs.lemmas.List.Elements.{Contains-get_or, filter-append}

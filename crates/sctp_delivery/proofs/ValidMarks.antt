@@ -1,5 +1,6 @@
 -- What is so of the chunks that wait and of those in flight, whatever a sender does: only what was taken is acknowledged.
-use Rattle.sctp_delivery.proofs.Names.{◌≡◌, ⊤, ℕ, Bool, true, false, List, length, Option, refl, ap, sym, ◌∙◌, arith, ◌||◌, nat_tests, or-left, or-right, or-split}
+use Rattle.sctp_delivery.proofs.Names.{◌≡◌, ⊤, ℕ, Bool, true, false, List, length, Option, refl, ap, sym, ◌∙◌, arith, ◌||◌, nat_tests, or-left, or-right}
+use Rattle.sctp_delivery.proofs.Names.{or-split}
 use Rattle.sctp_delivery.proofs.Names.{both, not_both, change_where, ChunkPayloadData, PayloadProtocolIdentifier, Sack, as_abandoned, as_acknowledged, Outbound}
 use Rattle.sctp_delivery.proofs.Names.{abandoned_of, all_started, expired_of, sent_next, terminal_chunk, with_message, with_inflight, next_pending}
 use Rattle.sctp_delivery.proofs.Names.{OutboundStream, Flight, after_sack, reports, reports_anew, abandoned_each, fragments_with_mode, after_misses, missed}

@@ -8,7 +8,8 @@ use Rattle.sctp_sender.specs.Sender.{stream_of}
 use Rattle.sctp_sender.proofs.SenderStreams.{made, one-message, unknown}
 use Rattle.sctp_delivery.proofs.Cases.{where-is, where-yes}
 use Rattle.sctp_delivery.proofs.Fragments.{fragments-turn, fragments-wait, nth}
-use Rattle.sctp_delivery.proofs.Numbers.{all-open, apart-changed, found-there, is_there, number-changed, number-elsewhere, number-found, number-is, number_of, open-of}
+use Rattle.sctp_delivery.proofs.Numbers.{all-open, apart-changed, found-there, is_there, number-changed, number-elsewhere, number-found, number-is, number_of}
+use Rattle.sctp_delivery.proofs.Numbers.{open-of}
 use Rattle.sctp_delivery.proofs.Numbers.{size-found, steady-changed, sized-changed, there-changed, there-found}
 use Rattle.sctp_delivery.proofs.Pushing.{IsLower, expired, pushed}
 use Rattle.sctp_delivery.proofs.Senders.{IsHeldOn, ResultOn, calm}

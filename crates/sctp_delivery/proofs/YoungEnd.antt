@@ -1,10 +1,14 @@
 -- Reliable sessions of a whole life: where nothing waits, nothing is in flight and nothing is held, each write was read exactly once.
-use Rattle.sctp_delivery.proofs.Names.{◌⊎◌, ◌≡◌, ℕ, zero, suc, ◌+◌, ◌-◌, ◌%◌, ◌<◌, ◌≤◌, ◌^◌, Bool, true, false, List, [], ◌∷◌, ◌++◌, length, Option, Some, None, refl}
+use Rattle.sctp_delivery.proofs.Names.{◌⊎◌, ◌≡◌, ℕ, zero, suc, ◌+◌, ◌-◌, ◌%◌, ◌<◌, ◌≤◌, ◌^◌, Bool, true, false, List, [], ◌∷◌, ◌++◌, length, Option, Some, None}
+use Rattle.sctp_delivery.proofs.Names.{refl}
 use Rattle.sctp_delivery.proofs.Names.{ap, sym, subst, ◌∙◌, arith, inl, inr, cases_lt, ◌==◌, ◌||◌, if◌then◌else◌, list_all, list_any, filter, Contains}
 use Rattle.sctp_delivery.proofs.Names.{StandAt, sum_by, sum_by-cons, insert_before, both, not_both, or-left, or-right, or-split, same-is, same-yes}
-use Rattle.sctp_delivery.proofs.Names.{tsn, ChunkPayloadData, ChunkSet, Data, data_of, data_chunk, is_on, has_tsn, is_complete, is_one_message, completes, Message}
-use Rattle.sctp_delivery.proofs.Names.{fragments_on, fragments_read, held_weight, message_on, stream_of, New, Reception, Stand, Ledger, ReceiverCall, SenderCall}
-use Rattle.sctp_delivery.proofs.Names.{Call, RunsTo, Session, SenderFollows, ReceiverFollows, at_start, of_receiver, of_sender, is_reliable, is_reliable_at_receiver}
+use Rattle.sctp_delivery.proofs.Names.{tsn, ChunkPayloadData, ChunkSet, Data, data_of, data_chunk, is_on, has_tsn, is_complete, is_one_message, completes}
+use Rattle.sctp_delivery.proofs.Names.{Message}
+use Rattle.sctp_delivery.proofs.Names.{fragments_on, fragments_read, held_weight, message_on, stream_of, New, Reception, Stand, Ledger, ReceiverCall}
+use Rattle.sctp_delivery.proofs.Names.{SenderCall}
+use Rattle.sctp_delivery.proofs.Names.{Call, RunsTo, Session, SenderFollows, ReceiverFollows, at_start, of_receiver, of_sender, is_reliable}
+use Rattle.sctp_delivery.proofs.Names.{is_reliable_at_receiver}
 use Rattle.sctp_delivery.proofs.Names.{is_reliable_at_sender, is_all_acknowledged, holds_nothing, slice_index_or, Pending, Unknown}
 use Rattle.sctp_util.specs.Serial.{at_or_before, comes_before}
 use Rattle.sctp_receiver.specs.ReceiverRuns.{with_message}
@@ -71,7 +75,8 @@ flies-at first s sent e q le lt =
 
 -- ## A call of the sender
 
-module _ (first : ℕ) (call : SenderCall) (old new : Session) (ns : List Numbered) (sent : List Entry) (f : SenderFollows call old new) (h : Holds first old ns sent)
+module _ (first : ℕ) (call : SenderCall) (old new : Session) (ns : List Numbered) (sent : List Entry) (f : SenderFollows call old new)
+    (h : Holds first old ns sent)
     (few : count_in_flight new < 2 ^ 31) (j : IsNear old) (k : IsNear new) (e : IsSet first old.sending.sender.flight sent) where
   abbrev x : Sends all_streams first call old new ns sent
   x = sender-step first call old new ns sent f h
@@ -236,7 +241,8 @@ old-part sent more x xs (inr y) p lt = by (subst (IsPart (x ∷ xs)) y.1 p)
     by (inl e) = let n = ap length e in absurd (omega (arith, n, lt))
     by (inr q) = q
 
-module _ (first : ℕ) (call : SenderCall) (old new : Session) (ns : List Numbered) (sent : List Entry) (f : SenderFollows call old new) (h : Holds first old ns sent)
+module _ (first : ℕ) (call : SenderCall) (old new : Session) (ns : List Numbered) (sent : List Entry) (f : SenderFollows call old new)
+    (h : Holds first old ns sent)
     (few : count_in_flight new < 2 ^ 31) (j : IsNear old) (k : IsNear new) (e : IsSet first old.sending.sender.flight sent) (recent : HoldsRecent new)
     (ps : List ℕ) (t : AreThere first old sent e.acked ps) where
   abbrev y : Sends all_streams first call old new ns sent
@@ -293,7 +299,8 @@ module _ (first : ℕ) (call : ReceiverCall) (old new : Session) (ns : List Numb
     within = let n = part-length sent (fragment d w after ∷ xs) p in omega (arith, n)
 
     -- what is held of it, by what was taken and read
-    weights : (held_with d.tsn st new + sum_by (one d.tsn) (fragments_read st new.receiving.read) ≡ sum_by (one d.tsn) (filter (is_on st) new.receiving.accepted))
+    weights : (held_with d.tsn st new + sum_by (one d.tsn) (fragments_read st new.receiving.read)
+        ≡ sum_by (one d.tsn) (filter (is_on st) new.receiving.accepted))
         × (held_with d.tsn st old + sum_by (one d.tsn) (fragments_read st old.receiving.read) ≡ sum_by (one d.tsn) (filter (is_on st) old.receiving.accepted))
     weights =
         let a = (kn.kept st).weighs (one d.tsn) tt in
@@ -490,7 +497,8 @@ module _ (first : ℕ) (call : ReceiverCall) (old new : Session) (ns : List Numb
       by (incoming.reads stream) is r g = reads-there d w after xs p b stream is come
       by (incoming.follows c) is r g = absurd (not_both r)
       by (incoming.opens stream) is r g =
-          quiet-there d w after xs p b (ap (λ (y : Reception). y.cumulative_tsn) g.step.receiver.1) (ap (λ (y : Reception). y.beyond) g.step.receiver.1) g.step.read
+          quiet-there d w after xs p b (ap (λ (y : Reception). y.cumulative_tsn) g.step.receiver.1)
+          (ap (λ (y : Reception). y.beyond) g.step.receiver.1) g.step.read
           g.step.accepted come
       by c is r g =
           quiet-there d w after xs p b (ap (λ (y : Reception). y.cumulative_tsn) g.step.receiver) (ap (λ (y : Reception). y.beyond) g.step.receiver) g.step.read

@@ -4,7 +4,8 @@ use Rattle.sctp_delivery.proofs.Names.{refl, ap, sym, subst, ◌∙◌, arith, n
 use Rattle.sctp_delivery.proofs.Names.{option_map, AllPairs, both, not_both, same-is, none-some, tsn, ChunkPayloadData, ChunkSet, data_of, data_chunk}
 use Rattle.sctp_delivery.proofs.Names.{forward_tsn, ForwardTsn, fragments_on, InboundStream, Reception, Stand, stream_of, stream_read, message_on, Message}
 use Rattle.sctp_delivery.proofs.Names.{New, Limits, is_open, names_closed, names_too_far, skip_refusal, forward_refusal, NamedStreamUnknown}
-use Rattle.sctp_delivery.proofs.Names.{NamedSsnTooFar, ReceiverCall, SenderCall, ReceiverFollows, SenderFollows, Session, Call, RunsTo, at_start, of_receiver, of_sender}
+use Rattle.sctp_delivery.proofs.Names.{NamedSsnTooFar, ReceiverCall, SenderCall, ReceiverFollows, SenderFollows, Session, Call, RunsTo, at_start, of_receiver}
+use Rattle.sctp_delivery.proofs.Names.{of_sender}
 use Rattle.sctp_delivery.proofs.Names.{AreReadInOrder, StandAt, nat_lt, change_where, Modes, at_first, modes_after, modes_from}
 use Rattle.sctp_util.specs.Serial.{comes_before, distance}
 use Rattle.sctp_receiver.specs.Inbound.{has_number}
@@ -14,7 +15,8 @@ use Rattle.std.proofs.Common.{◌≢◌}
 use Rattle.sctp_delivery.specs.Modes.{AreReadAsWritten, was_written_ordered}
 use Rattle.sctp_delivery.specs.Order.{is_ordered_on, places_where}
 use Rattle.sctp_delivery.specs.ReceiverCalls as incoming
-use Rattle.sctp_delivery.specs.Recent.{Aged, AreForwardsYoung, AreRecent, AreYoung, HoldsRecent, IsAmongYoung, IsForwardYoung, IsRecent, IsYoung, WhileAllAreYoung}
+use Rattle.sctp_delivery.specs.Recent.{Aged, AreForwardsYoung, AreRecent, AreYoung, HoldsRecent, IsAmongYoung, IsForwardYoung, IsRecent, IsYoung}
+use Rattle.sctp_delivery.specs.Recent.{WhileAllAreYoung}
 use Rattle.sctp_delivery.specs.Recent.{AfterEachYoungRun}
 use Rattle.sctp_delivery.specs.Recent.{aged_after}
 use Rattle.sctp_delivery.specs.Session.{count_in_flight}
@@ -34,7 +36,8 @@ use Rattle.sctp_delivery.proofs.TsnPlaces.{base}
 use Rattle.sctp_delivery.proofs.UnwrappedCalls.{AreDueSince, IsNamingTo, followed-due, moved, none-among, opened-due, quiet, taken-due}
 use Rattle.sctp_delivery.proofs.UnwrappedHolds.{AreDue, Came, DueOn, Fits, Where, at-in}
 use Rattle.sctp_delivery.proofs.UnwrappedReads.{read-due}
-use Rattle.sctp_delivery.proofs.YoungOwn.{AreAt, AreRead, AreReadOn, AtFirst, IsDone, IsOwned, all-whole, apart, owned-first, reads-are, receiver-owned, sender-owned}
+use Rattle.sctp_delivery.proofs.YoungOwn.{AreAt, AreRead, AreReadOn, AtFirst, IsDone, IsOwned, all-whole, apart, owned-first, reads-are, receiver-owned}
+use Rattle.sctp_delivery.proofs.YoungOwn.{sender-owned}
 use Rattle.sctp_delivery.proofs.YoungReads.{IsPlaced, IsYoungSession, floor, more-long, receiver-young, recent-place, sender-young, young-first}
 use Rattle.sctp_delivery.proofs.YoungSpread.{IsNamedAt, IsSpreadOut, receiver-spread, sender-spread, spread-first}
 use Rattle.sctp_delivery.proofs.Begun.{AreOnce}
@@ -474,7 +477,8 @@ module _ (first : ℕ) (call : SenderCall) (old new : Session) (ns : List Number
         let back = reached in
         let test = ap (λ (s : Stand). list_all (λ c. comes_before c.tsn (next_tsn new)) (fragments_on (stream_of st s.receiver))) (sym same) ∙ recent st in
         let e = due-later st first ns sent h.held.stands.queued.line from up-to (omega (arith, lo, hi)) (omega arith)
-        (λ c. comes_before c.tsn (next_tsn new)) late (x.set.acked - from) old.receiving.receiver was (omega (arith, back, total, few', lo, hi)) test i.order.rise in
+        (λ c. comes_before c.tsn (next_tsn new)) late (x.set.acked - from) old.receiving.receiver was
+        (omega (arith, back, total, few', lo, hi)) test i.order.rise in
         let place = e.2 in
         let g = due-more st first sent more (from + up-to) (was.arrived.place - up-to) (z.set.acked - (from + up-to)) y.once (omega (arith, lo, hi)) lo
         (omega (arith, lo, hi)) old.receiving.receiver e.0 (omega (arith, place, back)) in

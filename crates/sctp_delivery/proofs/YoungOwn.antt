@@ -2,9 +2,11 @@
 use Rattle.sctp_delivery.proofs.Names.{◌⊎◌, Limits, ◌≡◌, ℕ, zero, suc, ◌+◌, ◌%◌, ◌<◌, ◌≤◌, ◌^◌, Bool, true, false, List, [], ◌∷◌, length, Option, Some, None}
 use Rattle.sctp_delivery.proofs.Names.{refl, ap, sym, subst, ◌∙◌, arith, nat_tests, inl, inr, ◌==◌, if◌then◌else◌, nat_lt, list_all, list_any}
 use Rattle.sctp_delivery.proofs.Names.{All, AllPairs, pairs_cons, sum_by, sum_by-cons, AllPass-from_list_all, both, and}
-use Rattle.sctp_delivery.proofs.Names.{not, not_both, fails, negated, same-is, same-yes, ChunkPayloadData, ChunkSet, Data, data_of, data_chunk, forward_tsn, is_on, has_tsn, is_complete}
+use Rattle.sctp_delivery.proofs.Names.{not, not_both, fails, negated, same-is, same-yes, ChunkPayloadData, ChunkSet, Data, data_of, data_chunk, forward_tsn}
+use Rattle.sctp_delivery.proofs.Names.{is_on, has_tsn, is_complete}
 use Rattle.sctp_delivery.proofs.Names.{is_one_message, Message, fragments_on, held_weight, message_on, stream_of, New, Repeat, ReceiverCall}
-use Rattle.sctp_delivery.proofs.Names.{SenderCall, Call, RunsTo, Session, SenderFollows, ReceiverFollows, at_start, of_receiver, of_sender, Reception, Stand, Ledger}
+use Rattle.sctp_delivery.proofs.Names.{SenderCall, Call, RunsTo, Session, SenderFollows, ReceiverFollows, at_start, of_receiver, of_sender, Reception, Stand}
+use Rattle.sctp_delivery.proofs.Names.{Ledger}
 use Rattle.sctp_delivery.proofs.Names.{after_forward_tsn, is_stale, without_incomplete, follow_forward_tsn, AreWritesOfTheirOwn, StandAt}
 use Rattle.std.proofs.Common.{◌≢◌}
 use Rattle.sctp_util.specs.Serial.{at_or_before, comes_before, distance}
@@ -375,7 +377,8 @@ module _ (first : ℕ) (call : ReceiverCall) (old new : Session) (ns : List Numb
 
         on : c.stream_identifier ≡ stream
         on =
-            let b = both (is_recent sent stream c) (list_all (is_recent sent stream) cs) (subst (λ ds. list_all (is_recent sent stream) ds ≡ true) chunks all-recent) in
+            let b = both (is_recent sent stream c) (list_all (is_recent sent stream) cs)
+            (subst (λ ds. list_all (is_recent sent stream) ds ≡ true) chunks all-recent) in
             same-is c.stream_identifier stream (both (is_on stream c) _ b.0).0
 
         number : c.tsn ≡ (first + length e.0.2) % 2 ^ 32
@@ -485,7 +488,8 @@ owned-then first (of_receiver call ∷ cs) old new ns sent ages r q y j i ps h =
 
 -- ## The law
 
-module _ (ns : List Numbered) (first : ℕ) (sent : List Entry) (once : AreOnce sent) (line : IsLine ns first sent) (indexed : AreIndexed sent) (s : Session) where
+module _ (ns : List Numbered) (first : ℕ) (sent : List Entry) (once : AreOnce sent) (line : IsLine ns first sent) (indexed : AreIndexed sent)
+    (s : Session) where
   abbrev pub IsWhole : Message → Type 0
   IsWhole m = (is_complete m.fragments ≡ true) × (is_one_message m.fragments ≡ true) × (list_all (is_on m.stream) m.fragments ≡ true)
 
@@ -566,7 +570,8 @@ law tsn size max most limits cs s small some r q y =
     let sent = a.sent in
     let once = h.held.stands.begun'.once in
     let read = s.receiving.read in
-    let e = reads-are ns tsn sent once h.held.stands.queued.line h.held.stands.queued.indexed s read a.places' a.owned.once.0 (all-whole tsn size max most limits cs s r) in (
+    let e = reads-are ns tsn sent once h.held.stands.queued.line h.held.stands.queued.indexed s read a.places' a.owned.once.0
+    (all-whole tsn size max most limits cs s r) in (
       places ns sent once read e.0,
       subst (λ ws. StandAt ws read (places ns sent once read e.0)) h.writes (stand ns sent once read e.0),
       apart ns tsn sent once h.held.stands.queued.line h.held.stands.queued.indexed s read e.0 a.places' e.1 a.owned.once.1,

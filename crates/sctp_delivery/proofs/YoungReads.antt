@@ -2,9 +2,11 @@
 use Rattle.sctp_delivery.proofs.Names.{◌≡◌, ℕ, ◌+◌, ◌-◌, ◌%◌, ◌<◌, ◌≤◌, ◌^◌, Bool, true, false, List, [], ◌∷◌, length, map, Option, Some, None, refl, ap}
 use Rattle.sctp_delivery.proofs.Names.{sym, subst, ◌∙◌, arith, nat_tests, inl, inr, ◌&&◌, ◌||◌, if◌then◌else◌, nat_le, nat_lt, list_all}
 use Rattle.sctp_delivery.proofs.Names.{Contains, slice_index_or, sum_by, sum_by-cons, AllPass-from_list_all, both, and, not_both}
-use Rattle.sctp_delivery.proofs.Names.{or-left, or-right, or-split, ChunkPayloadData, ChunkSet, Data, data_of, is_on, is_complete, is_one_message, Limits, Message}
+use Rattle.sctp_delivery.proofs.Names.{or-left, or-right, or-split, ChunkPayloadData, ChunkSet, Data, data_of, is_on, is_complete, is_one_message, Limits}
+use Rattle.sctp_delivery.proofs.Names.{Message}
 use Rattle.sctp_delivery.proofs.Names.{fragments_on, held_weight, message_on, stream_of, New, AreWrites, ReceiverCall, SenderCall}
-use Rattle.sctp_delivery.proofs.Names.{Made, data_chunk, forward_tsn, with_chunk, ⊤, Call, RunsTo, Session, SenderFollows, ReceiverFollows, at_start, of_receiver, of_sender, next_chunk}
+use Rattle.sctp_delivery.proofs.Names.{Made, data_chunk, forward_tsn, with_chunk, ⊤, Call, RunsTo, Session, SenderFollows, ReceiverFollows, at_start}
+use Rattle.sctp_delivery.proofs.Names.{of_receiver, of_sender, next_chunk}
 use Rattle.sctp_util.specs.Serial.{comes_before, distance}
 use Rattle.sctp_receiver.specs.ReceiverRuns.{with_message}
 use Rattle.sctp_receiver.proofs.Weights.{message_weight}
@@ -171,7 +173,8 @@ module _ (first : ℕ) (call : SenderCall) (old new : Session) (ns : List Number
       by : (o : Option ChunkPayloadData) → IsMoreBy o sent x.more
           → Every (IsPlaced x.more) (map (λ m. record { chunk = m; age = 1 }) (with_chunk o []))
       by None g = tt
-      by (Some c) g = let n = ap length g.2 in ((g.0, g.1, sent, subst (IsPart (fragment (data_of c) g.0 g.1 ∷ sent)) (sym g.2) (inl refl), omega (arith, n)), tt)
+      by (Some c) g = let n = ap length g.2 in
+          ((g.0, g.1, sent, subst (IsPart (fragment (data_of c) g.0 g.1 ∷ sent)) (sym g.2) (inl refl), omega (arith, n)), tt)
   new-placed (outgoing.forwards t g) h = (tt, tt)
   new-placed (outgoing.forwards_within bytes g) h = (tt, tt)
   new-placed c g = tt
@@ -255,8 +258,10 @@ module _ (first : ℕ) (call : ReceiverCall) (old new : Session) (ns : List Numb
           let h = read-held (fails (is_recent sent stream)) stream old.receiving.receiver in
           let z = weight-none stream in
           let m = ap (λ o. message_weight (fails (is_recent sent stream)) o) e in
-          let none : sum_by (fails (is_recent sent stream)) set.chunks ≡ 0 = omega (arith, h, z, m) in
-          ((floor (length sent), each-from (floor (length sent)) stream sent set.chunks (omega arith) (all-pass (is_recent sent stream) set.chunks none)), i.read)
+          let none : sum_by (fails (is_recent sent stream)) set.chunks ≡ 0 = omega (arith, h, z, m) in (
+            (floor (length sent), each-from (floor (length sent)) stream sent set.chunks (omega arith) (all-pass (is_recent sent stream) set.chunks none)),
+            i.read,
+          )
   read-after c g = subst (Every (IsReadFrom sent)) (sym g.step.read) i.read
 
   pub receiver-young : IsYoungSession first new ns sent (aged_after (of_receiver call) old new ages)

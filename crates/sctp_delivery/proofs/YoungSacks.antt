@@ -1,6 +1,7 @@
 -- Sessions of a whole life: no SACK is refused that is less than 2^31 TSNs old.
 use Rattle.sctp_delivery.proofs.Names.{◌≡◌, ℕ, ◌+◌, ◌-◌, ◌<◌, ◌≤◌, ◌^◌, Bool, true, List, [], ◌∷◌, ◌++◌, length, map, None, refl, ap, sym, subst}
-use Rattle.sctp_delivery.proofs.Names.{arith, nat_tests, inl, inr, cases_lt, tsn, Sack, Flight, Reception, is_outdated, sack_refusal, max_sack_entries, sack_entries}
+use Rattle.sctp_delivery.proofs.Names.{arith, nat_tests, inl, inr, cases_lt, tsn, Sack, Flight, Reception, is_outdated, sack_refusal, max_sack_entries}
+use Rattle.sctp_delivery.proofs.Names.{sack_entries}
 use Rattle.sctp_delivery.proofs.Names.{sack_of_entries, Ledger, Call, RunsTo, Session, ReceiverCall, at_start, of_receiver, of_sender}
 use Rattle.sctp_util.specs.Serial.{at_or_before, comes_before, distance}
 use Rattle.sctp_outbound.specs.payload_queue.Blocks.{is_in_blocks}
@@ -157,7 +158,8 @@ sacks-then first (of_receiver call ∷ cs) old new ns sent ks r q i h e k =
     (map (λ k. record { sack = k; age = 0 }) (reports_after call old.receiving.receiver []) ++ map (sack_older given) ks) r.1.1 q.2
     (receiver-near old r.0 q.1 i call r.1.0 q.0) (receiver-step first call old r.0 ns sent r.1.0 h)
     (subst (λ (l : Ledger). IsSet first l.sender.flight sent) (sym same) e)
-    (every-joined (IsSackAt first (length sent)) (map (λ k. record { sack = k; age = 0 }) (reports_after call old.receiving.receiver [])) (map (sack_older given) ks)
+    (every-joined (IsSackAt first (length sent)) (map (λ k. record { sack = k; age = 0 }) (reports_after call old.receiving.receiver []))
+    (map (sack_older given) ks)
     (all-made first old sent i e call)
     (every-mapped (IsSackAt first (length sent)) (IsSackAt first (length sent)) (sack_older given)
     (sack-later first (length sent) (length sent) given (omega arith) (omega arith)) ks k))

@@ -1,7 +1,8 @@
 -- In a whole life few ordered messages of a stream are begun past the place acknowledged, and a FORWARD-TSN names the last ones up to its place.
 use Rattle.sctp_delivery.proofs.Names.{◌≡◌, ℕ, ◌+◌, ◌-◌, ◌<◌, ◌≤◌, ◌^◌, Bool, true, false, List, [], length, map, refl, ap, sym, subst, ◌∙◌}
 use Rattle.sctp_delivery.proofs.Names.{arith, inl, inr, ⊤, Option, Some, None, if◌then◌else◌, tsn, distance-tsn, ahead, ForwardTsn, Flight, Sack}
-use Rattle.sctp_delivery.proofs.Names.{Released, ChunkPayloadData, Made, data_chunk, forward_tsn, with_chunk, next_chunk, Session, SenderCall, ReceiverCall, of_receiver, Ledger, Limits, at_start}
+use Rattle.sctp_delivery.proofs.Names.{Released, ChunkPayloadData, Made, data_chunk, forward_tsn, with_chunk, next_chunk, Session, SenderCall, ReceiverCall}
+use Rattle.sctp_delivery.proofs.Names.{of_receiver, Ledger, Limits, at_start}
 use Rattle.sctp_delivery.proofs.Names.{SenderFollows, of_sender, is_outdated, take_sack, after_sack, IsAccepted, Name, Transmission, named_up_to}
 use Rattle.sctp_util.specs.Serial.{distance}
 use Rattle.sctp_delivery.specs.Recent.{Aged, aged_after, new_chunks, older}
@@ -146,7 +147,8 @@ module _ (first : ℕ) (call : SenderCall) (old new : Session) (ns : List Number
       let here : g.new_cumulative_tsn ≡ tsn (base first) (a + k) = omega (arith, is, base-is) in
       let none : run.acked ≡ 0 = omega (arith, total) in
       let far : ahead u.flight g.new_cumulative_tsn ≡ k = ap (λ z. distance z g.new_cumulative_tsn) at ∙ ap (distance (tsn u.flight.acked_tsn run.acked)) is
-      ∙ distance-tsn u.flight.acked_tsn run.acked k (omega (arith, past)) (omega (arith, upto, short, was, none)) ∙ (let e : k - run.acked ≡ k = omega (arith, none) in e) in
+      ∙ distance-tsn u.flight.acked_tsn run.acked k (omega (arith, past)) (omega (arith, upto, short, was, none))
+      ∙ (let e : k - run.acked ≡ k = omega (arith, none) in e) in
       let long = more-long sent x.more x.once in
       let lo = long.0 in
       let hi = long.1 in (
@@ -184,7 +186,8 @@ module _ (first : ℕ) (call : SenderCall) (old new : Session) (ns : List Number
     near = λ st. let n = near-after call f.accepted x.grown st in let up = to-up st a set'.acked x.more rises in omega (arith, n, up);
     names =
         let given = distance (next_tsn old) (next_tsn new) in
-        every-joined (λ (m : Aged). IsNamedAt first set'.acked m.age x.more m.chunk) (map (λ m. record { chunk = m; age = 1 }) (new_chunks (of_sender call) old))
+        every-joined (λ (m : Aged). IsNamedAt first set'.acked m.age x.more m.chunk)
+        (map (λ m. record { chunk = m; age = 1 }) (new_chunks (of_sender call) old))
         (map (older given) ages) (new-named call f)
         (every-mapped (λ (m : Aged). IsNamedAt first a m.age sent m.chunk) (λ (m : Aged). IsNamedAt first set'.acked m.age x.more m.chunk) (older given)
         (λ m y. let n = x.few in named-later first a set'.acked m.age (m.age + given) sent x.more rises within x.once (omega (arith, n)) m.chunk y) ages

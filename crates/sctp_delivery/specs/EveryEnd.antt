@@ -1,5 +1,6 @@
 -- What was read in the end of a session of every call (RFC 4960 6.2, 6.9), on a stream that goes on.
-use Rattle.std.specs.Prelude.{◌≡◌, ◌≢◌, ℕ, ◌+◌, ◌-◌, ◌^◌, ◌<◌, Bool, true, false, not, nat_eq, List, [], ◌∷◌, ◌++◌, length, slice_index_or, AllPairs, Contains, if◌then◌else◌, map}
+use Rattle.std.specs.Prelude.{◌≡◌, ◌≢◌, ℕ, ◌+◌, ◌-◌, ◌^◌, ◌<◌, Bool, true, false, not, nat_eq, List, [], ◌∷◌, ◌++◌, length, slice_index_or, AllPairs, Contains}
+use Rattle.std.specs.Prelude.{if◌then◌else◌, map}
 use Rattle.std.specs.Prelude.{Option}
 use Rattle.std.specs.Prelude.{All, ◌⊎◌}
 use Rattle.std.specs.List.{filter, list_any, sum_by}
@@ -14,7 +15,8 @@ use Rattle.sctp_sender.specs.Abandonment.{is_pair_of}
 use Rattle.sctp_delivery.specs.Complete.{fragments_held, is_all_acknowledged, is_exhausted}
 use Rattle.sctp_delivery.specs.Sacks.{was_passed}
 use Rattle.sctp_delivery.specs.Abandoned.{abandoned_by}
-use Rattle.sctp_delivery.specs.EveryCall.{AnyCall, ReceiverOther, RunsAny, closes_incoming, discards, makes, of_receiving, of_sending, passes_over, resets_incoming}
+use Rattle.sctp_delivery.specs.EveryCall.{AnyCall, ReceiverOther, RunsAny, closes_incoming, discards, makes, of_receiving, of_sending, passes_over}
+use Rattle.sctp_delivery.specs.EveryCall.{resets_incoming}
 use Rattle.sctp_delivery.specs.EveryCall.{single_messages, tsns_given_any, was_dropped}
 use Rattle.sctp_delivery.specs.EveryOrder.{is_unbroken, plain_calls}
 use Rattle.sctp_delivery.specs.Messages.{StandAt}

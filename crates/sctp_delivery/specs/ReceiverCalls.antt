@@ -4,7 +4,8 @@ use Rattle.sctp_data.specs.declared.chunk.chunk_payload_data.ChunkPayloadData.{C
 use Rattle.sctp_data.specs.ForwardTsn.{ForwardTsn}
 use Rattle.sctp_data.specs.SelectiveAck.{Sack}
 use Rattle.sctp_receiver.specs.declared.receiver.arrival.Arrival.{Arrival}
-use Rattle.sctp_receiver.specs.Receiver.{Reception, arrival_of, arrival_refusal, is_open, is_answered_complete, max_sack_entries, sack, sack_entries, sack_within}
+use Rattle.sctp_receiver.specs.Receiver.{Reception, arrival_of, arrival_refusal, is_open, is_answered_complete, max_sack_entries, sack, sack_entries}
+use Rattle.sctp_receiver.specs.Receiver.{sack_within}
 use Rattle.sctp_receiver.specs.ReceiverRuns as runs
 use Rattle.sctp_receiver.specs.ReceiverRuns.{Makes}
 use Rattle.sctp_receiver.specs.Skips.{skip_refusal}

@@ -22,7 +22,8 @@ use Rattle.sctp_sender.specs.Keeping.{bytes_back}
 use Rattle.sctp_sender.specs.Late.{after_late, after_worn, late_order, leaving_each, worn_order}
 use Rattle.sctp_sender.specs.Numbers.{send_refusal}
 use Rattle.sctp_sender.specs.Resending.{count_again, sent_again}
-use Rattle.sctp_sender.specs.Sender.{Transmission, after_abandon, after_acked, after_expire, after_take_back, is_open, stream_of, taken_back_by, with_flight, write_refusal, written_to}
+use Rattle.sctp_sender.specs.Sender.{Transmission, after_abandon, after_acked, after_expire, after_take_back, is_open, stream_of, taken_back_by, with_flight}
+use Rattle.sctp_sender.specs.Sender.{write_refusal, written_to}
 use Rattle.sctp_sender.specs.Thresholds.{with_lows, with_message_lows}
 use Rattle.sctp_sender.specs.Totals.{bytes_in}
 use Rattle.sctp_sender.specs.SenderRuns as runs

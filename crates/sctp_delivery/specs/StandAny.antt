@@ -10,7 +10,8 @@ use Rattle.sctp_sender.specs.declared.sender.flight.Released.{Released}
 use Rattle.sctp_sender.specs.declared.sender.flight.kept.TakenBack.{TakenBack}
 use Rattle.sctp_sender.specs.Sender.{Transmission, with_nothing, with_reported}
 use Rattle.sctp_sender.specs.SenderRuns as sender_runs
-use Rattle.sctp_delivery.specs.EveryCall.{AnyCall, FollowsAny, IsMadeChunk, IsMadeSack, IsReceiverTaken, IsSenderTaken, ReceiverOther, Restores, RunsAny, SenderOther}
+use Rattle.sctp_delivery.specs.EveryCall.{AnyCall, FollowsAny, IsMadeChunk, IsMadeSack, IsReceiverTaken, IsSenderTaken, ReceiverOther, Restores, RunsAny}
+use Rattle.sctp_delivery.specs.EveryCall.{SenderOther}
 use Rattle.sctp_delivery.specs.EveryCall.{as_receiver_run, as_sender_run, makes, of_receiving, of_sending, takes_back, tsns_given_any}
 use Rattle.sctp_delivery.specs.ReceiverCalls.{ReceiverCall, ReceiverMakes}
 use Rattle.sctp_delivery.specs.Returns.{at_start_with}
