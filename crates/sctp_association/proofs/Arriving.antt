@@ -73,7 +73,7 @@ module _ (c : ChunkPayloadData) (r s : Reception) where
   pub opened_asked : Received (IsOpening c.stream_identifier) r s → Received (AsksFor (data_chunk (data_of c))) r s
   opened_asked f = follows_of (IsOpening c.stream_identifier) (AsksFor (data_chunk (data_of c))) Receives (opening-asked c) r s f
 
-  pub received_data : (a : Result Arrival ReceiverRefusal) → c.tsn < 2 ^ 32 → TakesData false c r s a → Received (AsksFor (data_chunk (data_of c))) r s
+  pub received_data : (a : Result Arrival ReceiverRefusal) → c.tsn < 2 ^ 32 → TakesData c r s a → Received (AsksFor (data_chunk (data_of c))) r s
   received_data (Ok a) fits t =
       follows_one (AsksFor (data_chunk (data_of c))) Receives (takes c a) r s refl (record {
         unrefused = record { fits = fits; accepted = not-too-far c r (t.accepted refl); answer = t.answer };

@@ -151,10 +151,10 @@ to_use s i to = (and_parts (not (is_open s i.receiver)) (is_usable s i) to).1
 
 -- the receiver took it
 pub entered : (c : ChunkPayloadData) (r s : Reception) (a : Result Answer ReceiverRefusal) (x : Answer) → c.tsn < 2 ^ 32 → a ≡ Ok x
-    → TakesData false c r s a → Enters c r s
-entered c r s a x fits is t = from (subst (TakesData false c r s) is t)
+    → TakesData c r s a → Enters c r s
+entered c r s a x fits is t = from (subst (TakesData c r s) is t)
   where
-    from : TakesData false c r s (Ok x) → Enters c r s
+    from : TakesData c r s (Ok x) → Enters c r s
     from t = record {
       arrival = x;
       receives = record {
@@ -166,7 +166,7 @@ entered c r s a x fits is t = from (subst (TakesData false c r s) is t)
 
 -- so it did, and nothing changed but what is noted
 pub handled_entered : (c : ChunkPayloadData) (i j : Inbound) (s : Reception) (a : Result Answer ReceiverRefusal) (x : Answer) → c.tsn < 2 ^ 32 → a ≡ Ok x
-    → TakesData false c i.receiver s a → j.receiver ≡ s → j.streams ≡ i.streams → j.discarded ≡ i.discarded → HandlesOpen c i j
+    → TakesData c i.receiver s a → j.receiver ≡ s → j.streams ≡ i.streams → j.discarded ≡ i.discarded → HandlesOpen c i j
 handled_entered c i j s a x fits is t same few shut = record {
   handled = λ live. inl (subst (Enters c i.receiver) (sym same) (entered c i.receiver s a x fits is t));
   kept = λ n usable. inl (usable_same n i j few (ap (is_in n) shut) ∙ usable);

@@ -374,7 +374,7 @@ tells_taken c complete r q e f a kept room stays told =
         (λ apart is. inl (sym (ap (λ o. is_some (message_of o)) (taken_other c complete r q a n is)) ∙ m, stays n))
 
 -- so it is whatever the receiver answers
-pub tells_data : (c : ChunkPayloadData) (r p q : Reception) (e f : Events) (a : Result Arrival ReceiverRefusal) → TakesData false c r p a → q ≡ p
+pub tells_data : (c : ChunkPayloadData) (r p q : Reception) (e f : Events) (a : Result Arrival ReceiverRefusal) → TakesData c r p a → q ≡ p
     → KeepsEvents e f → length f.readable ≡ length e.readable → Stays e.readable f.readable
     → (a ≡ Ok (New true) → is_some (message_on c.stream_identifier p) ≡ true → c.stream_identifier < length e.readable
     → is_in c.stream_identifier f.readable ≡ true)

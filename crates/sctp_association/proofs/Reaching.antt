@@ -102,7 +102,7 @@ taken n c a old new fits short e answer made =
     leads n (takes c a) old new short (record { fits = fits; accepted = not-too-far c old e; answer = answer }) made (taken_limits c a old new made)
 
 pub data_led : (n : ℕ) (c : ChunkPayloadData) (old new : Reception) (r : Result Arrival ReceiverRefusal) → c.tsn < 2 ^ 32
-    → length c.user_data ≤ most_user_data → TakesData false c old new r → ∥ IsLimited n old ∥₁ → ∥ IsLimited n new ∥₁
+    → length c.user_data ≤ most_user_data → TakesData c old new r → ∥ IsLimited n old ∥₁ → ∥ IsLimited n new ∥₁
 data_led n c old new (Ok a) fits short t h = taken n c a old new fits short (t.accepted refl) t.answer t.ok h
 data_led n c old new (Err e) fits short t h = subst (λ r. ∥ IsLimited n r ∥₁) (sym t.err) h
 

@@ -67,7 +67,7 @@ pub use Rattle.sctp_sender.specs.Sender.{Transmission, with_nothing, with_flight
 pub use Rattle.sctp_sender.specs.Outgoing.{numbers_of, with_mode, fragments_with_mode, with_reliability}
 pub use Rattle.sctp_sender.proofs.Flights.{started-inflight}
 pub use Rattle.sctp_sender.proofs.Walks.{none-of, found-changed}
-pub use Rattle.sctp_receiver.specs.Receiver.{Reception, sack, StopsAtBy, data_refusal, at_first, arrival_of, is_answered_complete, stream_refusal}
+pub use Rattle.sctp_receiver.specs.Receiver.{Reception, sack, StopsAt, data_refusal, at_first, arrival_of, is_answered_complete, stream_refusal}
 pub use Rattle.sctp_receiver.specs.Receiver.{forward_refusal}
 pub use Rattle.sctp_receiver.specs.TsnFilter.{Filter, gap_ack_blocks, has_come, is_opposite, with_tsn, with_duplicate, skipped_to, offsets, placeholder}
 pub use Rattle.sctp_receiver.specs.declared.receiver.refusal.ReceiverRefusal.{ReceiverRefusal}

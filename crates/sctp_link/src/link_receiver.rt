@@ -44,7 +44,7 @@ impl Model for LinkReceiver {
 
 impl LinkReceiver {
     ghost use Rattle.sctp_reassembly.specs.reassembly_queue.ReassemblyQueue.{at_start};
-    ghost use Rattle.sctp_receiver.specs.Receiver.{TakesEachBy, StopsAtBy, at_first, is_open, open_stream, close_stream, data_refusal, message_on, after_read, forward_refusal, forwarded_of, after_forward, without_duplicates};
+    ghost use Rattle.sctp_receiver.specs.Receiver.{TakesEach, StopsAt, at_first, is_open, open_stream, close_stream, message_on, after_read, forward_refusal, forwarded_of, after_forward, without_duplicates};
     ghost use Rattle.sctp_receiver.specs.TsnFilter.{placeholder};
 
     /// No stream is open, nothing came, and the first TSN is expected next. It takes no memory.
@@ -108,9 +108,9 @@ impl LinkReceiver {
         chunks: &[ChunkPayloadData],
     ) -> Result<Vec<Arrival>, ReceiverRefusal>
         ensures ok { IfOk result (λ arrivals.
-            TakesEachBy data_refusal chunks.now arrivals.items self.old self.new) }
+            TakesEach chunks.now arrivals.items self.old self.new) }
         ensures refused { IfErr result (λ e. (e ≡ OutOfMemory)
-            ⊎ StopsAtBy data_refusal chunks.now self.old e) }
+            ⊎ StopsAt chunks.now self.old e) }
         ensures err { OnErr result (self.new ≡ self.old) }
     {
         let Ok(()) = take_each(&mut self.tsns, chunks, &mut self.undos) else {

@@ -75,7 +75,7 @@ impl Model for Progress {
 
 impl Progress {
     ghost use Rattle.sctp_util.specs.Lists.{change_at, change_where};
-    ghost use Rattle.sctp_receiver.specs.Receiver.{TakesEachBy, StopsAtBy, data_refusal};
+    ghost use Rattle.sctp_receiver.specs.Receiver.{TakesEach, StopsAt};
     ghost use Rattle.sctp_receiver.specs.declared.receiver.refusal.ReceiverRefusal.TheVariants.{OutOfMemory};
     ghost use Rattle.sctp_stream.specs.Numbers.{IsAbsent, IsOnlyPlace};
     ghost use Rattle.sctp_link.specs.Progress.{has_number, numbers_of, ordered_in, begun_in, with_write, with_expiry, with_begun, with_read, with_named, after_each};
@@ -208,11 +208,11 @@ impl Progress {
     ) -> Result<Vec<Arrival>, ReceiverRefusal>
         requires { length chunks.now ≤ length numbers.now }
         ensures taken { IfOk result (λ arrivals.
-            TakesEachBy data_refusal chunks.now arrivals.items receiver.old receiver.new) }
+            TakesEach chunks.now arrivals.items receiver.old receiver.new) }
         ensures ok { IfOk result (λ arrivals.
             self.new ≡ after_each chunks.now numbers.now arrivals.items self.old) }
         ensures refused { IfErr result (λ e. (e ≡ OutOfMemory)
-            ⊎ StopsAtBy data_refusal chunks.now receiver.old e) }
+            ⊎ StopsAt chunks.now receiver.old e) }
         ensures err { OnErr result (self.new ≡ self.old) }
         ensures kept { OnErr result (receiver.new ≡ receiver.old) }
     {

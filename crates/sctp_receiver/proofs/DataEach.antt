@@ -1,27 +1,25 @@
 -- Several DATA chunks, one after another.
-use Rattle.sctp_receiver.proofs.Names.{◌≡◌, ℕ, List, [], ◌∷◌, ◌++◌, take, Option, Some, refl, ap, sym, ◌∙◌, subst, arith, true, false, Bool, inl, inr}
+use Rattle.sctp_receiver.proofs.Names.{◌≡◌, ℕ, List, [], ◌∷◌, ◌++◌, take, Some, refl, ap, sym, ◌∙◌, subst, arith, true, false, Bool, inl, inr}
 use Rattle.sctp_receiver.proofs.Names.{slice_get, ◌==◌, find, if◌then◌else◌, nat_tests, change_where, ChunkPayloadData, ReassemblyState, Arrival, New, Repeat}
 use Rattle.sctp_receiver.proofs.Names.{ReceiverRefusal, OutOfMemory, InboundStream, numbers_of, number, has_number, with_queue, Reception, Takes, TakesFirstBy}
-use Rattle.sctp_receiver.proofs.Names.{TakesEachBy, IsRefusedFor}
+use Rattle.sctp_receiver.proofs.Names.{TakesEach, IsRefusedFor, data_refusal}
 use Rattle.std.specs.Prelude.{◌⊎◌}
-use Rattle.sctp_receiver.specs.Receiver.{StopsAtBy}
+use Rattle.sctp_receiver.specs.Receiver.{StopsAt}
 use Rattle.sctp_receiver.proofs.Inbounds.{pushed-number}
 
--- why a chunk is refused
-module _ (why : ChunkPayloadData → Reception → Option ReceiverRefusal) where
-  -- one more is taken
-  pub takes-more : (cs : List ChunkPayloadData) (bs : List Arrival) (c : ChunkPayloadData) (a : Arrival) (old mid new : Reception)
-      → TakesEachBy why cs bs old mid → TakesFirstBy why c a mid new → TakesEachBy why (cs ++ c ∷ []) (bs ++ a ∷ []) old new
-  takes-more [] [] c a old mid new t f = (new, (subst (λ r. TakesFirstBy why c a r new) t f, refl))
-  takes-more [] (b ∷ bs) c a old mid new t f = absurd t
-  takes-more (d ∷ cs) [] c a old mid new t f = absurd t
-  takes-more (d ∷ cs) (b ∷ bs) c a old mid new t f = (t.0, (t.1.0, takes-more cs bs c a t.0 mid new t.1.1 f))
+-- one more is taken
+pub takes-more : (cs : List ChunkPayloadData) (bs : List Arrival) (c : ChunkPayloadData) (a : Arrival) (old mid new : Reception)
+    → TakesEach cs bs old mid → TakesFirstBy data_refusal c a mid new → TakesEach (cs ++ c ∷ []) (bs ++ a ∷ []) old new
+takes-more [] [] c a old mid new t f = (new, (subst (λ r. TakesFirstBy data_refusal c a r new) t f, refl))
+takes-more [] (b ∷ bs) c a old mid new t f = absurd t
+takes-more (d ∷ cs) [] c a old mid new t f = absurd t
+takes-more (d ∷ cs) (b ∷ bs) c a old mid new t f = (t.0, (t.1.0, takes-more cs bs c a t.0 mid new t.1.1 f))
 
-  -- the next one is refused, or memory ran out
-  pub stops : (cs : List ChunkPayloadData) (bs : List Arrival) (i : ℕ) (c : ChunkPayloadData) (old mid : Reception) (e : ReceiverRefusal)
-      → TakesEachBy why (take i cs) bs old mid → slice_get cs i ≡ Some c → IsRefusedFor (why c mid) e → (e ≡ OutOfMemory) ⊎ StopsAtBy why cs old e
-  stops cs bs i c old mid e t at (inl h) = inl h.0
-  stops cs bs i c old mid e t at (inr h) = inr (record { count = i; arrivals = bs; mid = mid; taken = t; chunk = c; next = at; refused = h })
+-- the next one is refused, or memory ran out
+pub stops : (cs : List ChunkPayloadData) (bs : List Arrival) (i : ℕ) (c : ChunkPayloadData) (old mid : Reception) (e : ReceiverRefusal)
+    → TakesEach (take i cs) bs old mid → slice_get cs i ≡ Some c → IsRefusedFor (data_refusal c mid) e → (e ≡ OutOfMemory) ⊎ StopsAt cs old e
+stops cs bs i c old mid e t at (inl h) = inl h.0
+stops cs bs i c old mid e t at (inr h) = inr (record { count = i; arrivals = bs; mid = mid; taken = t; chunk = c; next = at; refused = h })
 
 -- a chunk leaves the numbers of the streams
 changed-numbers : (s : ℕ) (q : ReassemblyState) → q.si ≡ s → (ls : List InboundStream)

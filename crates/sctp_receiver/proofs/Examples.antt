@@ -4,7 +4,7 @@ use Rattle.sctp_receiver.proofs.Names.{ChunkPayloadData, Limits, StreamUnknown, 
 use Rattle.sctp_receiver.proofs.Names.{NamedSsnTooFar, New, Repeat, new_stream, has_number, with_queue, Reception, open_stream, data_refusal, arrival_refusal}
 use Rattle.sctp_receiver.proofs.Names.{filter_of, with_filter, repeat_tsn, noted_by, discard_refusal, window, change_where, Reassembly, ReassemblyState}
 use Rattle.sctp_receiver.proofs.Names.{after_ordered_push, lowest_ssn, is_ssn_too_far, skip_refusal, past_closed_refusal, undo_of, retracted, Filter, with_tsn}
-use Rattle.sctp_receiver.proofs.Names.{skipped_to, gap_ack_blocks, has_come, is_opposite, TakesEachBy}
+use Rattle.sctp_receiver.proofs.Names.{skipped_to, gap_ack_blocks, has_come, is_opposite, TakesEach}
 use Rattle.sctp_data.specs.ChunkSet.{fresh}
 use Rattle.sctp_data.specs.declared.chunk.chunk_payload_data.PayloadProtocolIdentifier.TheVariants as identifiers
 use Rattle.sctp_util.specs.Serial.{distance, comes_before, at_or_before, comes_before16, at_or_before16, distance16}
@@ -113,7 +113,7 @@ one_open = open_stream 1 (at_first 7 2 None)
 abbrev after_datagram : Reception
 after_datagram = taken_on back at_two (repeat_tsn 7 (taken_on front at_one one_open))
 
-datagram : TakesEachBy data_refusal (front ∷ front ∷ back ∷ []) (New false ∷ Repeat ∷ New true ∷ []) one_open after_datagram
+datagram : TakesEach (front ∷ front ∷ back ∷ []) (New false ∷ Repeat ∷ New true ∷ []) one_open after_datagram
 unfolding distance at_or_before comes_before at_or_before16 comes_before16 distance16
 datagram = (
   taken_on front at_one one_open,

@@ -9,7 +9,7 @@ pub use Rattle.sctp_receiver.specs.Inbound.{number, numbers_of, has_number, with
 pub use Rattle.sctp_receiver.specs.Inbound.{unassembled_forwarded, Pushes, PushesAs}
 pub use Rattle.sctp_receiver.specs.Receiver.{Reception, stream_of, after_forward, filter_of, follow_forward_tsn, is_stale, with_filter, repeat_tsn, message_of}
 pub use Rattle.sctp_receiver.specs.Receiver.{Accepts, message_on, after_discard, data_refusal, new_refusal, stream_refusal, duplicates_answered, sack_entries}
-pub use Rattle.sctp_receiver.specs.Receiver.{TakesEachBy, noted_by, Takes, TakesFirstBy, IsRefusedFor, open_stream, arrival_refusal, discard_refusal, window}
+pub use Rattle.sctp_receiver.specs.Receiver.{TakesEach, noted_by, Takes, TakesFirstBy, IsRefusedFor, open_stream, arrival_refusal, discard_refusal, window}
 pub use Rattle.sctp_receiver.specs.Receiver.{is_open, after_sack_within, forward_refusal, max_sack_entries}
 pub use Rattle.sctp_data.specs.declared.chunk.chunk_payload_data.ChunkPayloadData.{ChunkPayloadData}
 pub use Rattle.std.specs.List.{filter, sum_by, list_any, list_all, remove}

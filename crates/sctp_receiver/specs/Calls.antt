@@ -11,8 +11,8 @@ use Rattle.sctp_receiver.specs.declared.receiver.arrival.Forwarded.{Forwarded}
 use Rattle.sctp_receiver.specs.declared.receiver.refusal.ReceiverRefusal.{ReceiverRefusal}
 use Rattle.sctp_receiver.specs.declared.receiver.refusal.ReceiverRefusal.TheVariants.{OutOfMemory}
 use Rattle.sctp_receiver.specs.Costs.{IsWithinBlocks, IsWithinData, forward_turns}
-use Rattle.sctp_receiver.specs.Receiver.{Reception, filter_of, stream_of, refusal_for, IsRefusedFor, takes_memory, arrival_of, is_answered_complete, Takes}
-use Rattle.sctp_receiver.specs.Receiver.{TakesEachBy, StopsAtBy}
+use Rattle.sctp_receiver.specs.Receiver.{Reception, filter_of, stream_of, arrival_refusal, IsRefusedFor, takes_memory, arrival_of, is_answered_complete, Takes}
+use Rattle.sctp_receiver.specs.Receiver.{TakesEach, StopsAt}
 use Rattle.sctp_receiver.specs.Receiver.{entries_wanted, sack, without_duplicates, sack_within, after_sack_within, window, forward_refusal, forwarded_of}
 use Rattle.sctp_receiver.specs.Receiver.{after_forward}
 use Rattle.sctp_receiver.specs.SkipCosts.{skips_walk}
@@ -22,34 +22,34 @@ use Rattle.sctp_receiver.specs.TsnFilter.{has_come}
 
 -- ## DATA
 
--- a chunk is taken, an ordered one of any stream sequence number or not; or it is refused, and nothing changes
-pub record TakesData (any_ssn : Bool) (c : ChunkPayloadData) (old new : Reception)
+-- a chunk is taken; or it is refused, and nothing changes
+pub record TakesData (c : ChunkPayloadData) (old new : Reception)
     (result : Result Arrival ReceiverRefusal) : Type 0 where
   pub answer : IfOk result (λ arrival. arrival
       ≡ arrival_of c.tsn (is_answered_complete arrival) old)
   pub ok : IfOk result (λ arrival. Takes c arrival old new)
-  pub accepted : IsOk result → refusal_for any_ssn c old ≡ None
-  pub kept : IsOk result → any_ssn ≡ false → has_come c.tsn (filter_of old) ≡ false
+  pub accepted : IsOk result → arrival_refusal c old ≡ None
+  pub kept : IsOk result → has_come c.tsn (filter_of old) ≡ false
       → is_kept_on c (stream_of c.stream_identifier old) ≡ true
   pub came : IsOk result → has_come c.tsn (filter_of new) ≡ true
-  pub refused : IfErr result (λ e. IsRefusedFor (refusal_for any_ssn c old) e)
+  pub refused : IfErr result (λ e. IsRefusedFor (arrival_refusal c old) e)
   pub wants : IfErr result (λ e. e ≡ OutOfMemory → takes_memory c old ≡ true)
   pub err : OnErr result (new ≡ old)
 
 -- the same, with its turns counted: the count before the call, and after it
-pub record TakesDataCounted (any_ssn : Bool) (c : ChunkPayloadData) (old new : Reception)
+pub record TakesDataCounted (c : ChunkPayloadData) (old new : Reception)
     (result : Result Arrival ReceiverRefusal) (turns turns_after : ℕ) : Type 0 where
-  pub takes : TakesData any_ssn c old new result
+  pub takes : TakesData c old new result
   pub open takes use *
   pub not_back : turns ≤ turns_after
   pub cost : IsWithinData c old new (turns_after - turns)
 
--- the chunks of a packet are taken one after another, all or none: the first one that is refused refuses them all
-pub record TakesDataEach (refusal : ChunkPayloadData → Reception → Option ReceiverRefusal)
-    (cs : List ChunkPayloadData) (old new : Reception)
+-- the chunks of a packet of a record are taken one after another, whatever their stream sequence numbers, all or none: the first one that is
+-- refused refuses them all
+pub record TakesDataEach (cs : List ChunkPayloadData) (old new : Reception)
     (result : Result (Vec Arrival Global) ReceiverRefusal) : Type 0 where
-  pub ok : IfOk result (λ arrivals. TakesEachBy refusal cs arrivals.items old new)
-  pub refused : IfErr result (λ e. (e ≡ OutOfMemory) ⊎ StopsAtBy refusal cs old e)
+  pub ok : IfOk result (λ arrivals. TakesEach cs arrivals.items old new)
+  pub refused : IfErr result (λ e. (e ≡ OutOfMemory) ⊎ StopsAt cs old e)
   pub err : OnErr result (new ≡ old)
 
 -- ## FORWARD-TSN

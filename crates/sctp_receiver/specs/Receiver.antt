@@ -152,37 +152,31 @@ abbrev pub Takes : ChunkPayloadData → Arrival → Reception → Reception → 
 Takes c (New complete) old new = Accepts c complete old new
 Takes c Repeat old new = new ≡ repeat_tsn c.tsn old
 
--- the same, whatever the stream sequence number where any is taken
-abbrev pub refusal_for : Bool → ChunkPayloadData → Reception → Option ReceiverRefusal
-refusal_for true = data_refusal
-refusal_for false = arrival_refusal
-
--- several, one after another, and why a chunk is refused is handed in: none is, and each has its answer
+-- a chunk is taken with this answer, and why one is refused is handed in
 pub record TakesFirstBy (refusal : ChunkPayloadData → Reception → Option ReceiverRefusal)
     (c : ChunkPayloadData) (a : Arrival) (old mid : Reception) : Type 0 where
   pub accepted : refusal c old ≡ None
   pub answer : a ≡ arrival_of c.tsn (is_answered_complete a) old
   pub taken : Takes c a old mid
 
-abbrev pub TakesEachBy : (ChunkPayloadData → Reception → Option ReceiverRefusal)
-    → List ChunkPayloadData → List Arrival → Reception → Reception → Type 0
-TakesEachBy refusal [] [] old new = new ≡ old
-TakesEachBy refusal (c ∷ cs) (a ∷ answers) old new =
-    (mid : Reception)
-    × (TakesFirstBy refusal c a old mid × TakesEachBy refusal cs answers mid new)
-TakesEachBy refusal [] (a ∷ answers) old new = ⊥
-TakesEachBy refusal (c ∷ cs) [] old new = ⊥
+-- several are taken one after another, whatever their stream sequence numbers, each with its answer
+abbrev pub TakesEach : List ChunkPayloadData → List Arrival → Reception → Reception → Type 0
+TakesEach [] [] old new = new ≡ old
+TakesEach (c ∷ cs) (a ∷ answers) old new =
+    (mid : Reception) × (TakesFirstBy data_refusal c a old mid × TakesEach cs answers mid new)
+TakesEach [] (a ∷ answers) old new = ⊥
+TakesEach (c ∷ cs) [] old new = ⊥
 
 -- so many of them are taken, and the next one is refused for this reason
-pub record StopsAtBy (refusal : ChunkPayloadData → Reception → Option ReceiverRefusal)
-    (cs : List ChunkPayloadData) (old : Reception) (e : ReceiverRefusal) : Type 0 where
+pub record StopsAt (cs : List ChunkPayloadData) (old : Reception) (e : ReceiverRefusal)
+    : Type 0 where
   pub count : ℕ
   pub arrivals : List Arrival
   pub mid : Reception
-  pub taken : TakesEachBy refusal (take count cs) arrivals old mid
+  pub taken : TakesEach (take count cs) arrivals old mid
   pub chunk : ChunkPayloadData
   pub next : slice_get cs count ≡ Some chunk
-  pub refused : refusal chunk mid ≡ Some e
+  pub refused : data_refusal chunk mid ≡ Some e
 
 -- whether memory may be asked for: a duplicate is to be noted, or a fragment to be kept
 abbrev pub takes_memory : ChunkPayloadData → Reception → Bool

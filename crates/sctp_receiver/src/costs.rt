@@ -22,7 +22,7 @@ pub fn data(
     turns: &mut Turns,
 ) -> Result<Arrival, ReceiverRefusal>
     ensures { TakesDataCounted
-        false chunk.now receiver.old receiver.new result turns.old turns.new }
+        chunk.now receiver.old receiver.new result turns.old turns.new }
 {
     receiver.take(chunk, turns)
 }

@@ -112,7 +112,7 @@ impl Receiver {
     /// refuses, by the first that holds, with `SsnTooFar`, `TsnOpposite`, `TsnTooFar`, `WindowFull`, `StreamUnknown`, `MessageTooLarge` or
     /// `OutOfMemory`, and changes nothing then. A chunk that it takes as new stays (`kept`), unless a FORWARD-TSN passed its message.
     pub fn data(&mut self, chunk: &ChunkPayloadData) -> Result<Arrival, ReceiverRefusal>
-        ensures { TakesData false chunk.now self.old self.new result }
+        ensures { TakesData chunk.now self.old self.new result }
     {
         self.take(chunk, &mut Turns::new())
     }
@@ -123,7 +123,7 @@ impl Receiver {
         chunk: &ChunkPayloadData,
         turns: &mut Turns,
     ) -> Result<Arrival, ReceiverRefusal>
-        ensures { TakesDataCounted false chunk.now self.old self.new result turns.old turns.new }
+        ensures { TakesDataCounted chunk.now self.old self.new result turns.old turns.new }
     {
         let rules = self.rules();
         let arrival = take(&mut self.streams, &mut self.filter, rules, chunk, turns)?;

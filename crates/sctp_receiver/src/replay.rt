@@ -5,7 +5,7 @@ ghost use Rattle.std.specs.Prelude.{◌≡◌, ◌+◌, ◌≤◌, IfOk, IfErr, 
 ghost use Rattle.sctp_data.specs.ForwardTsn.{forward_tsn_of};
 ghost use Rattle.sctp_data.specs.SelectiveAck.{sack_of};
 ghost use Rattle.sctp_receiver.specs.Calls.{SkipsByNames, TakesDataEach};
-ghost use Rattle.sctp_receiver.specs.Receiver.{data_refusal, filter_of, stream_of, sack};
+ghost use Rattle.sctp_receiver.specs.Receiver.{filter_of, stream_of, sack};
 ghost use Rattle.sctp_receiver.specs.TsnFilter.{has_come};
 ghost use Rattle.sctp_receiver.specs.declared.receiver.refusal.ReceiverRefusal.TheVariants.{OutOfMemory};
 
@@ -28,7 +28,7 @@ pub fn data_each_with_any_ssn(
     receiver: &mut Receiver,
     chunks: &[ChunkPayloadData],
 ) -> Result<Vec<Arrival>, ReceiverRefusal>
-    ensures { TakesDataEach data_refusal chunks.now receiver.old receiver.new result }
+    ensures { TakesDataEach chunks.now receiver.old receiver.new result }
 {
     receiver.take_all(chunks)
 }

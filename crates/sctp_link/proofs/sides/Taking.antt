@@ -91,11 +91,11 @@ takes-one {t} {r} {ps} a apart c n (New b) x h =
 -- ## Several, one after another
 
 pub each-aligned : {t : Transmission} {r : Reception} (s : Reception) {ps : List Standing} (cs : List ChunkPayloadData) (ns : List ℕ) (bs : List Arrival)
-    → IsAligned t r ps → R.TakesEachBy data_refusal cs bs r s → IsAligned t s (after_each cs ns bs ps)
+    → IsAligned t r ps → R.TakesEach cs bs r s → IsAligned t s (after_each cs ns bs ps)
 each-aligned {t} {r} s {ps} cs ns bs a h = with-progress (received t r s ps cs bs a h) _ (each-numbers cs ns bs ps)
   where
     received : (t : Transmission) (r s : Reception) (ps : List Standing) (cs : List ChunkPayloadData) (bs : List Arrival) → IsAligned t r ps
-        → R.TakesEachBy data_refusal cs bs r s → IsAligned t s ps
+        → R.TakesEach cs bs r s → IsAligned t s ps
     received t r s ps [] [] a h = subst (λ z. IsAligned t z ps) (sym h) a
     received t r s ps [] (b ∷ bs) a h = absurd h
     received t r s ps (c ∷ cs) [] a h = absurd h
@@ -104,7 +104,7 @@ each-aligned {t} {r} s {ps} cs ns bs a h = with-progress (received t r s ps cs b
         received t h.0 s ps cs bs (with-receiver a h.0 k.0 k.1 (takes-limits c b r h.0 h.1.0.taken)) h.1.1
 
 pub each-taken : {t : Transmission} {r : Reception} (s : Reception) {ps : List Standing} (cs : List ChunkPayloadData) (ns : List ℕ) (bs : List Arrival)
-    → IsAligned t r ps → IsApart (Outgoing.numbers_of t.streams) → length cs ≤ length ns → R.TakesEachBy data_refusal cs bs r s
+    → IsAligned t r ps → IsApart (Outgoing.numbers_of t.streams) → length cs ≤ length ns → R.TakesEach cs bs r s
     → TakesEach cs ns bs (sides t r ps) (sides t s (after_each cs ns bs ps))
 each-taken {t} s {ps} [] ns [] a apart le h = ap (λ z. sides t z ps) h
 each-taken s [] ns (b ∷ bs) a apart le h = absurd h
@@ -121,7 +121,7 @@ each-taken {t} {r} s {ps} (c ∷ cs) (n ∷ ns) (b ∷ bs) a apart le h = (
 -- where the receiver refuses none, it stops at none
 pub never-stops : {t : Transmission} {r : Reception} {ps : List Standing} (cs : List ChunkPayloadData) (ns : List ℕ) → IsAligned t r ps
     → IsApart (Outgoing.numbers_of t.streams) → CanTake cs ns (sides t r ps) → (count : ℕ) (bs : List Arrival) (mid : Reception) (c : ChunkPayloadData)
-    (e : ReceiverRefusal) → R.TakesEachBy data_refusal (take count cs) bs r mid → slice_get cs count ≡ Some c → data_refusal c mid ≡ Some e → ⊥
+    (e : ReceiverRefusal) → R.TakesEach (take count cs) bs r mid → slice_get cs count ≡ Some c → data_refusal c mid ≡ Some e → ⊥
 never-stops [] ns a apart can count bs mid c e h at why = cc
 never-stops (d ∷ cs) [] a apart can count bs mid c e h at why = can
 never-stops {r} (d ∷ cs) (n ∷ ns) a apart can zero [] mid c e h at why =

@@ -4,7 +4,7 @@ use Rattle.std.specs.Prelude.{◌&&◌, if◌then◌else◌, slice_index_or}
 use Rattle.sctp_util.specs.Lists.{change_where}
 use Rattle.sctp_data.specs.declared.chunk.chunk_payload_data.ChunkPayloadData.{ChunkPayloadData}
 use Rattle.sctp_receiver.specs.declared.receiver.arrival.Arrival.{Arrival}
-use Rattle.sctp_receiver.specs.Receiver.{Reception, TakesEachBy, data_refusal, is_answered_complete}
+use Rattle.sctp_receiver.specs.Receiver.{Reception, TakesEach, is_answered_complete}
 use Rattle.sctp_link.specs.Progress.{Standing, has_number, numbers_of, with_complete, after_one, after_each}
 
 -- one more is answered
@@ -18,7 +18,7 @@ each-next (e ∷ cs) (n ∷ ns) [] c b ps same lt = absurd (omega (arith, same))
 each-next (e ∷ cs) (n ∷ ns) (d ∷ bs) c b ps same lt = each-next cs ns bs c b (after_one e n d ps) (omega (arith, same)) (omega (arith, lt))
 
 -- each chunk has its answer
-pub answered : (cs : List ChunkPayloadData) (bs : List Arrival) (r s : Reception) → TakesEachBy data_refusal cs bs r s → length bs ≡ length cs
+pub answered : (cs : List ChunkPayloadData) (bs : List Arrival) (r s : Reception) → TakesEach cs bs r s → length bs ≡ length cs
 answered [] [] r s t = refl
 answered [] (b ∷ bs) r s t = absurd t
 answered (c ∷ cs) [] r s t = absurd t

@@ -9,7 +9,7 @@ use Rattle.sctp_receiver.specs.declared.receiver.refusal.ReceiverRefusal.{Receiv
 use Rattle.sctp_receiver.specs.declared.receiver.refusal.ReceiverRefusal.TheVariants.{TsnOpposite}
 use Rattle.sctp_receiver.specs.TsnFilter.{Filter, has_come, is_opposite, with_tsn, skipped_to}
 use Rattle.sctp_receiver.specs.Receiver.{Reception, filter_of, arrival_of, is_answered_complete, data_refusal, new_refusal, stream_refusal, stream_of}
-use Rattle.sctp_receiver.specs.Receiver.{Takes, TakesFirstBy, TakesEachBy, is_stale, forward_refusal, follow_forward_tsn, after_forward, repeat_tsn}
+use Rattle.sctp_receiver.specs.Receiver.{Takes, TakesFirstBy, TakesEach, is_stale, forward_refusal, follow_forward_tsn, after_forward, repeat_tsn}
 use Rattle.std.specs.Option.{option_or}
 use Rattle.sctp_link.specs.Tsns.{with_arrival, with_arrivals, with_skip}
 use Rattle.sctp_receiver.proofs.Receptions.{after}
@@ -63,7 +63,7 @@ module _ (c : ChunkPayloadData) (old mid : Reception) (unlimited : old.limits �
       by Repeat e k false h = let z : Repeat ≡ New false = e ∙ answered false false h in cc
 
 -- and after several
-pub came-each : (cs : List ChunkPayloadData) (bs : List Arrival) (old new : Reception) → old.limits ≡ None → TakesEachBy data_refusal cs bs old new
+pub came-each : (cs : List ChunkPayloadData) (bs : List Arrival) (old new : Reception) → old.limits ≡ None → TakesEach cs bs old new
     → (filter_of new ≡ with_arrivals cs (filter_of old)) × (new.limits ≡ None)
 came-each [] [] old new un t = (ap filter_of t, ap (λ (r : Reception). r.limits) t ∙ un)
 came-each [] (b ∷ bs) old new un t = absurd t

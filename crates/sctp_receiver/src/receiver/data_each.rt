@@ -4,7 +4,7 @@ ghost use Rattle.std.specs.Prelude.{◌≡◌, ◌⊎◌, ◌≤◌, [], OnErr, 
 ghost use Rattle.std.specs.Vec.{vec_capacity};
 ghost use Rattle.sctp_receiver.specs.declared.receiver.refusal.ReceiverRefusal.TheVariants.{OutOfMemory};
 ghost use Rattle.sctp_receiver.specs.Calls.{TakesDataEach};
-ghost use Rattle.sctp_receiver.specs.Receiver.{data_refusal, TakesEachBy, StopsAtBy};
+ghost use Rattle.sctp_receiver.specs.Receiver.{TakesEach, StopsAt};
 ghost use Rattle.sctp_receiver.specs.Undo.{parts, reception_of, chunk_undone, CanUndoChunk, chunks_undone, CanUndoChunks, repeat_undone};
 
 use crate::receiver::Receiver;
@@ -25,7 +25,7 @@ impl Receiver {
         &mut self,
         chunks: &[ChunkPayloadData],
     ) -> Result<Vec<Arrival>, ReceiverRefusal>
-        ensures { TakesDataEach data_refusal chunks.now self.old self.new result }
+        ensures { TakesDataEach chunks.now self.old self.new result }
     {
         let rules = self.rules();
         let arrivals = take_each(
@@ -48,10 +48,10 @@ fn take_each(
     rules: Rules,
     chunks: &[ChunkPayloadData],
 ) -> Result<Vec<Arrival>, ReceiverRefusal>
-    ensures ok { IfOk result (λ arrivals. TakesEachBy data_refusal chunks.now arrivals.items
+    ensures ok { IfOk result (λ arrivals. TakesEach chunks.now arrivals.items
         (reception_of rules (parts streams.old filter.old))
         (reception_of rules (parts streams.new filter.new))) }
-    ensures refused { IfErr result (λ e. (e ≡ OutOfMemory) ⊎ StopsAtBy data_refusal
+    ensures refused { IfErr result (λ e. (e ≡ OutOfMemory) ⊎ StopsAt
         chunks.now (reception_of rules (parts streams.old filter.old)) e) }
     ensures err { OnErr result (parts streams.new filter.new ≡ parts streams.old filter.old) }
 {

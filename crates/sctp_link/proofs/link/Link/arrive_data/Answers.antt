@@ -1,6 +1,6 @@
 use Rattle.sctp_link.proofs.Names.{◌≡◌, ◌≤◌, ℕ, List, None, Some, inl, inr, length, map, refl, ap, sym, ◌∙◌, arith, rules, subst, ◌⊎◌, ◌<◌, slice_get}
 use Rattle.sctp_link.proofs.Names.{slice_index_or, fold, with_items, vec_len, with_items_is, list_any, Data, chunk_at, receive_slot, refusal_of, IsRight}
-use Rattle.sctp_link.proofs.Names.{ChunkPayloadData, Reception, StopsAtBy, data_refusal, ReceiverRefusal, numbers_of, Transmission, Standing, IsApart, Sides}
+use Rattle.sctp_link.proofs.Names.{ChunkPayloadData, Reception, StopsAt, ReceiverRefusal, numbers_of, Transmission, Standing, IsApart, Sides}
 use Rattle.sctp_link.proofs.Names.{IsAligned, CanTake, TakesEach, sides, record_in, record_from, state_from, sides_in, IsLinked, Inside, Slot, kind_record}
 use Rattle.sctp_link.proofs.Names.{slot_record, number_at, arrived_in, is_first, length-mapped, all-inside}
 use Rattle.sctp_model.specs.declared.event.Event.TheVariants as E
@@ -20,7 +20,7 @@ use Rattle.sctp_link.proofs.upkeep.Observed.{kind-there}
 
 -- no chunk is refused but for memory
 only-memory : {t : Transmission} {r : Reception} {ps : List Standing} (cs : List ChunkPayloadData) (ns : List ℕ) → IsAligned t r ps
-    → IsApart (numbers_of t.streams) → CanTake cs ns (sides t r ps) → (e : ReceiverRefusal) → (e ≡ OutOfMemory) ⊎ StopsAtBy data_refusal cs r e
+    → IsApart (numbers_of t.streams) → CanTake cs ns (sides t r ps) → (e : ReceiverRefusal) → (e ≡ OutOfMemory) ⊎ StopsAt cs r e
     → e ≡ OutOfMemory
 only-memory cs ns a apart able e (inl h) = h
 only-memory cs ns a apart able e (inr h) = absurd (never-stops cs ns a apart able h.count h.arrivals h.mid h.chunk e h.taken h.next h.refused)

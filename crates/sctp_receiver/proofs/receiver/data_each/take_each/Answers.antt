@@ -1,6 +1,6 @@
 use Rattle.sctp_receiver.proofs.Names.{rules, ◌≡◌, ◌<◌, ◌+◌, ◌∙◌, ap, sym, subst, arith, None, Some, refl, List, ◌∷◌, [], ◌++◌, length, take, get_or}
 use Rattle.sctp_receiver.proofs.Names.{slice_get, length-append, slice_get_read, ChunkPayloadData, Arrival, ChunkUndo}
-use Rattle.sctp_receiver.proofs.Names.{Reception, TakesEachBy, TakesFirstBy, data_refusal, Parts, parts}
+use Rattle.sctp_receiver.proofs.Names.{Reception, TakesEach, TakesFirstBy, data_refusal, Parts, parts}
 use Rattle.sctp_receiver.proofs.Names.{reception_of, chunks_undone, CanUndoChunks}
 use Rattle.std.proofs.lemmas.List.{take_more}
 use Rattle.sctp_receiver.proofs.DataEach.{takes-more, stops}
@@ -13,7 +13,7 @@ returns-in-Err-clause-refused c =
     let cs = c.args.chunks.now in
     let lt : c.loop-chunk.chunk-index < length cs = omega (arith, c.loop-chunk-test.true) in
     let next : slice_get cs c.loop-chunk.chunk-index ≡ Some x = slice_get_read cs (length cs) c.loop-chunk.chunk-index x refl lt c.chunk-item.is in
-    stops data_refusal cs c.loop-chunk.arrivals.items c.loop-chunk.chunk-index x
+    stops cs c.loop-chunk.arrivals.items c.loop-chunk.chunk-index x
     (reception_of c.args.rules (parts c.args.streams.now c.args.filter.now))
     (reception_of c.args.rules (parts c.loop-chunk.streams c.loop-chunk.filter)) c.in-Err.refusal c.loop-chunk.invariant.taken next
     c.in-Err.ensures.refused
@@ -45,9 +45,9 @@ loop-chunk-preserved c =
     let many = ap (λ (us : List ChunkUndo). length us) undos in
     let rest : CanUndoChunks l.undos.items _ = subst (CanUndoChunks l.undos.items) (sym c.in-Ok.ensures.undo) v.can in
     record {
-      taken = subst (λ (bs : List Arrival). TakesEachBy data_refusal (take (i + 1) cs) bs start new) (sym answers)
-          (subst (λ (ys : List ChunkPayloadData). TakesEachBy data_refusal ys (l.arrivals.items ++ a ∷ []) start new) front
-          (takes-more data_refusal (take i cs) l.arrivals.items x a start old new v.taken first));
+      taken = subst (λ (bs : List Arrival). TakesEach (take (i + 1) cs) bs start new) (sym answers)
+          (subst (λ (ys : List ChunkPayloadData). TakesEach ys (l.arrivals.items ++ a ∷ []) start new) front
+          (takes-more (take i cs) l.arrivals.items x a start old new v.taken first));
       undone = ap (λ us. chunks_undone us q) undos ∙ undone-last l.undos.items u q ∙ ap (chunks_undone l.undos.items) c.in-Ok.ensures.undo ∙ v.undone;
       can = subst (λ us. CanUndoChunks us q) (sym undos) (last-can l.undos.items u q c.in-Ok.ensures.can rest);
       arrivals = omega (arith, v.arrivals, n, long);
