@@ -4,7 +4,8 @@
 #     peers, the heap against its bound, and the worst packets by the clock
 #   - the endpoints of examples/c: with one another, and with usrsctp
 #   - the wrappers for C++, Rust and Go: their tests, and the echo, which prints the same in each
-# and on the programs sctpdump and assocrun, where rt ci or rt run has built them, what dump_tests/dump_tests.py and c_tests/assoc_tests.py test.
+# and on the programs sctpdump and assocrun, where rt ci or rt run has built them, what dump_tests/dump_tests.py, c_tests/assoc_tests.py and, with
+# valgrind, c_tests/worst_packets.py test.
 # The last line is 'N passed, M failed'; the status is 0 where nothing failed. It needs the kit's command rt, gcc and g++, or the CC and CXX
 # given. What else it asks for are Debian's packages libusrsctp-dev, libsctp-dev, valgrind, golang-go, make and pkgconf: as root it installs
 # those that are missing, unless C_TESTS_INSTALL=no. Where one can't be had, and where there is no cargo, a line that begins with
@@ -91,6 +92,10 @@ if [ -x crates/assocrun/out/assocrun ]; then
     # shellcheck disable=SC2086
     python3 c_tests/assoc_tests.py $with_tshark >"$BUILD/assoc_tests.log" 2>&1 &
     assoc_tests=$!
+    if [ "$valgrind" = yes ]; then
+        python3 c_tests/worst_packets.py >"$BUILD/worst_packets.log" 2>&1 &
+        worst_packets=$!
+    fi
 fi
 
 # The header is C++ too, and the kit's memory calls serve.
@@ -312,7 +317,13 @@ fi
 is_clean() {
     wait "$memcheck" || { cat "$BUILD/memcheck.log"; return 1; }
 }
-if [ "$valgrind" = yes ]; then try is_clean; fi
+if [ "$valgrind" = yes ]; then
+    try is_clean
+    if [ -x crates/assocrun/out/assocrun ]; then
+        wait "$worst_packets" || true
+        count worst_packets
+    fi
+fi
 
 # What tells usrsctp's faults from ours, each of them with usrsctp, and the runs: six that reset streams, and five more that exchange messages.
 if [ "$usrsctp" = yes ]; then

@@ -50,7 +50,7 @@ TRAITS = {
 }
 DEFINITIONS = {
     "crc32c::Crc::update": {"Holds"},
-    "sctp_receiver::data_each_with_any_ssn": {"TakesDataEach", "data_refusal"},
+    "sctp_receiver::data_each_with_any_ssn": {"TakesDataEach"},
 }
 # what the definitions of a contract use, and which calls name a definition that uses this one, by which
 BEHIND = {

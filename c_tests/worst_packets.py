@@ -1,11 +1,12 @@
 #!/usr/bin/env python3
 """What the worst packets of a peer cost an association with the default `Config`, in instructions.
 
-    python3 evidence/worst_packets.py [--ours PROGRAM] [--most INSTRUCTIONS]
+    python3 c_tests/worst_packets.py [--ours PROGRAM] [--most INSTRUCTIONS]
 
 PROGRAM is crates/assocrun/out/assocrun unless told otherwise (`rt run` makes it). Each row builds a state by datagrams, and then gives a packet of at
 most 1,400 bytes. The program runs twice under valgrind: once with that packet, and once with the same bytes under a wrong checksum, which is dropped.
-The row is the difference, so it has neither what reads the line nor the checksum. With --most the status is 1 where a row has more.
+The row is the difference, so it has neither what reads the line nor the checksum. A row passes where its packet is accepted, and has at most --most
+instructions. The last line is 'worst_packets: N passed, M failed'; the status is 0 where none failed.
 """
 import argparse
 import os
@@ -19,6 +20,8 @@ sys.path.insert(0, f"{TOP}/c_tests/assoc")
 from wire import encode  # noqa: E402
 
 PACKET = 1400
+# 1.2 ms at three instructions a nanosecond: what is in memory when the program starts, and the processor's copies, move a row by some per cent
+MOST = 3_500_000
 # the default window, streams and chunks in flight of a `Config`
 WINDOW, STREAMS, IN_FLIGHT = 1 << 20, 1024, 4096
 # what a chunk of one byte counts for in the window
@@ -114,19 +117,20 @@ def count(program, lines, folder):
 def main():
     parser = argparse.ArgumentParser()
     parser.add_argument("--ours", default=f"{TOP}/crates/assocrun/out/assocrun")
-    parser.add_argument("--most", type=int)
+    parser.add_argument("--most", type=int, default=MOST)
     args = parser.parse_args()
-    worst = 0
+    passed = failed = 0
     with tempfile.TemporaryDirectory() as folder:
         for name, lines, packet in rows():
             before = [told(it) for it in BEGIN + lines]
             taken, answers = count(args.ours, [*before, told(f"in 900000 {packet}")], folder)
             spoilt, _ = count(args.ours, [*before, told(f"in 900000 sum=bad {packet}")], folder)
-            worst = max(worst, taken - spoilt)
             last = [it for it in answers.split("\n") if it.split(" ")[0] in ("accepted", "dropped")][-1]
-            print(f"{name}: {taken - spoilt:,} instructions, {last}", flush=True)
-    if args.most and worst > args.most:
-        sys.exit(1)
+            good = last.startswith("accepted") and taken - spoilt <= args.most
+            passed, failed = passed + good, failed + (not good)
+            print(f"{name}: {taken - spoilt:,} instructions, {last}{'' if good else ', FAILED'}", flush=True)
+    print(f"worst_packets: {passed} passed, {failed} failed")
+    sys.exit(failed > 0)
 
 
 if __name__ == "__main__":
