@@ -48,7 +48,9 @@ UNPLAIN = [("anew", "again, newly"), ("beyond", "past"), ("looks", "reads"), ("t
 MOST_WORDS = 30
 LONG = ["CHANGELOG.md"]
 COMMENT = re.compile(r"<!--.*?-->", re.S)
-NO_PROSE = re.compile(r"^(?: {4,}(?![-*\d] ).*|#.*|\|.*|.* \| .*|.*\|$|---.*)$", re.M)
+NO_PROSE = re.compile(r"^(?:#.*|\|.*|.* \| .*|.*\|$|---.*)$", re.M)
+# lines of code: indented, behind an empty line. Without one they go on with an item of a list
+CODE = re.compile(r"(?<=\n\n)(?: {4,}(?![-*\d] ).*\n)+", re.M)
 BLOCK_ENDS = re.compile(r"\n\s*\n|\n(?=\s*(?:[-*] |\d+\. ))")
 SENTENCE_ENDS = re.compile(r"(?<=[.?!])(?<!\.\.)(?<!e\.g\.)(?<!i\.e\.)[)\"*]*\s+(?=[A-Z`\[*\"(\d])")
 WORD = re.compile(r"[^\W_]")
@@ -179,7 +181,7 @@ def code_of_no_source():
 
 def sentences_of(text):
     """Returns the sentences of a page, each with its place."""
-    text = SPAN.sub(lambda it: "X" * len(it.group()), NO_PROSE.sub(blank, COMMENT.sub(blank, FENCE.sub(blank, text))))
+    text = SPAN.sub(lambda it: "X" * len(it.group()), NO_PROSE.sub(blank, CODE.sub(blank, COMMENT.sub(blank, FENCE.sub(blank, text)))))
     found, begin = [], 0
     for end in [it.end() for it in re.finditer(f"{BLOCK_ENDS.pattern}|{SENTENCE_ENDS.pattern}", text)] + [len(text)]:
         found.append((begin, text[begin:end]))
