@@ -139,6 +139,7 @@ pub mod TakenAgain
 pub mod HeldWeights
 pub mod YoungReads
 pub mod YoungSacks
+pub mod EveryRecent
 pub mod YoungOwn
 pub mod FlightPlaces
 pub mod YoungSpread

@@ -40,7 +40,8 @@ use Rattle.sctp_delivery.proofs.Sent.{Entry, IsLine, IsPart, Numbered, contains-
 use Rattle.sctp_delivery.proofs.TakenCalls.{Knows}
 use Rattle.sctp_delivery.proofs.TakenTsns.{come}
 use Rattle.sctp_delivery.proofs.TsnPlaces.{IsGiven, base, upto-is, upto-yes}
-use Rattle.sctp_delivery.proofs.YoungOwn.{AreAt, AreRead, AreReadOn, Flies, IsOwned, absent, all-recent, all-whole, apart, flies, held_with, now-held}
+use Rattle.sctp_delivery.proofs.TakenAgain.{Flies, flies}
+use Rattle.sctp_delivery.proofs.YoungOwn.{AreAt, AreRead, AreReadOn, IsOwned, absent, all-recent, all-whole, apart, held_with, now-held}
 use Rattle.sctp_delivery.proofs.YoungOwn.{owned-first, reads-are, receiver-owned, sender-owned}
 use Rattle.sctp_delivery.proofs.YoungReads.{IsPlaced, IsYoungSession, each-from, floor, more-long, receiver-young, recent-place, sender-young, young-first}
 

@@ -1,15 +1,15 @@
 -- Sessions of a whole life: no write is read twice, while what is handed over and what is held is less than 2^31 TSNs old.
 use Rattle.sctp_delivery.proofs.Names.{◌⊎◌, Limits, ◌≡◌, ℕ, zero, suc, ◌+◌, ◌%◌, ◌<◌, ◌≤◌, ◌^◌, Bool, true, false, List, [], ◌∷◌, length, Option, Some, None}
-use Rattle.sctp_delivery.proofs.Names.{refl, ap, sym, subst, ◌∙◌, arith, nat_tests, inl, inr, ◌==◌, if◌then◌else◌, nat_lt, list_all, list_any}
+use Rattle.sctp_delivery.proofs.Names.{refl, ap, sym, subst, ◌∙◌, arith, nat_tests, inl, inr, if◌then◌else◌, nat_lt, list_all}
 use Rattle.sctp_delivery.proofs.Names.{All, AllPairs, pairs_cons, sum_by, sum_by-cons, AllPass-from_list_all, both, and}
-use Rattle.sctp_delivery.proofs.Names.{not, not_both, fails, negated, same-is, same-yes, ChunkPayloadData, ChunkSet, Data, data_of, data_chunk, forward_tsn}
+use Rattle.sctp_delivery.proofs.Names.{not, not_both, fails, negated, same-is, same-yes, ChunkPayloadData, ChunkSet, Data, data_of}
 use Rattle.sctp_delivery.proofs.Names.{is_on, has_tsn, is_complete}
-use Rattle.sctp_delivery.proofs.Names.{is_one_message, Message, fragments_on, held_weight, message_on, stream_of, New, Repeat, ReceiverCall}
+use Rattle.sctp_delivery.proofs.Names.{is_one_message, Message, fragments_on, held_weight, message_on, stream_of, New, ReceiverCall}
 use Rattle.sctp_delivery.proofs.Names.{SenderCall, Call, RunsTo, Session, SenderFollows, ReceiverFollows, at_start, of_receiver, of_sender, Reception, Stand}
 use Rattle.sctp_delivery.proofs.Names.{Ledger}
-use Rattle.sctp_delivery.proofs.Names.{after_forward_tsn, is_stale, without_incomplete, follow_forward_tsn, AreWritesOfTheirOwn, StandAt}
+use Rattle.sctp_delivery.proofs.Names.{AreWritesOfTheirOwn, StandAt}
 use Rattle.std.proofs.Common.{◌≢◌}
-use Rattle.sctp_util.specs.Serial.{at_or_before, comes_before, distance}
+use Rattle.sctp_util.specs.Serial.{comes_before, distance}
 use Rattle.sctp_receiver.specs.ReceiverRuns.{with_message}
 use Rattle.sctp_receiver.proofs.Weights.{message_weight}
 use Rattle.sctp_delivery.specs.ReceiverCalls as incoming
@@ -19,80 +19,23 @@ use Rattle.sctp_delivery.proofs.Begun.{AreOnce}
 use Rattle.sctp_delivery.proofs.Calls.{numbered_after}
 use Rattle.sctp_delivery.proofs.Cases.{all_streams, at-test, by-test}
 use Rattle.sctp_delivery.proofs.Delivered.{EachSentFrom, IsReadOf, Sends, next_tsn, sender-step, single-is, single-on}
-use Rattle.sctp_delivery.proofs.Every.{Every, every-all, every-contained, every-of-all}
-use Rattle.sctp_delivery.proofs.FewInFlight.{IsMadeSmall}
+use Rattle.sctp_delivery.proofs.Every.{Every, every-all, every-of-all}
 use Rattle.sctp_delivery.proofs.HeldWeights.{read-held, weighs}
 use Rattle.sctp_delivery.proofs.Kept.{IsAbsent, held-weighs}
 use Rattle.sctp_delivery.proofs.OrderedEntries.{AreIndexed}
 use Rattle.sctp_delivery.proofs.OnceWritten.{EachRead, one-start, places, stand}
 use Rattle.sctp_delivery.proofs.Queues.{IsOnceMore}
 use Rattle.sctp_delivery.proofs.ReadOnce.{one}
-use Rattle.sctp_delivery.proofs.Recent.{IsNear, any, given, near-first, receiver-near, sender-near}
+use Rattle.sctp_delivery.proofs.Recent.{IsNear, near-first, receiver-near, sender-near}
 use Rattle.sctp_delivery.proofs.Sent.{Entry, IsLine, IsPart, Numbered, fragment, part-length, part-line, same-parts}
 use Rattle.sctp_delivery.proofs.Sessions as sessions
-use Rattle.sctp_delivery.proofs.Sessions.{all-pass, neither}
-use Rattle.sctp_delivery.proofs.TakenAgain.{flew}
-use Rattle.sctp_delivery.proofs.TakenCalls.{Knows, fresh-new, new-come, skip-come}
+use Rattle.sctp_delivery.proofs.Sessions.{all-pass}
+use Rattle.sctp_delivery.proofs.TakenAgain.{Flies, comes, flew, flies, fresh, small, stays}
+use Rattle.sctp_delivery.proofs.TakenCalls.{Knows}
 use Rattle.sctp_delivery.proofs.TakenTsns.{come}
 use Rattle.sctp_delivery.proofs.TsnPlaces.{IsGiven}
 use Rattle.sctp_delivery.proofs.YoungReads.{IsReadFrom, IsYoungSession, each-from, each-more, floor, is_recent, more-long, more-part, receiver-young}
 use Rattle.sctp_delivery.proofs.YoungReads.{sender-young, weight-none, young-first}
-
--- the TSN is in flight
-abbrev pub Flies : ℕ → Session → Type 0
-Flies t s = IsGiven s.sending.sender.flight.acked_tsn (count_in_flight s) t
-
--- ## What came has come after a call of the receiver
-
-module _ (old new : Session) (few : count_in_flight new < 2 ^ 31) (i : IsNear old) (t : ℕ) (g : Flies t old) where
-  abbrev r : Reception
-  r = old.receiving.receiver
-
-  abbrev p : ℕ
-  p = old.sending.sender.flight.acked_tsn
-
-  abbrev n : ℕ
-  n = count_in_flight old
-
-  stays : (call : ReceiverCall) → ReceiverFollows call old new → IsRecent (of_receiver call) old → Knows t r → Knows t new.receiving.receiver
-  stays (incoming.opens stream) f q e = subst (Knows t) (sym f.step.receiver.1) e
-  stays (incoming.takes c Repeat) f q e = subst (Knows t) (sym f.step.receiver) e
-  stays (incoming.takes c (New said)) f q e =
-      let fresh = fresh-new c.tsn said r f.accepted.1 in
-      let small = every-contained IsMadeSmall old.made (data_chunk (data_of c)) f.handed i.regular.made in
-      let a = given old new few i c.tsn small q (neither (at_or_before c.tsn r.cumulative_tsn) (list_any (λ u. u == c.tsn) r.beyond) fresh).0 in
-      (new-come p n r any i.few i.arrived c new.receiving.receiver (record c { tsn = t } ∷ []) a fresh
-      (ap (λ (y : Reception). y.cumulative_tsn) f.step.receiver.after) (ap (λ (y : Reception). y.beyond) f.step.receiver.after)
-      (record { each = ((g, e), tt); apart = refl })).each.1.0.1
-  stays (incoming.follows c) f q e = subst (Knows t) (sym f.step.receiver) (by (is_stale c r) refl)
-    where
-      by : (z : Bool) → is_stale c r ≡ z → Knows t (after_forward_tsn c r)
-      by true s = subst (λ b. Knows t (if b then r else without_incomplete c.new_cumulative_tsn (if b then r else follow_forward_tsn c r))) (sym s) e
-      by false s =
-          let small = every-contained IsMadeSmall old.made (forward_tsn c) f.handed i.regular.made in
-          skip-come p n r any i.few i.arrived c (given old new few i c.new_cumulative_tsn small q s) t g e
-  stays call f q e = subst (Knows t) (sym f.step.receiver) e
-
--- a chunk that is taken as new is in flight, and comes
-module _ (old new : Session) (few : count_in_flight new < 2 ^ 31) (i : IsNear old) (c : ChunkPayloadData) (said : Bool)
-    (f : ReceiverFollows (incoming.takes c (New said)) old new) (q : IsRecent (of_receiver (incoming.takes c (New said))) old) where
-  small : c.tsn < 2 ^ 32
-  small = every-contained IsMadeSmall old.made (data_chunk (data_of c)) f.handed i.regular.made
-
-  fresh : Knows c.tsn old.receiving.receiver → ⊥
-  fresh e = not_both (sym (fresh-new c.tsn said old.receiving.receiver f.accepted.1) ∙ e)
-
-  pub flies : Flies c.tsn old
-  flies =
-      let r = old.receiving.receiver in
-      given old new few i c.tsn small q (neither (at_or_before c.tsn r.cumulative_tsn) (list_any (λ u. u == c.tsn) r.beyond)
-      (fresh-new c.tsn said r f.accepted.1)).0
-
-  comes : Knows c.tsn new.receiving.receiver
-  comes =
-      (new-come old.sending.sender.flight.acked_tsn (count_in_flight old) old.receiving.receiver any i.few i.arrived c new.receiving.receiver [] flies
-      (fresh-new c.tsn said old.receiving.receiver f.accepted.1) (ap (λ (y : Reception). y.cumulative_tsn) f.step.receiver.after)
-      (ap (λ (y : Reception). y.beyond) f.step.receiver.after) (record { each = tt; apart = refl })).each.0.1
 
 -- ## The messages that were read, by the places of their first fragments
 

@@ -9,7 +9,9 @@
 ghost use Rattle.sctp_delivery.specs.EveryCall.{AcknowledgedArrived, AfterEachAny, AfterEachAnyOfFewBytes, AfterEachAnyOfFewTsns, AreSingle, AreSingleWhereSteady, AreSingleWritesOfTheirOwn, AreToldApart, AreWritesWhereSingle, LeftArrived, ReleasedArrived, ReportWhatArrived};
 ghost use Rattle.sctp_delivery.specs.EveryEnd.{AfterEachAnyOfLost, AfterEachAnyOfMessages, IsOrderedReadInTheEnd, IsSentReadInTheEnd, IsUnorderedHeldReadOrPassed, IsUnorderedReadInTheEnd, IsUnorderedReadOrHeld, IsUnorderedSentReadInTheEnd};
 ghost use Rattle.sctp_delivery.specs.EveryOrder.{AreReadInTurnWhereUnbroken, AreSingleReadAsWritten, AreSingleReadInOrder};
+ghost use Rattle.sctp_delivery.specs.EveryRecent.{AreReadAsGiven, AreTakenAsGiven, WhileAnyRecent};
 ghost use Rattle.sctp_delivery.specs.Messages.{AreParts, AreSame, NoneIsReadTwice};
+ghost use Rattle.sctp_delivery.specs.Recent.{NoneYoungIsRefused};
 ghost use Rattle.sctp_delivery.specs.Returns.{IsAccountedSo, NoneIsRefusedSo};
 ghost use Rattle.sctp_delivery.specs.Rounds.{CanBeAnswered};
 ghost use Rattle.sctp_delivery.specs.Sacks.{AllReportedLeaves, EachSackTells, NoneIsRefused, NoneIsTakenTwice, PassAbandoned, StaysAcknowledged};
@@ -82,7 +84,9 @@ pub fn whatever_is_called_what_is_unordered_is_held_or_read()
 /// While the sender has given out fewer than 2^31 TSNs: the receiver can make a SACK at any time, and the sender refuses none of them.
 /// A SACK reports, a chunk in flight is acknowledged, and one leaves, only where the receiver took the chunk or dropped it, or a
 /// FORWARD-TSN went past it. A SACK leaves out nothing that was taken. One that has the last TSN as its cumulative one leaves nothing in
-/// flight; and no TSN is taken, or read, twice.
+/// flight; and no TSN is taken, or read, twice. In a whole life, too, while fewer than 2^31 chunks are in flight, and nothing is handed over that is
+/// 2^31 TSNs old: the receiver can make a SACK, the sender refuses none that is younger, and each TSN is taken, and read, at most as often as it
+/// was given out.
 pub fn whatever_is_called_sacks_tell_what_came()
     ensures can { AfterEachAnyOfFewTsns (λ first count calls s. CanBeAnswered s) }
     ensures refused { AfterEachAnyOfFewTsns (λ first count calls s. NoneIsRefused s) }
@@ -96,4 +100,8 @@ pub fn whatever_is_called_sacks_tell_what_came()
     ensures all { AfterEachAnyOfFewTsns (λ first count calls s. AllReportedLeaves s) }
     ensures once { AfterEachAnyOfFewTsns (λ first count calls s. NoneIsTakenTwice s) }
     ensures read { AfterEachAnyOfFewTsns (λ first count calls s. NoneIsReadTwice s) }
+    ensures can_recent { WhileAnyRecent (λ given sacks s. CanBeAnswered s) }
+    ensures refused_recent { WhileAnyRecent (λ given sacks s. NoneYoungIsRefused sacks s) }
+    ensures once_recent { WhileAnyRecent (λ given sacks s. AreTakenAsGiven given s) }
+    ensures read_recent { WhileAnyRecent (λ given sacks s. AreReadAsGiven given s) }
 {}
