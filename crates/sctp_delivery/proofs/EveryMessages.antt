@@ -39,7 +39,7 @@ use Rattle.sctp_delivery.proofs.EveryKept.{elsewhere, elsewhere-of, ended-read, 
 use Rattle.sctp_delivery.proofs.EverySettled as every_settled
 use Rattle.sctp_delivery.proofs.EveryRuns as runs
 use Rattle.sctp_delivery.proofs.EveryShadows.{every, HasBesideSo, IsPlayedSo, MayPass, has-beside-so, played-accounted}
-use Rattle.sctp_delivery.proofs.Every.{Every, every-contained, every-of-all}
+use Rattle.sctp_delivery.proofs.Every.{Every, every-at, every-contained, every-of-all}
 use Rattle.sctp_delivery.proofs.OnceWritten.{EachRead, apart, places, stand}
 use Rattle.sctp_delivery.proofs.InTheEnd.{none-selected}
 use Rattle.sctp_delivery.proofs.KeptSessions.{IsIdle, begun-part, idle-of, same-write, slice-itself}
@@ -65,10 +65,11 @@ use Rattle.sctp_delivery.proofs.UnwrappedHolds.{AreInTurn, Fits, Where as Turns,
 use Rattle.sctp_delivery.proofs.UnwrappedLaw.{in-order-of, starts}
 use Rattle.sctp_delivery.proofs.Sessions as sessions
 use Rattle.sctp_delivery.proofs.Sessions.{neither}
+use Rattle.sctp_delivery.proofs.YoungReads.{IsReadFrom}
 
 -- ## Tests of fragments
 
-none-begin : (cs : List ChunkPayloadData) → list_all (λ d. not d.beginning_fragment) cs ≡ true
+pub none-begin : (cs : List ChunkPayloadData) → list_all (λ d. not d.beginning_fragment) cs ≡ true
     → Every (λ (d : ChunkPayloadData). d.beginning_fragment ≡ false) cs
 none-begin [] e = tt
 none-begin (c ∷ cs) e =
@@ -116,10 +117,10 @@ some-apart p (m ∷ ms) e = at-if (λ z. are_apart (fragments_of_all z) ≡ true
 
 -- ## What was read
 
--- of a session whose messages are of chunks that were made, where these entries got TSNs
-module _ (on : ℕ → Bool) (first : ℕ) (s : Session) (ns : List Numbered) (sent : List Entry) (few : length sent < 2 ^ 32) (line : IsLine ns first sent)
-    (indexed : AreIndexedOn on sent) (once : AreOnce sent) (sent-made : AreSentOn on sent s.made) (writes : forgotten ns ≡ s.written)
-    (reads-on : sessions.AreOn s) (whole : AreMessages s) (made : AreMade s) where
+-- of a session whose messages are of chunks that got TSNs, where these are the entries
+module _ (on : ℕ → Bool) (first : ℕ) (s : Session) (ns : List Numbered) (sent : List Entry) (line : IsLine ns first sent)
+    (indexed : AreIndexedOn on sent) (once : AreOnce sent) (writes : forgotten ns ≡ s.written)
+    (reads-on : sessions.AreOn s) (whole : AreMessages s) (from : Every (IsReadFrom sent) s.receiving.read) where
   module _ (k : ℕ) (m : Message) (lt : k < length s.receiving.read) where
     abbrev it : Message
     it = slice_index_or s.receiving.read k m
@@ -130,8 +131,8 @@ module _ (on : ℕ → Bool) (first : ℕ) (s : Session) (ns : List Numbered) (s
     there : list_all (is_on it.stream) it.fragments ≡ true
     there = AllPass-from_list_all (λ x. list_all (is_on x.stream) x.fragments) s.receiving.read reads-on k m lt
 
-    gave : EachSentFrom 0 sent it.fragments
-    gave = each-from sent few it.fragments (each-sent-on on sent s.made it.fragments sent-made (made k m lt))
+    gave : IsReadFrom sent it
+    gave = every-at (IsReadFrom sent) s.receiving.read k m lt from
 
     -- one of which no fragment but the first begins one
     pub read-single : is_single it.fragments ≡ true → IsReadOf ns sent it
@@ -140,7 +141,7 @@ module _ (on : ℕ → Bool) (first : ℕ) (s : Session) (ns : List Numbered) (s
         by : (cs : List ChunkPayloadData) → it.fragments ≡ cs → IsReadOf ns sent it
         by [] is = absurd (not_both (sym (ap is_complete is) ∙ complete))
         by (c ∷ cs) is =
-            (single-is ns first sent 0 line it complete c cs is (subst (EachSentFrom 0 sent) is gave) (none-begin cs (ap is_single (sym is) ∙ e))
+            (single-is ns first sent gave.0 line it complete c cs is (subst (EachSentFrom gave.0 sent) is gave.1) (none-begin cs (ap is_single (sym is) ∙ e))
             (ap (list_all (is_on it.stream)) (sym is) ∙ there)).0
 
     pub single-steady : on it.stream ≡ true → is_single it.fragments ≡ true
@@ -150,8 +151,8 @@ module _ (on : ℕ → Bool) (first : ℕ) (s : Session) (ns : List Numbered) (s
         by [] is = ap is_single is
         by (c ∷ cs) is =
             ap is_single is
-            ∙ none-begins cs (single-on ns first sent 0 line on indexed it complete
-            (AllPass-from_list_all (λ x. is_one_message x.fragments) s.receiving.read whole.1 k m lt) gave there o c cs is)
+            ∙ none-begins cs (single-on ns first sent gave.0 line on indexed it complete
+            (AllPass-from_list_all (λ x. is_one_message x.fragments) s.receiving.read whole.1 k m lt) gave.1 there o c cs is)
 
   pub writes-single : AreWritesWhereSingle s
   writes-single k m lt e =
@@ -167,6 +168,16 @@ module _ (on : ℕ → Bool) (first : ℕ) (s : Session) (ns : List Numbered) (s
 
   pub each-single : EachRead ns sent once (single_messages s.receiving.read)
   each-single = singles s.receiving.read (λ k m lt. read-single k m lt)
+
+-- where few TSNs were given out, and what was read was made
+from-made : (on : ℕ → Bool) (sent : List Entry) (s : Session) → length sent < 2 ^ 32 → AreSentOn on sent s.made → AreMade s
+    → Every (IsReadFrom sent) s.receiving.read
+from-made on sent s few sent-made made =
+    every-of-all (IsReadFrom sent) s.receiving.read (λ k m lt. (
+      0,
+      each-from sent few (slice_index_or s.receiving.read k m).fragments
+          (each-sent-on on sent s.made (slice_index_or s.receiving.read k m).fragments sent-made (made k m lt)),
+    ))
 
 -- where ordered messages are told apart by their numbers, none is read with another one
 apart-single : (s : Session) → AreMessages s → AreMade s → AreToldApart s → AreSingle s
@@ -254,16 +265,19 @@ module _ (reported : Reported) (first size max most : ℕ) (limits : Option Limi
   writes : forgotten i.numbered ≡ s.written
   writes = i.spread.holds.writes ∙ beside.shadow.written
 
+  read-from : Every (IsReadFrom i.sent) s.receiving.read
+  read-from =
+      from-made (is_steady cs) i.sent s (let a = i.spread.long in omega (arith, a, few)) made (runs.made reported first size max most limits cs s r)
+
   pub are-writes : AreWritesWhereSingle s
-  are-writes = writes-single (is_steady cs) first s i.numbered i.sent (let a = i.spread.long in omega (arith, a, few)) i.spread.holds.held.stands.queued.line
-      i.spread.holds.held.stands.queued.indexed i.spread.holds.held.stands.begun'.once made writes on-each
-      (runs.messages reported first size max most limits cs s r) (runs.made reported first size max most limits cs s r)
+  are-writes = writes-single (is_steady cs) first s i.numbered i.sent i.spread.holds.held.stands.queued.line
+      i.spread.holds.held.stands.queued.indexed i.spread.holds.held.stands.begun'.once writes on-each
+      (runs.messages reported first size max most limits cs s r) read-from
 
   pub are-single : AreSingleWhereSteady cs s
-  are-single k m lt = single-steady (is_steady cs) first s i.numbered i.sent (let a = i.spread.long in omega (arith, a, few))
-      i.spread.holds.held.stands.queued.line
-      i.spread.holds.held.stands.queued.indexed i.spread.holds.held.stands.begun'.once made writes on-each
-      (runs.messages reported first size max most limits cs s r) (runs.made reported first size max most limits cs s r) k m lt
+  are-single k m lt = single-steady (is_steady cs) first s i.numbered i.sent i.spread.holds.held.stands.queued.line
+      i.spread.holds.held.stands.queued.indexed i.spread.holds.held.stands.begun'.once writes on-each
+      (runs.messages reported first size max most limits cs s r) read-from k m lt
 
   -- ## Places
 
@@ -274,9 +288,9 @@ module _ (reported : Reported) (first size max most : ℕ) (limits : Option Limi
   singles-read = single_messages s.receiving.read
 
   each-is : EachRead i.numbered i.sent once singles-read
-  each-is = each-single (is_steady cs) first s i.numbered i.sent (let a = i.spread.long in omega (arith, a, few)) i.spread.holds.held.stands.queued.line
-      i.spread.holds.held.stands.queued.indexed once made writes on-each
-      (runs.messages reported first size max most limits cs s r) (runs.made reported first size max most limits cs s r)
+  each-is = each-single (is_steady cs) first s i.numbered i.sent i.spread.holds.held.stands.queued.line
+      i.spread.holds.held.stands.queued.indexed once writes on-each
+      (runs.messages reported first size max most limits cs s r) read-from
 
   abbrev own-places : List ℕ
   own-places = places i.numbered i.sent once singles-read each-is

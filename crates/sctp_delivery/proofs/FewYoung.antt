@@ -18,6 +18,7 @@ use Rattle.sctp_delivery.specs.Recent.{aged_after, older}
 use Rattle.sctp_delivery.specs.SenderCalls as outgoing
 use Rattle.sctp_delivery.specs.Session.{IsReported, IsSent, count_in_flight}
 use Rattle.sctp_delivery.proofs.Calls.{numbered_after, sent_by}
+use Rattle.sctp_delivery.proofs.Cases.{all_streams}
 use Rattle.sctp_delivery.proofs.Delivered.{found-sent, next_tsn}
 use Rattle.sctp_delivery.proofs.Every.{Every, every-contained, every-of}
 use Rattle.sctp_delivery.proofs.Queues.{IsEnded}
@@ -200,7 +201,7 @@ module _ (first n : ℕ) (call : SenderCall) (old new : Session) (ns : List Numb
 
   sender-places : HavePlaces old sent ages → HavePlaces new x.more (aged_after (of_sender call) old new ages)
   sender-places p =
-      let y = sender-young first call old new ns sent ages f (record { holds = i.spread.holds; placed = p.0; held = p.1; read = p.2 }) (recent-then p) in
+      let y = sender-young all_streams first call old new ns sent ages f (record { holds = i.spread.holds; placed = p.0; held = p.1; read = p.2 }) (recent-then p) in
       subst (λ more. HavePlaces new more (aged_after (of_sender call) old new ages)) (same-more first n call old new ns sent i.spread few f)
       (y.placed, y.held, y.read)
 
@@ -259,7 +260,7 @@ module _ (first n : ℕ) (call : ReceiverCall) (old new : Session) (ns : List Nu
 
   receiver-places : (a : AreAged n ages sent old.made) → HavePlaces old sent ages → HavePlaces new sent (aged_after (of_receiver call) old new ages)
   receiver-places a p =
-      let y = receiver-young first call old new ns sent ages f (record { holds = i.spread.holds; placed = p.0; held = p.1; read = p.2 })
+      let y = receiver-young all_streams first call old new ns sent ages f (record { holds = i.spread.holds; placed = p.0; held = p.1; read = p.2 })
       (receiver-is-young a call f.handed) in
       (y.placed, y.held, y.read)
 

@@ -44,7 +44,9 @@ pub mod EveryTurns
 pub mod WholeSets
 pub mod EveryFronts
 pub mod EveryEnds
+pub mod EveryGoes
 pub mod EveryShadows
+pub mod EveryHolds
 pub mod Even
 pub mod EveryHeld
 pub mod EverySettled
@@ -141,6 +143,7 @@ pub mod YoungReads
 pub mod YoungSacks
 pub mod EveryRecent
 pub mod YoungOwn
+pub mod EveryYoung
 pub mod FlightPlaces
 pub mod YoungSpread
 pub mod YoungTurns

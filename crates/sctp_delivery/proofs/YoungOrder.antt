@@ -527,14 +527,14 @@ all-then first (of_sender call ∷ cs) old new ns sent ages r q y z j i ps h x t
     let g = sender-step first call old r.0 ns sent r.1.0 i.holds in
     let k = sender-near old r.0 q.1 j call r.1.0 q.0 in
     all-then first cs r.0 new (numbered_after call ns) g.more (aged_after (of_sender call) old r.0 ages) r.1.1 q.2 y.2 z.1 k
-    (sender-young first call old r.0 ns sent ages r.1.0 i y.1) ps (sender-owned first call old r.0 ns sent ages r.1.0 i y.1 q.1 j k ps h)
+    (sender-young all_streams first call old r.0 ns sent ages r.1.0 i y.1) ps (sender-owned all_streams first call old r.0 ns sent ages r.1.0 i y.1 q.1 j k ps h)
     (sender-spread first call old r.0 ns sent ages r.1.0 i.holds q.1 j k x)
     (sender-turned first call old r.0 ns sent ages r.1.0 i.holds q.1 j k x y.1 ps t) (modes_after call m)
     (said-after call old r.0 m ns sent g.more r.1.0 g.grown i.holds.held.sized u)
 all-then first (of_receiver call ∷ cs) old new ns sent ages r q y z j i ps h x t m u =
-    let o = receiver-owned first call old r.0 ns sent ages r.1.0 i y.0 y.1 q.1 q.0 j ps h in
+    let o = receiver-owned all_streams first call old r.0 ns sent ages r.1.0 i y.0 y.1 q.1 q.0 j ps h in
     all-then first cs r.0 new ns sent (aged_after (of_receiver call) old r.0 ages) r.1.1 q.2 y.2 z.1 (receiver-near old r.0 q.1 j call r.1.0 q.0)
-    (receiver-young first call old r.0 ns sent ages r.1.0 i y.0) o.0 o.1
+    (receiver-young all_streams first call old r.0 ns sent ages r.1.0 i y.0) o.0 o.1
     (receiver-spread first call old r.0 sent ages (ap (λ (s : Session). s.sending) r.1.0.after) x)
     (receiver-turned first call old r.0 ns sent ages r.1.0 i.holds j x i.placed y.0 z.0 q.0 ps o.0 o.2 o.1.once.0 t) m
     (said-beside old r.0 m ns sent (ap (λ (s : Session). s.sending) r.1.0.after) u)
@@ -544,7 +544,7 @@ all-then first (of_receiver call ∷ cs) old new ns sent ages r q y z j i ps h x
 module _ (st : ℕ) (ns : List Numbered) (first : ℕ) (sent : List Entry) (once : AreOnce sent) (line : IsLine ns first sent) (indexed : AreIndexed sent)
     (s : Session) (rising : AreRising sent) (numbered : AreNumbered ns) (T : Message → ℕ → Bool)
     (starts' : (m : Message) (x : IsReadOf ns sent m) → T m x.written.0 ≡ true → (x.chunk.unordered ≡ false) × (is_in_order st m ≡ true)) where
-  indexed-below : (k : ℕ) (ms : List Message) (e : EachRead ns sent once ms) (ps : List ℕ) → AreAt ns first sent once line indexed s ms e ps
+  indexed-below : (k : ℕ) (ms : List Message) (e : EachRead ns sent once ms) (ps : List ℕ) → AreAt ns first sent once line s ms e ps
       → AreTurned st sent k ms ps → AreIndexedBelow st ns sent once rising numbered T starts' k ms e
   indexed-below k [] e ps a t = tt
   indexed-below k (m ∷ ms) e [] a t = absurd a
@@ -604,7 +604,7 @@ module _ (tsn size max most : ℕ) (limits : Option Limits) (cs : List Call) (s 
   once = h.held.stands.begun'.once
 
   e : (e : EachRead a.numbered a.sent once s.receiving.read)
-      × AreAt a.numbered tsn a.sent once h.held.stands.queued.line h.held.stands.queued.indexed s s.receiving.read e a.places'
+      × AreAt a.numbered tsn a.sent once h.held.stands.queued.line s s.receiving.read e a.places'
   e = reads-are a.numbered tsn a.sent once h.held.stands.queued.line h.held.stands.queued.indexed s s.receiving.read a.places' a.owned.once.0
       (all-whole tsn size max most limits cs s r)
 
@@ -616,7 +616,7 @@ module _ (tsn size max most : ℕ) (limits : Option Limits) (cs : List Call) (s 
     places a.numbered a.sent once s.receiving.read e.0,
     subst (λ ws. StandAt ws s.receiving.read (places a.numbered a.sent once s.receiving.read e.0)) h.writes
         (stand a.numbered a.sent once s.receiving.read e.0),
-    apart a.numbered tsn a.sent once h.held.stands.queued.line h.held.stands.queued.indexed s s.receiving.read e.0 a.places' e.1 a.owned.once.1,
+    apart a.numbered tsn a.sent once h.held.stands.queued.line s s.receiving.read e.0 a.places' e.1 a.owned.once.1,
     λ st.
         let rising = h.held.stands.queued.ranked.rising in
         in-order-by st a.numbered a.sent once rising h.placed (T st) (starts' st) (a.turned.due st).k s.receiving.read e.0

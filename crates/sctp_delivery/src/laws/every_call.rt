@@ -9,7 +9,7 @@
 ghost use Rattle.sctp_delivery.specs.EveryCall.{AcknowledgedArrived, AfterEachAny, AfterEachAnyOfFewBytes, AfterEachAnyOfFewTsns, AreSingle, AreSingleWhereSteady, AreSingleWritesOfTheirOwn, AreToldApart, AreWritesWhereSingle, LeftArrived, ReleasedArrived, ReportWhatArrived};
 ghost use Rattle.sctp_delivery.specs.EveryEnd.{AfterEachAnyOfLost, AfterEachAnyOfMessages, IsOrderedReadInTheEnd, IsSentReadInTheEnd, IsUnorderedHeldReadOrPassed, IsUnorderedReadInTheEnd, IsUnorderedReadOrHeld, IsUnorderedSentReadInTheEnd};
 ghost use Rattle.sctp_delivery.specs.EveryOrder.{AreReadInTurnWhereUnbroken, AreSingleReadAsWritten, AreSingleReadInOrder};
-ghost use Rattle.sctp_delivery.specs.EveryRecent.{AreReadAsGiven, AreTakenAsGiven, WhileAnyRecent};
+ghost use Rattle.sctp_delivery.specs.EveryRecent.{AreReadAsGiven, AreTakenAsGiven, WhileAnyRecent, WhileAnyYoung};
 ghost use Rattle.sctp_delivery.specs.Messages.{AreParts, AreSame, NoneIsReadTwice};
 ghost use Rattle.sctp_delivery.specs.Recent.{NoneYoungIsRefused};
 ghost use Rattle.sctp_delivery.specs.Returns.{IsAccountedSo, NoneIsRefusedSo};
@@ -30,7 +30,9 @@ pub fn whatever_is_called_bytes_and_fragments_are_accounted_for()
 /// While the sender has given out fewer than 2^31 TSNs, and fewer than 2^64 bytes were written: each message that is read, and of which no
 /// fragment but the first begins one, is one that was written, on the stream that it is read on, with its payload type and byte for byte.
 /// No write is read twice so. On a stream that the sender neither resets nor closes each message is so; and each is, in every session, where
-/// of two ordered messages of a stream that are sent one right behind another the second has a number of its own.
+/// of two ordered messages of a stream that are sent one right behind another the second has a number of its own. It is so in a whole life, too,
+/// however many TSNs are given out, while nothing that is handed over has a TSN that is 2^31 TSNs old, and no DATA chunk that is taken or held is
+/// 2^31 TSNs old.
 pub fn whatever_is_called_messages_are_writes()
     ensures written { AfterEachAnyOfFewBytes (λ calls s. AreWritesWhereSingle s) }
     ensures single { AfterEachAnyOfFewBytes AreSingleWhereSteady }
@@ -39,6 +41,10 @@ pub fn whatever_is_called_messages_are_writes()
     ensures part { AfterEachAnyOfFewBytes (λ calls s. AreParts s) }
     ensures same { AfterEachAnyOfFewBytes (λ calls s. AreSame s) }
     ensures back { AfterEachAnyOfFewBytes (λ calls s. NoneIsRefusedSo s) }
+    ensures written_recent { WhileAnyYoung (λ calls s. AreWritesWhereSingle s) }
+    ensures single_recent { WhileAnyYoung AreSingleWhereSteady }
+    ensures own_recent { WhileAnyYoung (λ calls s. AreSingleWritesOfTheirOwn s) }
+    ensures part_recent { WhileAnyYoung (λ calls s. AreParts s) }
 {}
 
 /// With so few TSNs and bytes: on a stream that goes on, ordered messages are read in the order of their writes, and so is what was written
