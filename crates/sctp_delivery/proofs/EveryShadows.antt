@@ -59,7 +59,7 @@ use Rattle.sctp_delivery.proofs.Whole.{AreWholeOn}
 -- # Streams of the sender that are left
 
 -- the streams that are left are in the same modes
-left-in-modes : (f : ℕ → Mode) (s : ℕ) (ls : List OutboundStream) → AreInModes f ls → AreInModes f (swapped_out (has_number s) ls)
+pub left-in-modes : (f : ℕ → Mode) (s : ℕ) (ls : List OutboundStream) → AreInModes f ls → AreInModes f (swapped_out (has_number s) ls)
 left-in-modes f s ls h = from (swapped_out (has_number s) ls) (out-each (has_number s) (IsInModes f) ls (to ls h))
   where
     to : (ks : List OutboundStream) → AreInModes f ks → AllByRecursion (IsInModes f) ks
@@ -86,11 +86,11 @@ MayPass st gone made sent j = (is_unnamed st made ≡ false) × IsGoneAt st gone
 -- # What is so of the receiver's streams
 
 -- each has a number of its own; and of these streams those are open of which that is said
-record IsReady (calm opened : ℕ → Bool) (s : Session) : Type 0 where
-  apart : are_apart (numbers_of s.receiving.receiver.streams) ≡ true
-  open' : (st : ℕ) → calm st ≡ true → opened st ≡ true → is_open st s.receiving.receiver ≡ true
+pub record IsReady (calm opened : ℕ → Bool) (s : Session) : Type 0 where
+  pub apart : are_apart (numbers_of s.receiving.receiver.streams) ≡ true
+  pub open' : (st : ℕ) → calm st ≡ true → opened st ≡ true → is_open st s.receiving.receiver ≡ true
 
-ready-first : (calm : ℕ → Bool) (reported : Reported) (first size max most : ℕ) (limits : Option Limits)
+pub ready-first : (calm : ℕ → Bool) (reported : Reported) (first size max most : ℕ) (limits : Option Limits)
     → IsReady calm (λ q. false) (at_start_with reported first size max most limits)
 ready-first calm reported first size max most limits = record { apart = refl; open' = λ st c o. absurd (not_both o) }
 
@@ -102,7 +102,7 @@ ready-still calm opened s v same h = record {
       (h.open' st c (elim (or-split (opened st) false o) [ inl e ↦ e | inr e ↦ absurd (not_both e) ]));
 }
 
-ready-after : (calm opened : ℕ → Bool) (c : AnyCall) (s v : Session) → FollowsAny c s v → ((st : ℕ) → calm st ≡ true → breaks (opened st) st c ≡ false)
+pub ready-after : (calm opened : ℕ → Bool) (c : AnyCall) (s v : Session) → FollowsAny c s v → ((st : ℕ) → calm st ≡ true → breaks (opened st) st c ≡ false)
     → IsReady calm opened s → IsReady calm (λ q. opened q || opens_incoming q c) v
 ready-after calm opened (makes (of_sender call)) s v f whole h = ready-still calm opened s v (ap (λ (y : Session). y.receiving) f.after) h
 ready-after calm opened (of_sending call) s v f whole h = ready-still calm opened s v (ap (λ (y : Session). y.receiving) f.after) h
@@ -121,7 +121,7 @@ ready-after calm opened (of_receiving call) s v f whole h = record {
   ];
 }
 
-modes-on : (c : AnyCall) (cs : List AnyCall) (m : Modes) → modes_from (modes_from m (plain_calls (c ∷ []))) (plain_calls cs)
+pub modes-on : (c : AnyCall) (cs : List AnyCall) (m : Modes) → modes_from (modes_from m (plain_calls (c ∷ []))) (plain_calls cs)
     ≡ modes_from m (plain_calls (c ∷ cs))
 modes-on (makes (of_sender call)) cs m = refl
 modes-on (makes (of_receiver call)) cs m = refl

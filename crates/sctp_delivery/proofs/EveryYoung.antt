@@ -1,6 +1,6 @@
 -- Sessions of every call in a whole life: each message of which no fragment but the first begins one is a write, and no write is read twice, while what
 -- is taken and what is held is less than 2^31 TSNs old.
-use Rattle.sctp_delivery.proofs.Names.{◌≡◌, ℕ, ◌<◌, ◌≤◌, ◌^◌, Bool, true, false, not, List, [], ◌∷◌, length, Option, inl, refl, ap, sym, subst}
+use Rattle.sctp_delivery.proofs.Names.{◌+◌, ◌≡◌, ℕ, ◌<◌, ◌≤◌, ◌^◌, Bool, true, false, not, List, [], ◌∷◌, length, Option, inl, refl, ap, sym, subst}
 use Rattle.sctp_delivery.proofs.Names.{◌∙◌, arith, AllPass-from_list_all, ChunkPayloadData, Contains, Limits, Message, Session, Stand, Ledger, StandAt}
 use Rattle.sctp_delivery.proofs.Names.{bytes_written, filter, list_all, list_any, is_complete, is_on, of_receiver, of_sender, or-left, or-right}
 use Rattle.sctp_delivery.proofs.Names.{stream_of, fragments_on, held_weight}
@@ -38,6 +38,10 @@ use Rattle.sctp_delivery.proofs.TakenAgain.{Flies}
 use Rattle.sctp_delivery.proofs.TakenCalls.{Knows}
 use Rattle.sctp_delivery.proofs.TsnPlaces.{IsGiven}
 use Rattle.sctp_delivery.proofs.YoungOwn.{AreDistinct, AreOther, AreRead, IsDone, IsOwned, IsSole, apart, read-kept, receiver-owned, sender-owned, sole-are}
+use Rattle.sctp_delivery.proofs.OrderedMessages.{is_in_order}
+use Rattle.sctp_delivery.proofs.SpreadEntries.{begun_to}
+use Rattle.sctp_delivery.proofs.UnwrappedHolds.{Where}
+use Rattle.sctp_delivery.proofs.YoungOrder.{AreTurned, turned-more}
 use Rattle.sctp_delivery.proofs.YoungReads.{IsReadFrom, IsYoungOn, is_recent, none-fail, receiver-young, sender-young}
 
 -- the receiver did the call
@@ -53,7 +57,7 @@ module _ (going : ℕ → Bool) (first : ℕ) where
   module _ (s v : Session) (ns : List Numbered) (sent : List Entry) (ages : List Aged) (ps : List ℕ)
       (less : (w : ChunkPayloadData → ℕ) (st : ℕ) → held_weight w (stream_of st v.receiving.receiver) ≤ held_weight w (stream_of st s.receiving.receiver))
       (read : v.receiving.read ≡ s.receiving.read) where
-    quiet-young : HoldsOn going first v ns sent → IsYoungOn going first s ns sent ages → IsYoungOn going first v ns sent ages
+    pub quiet-young : HoldsOn going first v ns sent → IsYoungOn going first s ns sent ages → IsYoungOn going first v ns sent ages
     quiet-young holds i = record {
       holds = holds;
       placed = i.placed;
@@ -80,7 +84,7 @@ module _ (going : ℕ → Bool) (first : ℕ) where
         unheld = λ le. let a = less (one c.tsn) stream in let z = d.unheld le in omega (arith, a, z);
       }
 
-      quiet-owned : HoldsRecent v → IsOwned s sent ps → IsOwned v sent ps
+      pub quiet-owned : HoldsRecent v → IsOwned s sent ps → IsOwned v sent ps
       quiet-owned recent h = record {
         single = λ st t. let a = less (one t) st in let b = h.single st t in omega (arith, a, b);
         missing = λ t small fl off st.
@@ -93,20 +97,20 @@ module _ (going : ℕ → Bool) (first : ℕ) where
 
   -- ## Each call
 
-  record IsNow (s : Session) (ns : List Numbered) (sent : List Entry) (ages : List Aged) (ps : List ℕ) : Type 0 where
-    near : IsNear s
-    young : IsYoungOn going first s ns sent ages
-    owned : IsOwned s sent ps
-    beside : HasBeside going first s
-    distinct : are_apart (numbers_of s.receiving.receiver.streams) ≡ true
+  pub record IsNow (s : Session) (ns : List Numbered) (sent : List Entry) (ages : List Aged) (ps : List ℕ) : Type 0 where
+    pub near : IsNear s
+    pub young : IsYoungOn going first s ns sent ages
+    pub owned : IsOwned s sent ps
+    pub beside : HasBeside going first s
+    pub distinct : are_apart (numbers_of s.receiving.receiver.streams) ≡ true
 
-  record Then (s : Session) (ages : List Aged) : Type 0 where
-    numbered : List Numbered
-    sent : List Entry
-    places' : List ℕ
-    now : IsNow s numbered sent ages places'
+  pub record Then (s : Session) (ages : List Aged) : Type 0 where
+    pub numbered : List Numbered
+    pub sent : List Entry
+    pub places' : List ℕ
+    pub now : IsNow s numbered sent ages places'
 
-  after : (c : AnyCall) (s v : Session) (ns : List Numbered) (sent : List Entry) (ages : List Aged) (ps : List ℕ) → FollowsAny c s v
+  unfoldable pub after : (c : AnyCall) (s v : Session) (ns : List Numbered) (sent : List Entry) (ages : List Aged) (ps : List ℕ) → FollowsAny c s v
       → count_in_flight v < 2 ^ 31 → bytes_written v < 2 ^ 64 → ((r : ℕ) → renews r c ≡ true → going r ≡ false) → IsRecentAny c s → IsYoungAny c ages
       → HoldsRecent v → IsNow s ns sent ages ps → Then v (aged_any c s v ages)
   after (makes (of_sender call)) s v ns sent ages ps f few short off q y recent i =
@@ -191,7 +195,7 @@ module _ (going : ℕ → Bool) (first : ℕ) where
       (after c s r.0 a.numbered a.sent ages a.places' r.1.0 q.1 (omega (arith, bytes, short))
       (λ k e. off k (or-left (renews k c) (list_any (renews k) cs) e)) q.0 y.0 y.1 a.now)
 
-  start : (reported : Reported) (size max most : ℕ) (limits : Option Limits) → first < 2 ^ 32 → 0 < size
+  unfoldable pub start : (reported : Reported) (size max most : ℕ) (limits : Option Limits) → first < 2 ^ 32 → 0 < size
       → Then (at_start_with reported first size max most limits) []
   start Drop size max most limits small some = record {
     numbered = [];
@@ -237,20 +241,53 @@ module _ (going : ℕ → Bool) (first : ℕ) where
 
 -- ## Some of the messages
 
--- those that pass a test have places of their own, too
-module _ (s : Session) (sent : List Entry) (p : Message → Bool) where
-  abbrev ArePicked : List Message → List ℕ → Type 0
-  ArePicked ms ps = (qs : List ℕ) × AreRead s sent ms qs × AreDistinct qs × ((x : ℕ) → AreOther x ps → AreOther x qs)
+-- the turn of a message, whose first fragment has the place q, before these, of which some are left
+module _ (st q : ℕ) (sent : List Entry) (all some : List Message) (ps qs : List ℕ)
+    (left : (j : ℕ) → AreTurned st sent j all ps → AreTurned st sent j some qs) where
+  abbrev Turn : Bool → ℕ → List Message → List ℕ → Type 0
+  Turn b k ms xs = Where b ((i : ℕ) × (i < k) × (q ≤ length sent) × (begun_to st q sent ≡ i + 1) × AreTurned st sent i ms xs) (AreTurned st sent k ms xs)
 
-  picked : (ms : List Message) (ps : List ℕ) → AreRead s sent ms ps → AreDistinct ps → ArePicked (filter p ms) ps
-  picked [] [] a d = ([], tt, tt, λ x o. o)
+  turn-here : (b : Bool) (k : ℕ) → Turn b k all ps → Turn b k some qs
+  turn-here true k u = (u.0, u.1, u.2, u.3, left u.0 u.4)
+  turn-here false k u = left k u
+
+  turn-past : (b : Bool) (k : ℕ) → Turn b k all ps → AreTurned st sent k some qs
+  turn-past true k u = let lt = u.1 in turned-more st sent sent (inl refl) u.0 k (omega (arith, lt)) some qs (left u.0 u.4)
+  turn-past false k u = left k u
+
+-- those that pass a test have places of their own, too, and their turns
+module _ (s : Session) (sent : List Entry) (p : Message → Bool) where
+  abbrev pub ArePicked : (all some : List Message) (ps : List ℕ) → Type 0
+  ArePicked all some ps =
+      (qs : List ℕ) × AreRead s sent some qs × AreDistinct qs × ((x : ℕ) → AreOther x ps → AreOther x qs)
+      × ((st k : ℕ) → AreTurned st sent k all ps → AreTurned st sent k some qs)
+
+  pub picked : (ms : List Message) (ps : List ℕ) → AreRead s sent ms ps → AreDistinct ps → ArePicked ms (filter p ms) ps
+  picked [] [] a d = ([], tt, tt, λ x o. o, λ st k t. tt)
   picked [] (q ∷ ps) a d = absurd a
   picked (m ∷ ms) [] a d = absurd a
   picked (m ∷ ms) (q ∷ ps) a d =
       let r = picked ms ps a.1 d.1 in
-      at-if (λ ns. ArePicked ns (q ∷ ps)) (p m) (λ e. (q ∷ r.0, (a.0, r.1), (r.3 q d.0, r.2), λ x o. (o.0, r.3 x o.1))) (λ e. (r.0, r.1, r.2, λ x o. r.3 x o.1))
+      at-if (λ ns. ArePicked (m ∷ ms) ns (q ∷ ps)) (p m)
+      (λ e. (q ∷ r.0, (a.0, r.1), (r.3 q d.0, r.2), λ x o. (o.0, r.3 x o.1), λ st k t. turn-here st q sent ms (filter p ms) ps r.0 (r.4 st) (is_in_order st m) k t))
+      (λ e. (r.0, r.1, r.2, λ x o. r.3 x o.1, λ st k t. turn-past st q sent ms (filter p ms) ps r.0 (r.4 st) (is_in_order st m) k t))
 
 -- ## The laws
+
+-- each message of which no fragment but the first begins one
+pub soles-of : (reported : Reported) (first size max most : ℕ) (limits : Option Limits) (cs : List AnyCall) (s : Session)
+    → RunsAny (at_start_with reported first size max most limits) cs s → (sent : List Entry) → Every (IsSole sent) (single_messages s.receiving.read)
+soles-of reported first size max most limits cs s run sent =
+    let read = s.receiving.read in
+    let whole = runs.messages reported first size max most limits cs s run in
+    let on-each =
+    sessions.read-on-so first most limits (runs.receiver_calls cs) s (runs.receiver-runs cs (at_start_with reported first size max most limits) s run) in
+    every-tested (IsSole sent) (λ m. is_single m.fragments) read
+    (every-of-all (λ m. is_single m.fragments ≡ true → IsSole sent m) read (λ k m lt e. (
+      AllPass-from_list_all (λ x. is_complete x.fragments) read whole.0 k m lt,
+      AllPass-from_list_all (λ x. list_all (is_on x.stream) x.fragments) read on-each k m lt,
+      λ low g c ds is. none-begin ds (ap is_single (sym is) ∙ e),
+    )))
 
 module _ (reported : Reported) (first size max most : ℕ) (limits : Option Limits) (cs : List AnyCall) (s : Session)
     (run : RunsAny (at_start_with reported first size max most limits) cs s) (small : first < 2 ^ 32) (some : 0 < size)
@@ -279,17 +316,6 @@ module _ (reported : Reported) (first size max most : ℕ) (limits : Option Limi
   single k m lt = single-steady (is_steady cs) first s a.numbered a.sent h.held.stands.queued.line h.held.stands.queued.indexed h.held.stands.begun'.once
       h.writes on-each (runs.messages reported first size max most limits cs s run) a.now.young.read k m lt
 
-  soles : Every (IsSole a.sent) (single_messages s.receiving.read)
-  soles =
-      let read = s.receiving.read in
-      let whole = runs.messages reported first size max most limits cs s run in
-      every-tested (IsSole a.sent) (λ m. is_single m.fragments) read
-      (every-of-all (λ m. is_single m.fragments ≡ true → IsSole a.sent m) read (λ k m lt e. (
-        AllPass-from_list_all (λ x. is_complete x.fragments) read whole.0 k m lt,
-        AllPass-from_list_all (λ x. list_all (is_on x.stream) x.fragments) read on-each k m lt,
-        λ low g c ds is. none-begin ds (ap is_single (sym is) ∙ e),
-      )))
-
   pub own : AreSingleWritesOfTheirOwn s
   own =
       let ns = a.numbered in
@@ -298,7 +324,7 @@ module _ (reported : Reported) (first size max most : ℕ) (limits : Option Limi
       let line = h.held.stands.queued.line in
       let read = single_messages s.receiving.read in
       let x = picked s sent (λ m. is_single m.fragments) s.receiving.read a.places' a.now.owned.once.0 a.now.owned.once.1 in
-      let e = sole-are ns first sent once line s read x.0 x.1 soles in (
+      let e = sole-are ns first sent once line s read x.0 x.1 (soles-of reported first size max most limits cs s run sent) in (
         places ns sent once read e.0,
         subst (λ ws. StandAt ws read (places ns sent once read e.0)) h.writes (stand ns sent once read e.0),
         apart ns first sent once line s read e.0 x.0 e.1 x.2,

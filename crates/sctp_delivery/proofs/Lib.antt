@@ -143,10 +143,11 @@ pub mod YoungReads
 pub mod YoungSacks
 pub mod EveryRecent
 pub mod YoungOwn
-pub mod EveryYoung
 pub mod FlightPlaces
 pub mod YoungSpread
 pub mod YoungTurns
 pub mod YoungEnd
 pub mod YoungHeld
 pub mod YoungOrder
+pub mod EveryYoung
+pub mod EveryYoungOrder

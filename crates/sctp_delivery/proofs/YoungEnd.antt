@@ -83,7 +83,7 @@ module _ (first : ℕ) (call : SenderCall) (old new : Session) (ns : List Number
   x = sender-step first call old new ns sent f h
 
   set-after : IsSet first new.sending.sender.flight x.more
-  set-after = sender-set first call old new ns sent f h j.few few j.regular.regular.numbered (λ k gone e. (sack-fits old new few j call f k gone e).0) e
+  set-after = sender-set all_streams first call old new ns sent f h j.few few j.regular.regular.numbered (λ k gone e. (sack-fits old new few j call f k gone e).0) e
 
   same : new.receiving ≡ old.receiving
   same = ap (λ (s : Session). s.receiving) f.after
@@ -593,7 +593,7 @@ law tsn size max most limits cs s small some r q y all settled =
     let whole = all-whole tsn size max most limits cs s r in
     let a = there-then tsn cs start s [] [] [] r q y all (near-first tsn size max most limits small) (young-first tsn size max most limits small some) []
     (owned-first tsn size max most limits) (kept-first tsn size max most limits)
-    (record { acked = 0; total = omega arith; is = omega (arith, small); set = λ st. (tt, tt) })
+    (record { acked = 0; total = omega arith; is = omega (arith, small); set = λ st o. (tt, tt) })
     (λ d w after xs p b come. absurd (let n = ap length p in omega (arith, n))) (λ m lt g. absurd (omega (arith, lt))) whole in
     let h = a.young.holds in
     let ns = a.numbered in

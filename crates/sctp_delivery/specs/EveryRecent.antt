@@ -1,6 +1,7 @@
 -- Sessions of every call in a whole life: whatever is handed over is less than 2^31 TSNs old (RFC 1982 3.2), however many TSNs were given out.
 use Rattle.std.specs.Prelude.{◌≡◌, ⊤, ℕ, ◌+◌, ◌^◌, ◌<◌, ◌≤◌, true, if◌then◌else◌, List, [], ◌∷◌, ◌++◌, length, map, Option}
 use Rattle.std.specs.List.{filter}
+use Rattle.sctp_data.specs.PayloadData.{data_of}
 use Rattle.sctp_data.specs.SelectiveAck.{Sack}
 use Rattle.sctp_util.specs.Serial.{comes_before, distance}
 use Rattle.sctp_receiver.specs.declared.receiver.limits.Limits.{Limits}
@@ -8,9 +9,10 @@ use Rattle.sctp_sender.specs.declared.sender.Reported.{Reported}
 use Rattle.sctp_serial.specs.DataChunks.{has_tsn}
 use Rattle.sctp_delivery.specs.EveryCall.{AnyCall, RunsAny, closes_incoming, discards, makes, of_receiving, of_sending, passes_over, resets_incoming}
 use Rattle.sctp_delivery.specs.Messages.{fragments_of_all}
-use Rattle.sctp_delivery.specs.Recent.{Aged, AgedSack, HoldsRecent, IsRecent, IsYoung, aged_after, gives, new_sacks, sack_older}
+use Rattle.sctp_delivery.specs.Recent.{Aged, AgedSack, HoldsRecent, IsAmongYoung, IsForwardYoung, IsRecent, IsYoung, aged_after, gives, new_sacks, sack_older}
 use Rattle.sctp_delivery.specs.Recent.{times_taken}
 use Rattle.sctp_delivery.specs.Returns.{at_start_with}
+use Rattle.sctp_delivery.specs.SenderCalls.{data_chunk, forward_tsn}
 use Rattle.sctp_delivery.specs.Session.{Session, bytes_written, count_in_flight}
 
 -- ## What is handed over has no old TSN
@@ -111,4 +113,32 @@ WhileAnyYoung P =
     → (run : RunsAny (at_start_with reported tsn size max most limits) calls s) → tsn < 2 ^ 32
     → 0 < size → AreRecentAny (at_start_with reported tsn size max most limits) calls s run
     → AreYoungAny [] (at_start_with reported tsn size max most limits) calls s run
+    → bytes_written s < 2 ^ 64 → P calls s
+
+-- ## FORWARD-TSNs, and what is dropped
+
+-- a FORWARD-TSN that is handed over is less than 2^31 TSNs old, and so is a DATA chunk that is dropped
+abbrev pub IsPassedYoung : AnyCall → List Aged → Type 0
+IsPassedYoung (makes call) ages = IsForwardYoung call ages
+IsPassedYoung (of_sending call) ages = ⊤
+IsPassedYoung (of_receiving (discards c)) ages = IsAmongYoung (data_chunk (data_of c)) ages
+IsPassedYoung (of_receiving (closes_incoming stream)) ages = ⊤
+IsPassedYoung (of_receiving (resets_incoming stream last)) ages = ⊤
+IsPassedYoung (of_receiving (passes_over f)) ages = IsAmongYoung (forward_tsn f) ages
+
+abbrev pub ArePassedYoung : List Aged → (old : Session) (calls : List AnyCall) (new : Session)
+    → RunsAny old calls new → Type 0
+ArePassedYoung ages old [] new run = ⊤
+ArePassedYoung ages old (c ∷ cs) new run =
+    IsPassedYoung c ages × ArePassedYoung (aged_any c old run.0 ages) run.0 cs new run.1.1
+
+-- P of the calls and of the session, where that is so, too
+abbrev pub WhileAllAnyYoung : (List AnyCall → Session → Type 0) → Type 0
+WhileAllAnyYoung P =
+    (reported : Reported) (tsn size max most : ℕ) (limits : Option Limits)
+    (calls : List AnyCall) (s : Session)
+    → (run : RunsAny (at_start_with reported tsn size max most limits) calls s) → tsn < 2 ^ 32
+    → 0 < size → AreRecentAny (at_start_with reported tsn size max most limits) calls s run
+    → AreYoungAny [] (at_start_with reported tsn size max most limits) calls s run
+    → ArePassedYoung [] (at_start_with reported tsn size max most limits) calls s run
     → bytes_written s < 2 ^ 64 → P calls s

@@ -9,7 +9,7 @@
 ghost use Rattle.sctp_delivery.specs.EveryCall.{AcknowledgedArrived, AfterEachAny, AfterEachAnyOfFewBytes, AfterEachAnyOfFewTsns, AreSingle, AreSingleWhereSteady, AreSingleWritesOfTheirOwn, AreToldApart, AreWritesWhereSingle, LeftArrived, ReleasedArrived, ReportWhatArrived};
 ghost use Rattle.sctp_delivery.specs.EveryEnd.{AfterEachAnyOfLost, AfterEachAnyOfMessages, IsOrderedReadInTheEnd, IsSentReadInTheEnd, IsUnorderedHeldReadOrPassed, IsUnorderedReadInTheEnd, IsUnorderedReadOrHeld, IsUnorderedSentReadInTheEnd};
 ghost use Rattle.sctp_delivery.specs.EveryOrder.{AreReadInTurnWhereUnbroken, AreSingleReadAsWritten, AreSingleReadInOrder};
-ghost use Rattle.sctp_delivery.specs.EveryRecent.{AreReadAsGiven, AreTakenAsGiven, WhileAnyRecent, WhileAnyYoung};
+ghost use Rattle.sctp_delivery.specs.EveryRecent.{AreReadAsGiven, AreTakenAsGiven, WhileAllAnyYoung, WhileAnyRecent, WhileAnyYoung};
 ghost use Rattle.sctp_delivery.specs.Messages.{AreParts, AreSame, NoneIsReadTwice};
 ghost use Rattle.sctp_delivery.specs.Recent.{NoneYoungIsRefused};
 ghost use Rattle.sctp_delivery.specs.Returns.{IsAccountedSo, NoneIsRefusedSo};
@@ -49,11 +49,15 @@ pub fn whatever_is_called_messages_are_writes()
 
 /// With so few TSNs and bytes: on a stream that goes on, ordered messages are read in the order of their writes, and so is what was written
 /// while it was ordered, and each DCEP message. A stream goes on that neither host closes or resets, of which the receiver drops no ordered
-/// chunk, and passes over no name before it opens it.
+/// chunk, and passes over no name before it opens it. It is so in a whole life, too, while nothing that is handed over has a TSN that is 2^31 TSNs
+/// old, and no DATA chunk that is taken, held or dropped, and no FORWARD-TSN, is 2^31 TSNs old.
 pub fn whatever_is_called_messages_are_read_in_order()
     ensures order { AfterEachAnyOfFewBytes AreSingleReadInOrder }
     ensures modes { AfterEachAnyOfFewBytes AreSingleReadAsWritten }
     ensures turn { AfterEachAnyOfFewBytes AreReadInTurnWhereUnbroken }
+    ensures order_recent { WhileAllAnyYoung AreSingleReadInOrder }
+    ensures modes_recent { WhileAllAnyYoung AreSingleReadAsWritten }
+    ensures turn_recent { WhileAllAnyYoung AreReadInTurnWhereUnbroken }
 {}
 
 /// With so few TSNs and bytes, of two uses of a stream, one after the other: where as many messages were read on the stream as were written on
