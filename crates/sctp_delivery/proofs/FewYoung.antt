@@ -35,14 +35,14 @@ use Rattle.sctp_delivery.proofs.YoungReads.{IsPlaced, IsReadFrom, both-pass, flo
 
 -- ## What was made has an age
 
-abbrev IsAged : ℕ → List Aged → Made → Type 0
+abbrev pub IsAged : ℕ → List Aged → Made → Type 0
 IsAged n ages m = (age : ℕ) × (age ≤ n) × Contains ages (record { chunk = m; age = age })
 
-abbrev IsEntryAged : ℕ → List Aged → Entry → Type 0
+abbrev pub IsEntryAged : ℕ → List Aged → Entry → Type 0
 IsEntryAged n ages terminal = ⊤
 IsEntryAged n ages (fragment d w after) = IsAged n ages (data_chunk d)
 
-abbrev IsForwardAged : ℕ → List Aged → Made → Type 0
+abbrev pub IsForwardAged : ℕ → List Aged → Made → Type 0
 IsForwardAged n ages (data_chunk d) = ⊤
 IsForwardAged n ages (forward_tsn f) = IsAged n ages (forward_tsn f)
 
@@ -64,26 +64,26 @@ aged-later n given xs ages m h =
           (contains-mapped (older given) ages c.0 (record { chunk = m; age = h.0 }) c.1 c.2),
     )
 
-entry-later : (n given : ℕ) (xs ages : List Aged) (e : Entry) → IsEntryAged n ages e → IsEntryAged (n + given) (xs ++ map (older given) ages) e
+pub entry-later : (n given : ℕ) (xs ages : List Aged) (e : Entry) → IsEntryAged n ages e → IsEntryAged (n + given) (xs ++ map (older given) ages) e
 entry-later n given xs ages terminal h = tt
 entry-later n given xs ages (fragment d w after) h = aged-later n given xs ages (data_chunk d) h
 
-forward-later : (n given : ℕ) (xs ages : List Aged) (m : Made) → IsForwardAged n ages m → IsForwardAged (n + given) (xs ++ map (older given) ages) m
+pub forward-later : (n given : ℕ) (xs ages : List Aged) (m : Made) → IsForwardAged n ages m → IsForwardAged (n + given) (xs ++ map (older given) ages) m
 forward-later n given xs ages (data_chunk d) h = tt
 forward-later n given xs ages (forward_tsn f) h = aged-later n given xs ages (forward_tsn f) h
 
-part-aged : (n : ℕ) (ages : List Aged) (sent xs : List Entry) (d : Data) (w : Numbered) (after : List ℕ) → IsPart (fragment d w after ∷ xs) sent
+pub part-aged : (n : ℕ) (ages : List Aged) (sent xs : List Entry) (d : Data) (w : Numbered) (after : List ℕ) → IsPart (fragment d w after ∷ xs) sent
     → Every (IsEntryAged n ages) sent → IsAged n ages (data_chunk d)
 part-aged n ages [] xs d w after p e = absurd (cc)
 part-aged n ages (x ∷ sent) xs d w after (inl same) e = (subst (Every (IsEntryAged n ages)) (sym same) e).0
 part-aged n ages (x ∷ sent) xs d w after (inr p) e = part-aged n ages sent xs d w after p e.1
 
 -- all that was made so far
-abbrev AreAged : ℕ → List Aged → List Entry → List Made → Type 0
+abbrev pub AreAged : ℕ → List Aged → List Entry → List Made → Type 0
 AreAged n ages sent ms = Every (IsEntryAged n ages) sent × Every (IsForwardAged n ages) ms
 
 -- a TSN of one of the first places is before the next one
-given-before : (p n t next : ℕ) → n < 2 ^ 31 → next ≡ tsn p (n + 1) → IsGiven p n t → comes_before t next ≡ true
+pub given-before : (p n t next : ℕ) → n < 2 ^ 31 → next ≡ tsn p (n + 1) → IsGiven p n t → comes_before t next ≡ true
 unfolding comes_before
 given-before p n t next few is g =
     let k = g.place in
@@ -103,7 +103,7 @@ place-before first n k t next few lt is at =
     grind (arith, nat_tests, lo, hi)
 
 -- so it is of what is held, after more TSNs, too
-all-before : (first m next st : ℕ) (ns : List Numbered) (sent : List Entry) → IsLine ns first sent → length sent ≤ m → m < 2 ^ 31
+pub all-before : (first m next st : ℕ) (ns : List Numbered) (sent : List Entry) → IsLine ns first sent → length sent ≤ m → m < 2 ^ 31
     → next ≡ (first + m) % 2 ^ 32 → (cs : List ChunkPayloadData) → list_all (is_recent sent st) cs ≡ true
     → list_all (λ c. comes_before c.tsn next) cs ≡ true
 all-before first m next st ns sent line le few is cs e =
@@ -121,6 +121,52 @@ abbrev HavePlaces : Session → List Entry → List Aged → Type 0
 HavePlaces s sent ages =
     Every (IsPlaced sent) ages × ((st : ℕ) → list_all (is_recent sent st) (fragments_on (stream_of st s.receiving.receiver)) ≡ true)
     × Every (IsReadFrom sent) s.receiving.read
+
+-- ## Ages after a call of the sender
+
+module _ (first n : ℕ) (old new : Session) (sent more : List Entry) (ages : List Aged) (upto : length more ≤ n + distance (next_tsn old) (next_tsn new)) where
+  abbrev now_given : ℕ
+  now_given = distance (next_tsn old) (next_tsn new)
+
+  entries-later : (xs : List Aged) → Every (IsEntryAged n ages) sent → Every (IsEntryAged (n + now_given) (xs ++ map (older now_given) ages)) sent
+  entries-later xs h = every-of (IsEntryAged n ages) (IsEntryAged (n + now_given) (xs ++ map (older now_given) ages)) (entry-later n now_given xs ages) sent h
+
+  forwards-later : (xs : List Aged) → Every (IsForwardAged n ages) old.made → Every (IsForwardAged (n + now_given) (xs ++ map (older now_given) ages)) old.made
+  forwards-later xs h =
+      every-of (IsForwardAged n ages) (IsForwardAged (n + now_given) (xs ++ map (older now_given) ages)) (forward-later n now_given xs ages) old.made h
+
+  calm-aged : (xs : List Aged) → IsEnded sent more → Every (IsEntryAged n ages) sent
+      → Every (IsEntryAged (n + now_given) (xs ++ map (older now_given) ages)) more
+  calm-aged xs (inl e) h = subst (Every (IsEntryAged (n + now_given) (xs ++ map (older now_given) ages))) (sym e) (entries-later xs h)
+  calm-aged xs (inr e) h = subst (Every (IsEntryAged (n + now_given) (xs ++ map (older now_given) ages))) (sym e) (tt, entries-later xs h)
+
+  pub aged-then : (c : SenderCall) → IsMoreBy (sent_by c old.sending.sender) sent more → Every (IsMadeGiven (base first) (n + now_given)) (made_after c old.sending.sender old.made)
+      → AreAged n ages sent old.made → AreAged (n + now_given) (aged_after (of_sender c) old new ages) more (made_after c old.sending.sender old.made)
+  aged-then (outgoing.sends now) g y h = by (next_chunk now old.sending.sender) g
+    where
+      by : (o : Option ChunkPayloadData) → IsMoreBy o sent more
+          → AreAged (n + now_given) (map (λ m. record { chunk = m; age = 1 }) (with_chunk o []) ++ map (older now_given) ages) more (with_chunk o old.made)
+      by None g = (calm-aged [] g h.0, forwards-later [] h.1)
+      by (Some c) g =
+          let one : List Aged = record { chunk = data_chunk (data_of c); age = 1 } ∷ [] in
+          let long = ap length g.2 in
+          let all = upto in (
+            subst (Every (IsEntryAged (n + now_given) (one ++ map (older now_given) ages))) (sym g.2)
+                ((1, omega (arith, long, all), (0, omega arith, refl)), entries-later one h.0),
+            (tt, forwards-later one h.1),
+          )
+  aged-then (outgoing.resends tsn now c) g y h = (calm-aged [] g h.0, (tt, forwards-later [] h.1))
+  aged-then (outgoing.forwards t c) g y h =
+      let one : List Aged = record { chunk = forward_tsn c; age = 1 } ∷ [] in
+      let pos = y.0.some in
+      let within = y.0.within in
+      (calm-aged one g h.0, ((1, omega (arith, pos, within), (0, omega arith, refl)), forwards-later one h.1))
+  aged-then (outgoing.forwards_within bytes c) g y h =
+      let one : List Aged = record { chunk = forward_tsn c; age = 1 } ∷ [] in
+      let pos = y.0.some in
+      let within = y.0.within in
+      (calm-aged one g h.0, ((1, omega (arith, pos, within), (0, omega arith, refl)), forwards-later one h.1))
+  aged-then c g y h = (calm-aged [] g h.0, forwards-later [] h.1)
 
 -- ## A call of the sender
 
@@ -141,53 +187,13 @@ module _ (first n : ℕ) (call : SenderCall) (old new : Session) (ns : List Numb
     answered = λ st. sender-answered st first n call old new ns sent i.spread few f x (i.answered st);
   }
 
-  -- ### Ages
-
-  entries-later : (xs : List Aged) → Every (IsEntryAged n ages) sent → Every (IsEntryAged (n + given) (xs ++ map (older given) ages)) sent
-  entries-later xs h = every-of (IsEntryAged n ages) (IsEntryAged (n + given) (xs ++ map (older given) ages)) (entry-later n given xs ages) sent h
-
-  forwards-later : (xs : List Aged) → Every (IsForwardAged n ages) old.made → Every (IsForwardAged (n + given) (xs ++ map (older given) ages)) old.made
-  forwards-later xs h =
-      every-of (IsForwardAged n ages) (IsForwardAged (n + given) (xs ++ map (older given) ages)) (forward-later n given xs ages) old.made h
-
-  calm-aged : (xs : List Aged) → IsEnded sent x.more → Every (IsEntryAged n ages) sent
-      → Every (IsEntryAged (n + given) (xs ++ map (older given) ages)) x.more
-  calm-aged xs (inl e) h = subst (Every (IsEntryAged (n + given) (xs ++ map (older given) ages))) (sym e) (entries-later xs h)
-  calm-aged xs (inr e) h = subst (Every (IsEntryAged (n + given) (xs ++ map (older given) ages))) (sym e) (tt, entries-later xs h)
-
-  aged-then : (c : SenderCall) → IsMoreBy (sent_by c u) sent x.more → Every (IsMadeGiven (base first) (n + given)) (made_after c u old.made)
-      → AreAged n ages sent old.made → AreAged (n + given) (aged_after (of_sender c) old new ages) x.more (made_after c u old.made)
-  aged-then (outgoing.sends now) g y h = by (next_chunk now u) g
-    where
-      by : (o : Option ChunkPayloadData) → IsMoreBy o sent x.more
-          → AreAged (n + given) (map (λ m. record { chunk = m; age = 1 }) (with_chunk o []) ++ map (older given) ages) x.more (with_chunk o old.made)
-      by None g = (calm-aged [] g h.0, forwards-later [] h.1)
-      by (Some c) g =
-          let one : List Aged = record { chunk = data_chunk (data_of c); age = 1 } ∷ [] in
-          let long = ap length g.2 in
-          let all = x.spread.long in (
-            subst (Every (IsEntryAged (n + given) (one ++ map (older given) ages))) (sym g.2)
-                ((1, omega (arith, long, all), (0, omega arith, refl)), entries-later one h.0),
-            (tt, forwards-later one h.1),
-          )
-  aged-then (outgoing.resends tsn now c) g y h = (calm-aged [] g h.0, (tt, forwards-later [] h.1))
-  aged-then (outgoing.forwards t c) g y h =
-      let one : List Aged = record { chunk = forward_tsn c; age = 1 } ∷ [] in
-      let pos = y.0.some in
-      let upto = y.0.within in
-      (calm-aged one g h.0, ((1, omega (arith, pos, upto), (0, omega arith, refl)), forwards-later one h.1))
-  aged-then (outgoing.forwards_within bytes c) g y h =
-      let one : List Aged = record { chunk = forward_tsn c; age = 1 } ∷ [] in
-      let pos = y.0.some in
-      let upto = y.0.within in
-      (calm-aged one g h.0, ((1, omega (arith, pos, upto), (0, omega arith, refl)), forwards-later one h.1))
-  aged-then c g y h = (calm-aged [] g h.0, forwards-later [] h.1)
-
   sender-aged : AreAged n ages sent old.made → AreAged (n + given) (aged_after (of_sender call) old new ages) x.more new.made
   sender-aged h =
       let made = sym (ap (λ (s : Session). s.made) f.after) in
+      let all = x.spread.long in
       subst (AreAged (n + given) (aged_after (of_sender call) old new ages) x.more) made
-      (aged-then call x.grown (subst (Every (IsMadeGiven (base first) (n + given))) (sym made) x.spread.step.made) h)
+      (aged-then first n old new sent x.more ages (omega (arith, all)) call x.grown
+      (subst (Every (IsMadeGiven (base first) (n + given))) (sym made) x.spread.step.made) h)
 
   -- ### Places
 

@@ -151,3 +151,4 @@ pub mod YoungHeld
 pub mod YoungOrder
 pub mod EveryYoung
 pub mod EveryYoungOrder
+pub mod EveryFewYoung

@@ -8,6 +8,7 @@ use Rattle.sctp_receiver.specs.declared.receiver.limits.Limits.{Limits}
 use Rattle.sctp_sender.specs.declared.sender.Reported.{Reported}
 use Rattle.sctp_serial.specs.DataChunks.{has_tsn}
 use Rattle.sctp_delivery.specs.EveryCall.{AnyCall, RunsAny, closes_incoming, discards, makes, of_receiving, of_sending, passes_over, resets_incoming}
+use Rattle.sctp_delivery.specs.EveryCall.{tsns_given_any}
 use Rattle.sctp_delivery.specs.Messages.{fragments_of_all}
 use Rattle.sctp_delivery.specs.Recent.{Aged, AgedSack, HoldsRecent, IsAmongYoung, IsForwardYoung, IsRecent, IsYoung, aged_after, gives, new_sacks, sack_older}
 use Rattle.sctp_delivery.specs.Recent.{times_taken}
@@ -142,3 +143,16 @@ WhileAllAnyYoung P =
     → AreYoungAny [] (at_start_with reported tsn size max most limits) calls s run
     → ArePassedYoung [] (at_start_with reported tsn size max most limits) calls s run
     → bytes_written s < 2 ^ 64 → P calls s
+
+-- all this is so of each session that gives out fewer than 2^31 TSNs
+abbrev pub FewTsnsAreYoungAny : Type 0
+FewTsnsAreYoungAny =
+    (reported : Reported) (tsn size max most : ℕ) (limits : Option Limits)
+    (calls : List AnyCall) (s : Session)
+    → (run : RunsAny (at_start_with reported tsn size max most limits) calls s) → tsn < 2 ^ 32
+    → 0 < size
+    → tsns_given_any (at_start_with reported tsn size max most limits) calls s run < 2 ^ 31
+    → bytes_written s < 2 ^ 64
+    → AreRecentAny (at_start_with reported tsn size max most limits) calls s run
+    × AreYoungAny [] (at_start_with reported tsn size max most limits) calls s run
+    × ArePassedYoung [] (at_start_with reported tsn size max most limits) calls s run

@@ -9,7 +9,7 @@
 ghost use Rattle.sctp_delivery.specs.EveryCall.{AcknowledgedArrived, AfterEachAny, AfterEachAnyOfFewBytes, AfterEachAnyOfFewTsns, AreSingle, AreSingleWhereSteady, AreSingleWritesOfTheirOwn, AreToldApart, AreWritesWhereSingle, LeftArrived, ReleasedArrived, ReportWhatArrived};
 ghost use Rattle.sctp_delivery.specs.EveryEnd.{AfterEachAnyOfLost, AfterEachAnyOfMessages, IsOrderedReadInTheEnd, IsSentReadInTheEnd, IsUnorderedHeldReadOrPassed, IsUnorderedReadInTheEnd, IsUnorderedReadOrHeld, IsUnorderedSentReadInTheEnd};
 ghost use Rattle.sctp_delivery.specs.EveryOrder.{AreReadInTurnWhereUnbroken, AreSingleReadAsWritten, AreSingleReadInOrder};
-ghost use Rattle.sctp_delivery.specs.EveryRecent.{AreReadAsGiven, AreTakenAsGiven, WhileAllAnyYoung, WhileAnyRecent, WhileAnyYoung};
+ghost use Rattle.sctp_delivery.specs.EveryRecent.{AreReadAsGiven, AreTakenAsGiven, FewTsnsAreYoungAny, WhileAllAnyYoung, WhileAnyRecent, WhileAnyYoung};
 ghost use Rattle.sctp_delivery.specs.Messages.{AreParts, AreSame, NoneIsReadTwice};
 ghost use Rattle.sctp_delivery.specs.Recent.{NoneYoungIsRefused};
 ghost use Rattle.sctp_delivery.specs.Returns.{IsAccountedSo, NoneIsRefusedSo};
@@ -58,6 +58,12 @@ pub fn whatever_is_called_messages_are_read_in_order()
     ensures order_recent { WhileAllAnyYoung AreSingleReadInOrder }
     ensures modes_recent { WhileAllAnyYoung AreSingleReadAsWritten }
     ensures turn_recent { WhileAllAnyYoung AreReadInTurnWhereUnbroken }
+{}
+
+/// In each session that gives out fewer than 2^31 TSNs, and in which fewer than 2^64 bytes were written, nothing is handed over or held that is 2^31
+/// TSNs old. So what is said of a whole life is said of it, too.
+pub fn whatever_is_called_few_tsns_are_young()
+    ensures { FewTsnsAreYoungAny }
 {}
 
 /// With so few TSNs and bytes, of two uses of a stream, one after the other: where as many messages were read on the stream as were written on
