@@ -23,7 +23,7 @@ use Rattle.sctp_delivery.proofs.Cases.{at-if}
 use Rattle.sctp_delivery.proofs.Delivered.{HoldsOn, beside-on, found-sent-on, held-first, sender-step-on}
 use Rattle.sctp_delivery.proofs.Every.{Every, every-of-all, every-tested}
 use Rattle.sctp_delivery.proofs.EveryHolds.{HasBeside, beside-after, beside-start, other-step}
-use Rattle.sctp_delivery.proofs.EveryMessages.{none-begin, single-steady, writes-single}
+use Rattle.sctp_delivery.proofs.EveryRead.{none-begin, single-steady, writes-single}
 use Rattle.sctp_delivery.proofs.EveryRecent.{flew-so, near-after, near-start, stays-so}
 use Rattle.sctp_delivery.proofs.EveryRuns as runs
 use Rattle.sctp_delivery.proofs.HeldWeights.{weighs-so}

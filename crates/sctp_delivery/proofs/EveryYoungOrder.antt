@@ -21,7 +21,7 @@ use Rattle.sctp_delivery.specs.Returns.{at_start_with}
 use Rattle.sctp_delivery.specs.Session.{count_in_flight}
 use Rattle.sctp_delivery.proofs.Delivered.{HoldsOn, IsReadOf, sender-step-on}
 use Rattle.sctp_delivery.proofs.Every.{Every}
-use Rattle.sctp_delivery.proofs.EveryMessages.{steady-there}
+use Rattle.sctp_delivery.proofs.EveryRead.{steady-there}
 use Rattle.sctp_delivery.proofs.EveryRecent.{flight-same, near-after}
 use Rattle.sctp_delivery.proofs.EveryRuns as runs
 use Rattle.sctp_delivery.proofs.EveryShadows.{IsReady, left-in-modes, modes-on, ready-after, ready-first}

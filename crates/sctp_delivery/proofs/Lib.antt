@@ -51,6 +51,7 @@ pub mod Even
 pub mod EveryHeld
 pub mod EverySettled
 pub mod EveryKept
+pub mod EveryRead
 pub mod EveryMessages
 pub mod Uses
 pub mod EveryExamples

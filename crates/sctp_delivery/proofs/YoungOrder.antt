@@ -91,7 +91,6 @@ lower st first sent low a b r le e =
         k = e.k;
         reach = e.reach;
         due = e.due;
-        turns = e.turns;
         most = e.most;
         arrived = record { place = h.place; least_is = omega (arith, least, le); within = h.within; is = h.is; covered = h.covered; each = h.each };
       },
@@ -167,7 +166,7 @@ module _ (going : ℕ → Bool) (st first : ℕ) (goes : going st ≡ true) (old
     -- the stream is as it was
     untouched : stream_of st s ≡ stream_of st r → s.cumulative_tsn ≡ r.cumulative_tsn → s.beyond ≡ r.beyond → Now
     untouched same cumulative beyond = (
-      quiet p st n B E M few grows a (alone r) (alone s) d refl (subst (DueOn p st n B E M Old d.k d.reach) (sym same) d.due) cumulative beyond,
+      quiet p st n B E M few grows a (alone r) (alone s) d (subst (DueOn p st n B E M Old d.k d.reach) (sym same) d.due) cumulative beyond,
       omega arith,
     )
 
@@ -198,7 +197,7 @@ module _ (going : ℕ → Bool) (st first : ℕ) (goes : going st ≡ true) (old
               inl (t.0, omega (arith, u, to, by), λ k lt most. t.2 (low + k) (omega (arith, lt, there)) (omega (arith, most, here)))
           | inr t ↦ inr (t.0, t.1 ∙ sym to, t.2)
         ] in
-        followed-due p st n B E M few grows a near g m (alone r) (alone s) d le is after refl naming close
+        followed-due p st n B E M few grows a near g m (alone r) (alone s) d le is after naming close
         (λ lt j only. elim open' [
           | inl all ↦ unnot (is_open st r) (none-among p st n B E M few grows a g m (alone r) d le is (λ o. not (is_open o.identifier r)) all lt
               (record { identifier = st; sequence = j }) only)
@@ -221,7 +220,7 @@ module _ (going : ℕ → Bool) (st first : ℕ) (goes : going st ≡ true) (old
           other-due p st n B E M few grows a near c (alone r) (alone s) d
               (step-of st first going goes ns sent h.held.stands.queued.line h.held.stands.queued.indexed h.held.stands.queued.joined low few within c
               (stands-of c y))
-              r same refl e off (subst (DueOn p st n B E M Old d.k d.reach) (sym (ap (stream_of st) same)) d.due),
+              r same e off (subst (DueOn p st n B E M Old d.k d.reach) (sym (ap (stream_of st) same)) d.due),
           omega arith,
         ))
       where
@@ -243,7 +242,7 @@ module _ (going : ℕ → Bool) (st first : ℕ) (goes : going st ≡ true) (old
     after : (c : ReceiverCall) → ReceiverFollows c old new → IsYoung (of_receiver c) ages → IsForwardYoung (of_receiver c) ages
         → IsRecent (of_receiver c) old → ((stream : ℕ) → c ≡ incoming.reads stream → ⊥) → Now
     after (incoming.opens stream) f y z q none = (
-      quiet p st n B E M few grows a (alone r) (alone s) d refl
+      quiet p st n B E M few grows a (alone r) (alone s) d
           (subst (λ (o : Reception). DueOn p st n B E M Old d.k d.reach (stream_of st o)) (sym f.step.receiver.1)
           (opened-due p st n B E M few grows Old d.k d.reach stream r.max_message_size r.streams d.due))
           (ap (λ (o : Reception). o.cumulative_tsn) f.step.receiver.1) (ap (λ (o : Reception). o.beyond) f.step.receiver.1),
@@ -253,7 +252,7 @@ module _ (going : ℕ → Bool) (st first : ℕ) (goes : going st ≡ true) (old
         let fresh = fresh-new c.tsn said r f.accepted.1 in
         taken-due p st n B E M few grows a near c said (alone r) (alone s) d
         (step-of st first going goes ns sent h.held.stands.queued.line h.held.stands.queued.indexed h.held.stands.queued.joined low few within c (stands-of c y))
-        f.step.receiver refl fresh (not-far c r fresh f.accepted.0)
+        f.step.receiver fresh (not-far c r fresh f.accepted.0)
     after (incoming.follows g) f y z q none = let close = refused g r f.accepted in passed g z q f.step.receiver close.0 (inl close.1)
     after (incoming.reads stream) f y z q none = absurd (none stream refl)
     after c f y z q none =
@@ -272,7 +271,7 @@ module _ (going : ℕ → Bool) (st first : ℕ) (goes : going st ≡ true) (old
 
       to : (k : ℕ) → d.k ≤ k → IsNext k → DueOn p st n B E M Old k d.reach (stream_of st s) → Reads
       to k le next due = (
-        moved p st n B E M few grows a (alone r) (alone s) d k due tt (ap (λ (o : Reception). o.cumulative_tsn) f.step.receiver)
+        moved p st n B E M few grows a (alone r) (alone s) d k due (ap (λ (o : Reception). o.cumulative_tsn) f.step.receiver)
             (ap (λ (o : Reception). o.beyond) f.step.receiver),
         le,
         next,
@@ -629,7 +628,6 @@ turned-first calm first size max most limits small = record {
     k = 0;
     reach = 0;
     due = (refl, refl, λ y le h. absurd (not_both h.0));
-    turns = tt;
     most = omega arith;
     arrived = record {
       place = 0;

@@ -180,7 +180,6 @@ module _ (st first : ℕ) where
             k = x.k;
             reach = x.reach;
             due = on-later r.cumulative_tsn r.beyond x.k x.reach (stream_of st r) test x.due;
-            turns = tt;
             most = let b = ap (λ k. begun_to st k sent) all in omega (arith, most, b);
             arrived = record {
               place = h.place - d;
