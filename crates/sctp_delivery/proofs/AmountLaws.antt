@@ -15,7 +15,8 @@ use Rattle.sctp_delivery.proofs.Names.{write_refusal, written_to, Makes, held_by
 use Rattle.sctp_delivery.proofs.Names.{bytes_of_chunks, bytes_of_messages, Answers, Expires, IsAccepted, MakesExactly, SenderCall, Write, abandons, as_run}
 use Rattle.sctp_delivery.proofs.Names.{expires, expires_late, expires_rexmit, expires_tail, forwards, forwards_within, marks, opens, resends, reserves, sends}
 use Rattle.sctp_delivery.proofs.Names.{sets_low, sets_mode, sets_size, starts, takes_sack, writes, written_after, Made, data_chunk, made_after, with_chunk}
-use Rattle.sctp_delivery.proofs.Names.{of_sender, Call, Follows, RunsTo, SenderFollows, Session, at_start, of_receiver, Limits, AfterEachFitSession, AfterEachFitRun}
+use Rattle.sctp_delivery.proofs.Names.{of_sender, Call, Follows, RunsTo, SenderFollows, Session, at_start, of_receiver, Limits, AfterEachFitSession}
+use Rattle.sctp_delivery.proofs.Names.{AfterEachFitRun}
 use Rattle.sctp_delivery.proofs.Names.{at_or_before, Data, data_of, past, partial_waits, Released}
 use Rattle.sctp_util.proofs.Cases.{or-true}
 use Rattle.sctp_outbound.specs.payload_queue.PayloadQueue as payload

@@ -21,7 +21,8 @@ use Rattle.sctp_delivery.proofs.Delivered.{beside-on, found-sent-on, next_tsn, s
 use Rattle.sctp_delivery.proofs.Every.{Every, every-contained, every-inserted, every-of, every-passing}
 use Rattle.sctp_delivery.proofs.EveryRuns as runs
 use Rattle.sctp_delivery.proofs.EveryYoung.{IsNow, after, quiet-young, read-same, start}
-use Rattle.sctp_delivery.proofs.FewYoung.{AreAged, IsAged, IsEntryAged, IsForwardAged, aged-then, all-before, entry-later, forward-later, given-before, part-aged}
+use Rattle.sctp_delivery.proofs.FewYoung.{AreAged, IsAged, IsEntryAged, IsForwardAged, aged-then, all-before, entry-later, forward-later, given-before}
+use Rattle.sctp_delivery.proofs.FewYoung.{part-aged}
 use Rattle.sctp_delivery.proofs.HeldWeights.{weighs-so}
 use Rattle.sctp_delivery.proofs.SackLaws.{IsInStepBut, no-move}
 use Rattle.sctp_delivery.proofs.SackSteps.{IsMadeGiven, known_or}
@@ -197,9 +198,6 @@ module _ (going dropped : ℕ → Bool) (first : ℕ) where
           (ap (λ (z : Session). z.written) f.after) i.now.young.holds) i.now.young).held
 
       -- ### What stays so
-
-      abbrev n' : ℕ
-      n' = n + distance (next_tsn s) (next_tsn v)
 
       abbrev h : IsArrived P n (known_or dropped s) r.cumulative_tsn r.beyond
       h = i.step.arrived

@@ -1,5 +1,5 @@
--- Sessions of every call: beside each there is one of a sender that keeps nothing, with the same chunks. What calls make of it that most sessions do not
--- have.
+-- Sessions of every call: beside each there is one of a sender that keeps nothing, with the same chunks. What the calls that most sessions do not have
+-- make of it.
 use Rattle.sctp_delivery.proofs.Names.{◌≡◌, ℕ, Bool, true, false, not, List, [], ◌∷◌, ◌++◌, length, map, Option, refl, ap, sym, subst, ◌∙◌}
 use Rattle.sctp_delivery.proofs.Names.{arith, not_both, filter, change_where, if◌then◌else◌, Limits, Modes, OutboundStream, Transmission, Session, SenderCall}
 use Rattle.sctp_delivery.proofs.Names.{SenderFollows, Write, Contains, IsAccounted, has_number, sum_by, at_start, data_of, data_chunk}

@@ -1,7 +1,8 @@
 -- Sessions of every call: what a sender gave TSNs to, while fewer than 2^31 chunks are in flight, also where it takes back what is no more reported.
 use Rattle.sctp_delivery.proofs.Names.{◌≡◌, ℕ, ◌+◌, ◌<◌, ◌^◌, Bool, true, false, List, [], ◌∷◌, ◌++◌, Option, refl, ap, sym, subst, ◌∙◌, arith, list_any}
 use Rattle.sctp_delivery.proofs.Names.{ChunkPayloadData, data_of, Sack, Limits, Modes, Transmission, Session, Call, Follows, at_first}
-use Rattle.sctp_delivery.proofs.Names.{at_start, abandoned_by, bytes_written, change_where, distance, modes_after, has_number, is_of, is_outstanding, of_receiver, of_sender, same-yes, Drop}
+use Rattle.sctp_delivery.proofs.Names.{at_start, abandoned_by, bytes_written, change_where, distance, modes_after, has_number, is_of, is_outstanding}
+use Rattle.sctp_delivery.proofs.Names.{of_receiver, of_sender, same-yes, Drop}
 use Rattle.sctp_sender.specs.declared.sender.Reported.{Reported}
 use Rattle.sctp_sender.specs.declared.sender.Reported.TheVariants.{Keep}
 use Rattle.sctp_sender.specs.Keeping.{restored}

@@ -1,8 +1,9 @@
--- Sessions of every call in a whole life: what came at the receiver lies behind the acknowledged TSN; no TSN is taken, or read, more often than it was
--- given out; and no SACK is refused that is less than 2^31 TSNs old. Most sessions are sessions of these.
+-- Sessions of every call in a whole life: what came at the receiver lies behind the acknowledged TSN. No TSN is taken, or read, more often than it was
+-- given out, and no SACK is refused that is less than 2^31 TSNs old. Most sessions are sessions of these.
 use Rattle.sctp_delivery.proofs.Names.{◌≡◌, ℕ, ◌+◌, ◌<◌, ◌≤◌, ◌^◌, List, [], ◌∷◌, ◌++◌, length, map, Option, None, refl, ap, sym, subst, ◌∙◌, arith}
 use Rattle.sctp_delivery.proofs.Names.{Limits, Drop, ChunkPayloadData, Transmission, Reception, Stand, Ledger, filter, if◌then◌else◌}
-use Rattle.sctp_delivery.proofs.Names.{sack_refusal, at_or_before, distance, fragments_of_all, sum_by-cons, true, false, tsn, CanBeAnswered, Session, RunsTo, Call, at_start, of_receiver, of_sender, tsns}
+use Rattle.sctp_delivery.proofs.Names.{sack_refusal, at_or_before, distance, fragments_of_all, sum_by-cons, true, false, tsn, CanBeAnswered, Session, RunsTo}
+use Rattle.sctp_delivery.proofs.Names.{Call, at_start, of_receiver, of_sender, tsns}
 use Rattle.sctp_delivery.proofs.Names.{has_come, has_tsn, filter_of, after_forward_tsn, data_of, data_chunk}
 use Rattle.sctp_receiver.specs.Receiver.{after_discard, close_stream}
 use Rattle.sctp_receiver.specs.Resets.{reset_stream}
@@ -115,9 +116,6 @@ module _ (old new : Session) (few : count_in_flight new < 2 ^ 31) (i : IsNear ol
       → has_come c.tsn (filter_of r) ≡ false → IsGiven u.flight.acked_tsn (count_in_flight old) c.tsn
   handed-given c f q fresh =
       fresh-given old new few i c.tsn (every-contained IsMadeSmall old.made (data_chunk (data_of c)) f.handed i.regular.made) q fresh
-
-  as-it-was : Stood old.receiving.receiver
-  as-it-was = ((i.regular.cumulative, i.regular.beyond), (i.arrived, i.order))
 
   receiver-other : (call : ReceiverOther) → ReceiverDoes call old new → IsRecentAny (of_receiving call) old → IsNear new
   receiver-other (discards c) f q =

@@ -193,9 +193,6 @@ restored-tsns (Some bytes ∷ bs) (c ∷ ds) = ap (λ ts. c.tsn ∷ ts) (restore
 -- ## Each call of the sender that most sessions do not have
 
 module _ (dropped : ℕ → Bool) (p n : ℕ) (old new : Session) (i : IsInStepBut dropped p n old) where
-  abbrev f' : Flight
-  f' = old.sending.sender.flight
-
   -- what is in flight has the same TSNs then
   other-flight : (call : SenderOther) → SenderDoes call old new → (t : Transmission) → new.sending.sender ≡ t → IsNumbered p n t.flight
       → t.flight.acked_tsn ≡ old.sending.sender.flight.acked_tsn

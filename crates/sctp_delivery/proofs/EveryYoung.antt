@@ -1,5 +1,4 @@
--- Sessions of every call in a whole life: each message of which no fragment but the first begins one is a write, and no write is read twice, while what
--- is taken and what is held is less than 2^31 TSNs old.
+-- Sessions of every call in a whole life: each message of which no fragment but the first begins one is a write, and no write is read twice.
 use Rattle.sctp_delivery.proofs.Names.{◌+◌, ◌≡◌, ℕ, ◌<◌, ◌≤◌, ◌^◌, Bool, true, false, not, List, [], ◌∷◌, length, Option, inl, refl, ap, sym, subst}
 use Rattle.sctp_delivery.proofs.Names.{◌∙◌, arith, AllPass-from_list_all, ChunkPayloadData, Contains, Limits, Message, Session, Stand, Ledger, StandAt}
 use Rattle.sctp_delivery.proofs.Names.{bytes_written, filter, list_all, list_any, is_complete, is_on, of_receiver, of_sender, or-left, or-right}
@@ -269,7 +268,13 @@ module _ (s : Session) (sent : List Entry) (p : Message → Bool) where
   picked (m ∷ ms) (q ∷ ps) a d =
       let r = picked ms ps a.1 d.1 in
       at-if (λ ns. ArePicked (m ∷ ms) ns (q ∷ ps)) (p m)
-      (λ e. (q ∷ r.0, (a.0, r.1), (r.3 q d.0, r.2), λ x o. (o.0, r.3 x o.1), λ st k t. turn-here st q sent ms (filter p ms) ps r.0 (r.4 st) (is_in_order st m) k t))
+      (λ e. (
+        q ∷ r.0,
+        (a.0, r.1),
+        (r.3 q d.0, r.2),
+        λ x o. (o.0, r.3 x o.1),
+        λ st k t. turn-here st q sent ms (filter p ms) ps r.0 (r.4 st) (is_in_order st m) k t,
+      ))
       (λ e. (r.0, r.1, r.2, λ x o. r.3 x o.1, λ st k t. turn-past st q sent ms (filter p ms) ps r.0 (r.4 st) (is_in_order st m) k t))
 
 -- ## The laws

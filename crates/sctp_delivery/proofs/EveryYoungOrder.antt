@@ -245,7 +245,8 @@ module _ (going calm : ℕ → Bool) (sub : (st : ℕ) → calm st ≡ true → 
       (λ k e. off k (or-right (renews k c) (list_any (renews k) cs) e)) (λ k e. (one k e).1) b p)
 
   orderly-start : (reported : Reported) (size max most : ℕ) (limits : Option Limits) (small : first < 2 ^ 32) (some : 0 < size)
-      → IsOrderly (λ k. false) at_first (at_start_with reported first size max most limits) (start going first reported size max most limits small some).numbered
+      → IsOrderly (λ k. false) at_first (at_start_with reported first size max most limits)
+      (start going first reported size max most limits small some).numbered
       (start going first reported size max most limits small some).sent [] (start going first reported size max most limits small some).places'
   unfolding start
   orderly-start Drop size max most limits small some = record {
@@ -258,7 +259,11 @@ module _ (going calm : ℕ → Bool) (sub : (st : ℕ) → calm st ≡ true → 
       let t = turned-first calm first size max most limits small in
       let h = said-first first size max most limits in
       record {
-        spread = record { set = record { acked = 0; total = omega arith; is = omega (arith, small); set = λ st o. (tt, tt) }; near = λ st o. omega arith; names = tt };
+        spread = record {
+          set = record { acked = 0; total = omega arith; is = omega (arith, small); set = λ st o. (tt, tt) };
+          near = λ st o. omega arith;
+          names = tt;
+        };
         turned = record { due = t.due; turned = t.turned };
         said = record {
           sender = record { streams = h.sender.streams; queue = h.sender.queue };

@@ -140,8 +140,9 @@ module _ (first n : ℕ) (old new : Session) (sent more : List Entry) (ages : Li
   calm-aged xs (inl e) h = subst (Every (IsEntryAged (n + now_given) (xs ++ map (older now_given) ages))) (sym e) (entries-later xs h)
   calm-aged xs (inr e) h = subst (Every (IsEntryAged (n + now_given) (xs ++ map (older now_given) ages))) (sym e) (tt, entries-later xs h)
 
-  pub aged-then : (c : SenderCall) → IsMoreBy (sent_by c old.sending.sender) sent more → Every (IsMadeGiven (base first) (n + now_given)) (made_after c old.sending.sender old.made)
-      → AreAged n ages sent old.made → AreAged (n + now_given) (aged_after (of_sender c) old new ages) more (made_after c old.sending.sender old.made)
+  pub aged-then : (c : SenderCall) → IsMoreBy (sent_by c old.sending.sender) sent more
+      → Every (IsMadeGiven (base first) (n + now_given)) (made_after c old.sending.sender old.made) → AreAged n ages sent old.made
+      → AreAged (n + now_given) (aged_after (of_sender c) old new ages) more (made_after c old.sending.sender old.made)
   aged-then (outgoing.sends now) g y h = by (next_chunk now old.sending.sender) g
     where
       by : (o : Option ChunkPayloadData) → IsMoreBy o sent more
@@ -207,7 +208,8 @@ module _ (first n : ℕ) (call : SenderCall) (old new : Session) (ns : List Numb
 
   sender-places : HavePlaces old sent ages → HavePlaces new x.more (aged_after (of_sender call) old new ages)
   sender-places p =
-      let y = sender-young all_streams first call old new ns sent ages f (record { holds = i.spread.holds; placed = p.0; held = p.1; read = p.2 }) (recent-then p) in
+      let y = sender-young all_streams first call old new ns sent ages f (record { holds = i.spread.holds; placed = p.0; held = p.1; read = p.2 })
+      (recent-then p) in
       subst (λ more. HavePlaces new more (aged_after (of_sender call) old new ages)) (same-more first n call old new ns sent i.spread few f)
       (y.placed, y.held, y.read)
 

@@ -133,8 +133,8 @@ pub record IsSetOn (going : ℕ → Bool) (first : ℕ) (f : Flight) (sent : Lis
 abbrev pub IsSet : ℕ → Flight → List Entry → Type 0
 IsSet first f sent = IsSetOn all_streams first f sent
 
-pub same-set : (going : ℕ → Bool) (first : ℕ) (f g : Flight) (sent : List Entry) → g.acked_tsn ≡ f.acked_tsn → AreKin f.queue.inflight.chunks g.queue.inflight.chunks
-    → IsSetOn going first f sent → IsSetOn going first g sent
+pub same-set : (going : ℕ → Bool) (first : ℕ) (f g : Flight) (sent : List Entry) → g.acked_tsn ≡ f.acked_tsn
+    → AreKin f.queue.inflight.chunks g.queue.inflight.chunks → IsSetOn going first f sent → IsSetOn going first g sent
 same-set going first f g sent acked kin s = record {
   acked = s.acked;
   total = let n = kin-long f.queue.inflight.chunks g.queue.inflight.chunks kin in let t = s.total in omega (arith, n, t);
@@ -152,8 +152,8 @@ record IsNextFor (st : ℕ) (sent : List Entry) (e : Entry) (x : ChunkPayloadDat
 
 put-set : (going : ℕ → Bool) (first : ℕ) (f g : Flight) (sent : List Entry) (e : Entry) (x : ChunkPayloadData) (ds : List ChunkPayloadData)
     → AreKin f.queue.inflight.chunks ds → tsns ds ≡ tsns f.queue.inflight.chunks → g.queue.inflight.chunks ≡ insert_before chunk_before x ds
-    → g.acked_tsn ≡ f.acked_tsn → x.tsn ≡ f.next_tsn → length f.queue.inflight.chunks < 2 ^ 31 → IsInRun f → ((st : ℕ) → going st ≡ true → IsNextFor st sent e x)
-    → IsSetOn going first f sent → IsSetOn going first g (e ∷ sent)
+    → g.acked_tsn ≡ f.acked_tsn → x.tsn ≡ f.next_tsn → length f.queue.inflight.chunks < 2 ^ 31 → IsInRun f
+    → ((st : ℕ) → going st ≡ true → IsNextFor st sent e x) → IsSetOn going first f sent → IsSetOn going first g (e ∷ sent)
 put-set going first f g sent e x ds kin same put acked is few run next s =
     let cs = f.queue.inflight.chunks in
     let long = kin-long cs ds kin in
@@ -243,9 +243,6 @@ module _ (going : ℕ → Bool) (ws : List Numbered) (first : ℕ) (number : ℕ
       (same-set going first f (after_abandonment None f) sent refl (kin-itself f.queue.inflight.chunks) s)
   leave-set f sent h (Some m) partial few run s more ended counted = by (waits m f.queue.pending) refl
     where
-      g : Flight
-      g = after_abandonment (Some m) f
-
       cs : List ChunkPayloadData
       cs = f.queue.inflight.chunks
 
@@ -343,7 +340,8 @@ module _ (going : ℕ → Bool) (first : ℕ) (call : SenderCall) (old new : Ses
   quiet-set g e more ended to i = subst (IsSetOn going first g) (sym (still first g.next_tsn sent more ended (e ∙ counted) to)) i
 
   change-set : (c : SenderCall) → c ≡ call → outgoing.IsAccepted c u → (ch : Change c u) → length (flight_after c u ch).queue.inflight.chunks < 2 ^ 31
-      → (more : List Entry) → IsEnded sent more → (flight_after c u ch).next_tsn ≡ (first + length more) % 2 ^ 32 → IsSetOn going first (flight_after c u ch) more
+      → (more : List Entry) → IsEnded sent more → (flight_after c u ch).next_tsn ≡ (first + length more) % 2 ^ 32
+      → IsSetOn going first (flight_after c u ch) more
   change-set c is ok nothing few' more ended to = quiet-set u.flight refl more ended to s
   change-set c is ok (all_start now) few' more ended to =
       let g = with_queue u.flight (all_started now u.flight.queue) in
@@ -367,7 +365,8 @@ module _ (going : ℕ → Bool) (first : ℕ) (call : SenderCall) (old new : Ses
       (same-set going first u.flight g sent refl (kin-part can_miss missed (λ d. record { stream = refl; kind = refl; number = refl }) count
       u.flight.queue.inflight.chunks) s)
   change-set c is ok (one_leaves o e found) few' more ended to =
-      leave-set going ns first (λ r. number_of r u.streams) u.flight sent h.held.stands o (partial-found u h.held.stands.sendable o found) was run s more ended to
+      leave-set going ns first (λ r. number_of r u.streams) u.flight sent h.held.stands o
+      (partial-found u h.held.stands.sendable o found) was run s more ended to
   change-set c is ok (each_leaves ts short e) few' more ended to =
       let r = leave-each going ns first (λ r. number_of r u.streams) ts u.flight sent h.held.stands few' run s in
       let g = abandoned_each ts u.flight in

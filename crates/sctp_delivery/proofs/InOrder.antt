@@ -8,7 +8,8 @@ use Rattle.std.specs.Prelude.{cond}
 use Rattle.sctp_delivery.specs.InOrder.{Are, AreAmong, AreReadInTurn, keeps_order, read_from, written_to}
 use Rattle.sctp_delivery.specs.Modes.{AreReadAsWritten, unknown, was_written_ordered}
 use Rattle.sctp_delivery.specs.Order.{places_where}
-use Rattle.sctp_delivery.specs.EveryCall.{AfterEachAnyOfFewBytes, AnyCall, AreSingleWhereSteady, RunsAny, is_single, is_steady, makes, of_receiving, of_sending, single_messages}
+use Rattle.sctp_delivery.specs.EveryCall.{AfterEachAnyOfFewBytes, AnyCall, AreSingleWhereSteady, RunsAny, is_single, is_steady, makes, of_receiving, of_sending}
+use Rattle.sctp_delivery.specs.EveryCall.{single_messages}
 use Rattle.sctp_delivery.specs.EveryOrder.{AreReadInTurnWhereUnbroken, AreSingleReadAsWritten, is_ordered_throughout, is_unbroken, plain_calls}
 use Rattle.sctp_delivery.specs.Recent.{AfterEachYoungRun}
 use Rattle.sctp_delivery.specs.EveryRecent.{WhileAllAnyYoung}

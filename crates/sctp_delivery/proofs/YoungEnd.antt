@@ -83,7 +83,8 @@ module _ (first : ℕ) (call : SenderCall) (old new : Session) (ns : List Number
   x = sender-step first call old new ns sent f h
 
   set-after : IsSet first new.sending.sender.flight x.more
-  set-after = sender-set all_streams first call old new ns sent f h j.few few j.regular.regular.numbered (λ k gone e. (sack-fits old new few j call f k gone e).0) e
+  set-after =
+      sender-set all_streams first call old new ns sent f h j.few few j.regular.regular.numbered (λ k gone e. (sack-fits old new few j call f k gone e).0) e
 
   same : new.receiving ≡ old.receiving
   same = ap (λ (s : Session). s.receiving) f.after
@@ -549,7 +550,8 @@ there-then first (of_sender call ∷ cs) old new ns sent ages r q y all j i ps h
     let x = sender-step first call old r.0 ns sent r.1.0 i.holds in
     let near = sender-near old r.0 q.1 j call r.1.0 q.0 in
     there-then first cs r.0 new (numbered_after call ns) x.more (aged_after (of_sender call) old r.0 ages) r.1.1 q.2 y.2 a.1 near
-    (sender-young all_streams first call old r.0 ns sent ages r.1.0 i y.1) ps (sender-owned all_streams first call old r.0 ns sent ages r.1.0 i y.1 q.1 j near ps h)
+    (sender-young all_streams first call old r.0 ns sent ages r.1.0 i y.1) ps
+    (sender-owned all_streams first call old r.0 ns sent ages r.1.0 i y.1 q.1 j near ps h)
     (sender-kept call old r.0 a.0 r.1.0 k) (set-after first call old r.0 ns sent r.1.0 i.holds q.1 j near e)
     (sender-there first call old r.0 ns sent r.1.0 i.holds q.1 j near e y.1 ps t)
     (stays-begun-or-gone all_streams [] first old r.0 ns sent x.more i.holds x.once b call

@@ -21,7 +21,8 @@ kept-then first (of_sender call ∷ cs) old new ns sent ages r q y all j i ps h 
     let x = sender-step first call old r.0 ns sent r.1.0 i.holds in
     let near = sender-near old r.0 q.1 j call r.1.0 q.0 in
     kept-then first cs r.0 new (numbered_after call ns) x.more (aged_after (of_sender call) old r.0 ages) r.1.1 q.2 y.2 b.1 near
-    (sender-young all_streams first call old r.0 ns sent ages r.1.0 i y.1) ps (sender-owned all_streams first call old r.0 ns sent ages r.1.0 i y.1 q.1 j near ps h)
+    (sender-young all_streams first call old r.0 ns sent ages r.1.0 i y.1) ps
+    (sender-owned all_streams first call old r.0 ns sent ages r.1.0 i y.1 q.1 j near ps h)
     (sender-kept call old r.0 b.0 r.1.0 k)
 kept-then first (of_receiver call ∷ cs) old new ns sent ages r q y all j i ps h k =
     let b = both (is_reliable_at_receiver call) (list_all is_reliable cs) all in

@@ -177,7 +177,8 @@ module _ (going : ℕ → Bool) (st first : ℕ) (goes : going st ≡ true) (old
     passed : (g : ForwardTsn) → IsAmongYoung (forward_tsn g) ages → comes_before g.new_cumulative_tsn (next_tsn old) ≡ true → s ≡ after_forward_tsn g r
         → names_too_far g r ≡ false → (names_closed g r ≡ false) ⊎ (list_any (is_pair_of st) g.streams ≡ true → is_open st r ≡ true) → Now
     passed g y before after close open' =
-        let z = every-contained (λ (m : Aged). IsNamedAt going first x.set.acked m.age sent m.chunk) ages (record { chunk = forward_tsn g; age = y.0 }) y.2 x.names in
+        let z = every-contained (λ (m : Aged). IsNamedAt going first x.set.acked m.age sent m.chunk) ages
+        (record { chunk = forward_tsn g; age = y.0 }) y.2 x.names in
         let m = z.0 - low in
         let upto = z.1 in
         let far = z.2 in
@@ -204,7 +205,8 @@ module _ (going : ℕ → Bool) (st first : ℕ) (goes : going st ≡ true) (old
           | inr named ↦ named (list_any-those (is_pair_of st) (is_pair_of st) g.streams
               (ap (list_any (is_pair_of st)) only ∙ or-left (st == st) false (same-yes st)))
         ])
-        (λ j cs fits e. missed st first going goes ns sent h.held.stands.queued.line h.held.stands.queued.indexed h.held.stands.queued.joined low few within m j cs le
+        (λ j cs fits e.
+        missed st first going goes ns sent h.held.stands.queued.line h.held.stands.queued.indexed h.held.stands.queued.joined low few within m j cs le
         fits e)
 
     -- a call of the receiver that most sessions do not have, by which the stream goes on
@@ -251,7 +253,8 @@ module _ (going : ℕ → Bool) (st first : ℕ) (goes : going st ≡ true) (old
     after (incoming.takes c (New said)) f y z q none =
         let fresh = fresh-new c.tsn said r f.accepted.1 in
         taken-due p st n B E M few grows a near c said (alone r) (alone s) d
-        (step-of st first going goes ns sent h.held.stands.queued.line h.held.stands.queued.indexed h.held.stands.queued.joined low few within c (stands-of c y))
+        (step-of st first going goes ns sent h.held.stands.queued.line h.held.stands.queued.indexed h.held.stands.queued.joined low few within c
+        (stands-of c y))
         f.step.receiver fresh (not-far c r fresh f.accepted.0)
     after (incoming.follows g) f y z q none = let close = refused g r f.accepted in passed g z q f.step.receiver close.0 (inl close.1)
     after (incoming.reads stream) f y z q none = absurd (none stream refl)
@@ -362,8 +365,8 @@ pub record IsTurned (calm : ℕ → Bool) (first : ℕ) (s : Session) (sent : Li
   pub turned : (st : ℕ) (c : calm st ≡ true) → AreTurned st sent (due st c).k s.receiving.read ps
 
 -- the index of an ordered message is that at the place of its first fragment
-place-index : (going : ℕ → Bool) (st first : ℕ) (ns : List Numbered) (sent : List Entry) {s : Session} → HoldsOn going first s ns sent → (p : ℕ) → (0 < p → floor (length sent) < p)
-    → (new : Session) (stream j : ℕ) (cs : List ChunkPayloadData) → starts_ordered cs ≡ true
+place-index : (going : ℕ → Bool) (st first : ℕ) (ns : List Numbered) (sent : List Entry) {s : Session} → HoldsOn going first s ns sent → (p : ℕ)
+    → (0 < p → floor (length sent) < p) → (new : Session) (stream j : ℕ) (cs : List ChunkPayloadData) → starts_ordered cs ≡ true
     → Fits (base first + floor (length sent)) st (length sent - floor (length sent)) (Begun st first sent (floor (length sent)))
     (At st first sent (floor (length sent))) (Stands st first sent (floor (length sent))) j cs
     → (lo : ℕ) (e : EachSentFrom lo sent cs) → AtFirst (IsDone new sent stream) p lo sent cs e → (p ≤ length sent) × (begun_to st p sent ≡ j + 1)
@@ -382,7 +385,8 @@ place-index going st first ns sent h p fresh new stream j (c ∷ cs) order fits 
 longer : {A : Type 0} (x : A) (xs : List A) → x ∷ xs ≡ xs → ⊥
 longer x xs e = let n = ap length e in omega (arith, n)
 
-module _ (going calm : ℕ → Bool) (sub : (st : ℕ) → calm st ≡ true → going st ≡ true) (first : ℕ) (call : ReceiverCall) (old new : Session) (ns : List Numbered) (sent : List Entry) (ages : List Aged) (f : ReceiverFollows call old new)
+module _ (going calm : ℕ → Bool) (sub : (st : ℕ) → calm st ≡ true → going st ≡ true) (first : ℕ) (call : ReceiverCall) (old new : Session) (ns : List Numbered)
+    (sent : List Entry) (ages : List Aged) (f : ReceiverFollows call old new)
     (h : HoldsOn going first old ns sent) (i : IsNear old) (x : IsSpreadOver going first old sent ages) (placed : Every (IsPlaced sent) ages)
     (y : IsYoung (of_receiver call) ages) (z : IsForwardYoung (of_receiver call) ages) (q : IsRecent (of_receiver call) old) (ps qs : List ℕ)
     (on : AreReadOn sent old.receiving.read new.receiving.read ps qs) (read : AreRead new sent new.receiving.read qs)
@@ -463,7 +467,8 @@ module _ (going calm : ℕ → Bool) (sub : (st : ℕ) → calm st ≡ true → 
   to-then : (c : ReceiverCall) → c ≡ call → ReceiverFollows c old new → (st : ℕ) → calm st ≡ true → Then st
   to-then (incoming.reads stream) is g st k = read-turn st k stream g (message_on stream old.receiving.receiver) refl g.step.read
   to-then c is g st k =
-      quiet-turn st k g.step.read (after going st first (sub st k) old new ns sent ages h i x placed (t.due st k) c g (subst (λ d. IsYoung (of_receiver d) ages) (sym is) y)
+      quiet-turn st k g.step.read
+      (after going st first (sub st k) old new ns sent ages h i x placed (t.due st k) c g (subst (λ d. IsYoung (of_receiver d) ages) (sym is) y)
       (subst (λ d. IsForwardYoung (of_receiver d) ages) (sym is) z) (subst (λ d. IsRecent (of_receiver d) old) (sym is) q) (λ stream e. cc))
 
   pub receiver-turned : IsTurned calm first new sent x.set.acked qs
@@ -471,7 +476,8 @@ module _ (going calm : ℕ → Bool) (sub : (st : ℕ) → calm st ≡ true → 
 
 -- ## A call of the sender
 
-module _ (going calm : ℕ → Bool) (first : ℕ) (call : SenderCall) (old new : Session) (ns : List Numbered) (sent : List Entry) (ages : List Aged) (f : SenderFollows call old new)
+module _ (going calm : ℕ → Bool) (first : ℕ) (call : SenderCall) (old new : Session) (ns : List Numbered) (sent : List Entry) (ages : List Aged)
+    (f : SenderFollows call old new)
     (h : HoldsOn going first old ns sent) (few' : count_in_flight new < 2 ^ 31) (i : IsNear old) (j : IsNear new) (x : IsSpreadOver going first old sent ages)
     (recent : HoldsRecent new) (ps : List ℕ) (t : IsTurned calm first old sent x.set.acked ps) where
   abbrev y : Sends going first call old new ns sent
@@ -583,7 +589,8 @@ all-then first (of_sender call ∷ cs) old new ns sent ages r q y z j i ps h x t
     let g = sender-step first call old r.0 ns sent r.1.0 i.holds in
     let k = sender-near old r.0 q.1 j call r.1.0 q.0 in
     all-then first cs r.0 new (numbered_after call ns) g.more (aged_after (of_sender call) old r.0 ages) r.1.1 q.2 y.2 z.1 k
-    (sender-young all_streams first call old r.0 ns sent ages r.1.0 i y.1) ps (sender-owned all_streams first call old r.0 ns sent ages r.1.0 i y.1 q.1 j k ps h)
+    (sender-young all_streams first call old r.0 ns sent ages r.1.0 i y.1) ps
+    (sender-owned all_streams first call old r.0 ns sent ages r.1.0 i y.1 q.1 j k ps h)
     (sender-spread all_streams first call old r.0 ns sent ages r.1.0 i.holds q.1 j k x)
     (sender-turned all_streams all_streams first call old r.0 ns sent ages r.1.0 i.holds q.1 j k x y.1 ps t) (modes_after call m)
     (said-after call old r.0 m ns sent g.more r.1.0 g.grown i.holds.held.sized u)

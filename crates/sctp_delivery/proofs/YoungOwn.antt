@@ -495,7 +495,8 @@ pub reads-are : (ns : List Numbered) (first : ℕ) (sent : List Entry) (once : A
     → (e : EachRead ns sent once ms) × AreAt ns first sent once line s ms e ps
 reads-are ns first sent once line indexed s ms ps a w =
     sole-are ns first sent once line s ms ps a
-    (every-of IsWhole (IsSole sent) (λ m h. (h.0, h.2, λ low e c cs is. single-on ns first sent low line all_streams indexed m h.0 h.1 e h.2 refl c cs is)) ms w)
+    (every-of IsWhole (IsSole sent)
+    (λ m h. (h.0, h.2, λ low e c cs is. single-on ns first sent low line all_streams indexed m h.0 h.1 e h.2 refl c cs is)) ms w)
 
 pub owned-first : (tsn size max most : ℕ) (limits : Option Limits) → IsOwned (at_start tsn size max most limits) [] []
 owned-first tsn size max most limits =

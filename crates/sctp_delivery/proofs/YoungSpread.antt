@@ -190,7 +190,8 @@ module _ (going : ℕ → Bool) (first : ℕ) (call : SenderCall) (old new : Ses
         every-joined (λ (m : Aged). IsNamedAt going first set'.acked m.age x.more m.chunk)
         (map (λ m. record { chunk = m; age = 1 }) (new_chunks (of_sender call) old))
         (map (older given) ages) (new-named call f)
-        (every-mapped (λ (m : Aged). IsNamedAt going first a m.age sent m.chunk) (λ (m : Aged). IsNamedAt going first set'.acked m.age x.more m.chunk) (older given)
+        (every-mapped (λ (m : Aged). IsNamedAt going first a m.age sent m.chunk) (λ (m : Aged). IsNamedAt going first set'.acked m.age x.more m.chunk)
+        (older given)
         (λ m y. let n = x.few in named-later going first a set'.acked m.age (m.age + given) sent x.more rises within x.once (omega (arith, n)) m.chunk y) ages
         p.names);
   }
@@ -199,8 +200,8 @@ abbrev pub IsSpreadOut : ℕ → Session → List Entry → List Aged → Type 0
 IsSpreadOut first s sent ages = IsSpreadOver all_streams first s sent ages
 
 -- a call of the receiver, by which the sender stays as it is
-abbrev pub receiver-spread : (going : ℕ → Bool) (first : ℕ) (call : ReceiverCall) (old new : Session) (sent : List Entry) (ages : List Aged) → new.sending ≡ old.sending
-    → IsSpreadOver going first old sent ages → IsSpreadOver going first new sent (aged_after (of_receiver call) old new ages)
+abbrev pub receiver-spread : (going : ℕ → Bool) (first : ℕ) (call : ReceiverCall) (old new : Session) (sent : List Entry) (ages : List Aged)
+    → new.sending ≡ old.sending → IsSpreadOver going first old sent ages → IsSpreadOver going first new sent (aged_after (of_receiver call) old new ages)
 receiver-spread going first call old new sent ages same p =
     let given = distance (next_tsn old) (next_tsn new) in
     let a = p.set.acked in

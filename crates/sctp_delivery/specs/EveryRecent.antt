@@ -18,7 +18,8 @@ use Rattle.sctp_delivery.specs.Session.{Session, bytes_written, count_in_flight}
 
 -- ## What is handed over has no old TSN
 
--- so it is of a call (`IsRecent`); of a DATA chunk that is dropped, and of a FORWARD-TSN that passes over names, it is the same as of one that is taken
+-- so it is of the call (`IsRecent`). Of a DATA chunk that is dropped the same is asked as of one that is taken, and of a FORWARD-TSN whose names are
+-- passed over the same as of one that is followed
 abbrev pub IsRecentAny : AnyCall → Session → Type 0
 IsRecentAny (makes call) s = IsRecent call s
 IsRecentAny (of_sending call) s = ⊤
@@ -70,7 +71,8 @@ abbrev pub sacks_aged_any : List AgedSack → (old : Session) (calls : List AnyC
 sacks_aged_any ages old [] new run = ages
 sacks_aged_any ages old (c ∷ cs) new run =
     sacks_aged_any (map (λ k. record { sack = k; age = 0 }) (new_sacks_any c old)
-    ++ map (sack_older (distance old.sending.sender.flight.next_tsn run.0.sending.sender.flight.next_tsn)) ages)
+    ++ map (sack_older (distance old.sending.sender.flight.next_tsn
+    run.0.sending.sender.flight.next_tsn)) ages)
     run.0 cs new run.1.1
 
 -- P of how often each TSN was given out, of the SACKs that were made, and of the session, after each session in which what is handed over is

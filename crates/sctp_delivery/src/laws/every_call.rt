@@ -31,8 +31,8 @@ pub fn whatever_is_called_bytes_and_fragments_are_accounted_for()
 /// fragment but the first begins one, is one that was written, on the stream that it is read on, with its payload type and byte for byte.
 /// No write is read twice so. On a stream that the sender neither resets nor closes each message is so; and each is, in every session, where
 /// of two ordered messages of a stream that are sent one right behind another the second has a number of its own. It is so in a whole life, too,
-/// however many TSNs are given out, while nothing that is handed over has a TSN that is 2^31 TSNs old, and no DATA chunk that is taken or held is
-/// 2^31 TSNs old.
+/// however many TSNs are given out. Two things are asked then: nothing that is handed over has a TSN that is 2^31 TSNs old, and no DATA chunk that is
+/// taken or held is so old.
 pub fn whatever_is_called_messages_are_writes()
     ensures written { AfterEachAnyOfFewBytes (λ calls s. AreWritesWhereSingle s) }
     ensures single { AfterEachAnyOfFewBytes AreSingleWhereSteady }
@@ -49,8 +49,8 @@ pub fn whatever_is_called_messages_are_writes()
 
 /// With so few TSNs and bytes: on a stream that goes on, ordered messages are read in the order of their writes, and so is what was written
 /// while it was ordered, and each DCEP message. A stream goes on that neither host closes or resets, of which the receiver drops no ordered
-/// chunk, and passes over no name before it opens it. It is so in a whole life, too, while nothing that is handed over has a TSN that is 2^31 TSNs
-/// old, and no DATA chunk that is taken, held or dropped, and no FORWARD-TSN, is 2^31 TSNs old.
+/// chunk, and passes over no name before it opens it. It is so in a whole life, too, where two things are asked. Nothing that is handed over has a
+/// TSN that is 2^31 TSNs old; and no FORWARD-TSN, and no DATA chunk that is taken, held or dropped, is so old.
 pub fn whatever_is_called_messages_are_read_in_order()
     ensures order { AfterEachAnyOfFewBytes AreSingleReadInOrder }
     ensures modes { AfterEachAnyOfFewBytes AreSingleReadAsWritten }
