@@ -1,4 +1,5 @@
 -- Sessions of every call: in each that gives out fewer than 2^31 TSNs nothing is handed over or held that is 2^31 TSNs old.
+use Rattle.sctp_delivery.proofs.Names.{⊤}
 use Rattle.sctp_delivery.proofs.Names.{◌≡◌, ℕ, ◌+◌, ◌%◌, ◌<◌, ◌≤◌, ◌^◌, Bool, true, false, not, List, [], ◌∷◌, length, map, Option, refl, ap, sym}
 use Rattle.sctp_delivery.proofs.Names.{subst, ◌∙◌, arith, ◌==◌, same-is, or-left, or-right, list_any, list_all, filter, insert_before}
 use Rattle.sctp_delivery.proofs.Names.{if◌then◌else◌, Contains, Data, data_of, data_chunk, forward_tsn, ForwardTsn, Sack, Reception, Stand, Limits}
@@ -20,9 +21,9 @@ use Rattle.sctp_delivery.proofs.Cases.{at-if, at-test}
 use Rattle.sctp_delivery.proofs.Delivered.{beside-on, found-sent-on, next_tsn, sender-step-on}
 use Rattle.sctp_delivery.proofs.Every.{Every, every-contained, every-inserted, every-of, every-passing}
 use Rattle.sctp_delivery.proofs.EveryRuns as runs
-use Rattle.sctp_delivery.proofs.EveryYoung.{IsNow, after, quiet-young, read-same, start}
-use Rattle.sctp_delivery.proofs.FewYoung.{AreAged, IsAged, IsEntryAged, IsForwardAged, aged-then, all-before, entry-later, forward-later, given-before}
-use Rattle.sctp_delivery.proofs.FewYoung.{part-aged}
+use Rattle.sctp_delivery.proofs.EveryYoung.{AreBacked, IsBacked, all-backed, IsNow, after, quiet-young, read-same, start}
+use Rattle.sctp_delivery.proofs.Ages.{AreAged, IsAged, IsEntryAged, IsForwardAged, aged-then, all-before, entry-later, forward-later, given-before}
+use Rattle.sctp_delivery.proofs.Ages.{part-aged}
 use Rattle.sctp_delivery.proofs.HeldWeights.{weighs-so}
 use Rattle.sctp_delivery.proofs.SackLaws.{IsInStepBut, no-move}
 use Rattle.sctp_delivery.proofs.SackSteps.{IsMadeGiven, known_or}
@@ -85,12 +86,12 @@ new-upto p place more c r ks is le e = more-upto p place more ks le e
 
 -- ## Each call
 
-module _ (going dropped : ℕ → Bool) (first : ℕ) where
+module _ (K : Type 0) (going dropped : ℕ → Bool) (first : ℕ) where
   abbrev P : ℕ
   P = base first
 
   record IsFew (n : ℕ) (s : Session) (ns : List Numbered) (sent : List Entry) (ages : List Aged) (ps : List ℕ) : Type 0 where
-    now : IsNow going first s ns sent ages ps
+    now : IsNow K going first s ns sent ages ps
     step : IsInStepBut dropped P n s
     long : length sent ≤ n
     aged : AreAged n ages sent s.made
@@ -259,21 +260,21 @@ module _ (going dropped : ℕ → Bool) (first : ℕ) where
           let none : distance (next_tsn s) (next_tsn v) ≡ 0 = ap (distance (next_tsn s)) same ∙ no-move P n s s refl i.step.numbered in
           subst (λ k. AreAged k ages sent s.made) {x = n} {y = n + distance (next_tsn s) (next_tsn v)} (omega (arith, none)) i.aged
 
-      few-next : (c : AnyCall) (f : FollowsAny c s v) (flying : count_in_flight v < 2 ^ 31) (bytes : bytes_written v < 2 ^ 64)
+      few-next : (c : AnyCall) (f : FollowsAny c s v) (flying : count_in_flight v < 2 ^ 31) (bytes : K → bytes_written v < 2 ^ 64) (back : IsBacked K c)
           (off : (k : ℕ) → renews k c ≡ true → going k ≡ false) (q : IsRecentAny c s) (y : IsYoungAny c ages) (recent : HoldsRecent v)
           → IsInStepBut dropped P (n + distance (next_tsn s) (next_tsn v)) v
           → IsFew (n + distance (next_tsn s) (next_tsn v)) v
-          (after going first c s v ns sent ages ps f flying bytes off q y recent i.now).numbered
-          (after going first c s v ns sent ages ps f flying bytes off q y recent i.now).sent (aged_any c s v ages)
-          (after going first c s v ns sent ages ps f flying bytes off q y recent i.now).places'
+          (after K going first c s v ns sent ages ps f flying bytes back off q y recent i.now).numbered
+          (after K going first c s v ns sent ages ps f flying bytes back off q y recent i.now).sent (aged_any c s v ages)
+          (after K going first c s v ns sent ages ps f flying bytes back off q y recent i.now).places'
       unfolding after
-      few-next (makes (of_sender call)) f flying bytes off q y recent j =
+      few-next (makes (of_sender call)) f flying bytes back off q y recent j =
           let x = sender-step-on going first call s v ns sent f i.now.young.holds in
           let most = x.few in
           let le = i.long in
           let made = sym (ap (λ (z : Session). z.made) f.after) in
           record {
-            now = (after going first (makes (of_sender call)) s v ns sent ages ps f flying bytes off q y recent i.now).now;
+            now = (after K going first (makes (of_sender call)) s v ns sent ages ps f flying bytes back off q y recent i.now).now;
             step = j;
             long = omega (arith, most, le);
             aged = subst (AreAged (n + distance (next_tsn s) (next_tsn v)) (aged_any (makes (of_sender call)) s v ages) x.more) made
@@ -281,24 +282,24 @@ module _ (going dropped : ℕ → Bool) (first : ℕ) where
                 (subst (Every (IsMadeGiven P (n + distance (next_tsn s) (next_tsn v)))) (sym made) j.made) i.aged);
             sacks = sacks-after (makes (of_sender call)) f j;
           }
-      few-next (makes (of_receiver call)) f flying bytes off q y recent j = record {
-        now = (after going first (makes (of_receiver call)) s v ns sent ages ps f flying bytes off q y recent i.now).now;
+      few-next (makes (of_receiver call)) f flying bytes back off q y recent j = record {
+        now = (after K going first (makes (of_receiver call)) s v ns sent ages ps f flying bytes back off q y recent i.now).now;
         step = j;
         long = let le = i.long in omega (arith, le);
         aged = subst (AreAged (n + distance (next_tsn s) (next_tsn v)) (aged_any (makes (of_receiver call)) s v ages) sent)
             (sym (ap (λ (z : Session). z.made) f.after)) older-aged;
         sacks = sacks-after (makes (of_receiver call)) f j;
       }
-      few-next (of_sending call) f flying bytes off q y recent j = record {
-        now = (after going first (of_sending call) s v ns sent ages ps f flying bytes off q y recent i.now).now;
+      few-next (of_sending call) f flying bytes back off q y recent j = record {
+        now = (after K going first (of_sending call) s v ns sent ages ps f flying bytes back off q y recent i.now).now;
         step = j;
         long = let le = i.long in omega (arith, le);
         aged = subst (AreAged (n + distance (next_tsn s) (next_tsn v)) ages sent) (sym (ap (λ (z : Session). z.made) f.after))
             (still-aged (runs.next-same call s v f));
         sacks = sacks-after (of_sending call) f j;
       }
-      few-next (of_receiving call) f flying bytes off q y recent j = record {
-        now = (after going first (of_receiving call) s v ns sent ages ps f flying bytes off q y recent i.now).now;
+      few-next (of_receiving call) f flying bytes back off q y recent j = record {
+        now = (after K going first (of_receiving call) s v ns sent ages ps f flying bytes back off q y recent i.now).now;
         step = j;
         long = let le = i.long in omega (arith, le);
         aged = subst (AreAged (n + distance (next_tsn s) (next_tsn v)) ages sent) (sym (ap (λ (z : Session). z.made) f.after))
@@ -309,16 +310,16 @@ module _ (going dropped : ℕ → Bool) (first : ℕ) where
   -- ## Each session
 
   few-then : (n : ℕ) (cs : List AnyCall) (s new : Session) (ns : List Numbered) (sent : List Entry) (ages : List Aged) (ps : List ℕ) (r : RunsAny s cs new)
-      → n + tsns_given_any s cs new r < 2 ^ 31 → bytes_written new < 2 ^ 64 → ((k : ℕ) → list_any (renews k) cs ≡ true → going k ≡ false)
+      → n + tsns_given_any s cs new r < 2 ^ 31 → (K → bytes_written new < 2 ^ 64) → AreBacked K cs → ((k : ℕ) → list_any (renews k) cs ≡ true → going k ≡ false)
       → ((t : ℕ) → was_dropped cs t ≡ true → dropped t ≡ true) → IsFew n s ns sent ages ps
       → AreRecentAny s cs new r × AreYoungAny ages s cs new r × ArePassedYoung ages s cs new r
-  few-then n [] s new ns sent ages ps r few short off so i = (tt, tt, tt)
-  few-then n (c ∷ cs) s new ns sent ages ps r few short off so i =
+  few-then n [] s new ns sent ages ps r few short back off so i = (tt, tt, tt)
+  few-then n (c ∷ cs) s new ns sent ages ps r few short back off so i =
       let v = r.0 in
       let f = r.1.0 in
       let bytes = runs.grows cs v new r.1.1 in
       let less : n + distance (next_tsn s) (next_tsn r.0) < 2 ^ 31 = omega (arith, few) in
-      let b : bytes_written r.0 < 2 ^ 64 = omega (arith, bytes, short) in
+      let b : K → bytes_written r.0 < 2 ^ 64 = λ k. (let x = short k in omega (arith, bytes, x)) in
       let j = runs.one-step dropped P c n s v less (λ t e. so t (or-left (drops t c) (was_dropped cs t) e)) f i.step in
       let total = j.numbered.total in
       let flying : count_in_flight r.0 < 2 ^ 31 = omega (arith, total, less) in
@@ -326,33 +327,45 @@ module _ (going dropped : ℕ → Bool) (first : ℕ) where
       let y = is-young n s v ns sent ages ps i less c f in
       let recent = holds-recent n s v ns sent ages ps i less c f y in
       let off' : (k : ℕ) → renews k c ≡ true → going k ≡ false = λ k e. off k (or-left (renews k c) (list_any (renews k) cs) e) in
-      let a = after going first c s v ns sent ages ps f flying b off' q y recent i.now in
-      let next = few-then (n + distance (next_tsn s) (next_tsn v)) cs v new a.numbered a.sent (aged_any c s v ages) a.places' r.1.1 (omega (arith, few)) short
+      let a = after K going first c s v ns sent ages ps f flying b back.0 off' q y recent i.now in
+      let next =
+      few-then (n + distance (next_tsn s) (next_tsn v)) cs v new a.numbered a.sent (aged_any c s v ages) a.places' r.1.1 (omega (arith, few)) short back.1
       (λ k e. off k (or-right (renews k c) (list_any (renews k) cs) e)) (λ t e. so t (or-right (drops t c) (was_dropped cs t) e))
-      (few-next n s v ns sent ages ps i less c f flying b off' q y recent j) in
+      (few-next n s v ns sent ages ps i less c f flying b back.0 off' q y recent j) in
       ((q, flying, next.0), (y, recent, next.1), (is-passed n s v ns sent ages ps i less c f, next.2))
 
-few-start : (going dropped : ℕ → Bool) (reported : Reported) (first size max most : ℕ) (limits : Option Limits) (small : first < 2 ^ 32) (some : 0 < size)
-    → IsFew going dropped first 0 (at_start_with reported first size max most limits) (start going first reported size max most limits small some).numbered
-    (start going first reported size max most limits small some).sent [] (start going first reported size max most limits small some).places'
+few-start : (K : Type 0) (going dropped : ℕ → Bool) (reported : Reported) (first size max most : ℕ) (limits : Option Limits) (small : first < 2 ^ 32)
+    (some : 0 < size)
+    → IsFew K going dropped first 0 (at_start_with reported first size max most limits) (start K going first reported size max most limits small some).numbered
+    (start K going first reported size max most limits small some).sent [] (start K going first reported size max most limits small some).places'
 unfolding start
-few-start going dropped Drop first size max most limits small some = record {
-  now = (start going first Drop size max most limits small some).now;
+few-start K going dropped Drop first size max most limits small some = record {
+  now = (start K going first Drop size max most limits small some).now;
   step = runs.begin-any dropped Drop first size max most limits small;
   long = omega arith;
   aged = (tt, tt);
   sacks = tt;
 }
-few-start going dropped Keep first size max most limits small some = record {
-  now = (start going first Keep size max most limits small some).now;
+few-start K going dropped Keep first size max most limits small some = record {
+  now = (start K going first Keep size max most limits small some).now;
   step = runs.begin-any dropped Keep first size max most limits small;
   long = omega arith;
   aged = (tt, tt);
   sacks = tt;
 }
 
+pub few-any : (K : Type 0) (reported : Reported) (first size max most : ℕ) (limits : Option Limits) (cs : List AnyCall) (s : Session)
+    (run : RunsAny (at_start_with reported first size max most limits) cs s) → first < 2 ^ 32 → 0 < size
+    → tsns_given_any (at_start_with reported first size max most limits) cs s run < 2 ^ 31 → (K → bytes_written s < 2 ^ 64) → AreBacked K cs
+    → AreRecentAny (at_start_with reported first size max most limits) cs s run
+    × AreYoungAny [] (at_start_with reported first size max most limits) cs s run
+    × ArePassedYoung [] (at_start_with reported first size max most limits) cs s run
+few-any K reported first size max most limits cs s run small some few short back =
+    let a = start K (is_steady cs) first reported size max most limits small some in
+    few-then K (is_steady cs) (was_dropped cs) first 0 cs (at_start_with reported first size max most limits) s a.numbered a.sent [] a.places' run
+    (omega (arith, few)) short back (λ k e. ap not e) (λ t e. e)
+    (few-start K (is_steady cs) (was_dropped cs) reported first size max most limits small some)
+
 pub few-young : FewTsnsAreYoungAny
 few-young reported first size max most limits cs s run small some few short =
-    let a = start (is_steady cs) first reported size max most limits small some in
-    few-then (is_steady cs) (was_dropped cs) first 0 cs (at_start_with reported first size max most limits) s a.numbered a.sent [] a.places' run
-    (omega (arith, few)) short (λ k e. ap not e) (λ t e. e) (few-start (is_steady cs) (was_dropped cs) reported first size max most limits small some)
+    few-any ⊤ reported first size max most limits cs s run small some few (λ k. short) (all-backed ⊤ tt cs)

@@ -1,5 +1,7 @@
 -- Sessions of every call: beside each there is one of a sender that keeps nothing, with the same chunks. What the calls that most sessions do not have
 -- make of it.
+use Rattle.sctp_delivery.proofs.Names.{◌+◌}
+use Rattle.sctp_delivery.proofs.Names.{nat_tests, common_steps, append-nil, Sack, distance}
 use Rattle.sctp_delivery.proofs.Names.{◌≡◌, ℕ, Bool, true, false, not, List, [], ◌∷◌, ◌++◌, length, map, Option, refl, ap, sym, subst, ◌∙◌}
 use Rattle.sctp_delivery.proofs.Names.{arith, not_both, filter, change_where, if◌then◌else◌, Limits, Modes, OutboundStream, Transmission, Session, SenderCall}
 use Rattle.sctp_delivery.proofs.Names.{SenderFollows, Write, Contains, IsAccounted, has_number, sum_by, at_start, data_of, data_chunk}
@@ -15,13 +17,19 @@ use Rattle.sctp_stream.proofs.Removals.{rotated-map}
 use Rattle.std.specs.List.{slice_rotate_right}
 use Rattle.sctp_delivery.specs.EveryCall.{IsMadeChunk, IsReceiverTaken, ReceiverDoes, ReceiverOther, SenderDoes, SenderOther, as_receiver_run, closes}
 use Rattle.sctp_delivery.specs.EveryCall.{closes_incoming, discards, passes_over, resets, resets_incoming}
+use Rattle.sctp_sender.specs.declared.sender.flight.kept.TakenBack.{TakenBack}
+use Rattle.sctp_delivery.specs.Returns.{TakesBack}
+use Rattle.sctp_delivery.specs.Session.{count_in_flight}
 use Rattle.sctp_delivery.specs.SenderCalls as outgoing
+use Rattle.sctp_delivery.proofs.Delivered.{next_tsn}
+use Rattle.sctp_delivery.proofs.OneRead.{no-way}
+use Rattle.sctp_delivery.proofs.PlainReturns.{back-like}
 use Rattle.sctp_delivery.proofs.Cases.{at-test}
 use Rattle.sctp_delivery.proofs.Every.{Every}
 use Rattle.sctp_delivery.proofs.Numbers.{all-open, apart-changed, apart-closed, number-elsewhere, number_of, numbers-closed, sized-changed, sized-closed}
 use Rattle.sctp_delivery.proofs.Numbers.{there-changed, there-closed}
-use Rattle.sctp_delivery.proofs.PlainSessions.{Goes, IsThere, Others}
-use Rattle.sctp_delivery.proofs.PlainStreams.{AreAlike, bare, both-changed}
+use Rattle.sctp_delivery.proofs.PlainSessions.{Goes, IsThere, Others, small-next}
+use Rattle.sctp_delivery.proofs.PlainStreams.{AreAlike, bare, both-changed, returned-alike}
 use Rattle.sctp_delivery.proofs.Senders.{IsHeldOn, renumbered}
 use Rattle.sctp_delivery.proofs.Sent.{Entry, Numbered}
 use Rattle.sctp_delivery.proofs.Sessions.{IsCounted, sender-counts}
@@ -139,6 +147,21 @@ run-accounted first d h =
     omega (arith, law, w, b)
 
 -- # Each call
+
+module _ (first : ℕ) (others : Others first) where
+  pub returns-goes : (sack : Sack) (back : List TakenBack) (s v : Session) (n : ℕ) (gone : List ℕ) (m : Modes) → TakesBack sack back s v
+      → Goes first others s.sending.sender s n gone m → Goes first others v.sending.sender v n gone m
+  returns-goes sack back s v n gone m f g = grind (arith, nat_tests, common_steps, returned-alike, back-like)
+
+  -- no TSN is given out, and no message abandoned
+  pub unmoved : (s v : Session) (n : ℕ) (gone : List ℕ) (m : Modes) → next_tsn v ≡ next_tsn s → others.Bound n (count_in_flight s)
+      → Goes first others s.sending.sender s n gone m → Goes first others v.sending.sender v n gone m
+      → Goes first others v.sending.sender v (n + distance (next_tsn s) (next_tsn v)) (gone ++ []) m
+  unmoved s v n gone m same few g h =
+      let none : distance (next_tsn s) (next_tsn v) ≡ 0 = ap (distance (next_tsn s)) same
+      ∙ no-way (next_tsn s) (small-next first others s.sending.sender s n gone m few g) in
+      subst (λ k. Goes first others v.sending.sender v k (gone ++ []) m) {x = n} {y = n + distance (next_tsn s) (next_tsn v)} (omega (arith, none))
+      (subst (λ xs. Goes first others v.sending.sender v n xs m) (sym (append-nil gone)) h)
 
 module _ (first : ℕ) (others : Others first) (s v : Session) (n : ℕ) (gone : List ℕ) (m : Modes) (g : Goes first others s.sending.sender s n gone m) where
   abbrev d : Session

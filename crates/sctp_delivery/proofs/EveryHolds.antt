@@ -1,4 +1,5 @@
 -- Sessions of every call: what a sender gave TSNs to, while fewer than 2^31 chunks are in flight, also where it takes back what is no more reported.
+use Rattle.sctp_delivery.proofs.Names.{⊤}
 use Rattle.sctp_delivery.proofs.Names.{◌≡◌, ℕ, ◌+◌, ◌<◌, ◌^◌, Bool, true, false, List, [], ◌∷◌, ◌++◌, Option, refl, ap, sym, subst, ◌∙◌, arith, list_any}
 use Rattle.sctp_delivery.proofs.Names.{ChunkPayloadData, data_of, Sack, Limits, Modes, Transmission, Session, Call, Follows, at_first}
 use Rattle.sctp_delivery.proofs.Names.{at_start, abandoned_by, bytes_written, change_where, distance, modes_after, has_number, is_of, is_outstanding}
@@ -25,7 +26,7 @@ use Rattle.sctp_delivery.proofs.Plain.{AreLike, any-plain, are-plain, paired, re
 use Rattle.sctp_delivery.proofs.PlainCalls.{sender-goes}
 use Rattle.sctp_delivery.proofs.PlainHolds.{known-like, steady-alike}
 use Rattle.sctp_delivery.proofs.PlainReturns.{back-like}
-use Rattle.sctp_delivery.proofs.PlainRuns.{returns-goes}
+use Rattle.sctp_delivery.proofs.EveryGoes.{returns-goes}
 use Rattle.sctp_delivery.proofs.PlainSessions.{Goes, Others, kept_of, receives-too}
 use Rattle.sctp_delivery.proofs.PlainStreams.{returned-alike}
 use Rattle.sctp_delivery.proofs.Queues.{refilled}
@@ -254,11 +255,16 @@ module _ (going : ℕ → Bool) (first : ℕ) (ns : List Numbered) (sent : List 
 
 -- ## Each call of the sender that most sessions do not have
 
-module _ (going : ℕ → Bool) (first : ℕ) (s v : Session) (ns : List Numbered) (sent : List Entry) (b : HasBeside going first s)
-    (h : HoldsOn going first s ns sent) where
+-- where the call takes back what a SACK no longer reports
+abbrev pub WhereBack : SenderOther → Type 0 → Type 0
+WhereBack (takes_back sack back) T = T
+WhereBack (closes st) T = ⊤
+WhereBack (resets st) T = ⊤
+
+module _ (going : ℕ → Bool) (first : ℕ) (s v : Session) (ns : List Numbered) (sent : List Entry) (h : HoldsOn going first s ns sent) where
   -- what is outstanding beside was made, so it got a TSN
-  was-sent : Every (λ d. is_outstanding d ≡ true → WasSent sent (data_of d)) b.goes.shadow.chunks
-  was-sent =
+  was-sent : (b : HasBeside going first s) → Every (λ d. is_outstanding d ≡ true → WasSent sent (data_of d)) b.goes.shadow.chunks
+  was-sent b =
       let x = b.goes.shadow in
       let i = b.goes.plays.made in
       let there = b.goes.other.sending.sender.flight.queue.inflight.chunks in
@@ -276,14 +282,14 @@ module _ (going : ℕ → Bool) (first : ℕ) (s v : Session) (ns : List Numbere
     placed = h.placed;
   }
 
-  pub other-step : (call : SenderOther) → ((r : ℕ) → renews r (of_sending call) ≡ true → going r ≡ false) → SenderDoes call s v
-      → HoldsOn going first v ns sent
-  other-step (takes_back sack back) off f =
+  pub other-step : (call : SenderOther) → WhereBack call (HasBeside going first s) → ((r : ℕ) → renews r (of_sending call) ≡ true → going r ≡ false)
+      → SenderDoes call s v → HoldsOn going first v ns sent
+  other-step (takes_back sack back) b off f =
       other-holds (takes_back sack back) f (subst (λ u. IsHeldOn going ns first u sent) (sym f.exact)
-      (back-held going first ns sent sack s.sending.sender b.goes.shadow.chunks b.goes.shadow.like was-sent h.held))
-  other-step (closes st) off f =
+      (back-held going first ns sent sack s.sending.sender b.goes.shadow.chunks b.goes.shadow.like (was-sent b) h.held))
+  other-step (closes st) b off f =
       other-holds (closes st) f (subst (λ u. IsHeldOn going ns first u sent) (sym f.step.sender)
       (closes-held going first st (off st (same-yes st)) ns s.sending.sender sent h.held))
-  other-step (resets st) off f =
+  other-step (resets st) b off f =
       other-holds (resets st) f (subst (λ u. IsHeldOn going ns first u sent) (sym f.step.sender)
       (resets-held going first st (off st (same-yes st)) ns s.sending.sender sent h.held))

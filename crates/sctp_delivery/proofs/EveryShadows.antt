@@ -43,7 +43,7 @@ use Rattle.sctp_delivery.proofs.ModeSessions.{AreInModes, IsAsSaid, IsInModes, c
 use Rattle.sctp_delivery.proofs.PassedMessages.{AreCutGone, IsMadePassing, IsPassing, is_gone}
 use Rattle.sctp_delivery.proofs.Plain.{are-plain, plain}
 use Rattle.sctp_delivery.proofs.PlainCalls.{sender-goes}
-use Rattle.sctp_delivery.proofs.PlainRuns.{returns-goes, unmoved}
+use Rattle.sctp_delivery.proofs.EveryGoes.{returns-goes, unmoved}
 use Rattle.sctp_delivery.proofs.PlainSessions.{Goes, Others, Shadows, gone_by, kept_of, modes_by, receives-too}
 use Rattle.sctp_delivery.proofs.Every.{every-contained}
 use Rattle.sctp_delivery.proofs.SackLaws as sacks

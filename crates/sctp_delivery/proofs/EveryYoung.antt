@@ -8,6 +8,8 @@ use Rattle.sctp_receiver.proofs.StreamCosts.{are_apart}
 use Rattle.sctp_receiver.proofs.Closed.{stays-apart}
 use Rattle.sctp_sender.specs.declared.sender.Reported.{Reported}
 use Rattle.sctp_sender.specs.declared.sender.Reported.TheVariants.{Drop, Keep}
+use Rattle.sctp_delivery.specs.EveryCall.{SenderOther, closes, resets, takes_back}
+use Rattle.sctp_delivery.proofs.Names.{⊤}
 use Rattle.sctp_delivery.specs.EveryCall.{AnyCall, AreSingleWhereSteady, AreSingleWritesOfTheirOwn, AreWritesWhereSingle, FollowsAny, ReceiverDoes}
 use Rattle.sctp_delivery.specs.EveryCall.{ReceiverOther, RunsAny, as_receiver_run, closes_incoming, discards, is_single, is_steady, makes, of_receiving}
 use Rattle.sctp_delivery.specs.EveryCall.{of_sending, passes_over, renews, resets_incoming, single_messages}
@@ -21,7 +23,7 @@ use Rattle.sctp_delivery.proofs.Calls.{contains-forgotten, forget, numbered_afte
 use Rattle.sctp_delivery.proofs.Cases.{at-if}
 use Rattle.sctp_delivery.proofs.Delivered.{HoldsOn, beside-on, found-sent-on, held-first, sender-step-on}
 use Rattle.sctp_delivery.proofs.Every.{Every, every-of-all, every-tested}
-use Rattle.sctp_delivery.proofs.EveryHolds.{HasBeside, beside-after, beside-start, other-step}
+use Rattle.sctp_delivery.proofs.EveryHolds.{HasBeside, WhereBack, beside-after, beside-start, other-step}
 use Rattle.sctp_delivery.proofs.EveryRead.{none-begin, single-steady, writes-single}
 use Rattle.sctp_delivery.proofs.EveryRecent.{flew-so, near-after, near-start, stays-so}
 use Rattle.sctp_delivery.proofs.EveryRuns as runs
@@ -94,13 +96,41 @@ module _ (going : ℕ → Bool) (first : ℕ) where
         recent = recent;
       }
 
-  -- ## Each call
+-- ## Each call
 
+-- where the call takes back what a SACK no longer reports
+abbrev pub IsBacked : Type 0 → AnyCall → Type 0
+IsBacked K (makes call) = ⊤
+IsBacked K (of_sending call) = WhereBack call K
+IsBacked K (of_receiving call) = ⊤
+
+abbrev pub AreBacked : Type 0 → List AnyCall → Type 0
+AreBacked K [] = ⊤
+AreBacked K (c ∷ cs) = IsBacked K c × AreBacked K cs
+
+pub all-backed : (K : Type 0) → K → (cs : List AnyCall) → AreBacked K cs
+all-backed K k [] = tt
+all-backed K k (makes call ∷ cs) = (tt, all-backed K k cs)
+all-backed K k (of_sending call ∷ cs) = (by call, all-backed K k cs)
+  where
+    by : (c : SenderOther) → WhereBack c K
+    by (takes_back sack back) = k
+    by (closes st) = tt
+    by (resets st) = tt
+all-backed K k (of_receiving call ∷ cs) = (tt, all-backed K k cs)
+
+pub back-map : {K T : Type 0} (call : SenderOther) → WhereBack call K → (K → T) → WhereBack call T
+back-map (takes_back sack back) k f = f k
+back-map (closes st) k f = tt
+back-map (resets st) k f = tt
+
+-- K: fewer than 2^64 bytes are written, where a call takes back what a SACK no longer reports
+module _ (K : Type 0) (going : ℕ → Bool) (first : ℕ) where
   pub record IsNow (s : Session) (ns : List Numbered) (sent : List Entry) (ages : List Aged) (ps : List ℕ) : Type 0 where
     pub near : IsNear s
     pub young : IsYoungOn going first s ns sent ages
     pub owned : IsOwned s sent ps
-    pub beside : HasBeside going first s
+    pub beside : K → HasBeside going first s
     pub distinct : are_apart (numbers_of s.receiving.receiver.streams) ≡ true
 
   pub record Then (s : Session) (ages : List Aged) : Type 0 where
@@ -110,9 +140,9 @@ module _ (going : ℕ → Bool) (first : ℕ) where
     pub now : IsNow s numbered sent ages places'
 
   unfoldable pub after : (c : AnyCall) (s v : Session) (ns : List Numbered) (sent : List Entry) (ages : List Aged) (ps : List ℕ) → FollowsAny c s v
-      → count_in_flight v < 2 ^ 31 → bytes_written v < 2 ^ 64 → ((r : ℕ) → renews r c ≡ true → going r ≡ false) → IsRecentAny c s → IsYoungAny c ages
-      → HoldsRecent v → IsNow s ns sent ages ps → Then v (aged_any c s v ages)
-  after (makes (of_sender call)) s v ns sent ages ps f few short off q y recent i =
+      → count_in_flight v < 2 ^ 31 → (K → bytes_written v < 2 ^ 64) → IsBacked K c → ((r : ℕ) → renews r c ≡ true → going r ≡ false) → IsRecentAny c s
+      → IsYoungAny c ages → HoldsRecent v → IsNow s ns sent ages ps → Then v (aged_any c s v ages)
+  after (makes (of_sender call)) s v ns sent ages ps f few short back off q y recent i =
       let k = near-after (makes (of_sender call)) s v few f q i.near in
       let x = sender-step-on going first call s v ns sent f i.young.holds in
       record {
@@ -123,11 +153,11 @@ module _ (going : ℕ → Bool) (first : ℕ) where
           near = k;
           young = sender-young going first call s v ns sent ages f i.young recent;
           owned = sender-owned going first call s v ns sent ages f i.young recent few i.near k ps i.owned;
-          beside = beside-after going first (makes (of_sender call)) s v f i.near.few few short off k.regular i.beside;
+          beside = λ k'. beside-after going first (makes (of_sender call)) s v f i.near.few few (short k') off k.regular (i.beside k');
           distinct = subst (λ (y : Stand). are_apart (numbers_of y.receiver.streams) ≡ true) (sym (ap (λ (y : Session). y.receiving) f.after)) i.distinct;
         };
       }
-  after (makes (of_receiver call)) s v ns sent ages ps f few short off q y recent i =
+  after (makes (of_receiver call)) s v ns sent ages ps f few short back off q y recent i =
       let k = near-after (makes (of_receiver call)) s v few f q i.near in
       let o = receiver-owned going first call s v ns sent ages f i.young y recent few q i.near ps i.owned in
       record {
@@ -138,11 +168,11 @@ module _ (going : ℕ → Bool) (first : ℕ) where
           near = k;
           young = receiver-young going first call s v ns sent ages f i.young y;
           owned = o.1;
-          beside = beside-after going first (makes (of_receiver call)) s v f i.near.few few short off k.regular i.beside;
+          beside = λ k'. beside-after going first (makes (of_receiver call)) s v f i.near.few few (short k') off k.regular (i.beside k');
           distinct = stays-apart (incoming.as_run call) s.receiving.receiver v.receiving.receiver f.step.receiver i.distinct;
         };
       }
-  after (of_sending call) s v ns sent ages ps f few short off q y recent i =
+  after (of_sending call) s v ns sent ages ps f few short back off q y recent i =
       let k = near-after (of_sending call) s v few f q i.near in
       let same = ap (λ (x : Session). x.receiving) f.after in
       let less : (w : ChunkPayloadData → ℕ) (st : ℕ) → held_weight w (stream_of st v.receiving.receiver)
@@ -155,14 +185,15 @@ module _ (going : ℕ → Bool) (first : ℕ) where
         places' = ps;
         now = record {
           near = k;
-          young = quiet-young s v ns sent ages ps less read (other-step going first s v ns sent i.beside i.young.holds call off f) i.young;
-          owned = quiet-owned s v ns sent ages ps less read (flew-so s v few i.near call f)
+          young = quiet-young going first s v ns sent ages ps less read
+              (other-step going first s v ns sent i.young.holds call (back-map call back i.beside) off f) i.young;
+          owned = quiet-owned going first s v ns sent ages ps less read (flew-so s v few i.near call f)
               (λ t fl e. subst (λ (x : Stand). Knows t x.receiver) (sym same) e) recent i.owned;
-          beside = beside-after going first (of_sending call) s v f i.near.few few short off k.regular i.beside;
+          beside = λ k'. beside-after going first (of_sending call) s v f i.near.few few (short k') off k.regular (i.beside k');
           distinct = subst (λ (x : Stand). are_apart (numbers_of x.receiver.streams) ≡ true) (sym same) i.distinct;
         };
       }
-  after (of_receiving call) s v ns sent ages ps f few short off q y recent i =
+  after (of_receiving call) s v ns sent ages ps f few short back off q y recent i =
       let k = near-after (of_receiving call) s v few f q i.near in
       let sending = ap (λ (x : Session). x.sending) f.after in
       let less : (w : ChunkPayloadData → ℕ) (st : ℕ) → held_weight w (stream_of st v.receiving.receiver)
@@ -174,24 +205,25 @@ module _ (going : ℕ → Bool) (first : ℕ) where
         places' = ps;
         now = record {
           near = k;
-          young = quiet-young s v ns sent ages ps less read
+          young = quiet-young going first s v ns sent ages ps less read
               (beside-on going first s v ns sent sending (ap (λ (x : Session). x.made) f.after) (ap (λ (x : Session). x.written) f.after) i.young.holds)
               i.young;
-          owned = quiet-owned s v ns sent ages ps less read
+          owned = quiet-owned going first s v ns sent ages ps less read
               (λ t fl. subst (λ (l : Ledger). IsGiven l.sender.flight.acked_tsn (length l.sender.flight.queue.inflight.chunks) t) sending fl)
               (λ t fl e. stays-so s v few i.near t fl call f q e) recent i.owned;
-          beside = beside-after going first (of_receiving call) s v f i.near.few few short off k.regular i.beside;
+          beside = λ k'. beside-after going first (of_receiving call) s v f i.near.few few (short k') off k.regular (i.beside k');
           distinct = stays-apart (as_receiver_run call) s.receiving.receiver v.receiving.receiver f.step.receiver i.distinct;
         };
       }
 
   all-then : (cs : List AnyCall) (s new : Session) (ages : List Aged) (r : RunsAny s cs new) → AreRecentAny s cs new r → AreYoungAny ages s cs new r
-      → bytes_written new < 2 ^ 64 → ((q : ℕ) → list_any (renews q) cs ≡ true → going q ≡ false) → Then s ages → (later : List Aged) × Then new later
-  all-then [] s new ages r q y short off a = (ages, subst (λ x. Then x ages) (sym r) a)
-  all-then (c ∷ cs) s new ages r q y short off a =
+      → (K → bytes_written new < 2 ^ 64) → AreBacked K cs → ((q : ℕ) → list_any (renews q) cs ≡ true → going q ≡ false) → Then s ages
+      → (later : List Aged) × Then new later
+  all-then [] s new ages r q y short back off a = (ages, subst (λ x. Then x ages) (sym r) a)
+  all-then (c ∷ cs) s new ages r q y short back off a =
       let bytes = runs.grows cs r.0 new r.1.1 in
-      all-then cs r.0 new (aged_any c s r.0 ages) r.1.1 q.2 y.2 short (λ k e. off k (or-right (renews k c) (list_any (renews k) cs) e))
-      (after c s r.0 a.numbered a.sent ages a.places' r.1.0 q.1 (omega (arith, bytes, short))
+      all-then cs r.0 new (aged_any c s r.0 ages) r.1.1 q.2 y.2 short back.1 (λ k e. off k (or-right (renews k c) (list_any (renews k) cs) e))
+      (after c s r.0 a.numbered a.sent ages a.places' r.1.0 q.1 (λ k. let b = short k in omega (arith, bytes, b)) back.0
       (λ k e. off k (or-left (renews k c) (list_any (renews k) cs) e)) q.0 y.0 y.1 a.now)
 
   unfoldable pub start : (reported : Reported) (size max most : ℕ) (limits : Option Limits) → first < 2 ^ 32 → 0 < size
@@ -209,7 +241,7 @@ module _ (going : ℕ → Bool) (first : ℕ) where
         read = tt;
       };
       owned = record { single = λ st t. omega arith; missing = λ t lt fl off st. refl; once = (tt, tt); recent = λ st. refl };
-      beside = beside-start going first Drop size max most limits small some;
+      beside = λ k. beside-start going first Drop size max most limits small some;
       distinct = refl;
     };
   }
@@ -233,7 +265,7 @@ module _ (going : ℕ → Bool) (first : ℕ) where
             read = tt;
           };
           owned = record { single = λ st t. omega arith; missing = λ t lt fl off st. refl; once = (tt, tt); recent = λ st. refl };
-          beside = beside-start going first Keep size max most limits small some;
+          beside = λ k. beside-start going first Keep size max most limits small some;
           distinct = refl;
         };
       }
@@ -298,12 +330,12 @@ module _ (reported : Reported) (first size max most : ℕ) (limits : Option Limi
     (run : RunsAny (at_start_with reported first size max most limits) cs s) (small : first < 2 ^ 32) (some : 0 < size)
     (q : AreRecentAny (at_start_with reported first size max most limits) cs s run)
     (y : AreYoungAny [] (at_start_with reported first size max most limits) cs s run) (short : bytes_written s < 2 ^ 64) where
-  all : (later : List Aged) × Then (is_steady cs) first s later
+  all : (later : List Aged) × Then ⊤ (is_steady cs) first s later
   all =
-      all-then (is_steady cs) first cs (at_start_with reported first size max most limits) s [] run q y short (λ k e. ap not e)
-      (start (is_steady cs) first reported size max most limits small some)
+      all-then ⊤ (is_steady cs) first cs (at_start_with reported first size max most limits) s [] run q y (λ k. short) (all-backed ⊤ tt cs) (λ k e. ap not e)
+      (start ⊤ (is_steady cs) first reported size max most limits small some)
 
-  a : Then (is_steady cs) first s all.0
+  a : Then ⊤ (is_steady cs) first s all.0
   a = all.1
 
   abbrev h : HoldsOn (is_steady cs) first s a.numbered a.sent

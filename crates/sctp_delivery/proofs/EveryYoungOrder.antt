@@ -1,4 +1,5 @@
 -- Sessions of every call in a whole life: on a stream that goes on, ordered messages are read in the order of their writes.
+use Rattle.sctp_delivery.proofs.Names.{⊤}
 use Rattle.sctp_delivery.proofs.Names.{◌≡◌, ℕ, ◌-◌, ◌<◌, ◌^◌, Bool, true, false, not, List, [], ◌∷◌, length, Option, Some, None, refl, ap}
 use Rattle.sctp_delivery.proofs.Names.{sym, subst, ◌∙◌, arith, ◌||◌, both, negated, or-left, or-right, list_any, AllPairs, StandAt}
 use Rattle.sctp_delivery.proofs.Names.{ChunkPayloadData, Limits, Message, Modes, OutboundStream, Session, Stand, at_first, modes_from, bytes_written}
@@ -25,7 +26,7 @@ use Rattle.sctp_delivery.proofs.EveryRead.{steady-there}
 use Rattle.sctp_delivery.proofs.EveryRecent.{flight-same, near-after}
 use Rattle.sctp_delivery.proofs.EveryRuns as runs
 use Rattle.sctp_delivery.proofs.EveryShadows.{IsReady, left-in-modes, modes-on, ready-after, ready-first}
-use Rattle.sctp_delivery.proofs.EveryYoung.{IsNow, Then, after, picked, read-same, soles-of, start}
+use Rattle.sctp_delivery.proofs.EveryYoung.{AreBacked, IsBacked, all-backed, IsNow, Then, after, picked, read-same, soles-of, start}
 use Rattle.sctp_delivery.proofs.FlightPlaces.{AreKin, kin-itself, kin-long, set-kin}
 use Rattle.sctp_delivery.proofs.ModeQueues.{AreModed, IsFlying}
 use Rattle.sctp_delivery.proofs.ModeSessions.{AreInModes, IsAsSaid, changed-in, said-after, said-beside, said-first, starts-ordered}
@@ -151,7 +152,7 @@ spread-kin going first s v sent ages acked kin p =
 
 -- ## Each call
 
-module _ (going calm : ℕ → Bool) (sub : (st : ℕ) → calm st ≡ true → going st ≡ true) (first : ℕ) where
+module _ (K : Type 0) (going calm : ℕ → Bool) (sub : (st : ℕ) → calm st ≡ true → going st ≡ true) (first : ℕ) where
   -- opened: which streams the receiver opened
   record IsOrderly (opened : ℕ → Bool) (m : Modes) (s : Session) (ns : List Numbered) (sent : List Entry) (ages : List Aged) (ps : List ℕ) : Type 0 where
     spread : IsSpreadOver going first s sent ages
@@ -160,7 +161,7 @@ module _ (going calm : ℕ → Bool) (sub : (st : ℕ) → calm st ≡ true → 
     ready : IsReady calm opened s
 
   module _ (opened : ℕ → Bool) (m : Modes) (s v : Session) (ns : List Numbered) (sent : List Entry) (ages : List Aged) (ps : List ℕ)
-      (few : count_in_flight v < 2 ^ 31) (short : bytes_written v < 2 ^ 64) (recent : HoldsRecent v) (i : IsNow going first s ns sent ages ps)
+      (few : count_in_flight v < 2 ^ 31) (short : K → bytes_written v < 2 ^ 64) (recent : HoldsRecent v) (i : IsNow K going first s ns sent ages ps)
       (o : IsOrderly opened m s ns sent ages ps) where
     abbrev Turned : Stand → ℕ → Type 0
     Turned y st =
@@ -169,14 +170,14 @@ module _ (going calm : ℕ → Bool) (sub : (st : ℕ) → calm st ≡ true → 
     to-turned : ((st : ℕ) → calm st ≡ true → Turned v.receiving st) → IsTurned calm first v sent o.spread.set.acked ps
     to-turned h = record { due = λ st c. (h st c).0; turned = λ st c. (h st c).1 }
 
-    orderly-after : (c : AnyCall) (f : FollowsAny c s v) (off : (r : ℕ) → renews r c ≡ true → going r ≡ false) (q : IsRecentAny c s) (y : IsYoungAny c ages)
-        → IsPassedYoung c ages → ((st : ℕ) → calm st ≡ true → breaks (opened st) st c ≡ false)
+    orderly-after : (c : AnyCall) (f : FollowsAny c s v) (back : IsBacked K c) (off : (r : ℕ) → renews r c ≡ true → going r ≡ false) (q : IsRecentAny c s)
+        (y : IsYoungAny c ages) → IsPassedYoung c ages → ((st : ℕ) → calm st ≡ true → breaks (opened st) st c ≡ false)
         → IsOrderly (λ k. opened k || opens_incoming k c) (modes_from m (plain_calls (c ∷ []))) v
-        (after going first c s v ns sent ages ps f few short off q y recent i).numbered
-        (after going first c s v ns sent ages ps f few short off q y recent i).sent (aged_any c s v ages)
-        (after going first c s v ns sent ages ps f few short off q y recent i).places'
+        (after K going first c s v ns sent ages ps f few short back off q y recent i).numbered
+        (after K going first c s v ns sent ages ps f few short back off q y recent i).sent (aged_any c s v ages)
+        (after K going first c s v ns sent ages ps f few short back off q y recent i).places'
     unfolding after
-    orderly-after (makes (of_sender call)) f off q y z whole =
+    orderly-after (makes (of_sender call)) f back off q y z whole =
         let x = sender-step-on going first call s v ns sent f i.young.holds in
         let k = near-after (makes (of_sender call)) s v few f q i.near in
         record {
@@ -185,7 +186,7 @@ module _ (going calm : ℕ → Bool) (sub : (st : ℕ) → calm st ≡ true → 
           said = said-after call s v m ns sent x.more f x.grown i.young.holds.held.sized o.said;
           ready = ready-after calm opened (makes (of_sender call)) s v f whole o.ready;
         }
-    orderly-after (makes (of_receiver call)) f off q y z whole =
+    orderly-after (makes (of_receiver call)) f back off q y z whole =
         let w = receiver-owned going first call s v ns sent ages f i.young y recent few q i.near ps i.owned in
         let same = ap (λ (x : Session). x.sending) f.after in
         record {
@@ -195,13 +196,13 @@ module _ (going calm : ℕ → Bool) (sub : (st : ℕ) → calm st ≡ true → 
           said = said-beside s v m ns sent same o.said;
           ready = ready-after calm opened (makes (of_receiver call)) s v f whole o.ready;
         }
-    orderly-after (of_sending call) f off q y z whole = record {
+    orderly-after (of_sending call) f back off q y z whole = record {
       spread = spread-kin going first s v sent ages (flight-same s v few i.near call f).0 (other-kin call s v f) o.spread;
       turned = to-turned (λ st c. subst (λ x. Turned x st) (sym (ap (λ (x : Session). x.receiving) f.after)) (o.turned.due st c, o.turned.turned st c));
       said = other-said call s v m ns sent f o.said;
       ready = ready-after calm opened (of_sending call) s v f whole o.ready;
     }
-    orderly-after (of_receiving call) f off q y z whole =
+    orderly-after (of_receiving call) f back off q y z whole =
         let same = ap (λ (x : Session). x.sending) f.after in
         let cs = s.sending.sender.flight.queue.inflight.chunks in
         record {
@@ -221,33 +222,33 @@ module _ (going calm : ℕ → Bool) (sub : (st : ℕ) → calm st ≡ true → 
 
   record Orderly (m : Modes) (s : Session) : Type 0 where
     ages : List Aged
-    then' : Then going first s ages
+    then' : Then K going first s ages
     opened : ℕ → Bool
     orderly : IsOrderly opened m s then'.numbered then'.sent ages then'.places'
 
   all-orderly : (opened : ℕ → Bool) (cs : List AnyCall) (s new : Session) (ages : List Aged) (m : Modes) (r : RunsAny s cs new) → AreRecentAny s cs new r
-      → AreYoungAny ages s cs new r → ArePassedYoung ages s cs new r → bytes_written new < 2 ^ 64
+      → AreYoungAny ages s cs new r → ArePassedYoung ages s cs new r → (K → bytes_written new < 2 ^ 64) → AreBacked K cs
       → ((k : ℕ) → list_any (renews k) cs ≡ true → going k ≡ false) → ((k : ℕ) → calm k ≡ true → goes_on (opened k) k cs ≡ true)
-      → (a : Then going first s ages) → IsOrderly opened m s a.numbered a.sent ages a.places' → Orderly (modes_from m (plain_calls cs)) new
-  all-orderly opened [] s new ages m r q y z short off whole a o =
+      → (a : Then K going first s ages) → IsOrderly opened m s a.numbered a.sent ages a.places' → Orderly (modes_from m (plain_calls cs)) new
+  all-orderly opened [] s new ages m r q y z short back off whole a o =
       subst (Orderly m) (sym r) (record { ages = ages; then' = a; opened = opened; orderly = o })
-  all-orderly opened (c ∷ cs) s new ages m r q y z short off whole a o =
+  all-orderly opened (c ∷ cs) s new ages m r q y z short back off whole a o =
       let bytes = runs.grows cs r.0 new r.1.1 in
-      let less : bytes_written r.0 < 2 ^ 64 = omega (arith, bytes, short) in
+      let less : K → bytes_written r.0 < 2 ^ 64 = λ k. (let b = short k in omega (arith, bytes, b)) in
       let off' : (k : ℕ) → renews k c ≡ true → going k ≡ false = λ k e. off k (or-left (renews k c) (list_any (renews k) cs) e) in
       let one : (k : ℕ) → calm k ≡ true → (breaks (opened k) k c ≡ false) × (goes_on (opened k || opens_incoming k c) k cs ≡ true) = λ k e.
       let b = both (not (breaks (opened k) k c)) (goes_on (opened k || opens_incoming k c) k cs) (whole k e) in
       (negated (breaks (opened k) k c) b.0, b.1) in
-      let b = after going first c s r.0 a.numbered a.sent ages a.places' r.1.0 q.1 less off' q.0 y.0 y.1 a.now in
-      let p = orderly-after opened m s r.0 a.numbered a.sent ages a.places' q.1 less y.1 a.now o c r.1.0 off' q.0 y.0 z.0 (λ k e. (one k e).0) in
+      let b = after K going first c s r.0 a.numbered a.sent ages a.places' r.1.0 q.1 less back.0 off' q.0 y.0 y.1 a.now in
+      let p = orderly-after opened m s r.0 a.numbered a.sent ages a.places' q.1 less y.1 a.now o c r.1.0 back.0 off' q.0 y.0 z.0 (λ k e. (one k e).0) in
       subst (λ n. Orderly n new) (modes-on c cs m)
-      (all-orderly (λ k. opened k || opens_incoming k c) cs r.0 new (aged_any c s r.0 ages) (modes_from m (plain_calls (c ∷ []))) r.1.1 q.2 y.2 z.1 short
+      (all-orderly (λ k. opened k || opens_incoming k c) cs r.0 new (aged_any c s r.0 ages) (modes_from m (plain_calls (c ∷ []))) r.1.1 q.2 y.2 z.1 short back.1
       (λ k e. off k (or-right (renews k c) (list_any (renews k) cs) e)) (λ k e. (one k e).1) b p)
 
   orderly-start : (reported : Reported) (size max most : ℕ) (limits : Option Limits) (small : first < 2 ^ 32) (some : 0 < size)
       → IsOrderly (λ k. false) at_first (at_start_with reported first size max most limits)
-      (start going first reported size max most limits small some).numbered
-      (start going first reported size max most limits small some).sent [] (start going first reported size max most limits small some).places'
+      (start K going first reported size max most limits small some).numbered
+      (start K going first reported size max most limits small some).sent [] (start K going first reported size max most limits small some).places'
   unfolding start
   orderly-start Drop size max most limits small some = record {
     spread = spread-first going first size max most limits small;
@@ -284,13 +285,13 @@ module _ (reported : Reported) (first size max most : ℕ) (limits : Option Limi
   abbrev modes : Modes
   modes = modes_from at_first (plain_calls cs)
 
-  o : Orderly (is_steady cs) (is_unbroken cs) (steady-there false cs) first (modes_from at_first (plain_calls cs)) s
+  o : Orderly ⊤ (is_steady cs) (is_unbroken cs) (steady-there false cs) first (modes_from at_first (plain_calls cs)) s
   o =
-      all-orderly (is_steady cs) (is_unbroken cs) (steady-there false cs) first (λ k. false) cs (at_start_with reported first size max most limits) s []
-      at_first run q y z short (λ k e. ap not e) (λ k e. e) (start (is_steady cs) first reported size max most limits small some)
-      (orderly-start (is_steady cs) (is_unbroken cs) (steady-there false cs) first reported size max most limits small some)
+      all-orderly ⊤ (is_steady cs) (is_unbroken cs) (steady-there false cs) first (λ k. false) cs (at_start_with reported first size max most limits) s []
+      at_first run q y z (λ k. short) (all-backed ⊤ tt cs) (λ k e. ap not e) (λ k e. e) (start ⊤ (is_steady cs) first reported size max most limits small some)
+      (orderly-start ⊤ (is_steady cs) (is_unbroken cs) (steady-there false cs) first reported size max most limits small some)
 
-  abbrev a : Then (is_steady cs) first s o.ages
+  abbrev a : Then ⊤ (is_steady cs) first s o.ages
   a = o.then'
 
   abbrev h : HoldsOn (is_steady cs) first s a.numbered a.sent

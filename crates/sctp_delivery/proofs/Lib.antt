@@ -152,4 +152,5 @@ pub mod YoungHeld
 pub mod YoungOrder
 pub mod EveryYoung
 pub mod EveryYoungOrder
+pub mod Ages
 pub mod EveryFewYoung
