@@ -15,7 +15,8 @@ use Rattle.sctp_delivery.proofs.Names.{write_refusal, written_to, Makes, held_by
 use Rattle.sctp_delivery.proofs.Names.{bytes_of_chunks, bytes_of_messages, Answers, Expires, IsAccepted, MakesExactly, SenderCall, Write, abandons, as_run}
 use Rattle.sctp_delivery.proofs.Names.{expires, expires_late, expires_rexmit, expires_tail, forwards, forwards_within, marks, opens, resends, reserves, sends}
 use Rattle.sctp_delivery.proofs.Names.{sets_low, sets_mode, sets_size, starts, takes_sack, writes, written_after, Made, data_chunk, made_after, with_chunk}
-use Rattle.sctp_delivery.proofs.Names.{of_sender, Call, RunsTo, SenderFollows, Session, at_start, of_receiver, Limits, AfterEachFitSession, AfterEachFitRun}
+use Rattle.sctp_delivery.proofs.Names.{of_sender, Call, Follows, RunsTo, SenderFollows, Session, at_start, of_receiver, Limits, AfterEachFitSession}
+use Rattle.sctp_delivery.proofs.Names.{AfterEachFitRun}
 use Rattle.sctp_delivery.proofs.Names.{at_or_before, Data, data_of, past, partial_waits, Released}
 use Rattle.sctp_util.proofs.Cases.{or-true}
 use Rattle.sctp_outbound.specs.payload_queue.PayloadQueue as payload
@@ -34,10 +35,10 @@ use Rattle.sctp_delivery.proofs.QueueChunks.{peeked, EachIs, each-fragment}
 use Rattle.sctp_delivery.proofs.QueueChunks as queues
 use Rattle.sctp_delivery.proofs.Changes.{Keeps, each-call}
 use Rattle.sctp_delivery.proofs.Calls.{length-forgotten, numbered_after, sent_by}
-use Rattle.sctp_delivery.proofs.Delivered.{Holds, at-first, receiver-step, sender-step}
+use Rattle.sctp_delivery.proofs.Delivered.{Holds, HoldsOn, at-first, beside-on, receiver-step, sender-step, sender-step-on}
 use Rattle.sctp_delivery.proofs.Queues.{started as stands-started, IsEnded}
 use Rattle.sctp_delivery.proofs.Sent.{Entry, Numbered, IsPart, contains-more, fragment, terminal}
-use Rattle.sctp_delivery.proofs.InFlight.{AreKnown}
+use Rattle.sctp_delivery.proofs.InFlight.{AreKnownOn}
 use Rattle.sctp_delivery.proofs.Senders.{IsMoreBy}
 use Rattle.sctp_delivery.proofs.Sessions.{neither}
 
@@ -556,29 +557,36 @@ module _ (t : Transmission) (sent more : List Entry) (ms : List Made) (a : AllMa
   all-made call h2 = grind (arith, nat_tests, ended-made, more-made, sends-made)
 
 -- the writes and entries of a session, each of which was made
-pub record HasMade (first : ℕ) (s : Session) : Type 0 where
+pub record HasMadeOn (on : ℕ → Bool) (first : ℕ) (s : Session) : Type 0 where
   pub numbered : List Numbered
   pub sent : List Entry
-  pub holds : Holds first s numbered sent
+  pub holds : HoldsOn on first s numbered sent
   pub made : AllMade sent s.made
 
-made-run : (first : ℕ) (cs : List Call) (old new : Session) → RunsTo old cs new → HasMade first old → HasMade first new
-made-run first [] old new r h = subst (HasMade first) (sym r) h
-made-run first (of_sender call ∷ cs) old new r h =
-    let x = sender-step first call old r.0 h.numbered h.sent r.1.0 h.holds in
-    made-run first cs r.0 new r.1.1 (record {
+abbrev pub HasMade : ℕ → Session → Type 0
+HasMade first s = HasMadeOn all_streams first s
+
+pub made-after : (on : ℕ → Bool) (first : ℕ) (c : Call) (old new : Session) → Follows c old new → HasMadeOn on first old → HasMadeOn on first new
+made-after on first (of_sender call) old new f h =
+    let x = sender-step-on on first call old new h.numbered h.sent f h.holds in
+    record {
       numbered = numbered_after call h.numbered;
       sent = x.more;
       holds = x.holds;
-      made = subst (AllMade x.more) (sym (ap (λ (s : Session). s.made) r.1.0.after))
+      made = subst (AllMade x.more) (sym (ap (λ (s : Session). s.made) f.after))
           (all-made old.sending.sender h.sent x.more old.made h.made call x.grown);
-    })
-made-run first (of_receiver call ∷ cs) old new r h = made-run first cs r.0 new r.1.1 (record {
+    }
+made-after on first (of_receiver call) old new f h = record {
   numbered = h.numbered;
   sent = h.sent;
-  holds = receiver-step first call old r.0 h.numbered h.sent r.1.0 h.holds;
-  made = subst (λ (s : Session). AllMade h.sent s.made) (sym r.1.0.after) h.made;
-})
+  holds = beside-on on first old new h.numbered h.sent (ap (λ (s : Session). s.sending) f.after) (ap (λ (s : Session). s.made) f.after)
+      (ap (λ (s : Session). s.written) f.after) h.holds;
+  made = subst (λ (s : Session). AllMade h.sent s.made) (sym f.after) h.made;
+}
+
+made-run : (first : ℕ) (cs : List Call) (old new : Session) → RunsTo old cs new → HasMade first old → HasMade first new
+made-run first [] old new r h = subst (HasMade first) (sym r) h
+made-run first (c ∷ cs) old new r h = made-run first cs r.0 new r.1.1 (made-after all_streams first c old r.0 r.1.0 h)
 
 pub made-in : (tsn size max most : ℕ) (limits : Option Limits) (cs : List Call) (s : Session) → tsn < 2 ^ 32 → 0 < size
     → RunsTo (at_start tsn size max most limits) cs s → HasMade tsn s
@@ -589,10 +597,11 @@ made-in tsn size max most limits cs s small some r =
 abbrev pub WasMade : List Made → ChunkPayloadData → Type 0
 WasMade ms c = is_outstanding c ≡ true → Contains ms (data_chunk (data_of c))
 
-pub each-made : (first : ℕ) (sent : List Entry) (ms : List Made) (cs : List ChunkPayloadData) → AllMade sent ms → AreKnown first sent cs → Every (WasMade ms) cs
-each-made first sent ms [] a k = tt
-each-made first sent ms (c ∷ cs) a k =
-    (λ o. let w = k.0.0 o in made-part sent w.2 ms (data_of c) w.0 w.1 w.3 a, each-made first sent ms cs a k.1)
+pub each-made : (on : ℕ → Bool) (first : ℕ) (sent : List Entry) (ms : List Made) (cs : List ChunkPayloadData) → AllMade sent ms → AreKnownOn on first sent cs
+    → Every (WasMade ms) cs
+each-made on first sent ms [] a k = tt
+each-made on first sent ms (c ∷ cs) a k =
+    (λ o. let w = k.0.0 o in made-part sent w.2 ms (data_of c) w.0 w.1 w.3 a, each-made on first sent ms cs a k.1)
 
 -- ## Which messages are left
 
@@ -697,5 +706,5 @@ module _ (s t : Session) (k : Sack) (gone : List Released) (f : SenderFollows (t
 pub each-is-told : AfterEachFitSession EachIsTold
 each-is-told tsn size max most limits cs s small some r k gone t f =
     let h = made-in tsn size max most limits cs s small some r in
-    all-told s t k gone f (each-made tsn h.sent s.made s.sending.sender.flight.queue.inflight.chunks h.made h.holds.held.stands.known)
+    all-told s t k gone f (each-made all_streams tsn h.sent s.made s.sending.sender.flight.queue.inflight.chunks h.made h.holds.held.stands.known)
     h.holds.held.stands.sendable (counted-in tsn size max most limits cs s small some r).counted

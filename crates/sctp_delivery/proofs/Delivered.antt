@@ -81,7 +81,7 @@ beside-on on first old new ns sent same made written h = record {
   placed = h.placed;
 }
 
-unfoldable pub sender-step : (first : ℕ) (call : SenderCall) (old new : Session) (ns : List Numbered) (sent : List Entry) → SenderFollows call old new
+abbrev pub sender-step : (first : ℕ) (call : SenderCall) (old new : Session) (ns : List Numbered) (sent : List Entry) → SenderFollows call old new
     → Holds first old ns sent → Sends all_streams first call old new ns sent
 sender-step first call old new ns sent f h = sender-step-on all_streams first call old new ns sent f h
 

@@ -1,26 +1,26 @@
 -- Sessions of every call: each message of which no fragment but the first begins one is a write, and no write is read twice.
 use Rattle.sctp_delivery.proofs.Names.{◌≡◌, ℕ, zero, suc, ◌+◌, ◌<◌, ◌^◌, Bool, true, false, not, List, [], ◌∷◌, ◌++◌, length, Option, refl, ap, sym, subst}
-use Rattle.sctp_delivery.proofs.Names.{◌∙◌, arith, All, Contains, slice_index_or, filter, list_all, list_any, AllPass-from_list_all, and, both, negated}
-use Rattle.sctp_delivery.proofs.Names.{◌≤◌, None, Released, SenderCall, SenderFollows, distance, completes, fails, following_tsn, same-is, ◌==◌}
-use Rattle.sctp_delivery.proofs.Names.{not_both, list_any-append, ChunkPayloadData, Message, has_tsn, is_complete, is_one_message, is_on}
-use Rattle.sctp_delivery.proofs.Names.{data_of, data_chunk, StandAt, fragments_of_all, are_apart, AreMade, AreMessages, Session, Write, Limits, Transmission}
+use Rattle.sctp_delivery.proofs.Names.{◌∙◌, arith, All, Contains, slice_index_or, filter, list_all, list_any, and, both}
+use Rattle.sctp_delivery.proofs.Names.{◌≤◌, None, Released, SenderCall, SenderFollows, distance, fails, ◌==◌}
+use Rattle.sctp_delivery.proofs.Names.{not_both, list_any-append, ChunkPayloadData, Message, is_on}
+use Rattle.sctp_delivery.proofs.Names.{data_of, data_chunk, StandAt, AreMade, AreMessages, Session, Write, Limits, Transmission}
 use Rattle.sctp_delivery.proofs.Names.{Modes, Stand, Data, Pending, Unknown, nat_eq, or-split, ◌-◌, if◌then◌else◌, inl, inr, is_all_acknowledged, reads_nothing}
 use Rattle.sctp_delivery.proofs.Names.{at_first, modes_from, AllPairs, Some, some-same, same-yes, ◌&&◌, ◌⊎◌}
 use Rattle.std.proofs.Common.{◌≢◌}
-use Rattle.sctp_delivery.proofs.Names.{Sack, IsAccounted, bytes_written, held_by_sender, total_bytes, with_inflight, sum_by, ◌||◌, ap₂}
+use Rattle.sctp_delivery.proofs.Names.{Sack, IsAccounted, bytes_written, held_by_sender, total_bytes, with_inflight, sum_by}
 use Rattle.sctp_sender.specs.declared.sender.Reported.{Reported}
 use Rattle.sctp_sender.specs.declared.sender.flight.kept.TakenBack.{TakenBack}
 use Rattle.sctp_sender.specs.Keeping.{bytes_back}
 use Rattle.sctp_sender.specs.Sender.{take_back_refusal}
 use Rattle.sctp_sender.specs.Totals.{bytes_in}
-use Rattle.sctp_delivery.specs.EveryCall.{AfterEachAny, AnyCall, AreSingle, AreSingleWhereSteady, AreSingleWritesOfTheirOwn, AreWritesWhereSingle, RunsAny}
-use Rattle.sctp_delivery.specs.EveryCall.{makes, of_receiving, of_sending, renews, SenderDoes, takes_back, AreToldApart, is_single, is_steady, single_messages}
+use Rattle.sctp_delivery.specs.EveryCall.{AnyCall, AreSingleWhereSteady, AreSingleWritesOfTheirOwn, AreWritesWhereSingle, RunsAny}
+use Rattle.sctp_delivery.specs.EveryCall.{SenderDoes, takes_back, is_single, is_steady, single_messages}
 use Rattle.sctp_delivery.specs.EveryCall.{tsns_given_any, was_dropped}
 use Rattle.sctp_receiver.specs.ReceiverRuns.{AreComplete, AreOfOneMessage}
 use Rattle.sctp_delivery.specs.EveryEnd.{IsLeftOn, IsOrderedReadInTheEnd, IsReadOn, IsSentReadInTheEnd, IsUnorderedReadInTheEnd, IsUnorderedReadOrHeld}
 use Rattle.sctp_delivery.specs.EveryEnd.{IsUnorderedSentReadInTheEnd}
 use Rattle.sctp_delivery.specs.EveryEnd.{abandoned_any, dropped_any, is_unnamed}
-use Rattle.sctp_delivery.specs.EveryOrder.{AreSingleReadAsWritten, AreSingleReadInOrder, breaks, goes_on, is_unbroken, opens_incoming, plain_calls}
+use Rattle.sctp_delivery.specs.EveryOrder.{AreSingleReadAsWritten, AreSingleReadInOrder, is_unbroken, plain_calls}
 use Rattle.sctp_delivery.specs.Messages.{AreParts, AreSame}
 use Rattle.sctp_delivery.specs.Returns.{NoneIsRefusedSo, after_return, at_start_with}
 use Rattle.sctp_delivery.specs.SenderCalls.{TakesBackAndSack, takes_sack}
@@ -28,28 +28,25 @@ use Rattle.sctp_delivery.proofs.AbandonedMessages.{cut-later, gone-left}
 use Rattle.sctp_delivery.proofs.Begun.{AreOnce, begins, was_begun}
 use Rattle.sctp_delivery.proofs.Calls.{at-forgotten, contains-forgotten, forget, forgotten, length-forgotten}
 use Rattle.sctp_delivery.proofs.Cases.{at-if}
-use Rattle.sctp_delivery.proofs.Delivered.{HoldsOn, next_tsn, sender-step-on, AreInner, IsReadOf, inner-of, found-sent-on, single-is}
-use Rattle.sctp_delivery.proofs.Delivered.{EachSentFrom, each-from, each-sent-on, single-on}
+use Rattle.sctp_delivery.proofs.Delivered.{HoldsOn, next_tsn, sender-step-on, IsReadOf, found-sent-on}
 use Rattle.sctp_delivery.specs.Complete.{is_exhausted}
-use Rattle.sctp_delivery.specs.Modes.{unknown, was_written_ordered}
-use Rattle.sctp_delivery.specs.Order.{is_ordered_on, places_where}
+use Rattle.sctp_delivery.specs.Modes.{unknown}
 use Rattle.sctp_delivery.proofs.EveryEnds.{all-done, was-read}
 use Rattle.sctp_delivery.proofs.EveryHeld.{even}
 use Rattle.sctp_delivery.proofs.EveryKept.{elsewhere, elsewhere-of, ended-read, whole-on}
 use Rattle.sctp_delivery.proofs.EverySettled as every_settled
 use Rattle.sctp_delivery.proofs.EveryRuns as runs
 use Rattle.sctp_delivery.proofs.EveryShadows.{every, HasBesideSo, IsPlayedSo, MayPass, has-beside-so, played-accounted}
-use Rattle.sctp_delivery.proofs.Every.{Every, every-contained, every-of-all}
+use Rattle.sctp_delivery.proofs.Every.{Every, every-contained}
 use Rattle.sctp_delivery.proofs.OnceWritten.{EachRead, apart, places, stand}
 use Rattle.sctp_delivery.proofs.InTheEnd.{none-selected}
 use Rattle.sctp_delivery.proofs.KeptSessions.{IsIdle, begun-part, idle-of, same-write, slice-itself}
 use Rattle.sctp_delivery.proofs.MessagePlaces.{IsEntryAt, is_of_stream, same-message}
-use Rattle.sctp_delivery.proofs.ModeSessions.{kind-at, starts-ordered}
+use Rattle.sctp_delivery.proofs.ModeSessions.{kind-at}
 use Rattle.sctp_delivery.proofs.Numbers.{number_of}
 use Rattle.sctp_delivery.proofs.AllBegun.{begins_in}
-use Rattle.sctp_delivery.proofs.OrderedEntries.{AreIndexedOn, IsOpen}
+use Rattle.sctp_delivery.proofs.OrderedEntries.{IsOpen}
 use Rattle.sctp_delivery.proofs.OrderedPlaces.{place-at}
-use Rattle.sctp_delivery.proofs.OrderedMessages.{is_in_order}
 use Rattle.sctp_delivery.proofs.PassedMessages.{EndsMessage}
 use Rattle.sctp_delivery.proofs.PlainHolds.{held-like}
 use Rattle.sctp_delivery.proofs.PlainReturns.{back-fits, back-more}
@@ -58,166 +55,18 @@ use Rattle.sctp_delivery.proofs.PlainSessions.{as_plain, kept_of, small-next}
 use Rattle.sctp_delivery.proofs.OneRead.{no-way}
 use Rattle.sctp_delivery.proofs.Stands.{one-given}
 use Rattle.sctp_delivery.proofs.Senders.{AreSentOn, IsHeldOn}
-use Rattle.sctp_delivery.proofs.Sent.{Entry, IsLine, IsPart, Numbered, WasSent, contains-more, fragment, part-line, same-tsn, terminal}
-use Rattle.sctp_delivery.proofs.SpreadEntries.{begun_to, is_at, to-up}
-use Rattle.sctp_delivery.proofs.TsnPlaces.{base}
-use Rattle.sctp_delivery.proofs.UnwrappedHolds.{AreInTurn, Fits, Where as Turns, turn-more}
-use Rattle.sctp_delivery.proofs.UnwrappedLaw.{in-order-of, starts}
+use Rattle.sctp_delivery.proofs.Sent.{Entry, IsPart, Numbered, contains-more, fragment, part-line, same-tsn, terminal}
 use Rattle.sctp_delivery.proofs.Sessions as sessions
 use Rattle.sctp_delivery.proofs.Sessions.{neither}
-
--- ## Tests of fragments
-
-none-begin : (cs : List ChunkPayloadData) → list_all (λ d. not d.beginning_fragment) cs ≡ true
-    → Every (λ (d : ChunkPayloadData). d.beginning_fragment ≡ false) cs
-none-begin [] e = tt
-none-begin (c ∷ cs) e =
-    let b = both (not c.beginning_fragment) (list_all (λ d. not d.beginning_fragment) cs) e in
-    (negated c.beginning_fragment b.0, none-begin cs b.1)
-
-none-begins : (cs : List ChunkPayloadData) → Every (λ (d : ChunkPayloadData). d.beginning_fragment ≡ false) cs
-    → list_all (λ d. not d.beginning_fragment) cs ≡ true
-none-begins [] e = refl
-none-begins (c ∷ cs) e = and (not c.beginning_fragment) (list_all (λ d. not d.beginning_fragment) cs) (ap not e.0) (none-begins cs e.1)
-
--- messages that pass a test are some of all, so no two of their fragments have one TSN
-some-apart : (p : Message → Bool) (ms : List Message) → are_apart (fragments_of_all ms) ≡ true → are_apart (fragments_of_all (filter p ms)) ≡ true
-some-apart p [] e = refl
-some-apart p (m ∷ ms) e = at-if (λ z. are_apart (fragments_of_all z) ≡ true) (p m)
-    (λ _. with-front m.fragments e (some-apart p ms (rest m.fragments e)))
-    (λ _. some-apart p ms (rest m.fragments e))
-  where
-    rest : (cs : List ChunkPayloadData) → are_apart (cs ++ fragments_of_all ms) ≡ true → are_apart (fragments_of_all ms) ≡ true
-    rest [] h = h
-    rest (c ∷ cs) h = rest cs (both (not (list_any (has_tsn c.tsn) (cs ++ fragments_of_all ms))) (are_apart (cs ++ fragments_of_all ms)) h).1
-
-    fewer : (t : ℕ) (ks : List Message) → list_any (has_tsn t) (fragments_of_all ks) ≡ false → list_any (has_tsn t) (fragments_of_all (filter p ks)) ≡ false
-    fewer t [] h = refl
-    fewer t (k ∷ ks) h =
-        let n = neither (list_any (has_tsn t) k.fragments) (list_any (has_tsn t) (fragments_of_all ks))
-        (sym (list_any-append (has_tsn t) k.fragments (fragments_of_all ks)) ∙ h) in
-        at-if (λ z. list_any (has_tsn t) (fragments_of_all z) ≡ false) (p k)
-        (λ _. list_any-append (has_tsn t) k.fragments (fragments_of_all (filter p ks)) ∙ nor n.0 (fewer t ks n.1))
-        (λ _. fewer t ks n.1)
-      where
-        nor : {a b : Bool} → a ≡ false → b ≡ false → (a || b) ≡ false
-        nor x y = ap₂ (λ a b. a || b) x y
-
-    with-front : (cs : List ChunkPayloadData) → are_apart (cs ++ fragments_of_all ms) ≡ true → are_apart (fragments_of_all (filter p ms)) ≡ true
-        → are_apart (cs ++ fragments_of_all (filter p ms)) ≡ true
-    with-front [] h k = k
-    with-front (c ∷ cs) h k =
-        let b = both (not (list_any (has_tsn c.tsn) (cs ++ fragments_of_all ms))) (are_apart (cs ++ fragments_of_all ms)) h in
-        let n = neither (list_any (has_tsn c.tsn) cs) (list_any (has_tsn c.tsn) (fragments_of_all ms))
-        (sym (list_any-append (has_tsn c.tsn) cs (fragments_of_all ms)) ∙ negated (list_any (has_tsn c.tsn) (cs ++ fragments_of_all ms)) b.0) in
-        and (not (list_any (has_tsn c.tsn) (cs ++ fragments_of_all (filter p ms)))) (are_apart (cs ++ fragments_of_all (filter p ms)))
-        (ap not (list_any-append (has_tsn c.tsn) cs (fragments_of_all (filter p ms)) ∙ ap₂ (λ x y. x || y) n.0 (fewer c.tsn ms n.1)))
-        (with-front cs b.1 k)
-
--- ## What was read
-
--- of a session whose messages are of chunks that were made, where these entries got TSNs
-module _ (on : ℕ → Bool) (first : ℕ) (s : Session) (ns : List Numbered) (sent : List Entry) (few : length sent < 2 ^ 32) (line : IsLine ns first sent)
-    (indexed : AreIndexedOn on sent) (once : AreOnce sent) (sent-made : AreSentOn on sent s.made) (writes : forgotten ns ≡ s.written)
-    (reads-on : sessions.AreOn s) (whole : AreMessages s) (made : AreMade s) where
-  module _ (k : ℕ) (m : Message) (lt : k < length s.receiving.read) where
-    abbrev it : Message
-    it = slice_index_or s.receiving.read k m
-
-    complete : is_complete it.fragments ≡ true
-    complete = AllPass-from_list_all (λ x. is_complete x.fragments) s.receiving.read whole.0 k m lt
-
-    there : list_all (is_on it.stream) it.fragments ≡ true
-    there = AllPass-from_list_all (λ x. list_all (is_on x.stream) x.fragments) s.receiving.read reads-on k m lt
-
-    gave : EachSentFrom 0 sent it.fragments
-    gave = each-from sent few it.fragments (each-sent-on on sent s.made it.fragments sent-made (made k m lt))
-
-    -- one of which no fragment but the first begins one
-    pub read-single : is_single it.fragments ≡ true → IsReadOf ns sent it
-    read-single e = by it.fragments refl
-      where
-        by : (cs : List ChunkPayloadData) → it.fragments ≡ cs → IsReadOf ns sent it
-        by [] is = absurd (not_both (sym (ap is_complete is) ∙ complete))
-        by (c ∷ cs) is =
-            (single-is ns first sent 0 line it complete c cs is (subst (EachSentFrom 0 sent) is gave) (none-begin cs (ap is_single (sym is) ∙ e))
-            (ap (list_all (is_on it.stream)) (sym is) ∙ there)).0
-
-    pub single-steady : on it.stream ≡ true → is_single it.fragments ≡ true
-    single-steady o = by it.fragments refl
-      where
-        by : (cs : List ChunkPayloadData) → it.fragments ≡ cs → is_single it.fragments ≡ true
-        by [] is = ap is_single is
-        by (c ∷ cs) is =
-            ap is_single is
-            ∙ none-begins cs (single-on ns first sent 0 line on indexed it complete
-            (AllPass-from_list_all (λ x. is_one_message x.fragments) s.receiving.read whole.1 k m lt) gave there o c cs is)
-
-  pub writes-single : AreWritesWhereSingle s
-  writes-single k m lt e =
-      let x = read-single k m lt e in
-      (forget x.numbered, subst (λ ws. Contains ws (forget x.numbered)) writes (contains-forgotten ns x.numbered x.written), x.write)
-
-  -- those that are so, each with its write
-  singles : (ms : List Message) → All (λ m. is_single m.fragments ≡ true → IsReadOf ns sent m) ms → EachRead ns sent once (single_messages ms)
-  singles [] all = tt
-  singles (m ∷ ms) all = at-if (λ z. EachRead ns sent once z) (is_single m.fragments)
-      (λ e. (all zero m (omega arith) e, singles ms (λ k d lt. all (suc k) d (omega (arith, lt)))))
-      (λ e. singles ms (λ k d lt. all (suc k) d (omega (arith, lt))))
-
-  pub each-single : EachRead ns sent once (single_messages s.receiving.read)
-  each-single = singles s.receiving.read (λ k m lt. read-single k m lt)
-
--- where ordered messages are told apart by their numbers, none is read with another one
-apart-single : (s : Session) → AreMessages s → AreMade s → AreToldApart s → AreSingle s
-apart-single s whole made told k m lt = by it.fragments refl
-  where
-    it : Message
-    it = slice_index_or s.receiving.read k m
-
-    none : (c : ChunkPayloadData) (cs : List ChunkPayloadData) → completes c cs ≡ true → AreInner c cs
-        → Every (λ (d : ChunkPayloadData). Contains s.made (data_chunk (data_of d))) (c ∷ cs)
-        → Every (λ (d : ChunkPayloadData). d.beginning_fragment ≡ false) cs
-    none c [] e i h = tt
-    none c (d ∷ ds) e i h =
-        let b = both (d.tsn == following_tsn c.tsn) (completes d ds) e in (
-          fails d.beginning_fragment (λ begins.
-              let a = i.0 begins in
-              told (data_of c) (data_of d) h.0 h.1.0 (same-is d.tsn (following_tsn c.tsn) b.0) begins a.1 a.0 (sym a.2) (sym a.3)),
-          none d ds b.1 i.1 h.1,
-        )
-
-    by : (cs : List ChunkPayloadData) → (slice_index_or s.receiving.read k m).fragments ≡ cs → is_single (slice_index_or s.receiving.read k m).fragments ≡ true
-    by [] is = ap is_single is
-    by (c ∷ cs) is =
-        let complete = AllPass-from_list_all (λ x. is_complete x.fragments) s.receiving.read whole.0 k m lt in
-        let alike = AllPass-from_list_all (λ x. is_one_message x.fragments) s.receiving.read whole.1 k m lt in
-        let all = every-of-all (λ (d : ChunkPayloadData). Contains s.made (data_chunk (data_of d))) it.fragments (made k m lt) in
-        ap is_single is
-        ∙ none-begins cs (none c cs (both c.beginning_fragment (completes c cs) (ap is_complete (sym is) ∙ complete)).1
-        (inner-of c cs (ap is_one_message (sym is) ∙ alike))
-        (subst (Every (λ (d : ChunkPayloadData). Contains s.made (data_chunk (data_of d)))) is all))
-
-pub told-apart : AfterEachAny (λ calls s. AreToldApart s → AreSingle s)
-told-apart reported size tsn max most limits cs s r =
-    apart-single s (runs.messages reported size tsn max most limits cs s r) (runs.made reported size tsn max most limits cs s r)
+use Rattle.sctp_delivery.proofs.YoungReads.{IsReadFrom}
+pub use Rattle.sctp_delivery.proofs.EveryRead.{steady-there, told-apart}
+use Rattle.sctp_delivery.proofs.EveryRead.{each-single, from-made, none-begin, some-apart}
+use Rattle.sctp_delivery.proofs.EveryFewYoung.{few-young}
+use Rattle.sctp_delivery.proofs.EveryYoung as young
+use Rattle.sctp_delivery.proofs.EveryYoungOrder as young_order
+use Rattle.sctp_delivery.specs.EveryRecent.{ArePassedYoung, AreRecentAny, AreYoungAny}
 
 -- ## Each session
-
--- on a stream that goes on numbers do
-pub steady-there : (opened : Bool) (cs : List AnyCall) (q : ℕ) → goes_on opened q cs ≡ true → is_steady cs q ≡ true
-steady-there opened cs q e = ap not (none opened cs e)
-  where
-    renewed : (o : Bool) (c : AnyCall) → breaks o q c ≡ false → renews q c ≡ false
-    renewed o (makes call) h = refl
-    renewed o (of_sending call) h = h
-    renewed o (of_receiving call) h = refl
-
-    none : (o : Bool) (ks : List AnyCall) → goes_on o q ks ≡ true → list_any (renews q) ks ≡ false
-    none o [] h = refl
-    none o (c ∷ ks) h =
-        let b = both (not (breaks o q c)) (goes_on (o || opens_incoming q c) q ks) h in
-        ap₂ (λ x y. x || y) (renewed o c (negated (breaks o q c) b.0)) (none (o || opens_incoming q c) ks b.1)
 
 module _ (reported : Reported) (first size max most : ℕ) (limits : Option Limits) (cs : List AnyCall) (s : Session)
     (r : RunsAny (at_start_with reported first size max most limits) cs s) (small : first < 2 ^ 32) (some : 0 < size)
@@ -254,16 +103,27 @@ module _ (reported : Reported) (first size max most : ℕ) (limits : Option Limi
   writes : forgotten i.numbered ≡ s.written
   writes = i.spread.holds.writes ∙ beside.shadow.written
 
+  read-from : Every (IsReadFrom i.sent) s.receiving.read
+  read-from =
+      from-made (is_steady cs) i.sent s (let a = i.spread.long in omega (arith, a, few)) made (runs.made reported first size max most limits cs s r)
+
+  -- what is asked of a session of a whole life is so of it
+  y : AreRecentAny (at_start_with reported first size max most limits) cs s r
+      × AreYoungAny [] (at_start_with reported first size max most limits) cs s r
+      × ArePassedYoung [] (at_start_with reported first size max most limits) cs s r
+  y = few-young reported first size max most limits cs s r small some few short
+
   pub are-writes : AreWritesWhereSingle s
-  are-writes = writes-single (is_steady cs) first s i.numbered i.sent (let a = i.spread.long in omega (arith, a, few)) i.spread.holds.held.stands.queued.line
-      i.spread.holds.held.stands.queued.indexed i.spread.holds.held.stands.begun'.once made writes on-each
-      (runs.messages reported first size max most limits cs s r) (runs.made reported first size max most limits cs s r)
+  are-writes = young.written reported first size max most limits cs s r small some y.0 y.1 short
 
   pub are-single : AreSingleWhereSteady cs s
-  are-single k m lt = single-steady (is_steady cs) first s i.numbered i.sent (let a = i.spread.long in omega (arith, a, few))
-      i.spread.holds.held.stands.queued.line
-      i.spread.holds.held.stands.queued.indexed i.spread.holds.held.stands.begun'.once made writes on-each
-      (runs.messages reported first size max most limits cs s r) (runs.made reported first size max most limits cs s r) k m lt
+  are-single = young.single reported first size max most limits cs s r small some y.0 y.1 short
+
+  pub in-order : AreSingleReadInOrder cs s
+  in-order = young_order.in-order reported first size max most limits cs s r small some y.0 y.1 y.2 short
+
+  pub as-written : AreSingleReadAsWritten cs s
+  as-written = young_order.as-written reported first size max most limits cs s r small some y.0 y.1 y.2 short
 
   -- ## Places
 
@@ -274,9 +134,9 @@ module _ (reported : Reported) (first size max most : ℕ) (limits : Option Limi
   singles-read = single_messages s.receiving.read
 
   each-is : EachRead i.numbered i.sent once singles-read
-  each-is = each-single (is_steady cs) first s i.numbered i.sent (let a = i.spread.long in omega (arith, a, few)) i.spread.holds.held.stands.queued.line
-      i.spread.holds.held.stands.queued.indexed once made writes on-each
-      (runs.messages reported first size max most limits cs s r) (runs.made reported first size max most limits cs s r)
+  each-is = each-single (is_steady cs) first s i.numbered i.sent i.spread.holds.held.stands.queued.line
+      i.spread.holds.held.stands.queued.indexed once writes on-each
+      (runs.messages reported first size max most limits cs s r) read-from
 
   abbrev own-places : List ℕ
   own-places = places i.numbered i.sent once singles-read each-is
@@ -291,60 +151,6 @@ module _ (reported : Reported) (first size max most : ℕ) (limits : Option Limi
 
   pub of-their-own : AreSingleWritesOfTheirOwn s
   of-their-own = (own-places, own-stand, own-apart)
-
-  -- ## Order
-
-  -- on a stream that goes on the places of such messages rise that begin ordered
-  module _ (st : ℕ) (c : is_unbroken cs st ≡ true) where
-    abbrev InTurn : ℕ → List Message → Type 0
-    InTurn = AreInTurn (base first) st n (λ k. begun_to st k i.sent) (λ k. is_at st k i.sent) (λ x. WasSent i.sent (data_of x))
-
-    abbrev Fit : ℕ → List ChunkPayloadData → Type 0
-    Fit = Fits (base first) st n (λ k. begun_to st k i.sent) (λ k. is_at st k i.sent) (λ x. WasSent i.sent (data_of x))
-
-    those-turn : (p : Message → Bool) (k : ℕ) (ms : List Message) → InTurn k ms → InTurn k (filter p ms)
-    those-turn p k [] t = tt
-    those-turn p k (m ∷ ms) t =
-        let b = by (is_in_order st m) t (λ j u. those-turn p j ms u) in
-        at-if (InTurn k) (p m) (λ _. b.0) (λ _. b.1)
-      where
-        by : (b : Bool) → Turns b ((j : ℕ) × (j < k) × Fit j m.fragments × InTurn j ms) (InTurn k ms) → ((j : ℕ) → InTurn j ms → InTurn j (filter p ms))
-            → Turns b ((j : ℕ) × (j < k) × Fit j m.fragments × InTurn j (filter p ms)) (InTurn k (filter p ms)) × InTurn k (filter p ms)
-        by true h ih =
-            let rest = ih h.0 h.3 in
-            let lt = h.1 in (
-              (h.0, h.1, h.2, rest),
-              turn-more (base first) st n (λ k. begun_to st k i.sent) (λ k. is_at st k i.sent) (λ x. WasSent i.sent (data_of x)) few
-                  (λ j k le. to-up st j k i.sent le) h.0 k (filter p ms) (omega (arith, lt)) rest,
-            )
-        by false h ih = (ih k h, ih k h)
-
-    rising : (T : Message → ℕ → Bool)
-        → ((m : Message) (x : IsReadOf i.numbered i.sent m) → T m x.written.0 ≡ true → (x.chunk.unordered ≡ false) × (is_in_order st m ≡ true))
-        → AllPairs (λ p q. p < q) (places_where T singles-read own-places)
-    rising T starts' =
-        let d = (i.answered st c).0 in
-        in-order-of st first n i.numbered i.sent few i.spread.long i.spread.holds.held.stands.queued.line once
-        i.spread.holds.held.stands.queued.ranked.rising i.spread.holds.placed T starts' d.k singles-read each-is
-        (those-turn (λ m. is_single m.fragments) d.k s.receiving.read
-        (subst (λ (y : Stand). InTurn d.k y.read) beside.shadow.receiving d.turns))
-
-  pub in-order : AreSingleReadInOrder cs s
-  in-order = (
-    own-places,
-    own-stand,
-    own-apart,
-    λ st c. rising st c (λ m p. is_ordered_on st m) (λ m x f. let b = starts st m x.chunk x.others x.fragments f in (b.1, b.2)),
-  )
-
-  pub as-written : AreSingleReadAsWritten cs s
-  as-written = (
-    own-places,
-    own-stand,
-    own-apart,
-    λ st c. rising st c (was_written_ordered modes.of_writes st)
-        (starts-ordered modes beside.other i.numbered i.sent i.said i.spread.holds.placed st),
-  )
 
   -- ## Chunks
 

@@ -61,7 +61,7 @@ module _ (p n : ℕ) (kn : ℕ → Bool) (r : Reception) (few : n < 2 ^ 31) (t :
             (record { place = g.place; some = g.some; within = g.within; is = g.is; so = so }) h.each;
       }
 
-  discard-order : IsInOrder r → IsInOrder (after_discard t r)
+  pub discard-order : IsInOrder r → IsInOrder (after_discard t r)
   discard-order a = at-if IsInOrder (has_come t (filter_of r))
       (λ e. record { small = a.small; rise = a.rise })
       (λ e. let k = order-with p n r kn few h a t g e in record { small = k.small; rise = k.rise })
@@ -174,7 +174,7 @@ module _ (taken passed : ℕ → Bool) (sack : Sack) where
   backs-right (k ∷ ks) [] e = tt
   backs-right (k ∷ ks) (c ∷ ds) e = (back-right k c e.0, backs-right ks ds e.1)
 
-  back-valid : (f : Flight) (o : Option (List (Option (List ℕ)))) → IsValid taken passed f.queue
+  pub back-valid : (f : Flight) (o : Option (List (Option (List ℕ)))) → IsValid taken passed f.queue
       → IsValid taken passed (with_restored (back_by sack f o) f).queue
   back-valid f None v = record { ordered = v.ordered; unordered = v.unordered; inflight = v.inflight }
   back-valid f (Some ks) v = record {
@@ -184,7 +184,7 @@ module _ (taken passed : ℕ → Bool) (sack : Sack) where
         (λ e. v.inflight) (λ e. backs-right ks f.queue.inflight.chunks v.inflight);
   }
 
-restored-tsns : (bs : List (Option (List ℕ))) (ds : List ChunkPayloadData) → tsns (restored bs ds) ≡ tsns ds
+pub restored-tsns : (bs : List (Option (List ℕ))) (ds : List ChunkPayloadData) → tsns (restored bs ds) ≡ tsns ds
 restored-tsns [] ds = refl
 restored-tsns (b ∷ bs) [] = refl
 restored-tsns (None ∷ bs) (c ∷ ds) = ap (λ ts. c.tsn ∷ ts) (restored-tsns bs ds)
@@ -193,9 +193,6 @@ restored-tsns (Some bytes ∷ bs) (c ∷ ds) = ap (λ ts. c.tsn ∷ ts) (restore
 -- ## Each call of the sender that most sessions do not have
 
 module _ (dropped : ℕ → Bool) (p n : ℕ) (old new : Session) (i : IsInStepBut dropped p n old) where
-  abbrev f' : Flight
-  f' = old.sending.sender.flight
-
   -- what is in flight has the same TSNs then
   other-flight : (call : SenderOther) → SenderDoes call old new → (t : Transmission) → new.sending.sender ≡ t → IsNumbered p n t.flight
       → t.flight.acked_tsn ≡ old.sending.sender.flight.acked_tsn

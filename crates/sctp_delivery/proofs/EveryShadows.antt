@@ -6,52 +6,48 @@ use Rattle.sctp_delivery.proofs.Names.{abandoned_by, append-nil, append_assoc, S
 use Rattle.sctp_delivery.proofs.Names.{stream_of, ◌||◌, Mode, both, inl, inr, is_open, modes_from, negated, or-split, Some, None, none-some, nat_eq}
 use Rattle.sctp_delivery.proofs.Names.{list_any-append, ChunkPayloadData}
 use Rattle.sctp_delivery.proofs.Names.{has_come, has_tsn, filter_of, ⊤}
-use Rattle.sctp_delivery.proofs.Names.{IsAccounted, Contains, at_start, list_any, same-yes, sum_by, Write, data_chunk, forward_tsn, data_of, if◌then◌else◌}
+use Rattle.sctp_delivery.proofs.Names.{IsAccounted, Contains, at_start, list_any, same-yes, forward_tsn, if◌then◌else◌}
 use Rattle.sctp_receiver.specs.ReceiverRuns as receiver_runs
 use Rattle.sctp_sender.specs.declared.sender.Reported.{Reported}
 use Rattle.sctp_sender.specs.declared.sender.Reported.TheVariants.{Drop, Keep}
 use Rattle.sctp_sender.specs.Outgoing.{from_first}
-use Rattle.sctp_sender.specs.Sender.{close_stream, with_streams}
-use Rattle.sctp_sender.specs.Settings.{reset_on}
+use Rattle.sctp_sender.specs.Sender.{with_streams}
 use Rattle.sctp_sender.specs.SenderRuns as sender_runs
-use Rattle.sctp_sender.proofs.Accounts as accounts
 use Rattle.sctp_stream.specs.Numbers.{swapped_out}
-use Rattle.sctp_stream.proofs.Removals.{out-each, rotated-map}
+use Rattle.sctp_stream.proofs.Removals.{out-each}
 use Rattle.sctp_receiver.specs.Inbound.{numbers_of}
 use Rattle.sctp_receiver.proofs.StreamCosts.{are_apart}
 use Rattle.sctp_receiver.proofs.Closed.{stays-apart}
-use Rattle.std.specs.List.{AllByRecursion, slice_rotate_right}
-use Rattle.sctp_delivery.specs.EveryCall.{AnyCall, FollowsAny, IsMadeChunk, IsReceiverTaken, ReceiverDoes, ReceiverOther, RunsAny, SenderDoes, SenderOther}
+use Rattle.std.specs.List.{AllByRecursion}
+use Rattle.sctp_delivery.specs.EveryCall.{AnyCall, FollowsAny, ReceiverDoes, ReceiverOther, RunsAny, SenderDoes, SenderOther}
 use Rattle.sctp_delivery.specs.EveryCall.{as_receiver_run, closes, closes_incoming, discards, drops, makes, of_receiving, of_sending, passes_over, renews}
 use Rattle.sctp_delivery.specs.EveryCall.{resets, resets_incoming, takes_back, tsns_given_any}
 use Rattle.sctp_delivery.specs.EveryEnd.{abandoned_any, dropped_any, dropped_by, is_naming, is_unnamed}
 use Rattle.sctp_delivery.specs.EveryOrder.{breaks, goes_on, is_unbroken, opens_incoming, plain_calls}
 use Rattle.sctp_delivery.specs.ReceiverCalls as incoming
 use Rattle.sctp_delivery.specs.Returns.{at_start_with}
-use Rattle.sctp_delivery.specs.SenderCalls as outgoing
 use Rattle.sctp_delivery.proofs.AbandonedMessages.{AreAmong, AreBegunOrGone, AreMarkedGone, begun-later, cut-later, flight_of, gone-left, gone-right}
 use Rattle.sctp_delivery.proofs.AbandonedMessages.{marked-later, stays-begun-or-gone, stays-cut, stays-marked}
 use Rattle.sctp_delivery.proofs.Calls.{numbered_after}
 use Rattle.sctp_delivery.proofs.Cases.{at-test}
 use Rattle.sctp_delivery.proofs.Delivered.{next_tsn}
 use Rattle.sctp_delivery.proofs.EveryFronts.{IsGoneAt, IsReadUp, gone-later, other-up, receiver-up, sender-up}
+use Rattle.sctp_delivery.proofs.EveryGoes.{HasRun, closed-goes, closes-held, received-goes, received-too, reset-goes, resets-held, run-accounted, run-after}
+use Rattle.sctp_delivery.proofs.EveryGoes.{run-beside, run-first, run-restreamed, with_sender}
 use Rattle.sctp_delivery.proofs.EveryKept.{IsDropOf, IsTold, drops-elsewhere, drops-told, elsewhere, listed, listed-more, other-told, receiver-told}
 use Rattle.sctp_delivery.proofs.EveryKept.{sender-told, told-beside, told-first, whole-on}
 use Rattle.sctp_delivery.proofs.EveryRuns as runs
 use Rattle.sctp_delivery.proofs.EveryTurns.{open-after, open-after-other, opens-it, other-answered}
 use Rattle.sctp_delivery.proofs.FewInFlight.{regular-of-few}
 use Rattle.sctp_delivery.proofs.ModeSessions.{AreInModes, IsAsSaid, IsInModes, changed-in, said-after, said-beside, said-first}
-use Rattle.sctp_delivery.proofs.Numbers.{all-open, apart-changed, apart-closed, number-elsewhere, number_of, numbers-closed, sized-changed, sized-closed}
-use Rattle.sctp_delivery.proofs.Numbers.{there-changed, there-closed}
 use Rattle.sctp_delivery.proofs.PassedMessages.{AreCutGone, IsMadePassing, IsPassing, is_gone}
 use Rattle.sctp_delivery.proofs.Plain.{are-plain, plain}
 use Rattle.sctp_delivery.proofs.PlainCalls.{sender-goes}
-use Rattle.sctp_delivery.proofs.PlainRuns.{returns-goes, unmoved}
-use Rattle.sctp_delivery.proofs.PlainSessions.{Goes, IsThere, Others, Shadows, gone_by, kept_of, modes_by, receives-too}
-use Rattle.sctp_delivery.proofs.PlainStreams.{AreAlike, bare, both-changed}
-use Rattle.sctp_delivery.proofs.Every.{Every, every-contained}
+use Rattle.sctp_delivery.proofs.EveryGoes.{returns-goes, unmoved}
+use Rattle.sctp_delivery.proofs.PlainSessions.{Goes, Others, Shadows, gone_by, kept_of, modes_by, receives-too}
+use Rattle.sctp_delivery.proofs.Every.{every-contained}
 use Rattle.sctp_delivery.proofs.SackLaws as sacks
-use Rattle.sctp_delivery.proofs.Senders.{IsHeldOn, renumbered}
+use Rattle.sctp_delivery.proofs.Senders.{IsHeldOn}
 use Rattle.sctp_delivery.proofs.Sent.{Entry, Numbered}
 use Rattle.sctp_delivery.proofs.Sessions as made_in
 use Rattle.sctp_delivery.proofs.Sessions.{IsCounted, IsTakenMade, more-made, sender-counts, unnot}
@@ -60,66 +56,10 @@ use Rattle.sctp_delivery.proofs.TsnPlaces.{base}
 use Rattle.sctp_delivery.proofs.UnwrappedSessions.{IsAnswered, answered-first, receiver-answered-on, sender-answered-on}
 use Rattle.sctp_delivery.proofs.Whole.{AreWholeOn}
 
--- ## What a sender does by its calls, and one more
-
-ran-then : (cs : List sender_runs.Call) (c : sender_runs.Call) (old mid new : sender_runs.Ledger) → sender_runs.RunsTo old cs mid
-    → sender_runs.Follows c mid new → sender_runs.RunsTo old (cs ++ c ∷ []) new
-ran-then [] c old mid new r f = (new, (subst (λ l. sender_runs.Follows c l new) r f, refl))
-ran-then (d ∷ cs) c old mid new r f = (r.0, (r.1.0, ran-then cs c r.0 mid new r.1.1 f))
-
--- the session with another sender
-abbrev with_sender : Transmission → Session → Session
-with_sender t d = record d { sending = record d.sending { sender = t } }
-
--- # A stream of the sender is closed or reset
-
-module _ (on : ℕ → Bool) (first : ℕ) (st : ℕ) (off : on st ≡ false) where
-  other : (r : ℕ) → on r ≡ true → r ≡ st → ⊥
-  other r e same = not_both (sym off ∙ ap on (sym same) ∙ e)
-
-  closes-held : (ns : List Numbered) (t : Transmission) (sent : List Entry) → IsHeldOn on ns first t sent → IsHeldOn on ns first (close_stream st t) sent
-  closes-held ns t sent h = record {
-    stands = renumbered on ns first (λ r. number_of r t.streams) (λ r. number_of r (swapped_out (has_number st) t.streams)) t.flight.queue
-        t.flight.next_tsn sent (λ r e. numbers-closed st t.streams r (other r e) h.apart) h.stands;
-    open' = all-open on t.streams (swapped_out (has_number st) t.streams) (λ r e o. there-closed st t.streams r (other r e) o) ns h.open';
-    sized = sized-closed st t.streams h.sized;
-    apart = apart-closed st t.streams h.apart;
-    size = h.size;
-  }
-
-  resets-held : (ns : List Numbered) (t : Transmission) (sent : List Entry) → IsHeldOn on ns first t sent → IsHeldOn on ns first (reset_on st t) sent
-  resets-held ns t sent h =
-      let ls = change_where (has_number st) from_first t.streams in
-      record {
-        stands = renumbered on ns first (λ r. number_of r t.streams) (λ r. number_of r ls) t.flight.queue t.flight.next_tsn sent
-            (λ r e. number-elsewhere r st (other r e) from_first (λ l. refl) t.streams) h.stands;
-        open' = all-open on t.streams ls (λ r e o. there-changed (has_number st) from_first (λ l. refl) r t.streams ∙ o) ns h.open';
-        sized = sized-changed (has_number st) from_first (λ l. refl) t.streams h.sized;
-        apart = apart-changed (has_number st) from_first (λ l. refl) t.streams h.apart;
-        size = h.size;
-      }
-
--- streams that are alike are so without one
-both-closed : (s : ℕ) (ls ms : List OutboundStream) → AreAlike ls ms → AreAlike (swapped_out (has_number s) ls) (swapped_out (has_number s) ms)
-both-closed s ls ms e = out ls ∙ ap (swapped_out (has_number s)) e ∙ sym (out ms)
-  where
-    without : List OutboundStream → List OutboundStream
-    without ks = filter (λ l. not (has_number s l)) ks
-
-    left : (ks : List OutboundStream) → map bare (without ks) ≡ without (map bare ks)
-    left [] = refl
-    left (l ∷ ks) = at-test (λ b. map bare (if not b then l ∷ without ks else without ks) ≡
-        (if not b then bare l ∷ without (map bare ks) else without (map bare ks)))
-        (has_number s l) (λ _. left ks) (λ _. ap (λ xs. bare l ∷ xs) (left ks))
-
-    out : (ks : List OutboundStream) → map bare (swapped_out (has_number s) ks) ≡ swapped_out (has_number s) (map bare ks)
-    out [] = refl
-    out (l ∷ ks) = at-test (λ b. map bare (if b then slice_rotate_right (without ks) 1 else l ∷ swapped_out (has_number s) ks)
-        ≡ (if b then slice_rotate_right (without (map bare ks)) 1 else bare l ∷ swapped_out (has_number s) (map bare ks))) (has_number s l)
-        (λ _. rotated-map bare (without ks) ∙ ap (λ xs. slice_rotate_right xs 1) (left ks)) (λ _. ap (λ xs. bare l ∷ xs) (out ks))
+-- # Streams of the sender that are left
 
 -- the streams that are left are in the same modes
-left-in-modes : (f : ℕ → Mode) (s : ℕ) (ls : List OutboundStream) → AreInModes f ls → AreInModes f (swapped_out (has_number s) ls)
+pub left-in-modes : (f : ℕ → Mode) (s : ℕ) (ls : List OutboundStream) → AreInModes f ls → AreInModes f (swapped_out (has_number s) ls)
 left-in-modes f s ls h = from (swapped_out (has_number s) ls) (out-each (has_number s) (IsInModes f) ls (to ls h))
   where
     to : (ks : List OutboundStream) → AreInModes f ks → AllByRecursion (IsInModes f) ks
@@ -146,11 +86,11 @@ MayPass st gone made sent j = (is_unnamed st made ≡ false) × IsGoneAt st gone
 -- # What is so of the receiver's streams
 
 -- each has a number of its own; and of these streams those are open of which that is said
-record IsReady (calm opened : ℕ → Bool) (s : Session) : Type 0 where
-  apart : are_apart (numbers_of s.receiving.receiver.streams) ≡ true
-  open' : (st : ℕ) → calm st ≡ true → opened st ≡ true → is_open st s.receiving.receiver ≡ true
+pub record IsReady (calm opened : ℕ → Bool) (s : Session) : Type 0 where
+  pub apart : are_apart (numbers_of s.receiving.receiver.streams) ≡ true
+  pub open' : (st : ℕ) → calm st ≡ true → opened st ≡ true → is_open st s.receiving.receiver ≡ true
 
-ready-first : (calm : ℕ → Bool) (reported : Reported) (first size max most : ℕ) (limits : Option Limits)
+pub ready-first : (calm : ℕ → Bool) (reported : Reported) (first size max most : ℕ) (limits : Option Limits)
     → IsReady calm (λ q. false) (at_start_with reported first size max most limits)
 ready-first calm reported first size max most limits = record { apart = refl; open' = λ st c o. absurd (not_both o) }
 
@@ -162,7 +102,7 @@ ready-still calm opened s v same h = record {
       (h.open' st c (elim (or-split (opened st) false o) [ inl e ↦ e | inr e ↦ absurd (not_both e) ]));
 }
 
-ready-after : (calm opened : ℕ → Bool) (c : AnyCall) (s v : Session) → FollowsAny c s v → ((st : ℕ) → calm st ≡ true → breaks (opened st) st c ≡ false)
+pub ready-after : (calm opened : ℕ → Bool) (c : AnyCall) (s v : Session) → FollowsAny c s v → ((st : ℕ) → calm st ≡ true → breaks (opened st) st c ≡ false)
     → IsReady calm opened s → IsReady calm (λ q. opened q || opens_incoming q c) v
 ready-after calm opened (makes (of_sender call)) s v f whole h = ready-still calm opened s v (ap (λ (y : Session). y.receiving) f.after) h
 ready-after calm opened (of_sending call) s v f whole h = ready-still calm opened s v (ap (λ (y : Session). y.receiving) f.after) h
@@ -181,7 +121,7 @@ ready-after calm opened (of_receiving call) s v f whole h = record {
   ];
 }
 
-modes-on : (c : AnyCall) (cs : List AnyCall) (m : Modes) → modes_from (modes_from m (plain_calls (c ∷ []))) (plain_calls cs)
+pub modes-on : (c : AnyCall) (cs : List AnyCall) (m : Modes) → modes_from (modes_from m (plain_calls (c ∷ []))) (plain_calls cs)
     ≡ modes_from m (plain_calls (c ∷ cs))
 modes-on (makes (of_sender call)) cs m = refl
 modes-on (makes (of_receiver call)) cs m = refl
@@ -282,11 +222,7 @@ module _ (on dropped calm : ℕ → Bool) (lost : Option (List ℕ)) (sub : (st 
     pub answered : (st : ℕ) → calm st ≡ true → IsAnswered st first n sent spread.step.numbered.acked d
     pub up : (st : ℕ) → calm st ≡ true
         → IsReadUp st first n sent (MayPass st (gone ++ elsewhere st sent) d.made sent) (stream_of st d.receiving.receiver) d.receiving.read
-    pub counted : IsCounted d
-    pub size : ℕ
-    pub max : ℕ
-    pub calls : List sender_runs.Call
-    pub ran : sender_runs.RunsTo (sender_runs.at_start first size max) calls d.sending
+    pub ran : HasRun first d
     pub taken : IsTakenMade d
     pub called : IsCalled first d.receiving
     pub apart : are_apart (numbers_of d.receiving.receiver.streams) ≡ true
@@ -324,15 +260,7 @@ module _ (on dropped calm : ℕ → Bool) (lost : Option (List ℕ)) (sub : (st 
     answered = answered;
     up = λ st c. subst (λ ms. IsReadUp st first n p.sent (MayPass st (gone ++ elsewhere st p.sent) ms p.sent) (stream_of st e.receiving.receiver)
         e.receiving.read) (sym made) (up st c);
-    counted = record {
-      written = ap (λ ws. sum_by (λ (w : Write). length w.bytes) ws) written ∙ p.counted.written
-          ∙ sym (ap (λ (l : sender_runs.Ledger). l.written) same);
-      back = ap (λ (l : sender_runs.Ledger). l.taken_back) same ∙ p.counted.back;
-    };
-    size = p.size;
-    max = p.max;
-    calls = p.calls;
-    ran = subst (λ l. sender_runs.RunsTo (sender_runs.at_start first p.size p.max) p.calls l) (sym same) p.ran;
+    ran = run-beside first d e same written p.ran;
     taken = taken;
     called = called;
     apart = apart;
@@ -380,11 +308,7 @@ module _ (on dropped calm : ℕ → Bool) (lost : Option (List ℕ)) (sub : (st 
                   (wider gone answered (elsewhere st i.sent) (elsewhere st x.more) (listed-more None st i.sent x.more x.once)) i.sent x.more i.spread.long
                   x.once j h.1,
             )) (i.up st c);
-        counted = sender-counts call d e f i.counted;
-        size = i.size;
-        max = i.max;
-        calls = i.calls ++ outgoing.as_run call ∷ [];
-        ran = ran-then i.calls (outgoing.as_run call) (sender_runs.at_start first i.size i.max) d.sending e.sending i.ran f.step;
+        ran = run-after first call d e f i.ran;
         taken = made_in.sent-made call d e f i.taken;
         called = subst (IsCalled first) (sym same) i.called;
         apart = subst (λ (y : receiver_runs.Stand). are_apart (numbers_of y.receiver.streams) ≡ true) (sym same) i.apart;
@@ -418,11 +342,7 @@ module _ (on dropped calm : ℕ → Bool) (lost : Option (List ℕ)) (sub : (st 
       (i.told l said st c) (cut-with gone (listed l st i.sent) i.sent i.cut) i.taken (whole d n gone m i small st c) e i.apart call f)))
 
   pub played-accounted : (d : Session) (n : ℕ) (gone : List ℕ) (m : Modes) → IsPlayedSo d n gone m → IsAccounted d
-  played-accounted d n gone m i =
-      let law = accounts.accounted first i.size i.max Drop i.calls d.sending i.ran in
-      let w = i.counted.written in
-      let b = i.counted.back in
-      omega (arith, law, w, b)
+  played-accounted d n gone m i = run-accounted first d i.ran
 
   abbrev pub every : Others first
   every = record {
@@ -472,11 +392,7 @@ module _ (on dropped calm : ℕ → Bool) (lost : Option (List ℕ)) (sub : (st 
     begun = i.begun;
     answered = i.answered;
     up = i.up;
-    counted = record { written = i.counted.written; back = i.counted.back };
-    size = i.size;
-    max = i.max;
-    calls = i.calls ++ c ∷ [];
-    ran = ran-then i.calls c (sender_runs.at_start first i.size i.max) d.sending (record d.sending { sender = with_streams ls d.sending.sender }) i.ran f;
+    ran = run-restreamed first d ls c f i.ran;
     taken = i.taken;
     called = i.called;
     apart = i.apart;
@@ -490,26 +406,6 @@ module _ (on dropped calm : ℕ → Bool) (lost : Option (List ℕ)) (sub : (st 
     abbrev d : Session
     d = g.other
 
-    -- so has the one beside it
-    restreams : (call : SenderOther) → SenderDoes call s v → (us ls : List OutboundStream) → v.sending.sender ≡ with_streams us s.sending.sender
-        → AreAlike us ls → (n < 2 ^ 31 → IsPlayedSo (with_sender (with_streams ls g.other.sending.sender) g.other) n gone m)
-        → Goes first every v.sending.sender v n gone m
-    restreams call f us ls e alike p = subst (λ (t : Transmission). Goes first every t v n gone m) (sym e) (record {
-      other = with_sender (with_streams ls d.sending.sender) d;
-      shadow = record {
-        streams = ls;
-        chunks = g.shadow.chunks;
-        sender = ap (with_streams ls) g.shadow.sender;
-        alike = alike;
-        like = g.shadow.like;
-        receiving = g.shadow.receiving ∙ sym (ap (λ (x : Session). x.receiving) f.after);
-        made = g.shadow.made ∙ sym (ap (λ (x : Session). x.made) f.after);
-        written = g.shadow.written ∙ sym (ap (λ (x : Session). x.written) f.after);
-        sacks = subst (Every (IsThere d.sacks)) (sym (ap (λ (x : Session). x.sacks) f.after)) g.shadow.sacks;
-      };
-      plays = p;
-    })
-
     other-goes : (call : SenderOther) → ((r : ℕ) → renews r (of_sending call) ≡ true → on r ≡ false) → SenderDoes call s v
         → Goes first every v.sending.sender v n gone m
     other-goes (takes_back sack back) off f = returns-goes first every sack back s v n gone m (record {
@@ -520,37 +416,19 @@ module _ (on dropped calm : ℕ → Bool) (lost : Option (List ℕ)) (sub : (st 
       answered = f.accepted.1;
       after = f.after;
     }) g
-    other-goes (closes st) off f =
-        let ls = g.shadow.streams in
-        restreams (closes st) f (swapped_out (has_number st) s.sending.sender.streams) (swapped_out (has_number st) d.sending.sender.streams) f.step.sender
-        (both-closed st s.sending.sender.streams ls g.shadow.alike
-        ∙ ap (λ (t : Transmission). map bare (swapped_out (has_number st) t.streams)) (sym g.shadow.sender))
-        (λ few.
+    other-goes (closes st) off f = closed-goes first every s v n gone m g st f (λ few.
         let i = g.plays few in
         with-streams d n gone m (swapped_out (has_number st) d.sending.sender.streams) (sender_runs.closes st)
         (record { sender = refl; written = omega arith; released = omega arith; taken_back = omega arith }) i
         (closes-held on first st (off st (same-yes st)) i.numbered d.sending.sender i.sent i.spread.holds.held)
         (left-in-modes m.of_streams st d.sending.sender.streams i.said.sender.streams))
-    other-goes (resets st) off f =
-        let ls = g.shadow.streams in
-        restreams (resets st) f (change_where (has_number st) from_first s.sending.sender.streams)
-        (change_where (has_number st) from_first d.sending.sender.streams) f.step.sender
-        (both-changed st from_first (λ l. refl) s.sending.sender.streams ls g.shadow.alike
-        ∙ ap (λ (t : Transmission). map bare (change_where (has_number st) from_first t.streams)) (sym g.shadow.sender))
-        (λ few.
+    other-goes (resets st) off f = reset-goes first every s v n gone m g st f (λ few.
         let i = g.plays few in
         with-streams d n gone m (change_where (has_number st) from_first d.sending.sender.streams) (sender_runs.resets st)
         (record { sender = refl; written = omega arith; released = omega arith; taken_back = omega arith }) i
         (resets-held on first st (off st (same-yes st)) i.numbered d.sending.sender i.sent i.spread.holds.held)
         (changed-in m.of_streams (has_number st) from_first (record { number = λ l. refl; unordered = λ l. refl; reliability = λ l. refl; value = λ l. refl })
         d.sending.sender.streams i.said.sender.streams))
-
-    -- what is handed to the receiver of the one is handed to that of the other
-    handed-too : (call : ReceiverOther) → IsMadeChunk call s → IsMadeChunk call g.other
-    handed-too (discards c) h = subst (λ ms. Contains ms (data_chunk (data_of c))) (sym g.shadow.made) h
-    handed-too (closes_incoming st) h = tt
-    handed-too (resets_incoming st last) h = tt
-    handed-too (passes_over c) h = subst (λ ms. Contains ms (forward_tsn c)) (sym g.shadow.made) h
 
     -- of which messages it drops chunks
     drops-of : (opened : ℕ → Bool) (call : ReceiverOther) → ((others : List ℕ) → lost ≡ Some others → AreAmong (dropped_by call s) others)
@@ -572,46 +450,27 @@ module _ (on dropped calm : ℕ → Bool) (lost : Option (List ℕ)) (sub : (st 
     other-receives opened ready call so unbroken covers f =
         let x = g.shadow in
         let e : Session = record d { receiving = v.receiving } in
-        let f' : ReceiverDoes call d e = record {
-          handed = handed-too call f.handed;
-          step = subst (λ y. receiver_runs.Follows (as_receiver_run call) y v.receiving) (sym x.receiving) f.step;
-          accepted = subst (λ (y : receiver_runs.Stand). IsReceiverTaken call y.receiver) (sym x.receiving) f.accepted;
-          after = refl;
-        } in
-        subst (λ (l : sender_runs.Ledger). Goes first every l.sender v n gone m) (sym (ap (λ (y : Session). y.sending) f.after)) (record {
-          other = e;
-          shadow = record {
-            streams = x.streams;
-            chunks = x.chunks;
-            sender = x.sender;
-            alike = x.alike;
-            like = x.like;
-            receiving = refl;
-            made = x.made ∙ sym (ap (λ (y : Session). y.made) f.after);
-            written = x.written ∙ sym (ap (λ (y : Session). y.written) f.after);
-            sacks = subst (Every (IsThere d.sacks)) (sym (ap (λ (y : Session). y.sacks) f.after)) x.sacks;
-          };
-          plays = λ few.
-              let i = g.plays few in
-              let spread = beside-spreads on dropped first n d e i.numbered i.sent few refl refl refl
-              (runs.receiver-other dropped (base first) n few d e i.spread.step call so f') i.spread in
-              beside-played d e n gone m refl refl refl i spread
-              (λ st c. other-answered st first on dropped (sub st c) n d i.numbered i.sent i.spread few e (opened st)
-              (λ o. subst (λ (y : receiver_runs.Stand). is_open st y.receiver ≡ true) (sym x.receiving) (ready.open' st c o))
-              (subst (λ (y : receiver_runs.Stand). are_apart (numbers_of y.receiver.streams) ≡ true) (sym x.receiving) ready.apart) call f'
-              (unbroken st c) spread
-              (i.answered st c))
-              (λ st c. other-up st first on dropped (sub st c) n d i.numbered i.sent i.spread few e (i.answered st c).0
-              (MayPass st (gone ++ elsewhere st i.sent) d.made i.sent) (i.up st c) (gone ++ elsewhere st i.sent)
-              (cut-with gone (elsewhere st i.sent) i.sent i.cut) (made-passes st d n gone m i c) (λ g h j name at. (named-of st d.made g h name, at))
-              (opened st) (subst (λ (y : receiver_runs.Stand). are_apart (numbers_of y.receiver.streams) ≡ true) (sym x.receiving) ready.apart) call f'
-              (unbroken st c)) (runs.takes-made (of_receiving call) d e f' i.taken)
-              (called-then first (as_receiver_run call) d.receiving e.receiving i.called f'.step)
-              (stays-apart (as_receiver_run call) d.receiving.receiver e.receiving.receiver f'.step.receiver i.apart)
-              (λ l said st c. other-told on dropped st first n few d i.numbered i.sent i.spread (gone ++ listed l st i.sent) (i.answered st c)
-              (i.told l said st c) (cut-with gone (listed l st i.sent) i.sent i.cut) i.taken (whole d n gone m i few st c) e i.apart (opened st) call f'
-              (unbroken st c) (drops-of opened call covers few st c (unbroken st c) l said));
-        })
+        let f' = received-too first every s v n gone m g call f in
+        received-goes first every s v n gone m g call f (λ few.
+        let i = g.plays few in
+        let spread = beside-spreads on dropped first n d e i.numbered i.sent few refl refl refl
+        (runs.receiver-other dropped (base first) n few d e i.spread.step call so f') i.spread in
+        beside-played d e n gone m refl refl refl i spread
+        (λ st c. other-answered st first on dropped (sub st c) n d i.numbered i.sent i.spread few e (opened st)
+        (λ o. subst (λ (y : receiver_runs.Stand). is_open st y.receiver ≡ true) (sym x.receiving) (ready.open' st c o))
+        (subst (λ (y : receiver_runs.Stand). are_apart (numbers_of y.receiver.streams) ≡ true) (sym x.receiving) ready.apart) call f'
+        (unbroken st c) spread
+        (i.answered st c))
+        (λ st c. other-up st first on dropped (sub st c) n d i.numbered i.sent i.spread few e (i.answered st c).0
+        (MayPass st (gone ++ elsewhere st i.sent) d.made i.sent) (i.up st c) (gone ++ elsewhere st i.sent)
+        (cut-with gone (elsewhere st i.sent) i.sent i.cut) (made-passes st d n gone m i c) (λ g h j name at. (named-of st d.made g h name, at))
+        (opened st) (subst (λ (y : receiver_runs.Stand). are_apart (numbers_of y.receiver.streams) ≡ true) (sym x.receiving) ready.apart) call f'
+        (unbroken st c)) (runs.takes-made (of_receiving call) d e f' i.taken)
+        (called-then first (as_receiver_run call) d.receiving e.receiving i.called f'.step)
+        (stays-apart (as_receiver_run call) d.receiving.receiver e.receiving.receiver f'.step.receiver i.apart)
+        (λ l said st c. other-told on dropped st first n few d i.numbered i.sent i.spread (gone ++ listed l st i.sent) (i.answered st c)
+        (i.told l said st c) (cut-with gone (listed l st i.sent) i.sent i.cut) i.taken (whole d n gone m i few st c) e i.apart (opened st) call f'
+        (unbroken st c) (drops-of opened call covers few st c (unbroken st c) l said)))
 
   -- ## Every call
 
@@ -682,11 +541,7 @@ module _ (on dropped calm : ℕ → Bool) (lost : Option (List ℕ)) (sub : (st 
         answered = λ st c. answered-first st first on dropped size max most limits small some;
         up = λ st c.
             record { next = 0; number = omega arith; front = tt; within = omega arith; near = omega arith; done = λ j lt. absurd (omega (arith, lt)) };
-        counted = record { written = refl; back = refl };
-        size = size;
-        max = max;
-        calls = [];
-        ran = refl;
+        ran = run-first first size max most limits;
         taken = refl;
         called = record { most = most; limits = limits; calls = []; run = refl };
         apart = refl;

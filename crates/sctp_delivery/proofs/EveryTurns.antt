@@ -47,11 +47,11 @@ module _ (st first : ℕ) (on dropped : ℕ → Bool) (o : on st ≡ true) (n : 
 
   module _ (d : Due i.step.numbered.acked old.receiving) where
     -- the stream is as it was
-    untouched : new.receiving.read ≡ old.receiving.read → stream_of st new.receiving.receiver ≡ stream_of st r
+    untouched : stream_of st new.receiving.receiver ≡ stream_of st r
         → new.receiving.receiver.cumulative_tsn ≡ r.cumulative_tsn → new.receiving.receiver.beyond ≡ r.beyond → Due d.arrived.place new.receiving
-    untouched read same cumulative beyond =
+    untouched same cumulative beyond =
         quiet (base first) st n (sessions.to st first sent) (sessions.at st first sent) (sessions.Was st first sent) few
-        (sessions.grows st first on dropped o n old ns sent i few) i.step.numbered.acked old.receiving new.receiving d read
+        (sessions.grows st first on dropped o n old ns sent i few) i.step.numbered.acked old.receiving new.receiving d
         (subst (DueOn Old d.k d.reach) (sym same) d.due) cumulative beyond
 
     pub other-call-due : (opened : Bool) → (opened ≡ true → is_open st r ≡ true) → are_apart (numbers_of r.streams) ≡ true → (call : ReceiverOther)
@@ -59,26 +59,26 @@ module _ (st first : ℕ) (on dropped : ℕ → Bool) (o : on st ≡ true) (n : 
     other-call-due opened open' apart (discards c) f off = by-test (has_come c.tsn (filter_of r))
         (λ e.
         let same : new.receiving.receiver ≡ repeat_tsn c.tsn r = is e in
-        untouched f.step.read (ap (stream_of st) same) (ap (λ (u : Reception). u.cumulative_tsn) same) (ap (λ (u : Reception). u.beyond) same))
+        untouched (ap (stream_of st) same) (ap (λ (u : Reception). u.cumulative_tsn) same) (ap (λ (u : Reception). u.beyond) same))
         (λ e.
         let same : new.receiving.receiver ≡ with_filter (with_tsn c.tsn (filter_of r)) r = is e in
         other-due (base first) st n (sessions.to st first sent) (sessions.at st first sent) (sessions.Was st first sent) few
         (sessions.grows st first on dropped o n old ns sent i few) i.step.numbered.acked (sessions.near st first on dropped o n old ns sent i few) c
-        old.receiving new.receiving d (sessions.step-of st first on dropped o n old ns sent i few c f.handed) r same f.step.read e off
+        old.receiving new.receiving d (sessions.step-of st first on dropped o n old ns sent i few c f.handed) r same e off
         (subst (DueOn Old d.k d.reach) (sym (ap (stream_of st) same)) d.due))
       where
         is : {b : Bool} → has_come c.tsn (filter_of r) ≡ b
             → new.receiving.receiver ≡ (if b then repeat_tsn c.tsn r else with_filter (with_tsn c.tsn (filter_of r)) r)
         is e = f.step.receiver ∙ ap (λ b. if b then repeat_tsn c.tsn r else with_filter (with_tsn c.tsn (filter_of r)) r) e
     other-call-due opened open' apart (closes_incoming stream) f off =
-        untouched f.step.read (ap (stream_of st) f.step.receiver ∙ others-left stream st off r.streams apart)
+        untouched (ap (stream_of st) f.step.receiver ∙ others-left stream st off r.streams apart)
         (ap (λ (u : Reception). u.cumulative_tsn) f.step.receiver) (ap (λ (u : Reception). u.beyond) f.step.receiver)
     other-call-due opened open' apart (resets_incoming stream last) f off =
-        untouched f.step.read
+        untouched
         (ap (stream_of st) f.step.receiver ∙ changed-elsewhere stream (stream_reset last) (λ l h. refl) r.streams st off)
         (ap (λ (u : Reception). u.cumulative_tsn) f.step.receiver) (ap (λ (u : Reception). u.beyond) f.step.receiver)
     other-call-due opened open' apart (passes_over g) f off =
-        sessions.passed-due st first on dropped o n old ns sent i few new d g f.handed f.step.receiver f.step.read
+        sessions.passed-due st first on dropped o n old ns sent i few new d g f.handed f.step.receiver
         (near-names g r (names_too_far g r) f.accepted)
         (λ m at le lt j only.
         let named : list_any (is_pair_of st) g.streams ≡ true =

@@ -3,7 +3,7 @@ use Rattle.sctp_delivery.proofs.Names.{◌≡◌, ℕ, ◌+◌, ◌<◌, ◌≤�
 use Rattle.sctp_delivery.proofs.Names.{sym, subst, arith, nat_tests, filter, insert_before, change_where, Contains, if◌then◌else◌}
 use Rattle.sctp_delivery.proofs.Names.{comes_before, at_or_before, tsn, tsns, has_tsn, Sack, Flight, ChunkPayloadData, Transmission, Reception}
 use Rattle.sctp_delivery.proofs.Names.{after_sack, take_sack, is_outdated, sack_refusal, all_started, sent_next, next_after_send, after_forward_tsn}
-use Rattle.sctp_delivery.proofs.Names.{changed-run}
+use Rattle.sctp_delivery.proofs.Names.{changed-run, filter_of, with_filter, with_tsn}
 use Rattle.sctp_delivery.proofs.Names.{after_misses, abandoned_each, after_abandonment, with_inflight, with_room, expired_of, with_message, fragments_with_mode}
 use Rattle.sctp_delivery.proofs.Names.{can_miss, missed, started-inflight, next_pending, as_sent, option_map, ForwardTsn, Released}
 use Rattle.sctp_delivery.proofs.Names.{Session, SenderFollows, ReceiverFollows, SenderCall, ReceiverCall, Made, made_after, with_chunk, data_chunk, forward_tsn}
@@ -42,7 +42,7 @@ IsInRun f = IsNumbered f.acked_tsn (length f.queue.inflight.chunks) f
 abbrev pub IsSmall : ℕ → Type 0
 IsSmall t = t < 2 ^ 32
 
-still-run : (f g : Flight) → tsns g.queue.inflight.chunks ≡ tsns f.queue.inflight.chunks → g.next_tsn ≡ f.next_tsn → g.acked_tsn ≡ f.acked_tsn
+pub still-run : (f g : Flight) → tsns g.queue.inflight.chunks ≡ tsns f.queue.inflight.chunks → g.next_tsn ≡ f.next_tsn → g.acked_tsn ≡ f.acked_tsn
     → IsInRun f → IsInRun g
 still-run f g same next acked h =
     let p = f.acked_tsn in
@@ -225,20 +225,22 @@ advanced-small : (c : ℕ) (ts : List ℕ) → IsSmall c → Every IsSmall ts �
 advanced-small c [] a h = (a, tt)
 advanced-small c (t ∷ ts) a h = grind (arith, nat_tests, advanced-small t ts h.0 h.1)
 
-abbrev HasSmall : Reception → Type 0
+abbrev pub HasSmall : Reception → Type 0
 HasSmall r = IsSmall r.cumulative_tsn × Every IsSmall r.beyond
 
-module _ (call : ReceiverCall) (old new : Session) (f : ReceiverFollows call old new) (i : AreRegular old) where
+module _ (old : Session) (i : AreRegular old) where
   abbrev r : Reception
   r = old.receiving.receiver
-
-  to-small : (q : Reception) → new.receiving.receiver ≡ q → HasSmall q → HasSmall new.receiving.receiver
-  to-small q e h = subst HasSmall (sym e) h
 
   still : HasSmall r
   still = (i.cumulative, i.beyond)
 
-  follows-small : (g : ForwardTsn) → Contains old.made (forward_tsn g) → HasSmall (after_forward_tsn g r)
+  -- behind a TSN that came
+  pub with-small : (t : ℕ) → IsSmall t → HasSmall (with_filter (with_tsn t (filter_of r)) r)
+  with-small t small =
+      advanced-small r.cumulative_tsn (insert_before comes_before t r.beyond) i.cumulative (every-inserted IsSmall comes_before t r.beyond small i.beyond)
+
+  pub follows-small : (g : ForwardTsn) → Contains old.made (forward_tsn g) → HasSmall (after_forward_tsn g r)
   follows-small g h = at-test (λ b. HasSmall (if b then r else without_incomplete g.new_cumulative_tsn (if b then r else follow_forward_tsn g r)))
       (is_stale g r)
       (λ e. still)
@@ -246,16 +248,19 @@ module _ (call : ReceiverCall) (old new : Session) (f : ReceiverFollows call old
       (every-contained IsMadeSmall old.made (forward_tsn g) h i.made)
       (every-passing IsSmall (λ t. not (at_or_before t g.new_cumulative_tsn)) r.beyond i.beyond))
 
-  receiver-small : (c : ReceiverCall) → ReceiverFollows c old new → HasSmall new.receiving.receiver
-  receiver-small (incoming.opens stream) g = to-small _ g.step.receiver.1 still
-  receiver-small (incoming.takes c Repeat) g = to-small _ g.step.receiver still
-  receiver-small (incoming.takes c (New answered)) g =
-      to-small _ g.step.receiver.after (advanced-small r.cumulative_tsn (insert_before comes_before c.tsn r.beyond) i.cumulative
-      (every-inserted IsSmall comes_before c.tsn r.beyond (every-contained IsMadeSmall old.made (data_chunk (data_of c)) g.handed i.made) i.beyond))
-  receiver-small (incoming.follows c) g = to-small _ g.step.receiver (follows-small c g.handed)
-  receiver-small c g = to-small _ g.step.receiver still
+module _ (call : ReceiverCall) (old new : Session) (f : ReceiverFollows call old new) (i : AreRegular old) where
+  to-small : (q : Reception) → new.receiving.receiver ≡ q → HasSmall q → HasSmall new.receiving.receiver
+  to-small q e h = subst HasSmall (sym e) h
 
-  receiver-sacks : (c : ReceiverCall) → Every (λ (k : Sack). IsSmall k.cumulative_tsn_ack) (reports_after c r old.sacks)
+  receiver-small : (c : ReceiverCall) → ReceiverFollows c old new → HasSmall new.receiving.receiver
+  receiver-small (incoming.opens stream) g = to-small _ g.step.receiver.1 (still old i)
+  receiver-small (incoming.takes c Repeat) g = to-small _ g.step.receiver (still old i)
+  receiver-small (incoming.takes c (New answered)) g =
+      to-small _ g.step.receiver.after (with-small old i c.tsn (every-contained IsMadeSmall old.made (data_chunk (data_of c)) g.handed i.made))
+  receiver-small (incoming.follows c) g = to-small _ g.step.receiver (follows-small old i c g.handed)
+  receiver-small c g = to-small _ g.step.receiver (still old i)
+
+  receiver-sacks : (c : ReceiverCall) → Every (λ (k : Sack). IsSmall k.cumulative_tsn_ack) (reports_after c old.receiving.receiver old.sacks)
   receiver-sacks (incoming.reports credit) = (i.cumulative, i.regular.sacks)
   receiver-sacks (incoming.reports_within credit bytes) = (i.cumulative, i.regular.sacks)
   receiver-sacks (incoming.makes_sack credit bytes) = (i.cumulative, i.regular.sacks)

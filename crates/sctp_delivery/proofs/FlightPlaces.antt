@@ -17,15 +17,15 @@ use Rattle.sctp_sender.proofs.InLine.{put-behind}
 use Rattle.sctp_sender.specs.Flight.{count_acked, with_queue}
 use Rattle.sctp_delivery.specs.SenderCalls as outgoing
 use Rattle.sctp_delivery.proofs.Calls.{sent_by}
-use Rattle.sctp_delivery.proofs.Cases.{all_streams}
+use Rattle.sctp_delivery.proofs.Cases.{all_streams, where-is}
 use Rattle.sctp_delivery.proofs.Changes.{Change, acknowledges, all_start, changes, each_leaves, flight_after, front_expires, more_room, nothing}
 use Rattle.sctp_delivery.proofs.Changes.{one_leaves, partial-found, some_marked, some_missed}
-use Rattle.sctp_delivery.proofs.Delivered.{Holds, Sends, next_tsn, sender-step}
+use Rattle.sctp_delivery.proofs.Delivered.{HoldsOn, Sends, next_tsn, sender-step-on}
 use Rattle.sctp_delivery.proofs.FewInFlight.{IsInRun, IsSmall, raised-run, sack-place}
 use Rattle.sctp_delivery.proofs.GivenTsns.{raises-abandoned, raises-each}
-use Rattle.sctp_delivery.proofs.OrderedEntries.{AreIndexed, begun_on, ends_on}
+use Rattle.sctp_delivery.proofs.OrderedEntries.{AreIndexedOn, IsIndexed, IsLatest, begun_on, ends_on}
 use Rattle.sctp_delivery.proofs.OrderedRest.{last-rest}
-use Rattle.sctp_delivery.proofs.Queues.{Abandons, IsEnded, Stands}
+use Rattle.sctp_delivery.proofs.Queues.{Abandons, IsEnded, StandsOn}
 use Rattle.sctp_delivery.proofs.Numbers.{number_of}
 use Rattle.sctp_delivery.proofs.SackSteps.{message-inflight}
 use Rattle.sctp_delivery.proofs.Senders.{IsMoreBy, gone-one}
@@ -37,22 +37,22 @@ use Rattle.sctp_delivery.proofs.Writing.{accepted-stream}
 
 -- ## Chunks that are alike
 
-record IsKin (c d : ChunkPayloadData) : Type 0 where
-  stream : d.stream_identifier ≡ c.stream_identifier
-  kind : d.unordered ≡ c.unordered
-  number : d.stream_sequence_number ≡ c.stream_sequence_number
+pub record IsKin (c d : ChunkPayloadData) : Type 0 where
+  pub stream : d.stream_identifier ≡ c.stream_identifier
+  pub kind : d.unordered ≡ c.unordered
+  pub number : d.stream_sequence_number ≡ c.stream_sequence_number
 
-abbrev AreKin : List ChunkPayloadData → List ChunkPayloadData → Type 0
+abbrev pub AreKin : List ChunkPayloadData → List ChunkPayloadData → Type 0
 AreKin [] [] = Unit {0}
 AreKin [] (d ∷ ds) = ⊥
 AreKin (c ∷ cs) [] = ⊥
 AreKin (c ∷ cs) (d ∷ ds) = IsKin c d × AreKin cs ds
 
-kin-itself : (cs : List ChunkPayloadData) → AreKin cs cs
+pub kin-itself : (cs : List ChunkPayloadData) → AreKin cs cs
 kin-itself [] = tt
 kin-itself (c ∷ cs) = (record { stream = refl; kind = refl; number = refl }, kin-itself cs)
 
-kin-long : (cs ds : List ChunkPayloadData) → AreKin cs ds → length cs ≡ length ds
+pub kin-long : (cs ds : List ChunkPayloadData) → AreKin cs ds → length cs ≡ length ds
 kin-long [] [] k = refl
 kin-long [] (d ∷ ds) k = absurd k
 kin-long (c ∷ cs) [] k = absurd k
@@ -78,11 +78,11 @@ module _ (p : ChunkPayloadData → Bool) (f : ChunkPayloadData → ChunkPayloadD
 
 -- ## Places
 
-abbrev AreSet : ℕ → List Entry → ℕ → List ChunkPayloadData → Type 0
+abbrev pub AreSet : ℕ → List Entry → ℕ → List ChunkPayloadData → Type 0
 AreSet st sent a cs = AreSteps st sent a cs × AreOn st sent a cs
 
 module _ (st : ℕ) (sent : List Entry) where
-  set-kin : (a : ℕ) (cs ds : List ChunkPayloadData) → AreKin cs ds → AreSet st sent a cs → AreSet st sent a ds
+  pub set-kin : (a : ℕ) (cs ds : List ChunkPayloadData) → AreKin cs ds → AreSet st sent a cs → AreSet st sent a ds
   set-kin a [] [] k s = s
   set-kin a [] (d ∷ ds) k s = absurd k
   set-kin a (c ∷ cs) [] k s = absurd k
@@ -123,20 +123,23 @@ module _ (st : ℕ) (sent : List Entry) where
         (k.1.0 ∙ sym (at-more st (a + 1) e sent (omega (arith, long))), r.1),
       )
 
--- those in flight stand for the last entries
-pub record IsSet (first : ℕ) (f : Flight) (sent : List Entry) : Type 0 where
+-- those in flight stand for the last entries, on the streams on which numbers go on
+pub record IsSetOn (going : ℕ → Bool) (first : ℕ) (f : Flight) (sent : List Entry) : Type 0 where
   pub acked : ℕ
   pub total : acked + length f.queue.inflight.chunks ≡ length sent
   pub is : f.acked_tsn ≡ tsn (base first) acked
-  pub set : (st : ℕ) → AreSet st sent acked f.queue.inflight.chunks
+  pub set : (st : ℕ) → going st ≡ true → AreSet st sent acked f.queue.inflight.chunks
 
-same-set : (first : ℕ) (f g : Flight) (sent : List Entry) → g.acked_tsn ≡ f.acked_tsn → AreKin f.queue.inflight.chunks g.queue.inflight.chunks
-    → IsSet first f sent → IsSet first g sent
-same-set first f g sent acked kin s = record {
+abbrev pub IsSet : ℕ → Flight → List Entry → Type 0
+IsSet first f sent = IsSetOn all_streams first f sent
+
+pub same-set : (going : ℕ → Bool) (first : ℕ) (f g : Flight) (sent : List Entry) → g.acked_tsn ≡ f.acked_tsn
+    → AreKin f.queue.inflight.chunks g.queue.inflight.chunks → IsSetOn going first f sent → IsSetOn going first g sent
+same-set going first f g sent acked kin s = record {
   acked = s.acked;
   total = let n = kin-long f.queue.inflight.chunks g.queue.inflight.chunks kin in let t = s.total in omega (arith, n, t);
   is = acked ∙ s.is;
-  set = λ st. set-kin st sent s.acked f.queue.inflight.chunks g.queue.inflight.chunks kin (s.set st);
+  set = λ st o. set-kin st sent s.acked f.queue.inflight.chunks g.queue.inflight.chunks kin (s.set st o);
 }
 
 abbrev kin-chunks : (f : Flight) (cs : List ChunkPayloadData) → cs ≡ f.queue.inflight.chunks → AreKin f.queue.inflight.chunks cs
@@ -147,11 +150,11 @@ record IsNextFor (st : ℕ) (sent : List Entry) (e : Entry) (x : ChunkPayloadDat
   step : IsStep st (begun_on st sent) (begun_on st (e ∷ sent)) x
   on : is_ordered_on st x ≡ ends_on st (e ∷ sent)
 
-put-set : (first : ℕ) (f g : Flight) (sent : List Entry) (e : Entry) (x : ChunkPayloadData) (ds : List ChunkPayloadData)
+put-set : (going : ℕ → Bool) (first : ℕ) (f g : Flight) (sent : List Entry) (e : Entry) (x : ChunkPayloadData) (ds : List ChunkPayloadData)
     → AreKin f.queue.inflight.chunks ds → tsns ds ≡ tsns f.queue.inflight.chunks → g.queue.inflight.chunks ≡ insert_before chunk_before x ds
-    → g.acked_tsn ≡ f.acked_tsn → x.tsn ≡ f.next_tsn → length f.queue.inflight.chunks < 2 ^ 31 → IsInRun f → ((st : ℕ) → IsNextFor st sent e x)
-    → IsSet first f sent → IsSet first g (e ∷ sent)
-put-set first f g sent e x ds kin same put acked is few run next s =
+    → g.acked_tsn ≡ f.acked_tsn → x.tsn ≡ f.next_tsn → length f.queue.inflight.chunks < 2 ^ 31 → IsInRun f
+    → ((st : ℕ) → going st ≡ true → IsNextFor st sent e x) → IsSetOn going first f sent → IsSetOn going first g (e ∷ sent)
+put-set going first f g sent e x ds kin same put acked is few run next s =
     let cs = f.queue.inflight.chunks in
     let long = kin-long cs ds kin in
     let start = tsn f.acked_tsn (run.acked + 1) in
@@ -168,17 +171,17 @@ put-set first f g sent e x ds kin same put acked is few run next s =
       acked = s.acked;
       total = omega (arith, n, l, t, long);
       is = acked ∙ s.is;
-      set = λ st. subst (AreSet st (e ∷ sent) s.acked) (sym now)
-          (set-put st sent e x (next st).step (next st).on s.acked ds (omega (arith, t, long)) (set-kin st sent s.acked cs ds kin (s.set st)));
+      set = λ st o. subst (AreSet st (e ∷ sent) s.acked) (sym now)
+          (set-put st sent e x (next st o).step (next st o).on s.acked ds (omega (arith, t, long)) (set-kin st sent s.acked cs ds kin (s.set st o)));
     }
 
 -- ## A SACK
 
-sack-set : (first : ℕ) (k : Sack) (f : Flight) (sent : List Entry) → IsSmall k.cumulative_tsn_ack → length f.queue.inflight.chunks < 2 ^ 31
-    → sack_refusal k f ≡ None → IsInRun f → IsSet first f sent → IsSet first (after_sack k f) sent
-sack-set first k f sent small few none run s = by (is_outdated k f) refl
+sack-set : (going : ℕ → Bool) (first : ℕ) (k : Sack) (f : Flight) (sent : List Entry) → IsSmall k.cumulative_tsn_ack → length f.queue.inflight.chunks < 2 ^ 31
+    → sack_refusal k f ≡ None → IsInRun f → IsSetOn going first f sent → IsSetOn going first (after_sack k f) sent
+sack-set going first k f sent small few none run s = by (is_outdated k f) refl
   where
-    by : (b : Bool) → is_outdated k f ≡ b → IsSet first (if b then f else take_sack k f) sent
+    by : (b : Bool) → is_outdated k f ≡ b → IsSetOn going first (if b then f else take_sack k f) sent
     by true e = s
     by false e =
         let cs = f.queue.inflight.chunks in
@@ -206,7 +209,7 @@ sack-set first k f sent small few none run s = by (is_outdated k f) refl
           acked = s.acked + c;
           total = omega (arith, m, d, t, le, long);
           is = omega (arith, cum, was);
-          set = λ st. subst (AreSet st sent (s.acked + c)) (sym left) (set-drop st sent c s.acked ds (set-kin st sent s.acked cs ds kin (s.set st)));
+          set = λ st o. subst (AreSet st sent (s.acked + c)) (sym left) (set-drop st sent c s.acked ds (set-kin st sent s.acked cs ds kin (s.set st o)));
         }
 
 -- ## A message is abandoned
@@ -230,19 +233,16 @@ moved : (first next : ℕ) (sent more : List Entry) → IsEnded sent more → ne
 moved first next sent more (inl e) a b = let n = ap length e in absurd (omega (arith, n, a, b))
 moved first next sent more (inr e) a b = e
 
-module _ (ws : List Numbered) (first : ℕ) (number : ℕ → ℕ) where
-  leave-set : (f : Flight) (sent : List Entry) (h : Stands ws first number f.queue f.next_tsn sent) (o : Option ℕ)
+module _ (going : ℕ → Bool) (ws : List Numbered) (first : ℕ) (number : ℕ → ℕ) where
+  leave-set : (f : Flight) (sent : List Entry) (h : StandsOn going ws first number f.queue f.next_tsn sent) (o : Option ℕ)
       → ((m : ℕ) → o ≡ Some m → waits m f.queue.pending ≡ true → partially_sent f.queue.pending ≡ Some m) → length f.queue.inflight.chunks < 2 ^ 31
-      → IsInRun f → IsSet first f sent → (more : List Entry) → IsEnded sent more → (after_abandonment o f).next_tsn ≡ (first + length more) % 2 ^ 32
-      → IsSet first (after_abandonment o f) more
+      → IsInRun f → IsSetOn going first f sent → (more : List Entry) → IsEnded sent more → (after_abandonment o f).next_tsn ≡ (first + length more) % 2 ^ 32
+      → IsSetOn going first (after_abandonment o f) more
   leave-set f sent h None partial few run s more ended counted =
-      subst (IsSet first (after_abandonment None f)) (sym (still first f.next_tsn sent more ended h.counted counted))
-      (same-set first f (after_abandonment None f) sent refl (kin-itself f.queue.inflight.chunks) s)
+      subst (IsSetOn going first (after_abandonment None f)) (sym (still first f.next_tsn sent more ended h.counted counted))
+      (same-set going first f (after_abandonment None f) sent refl (kin-itself f.queue.inflight.chunks) s)
   leave-set f sent h (Some m) partial few run s more ended counted = by (waits m f.queue.pending) refl
     where
-      g : Flight
-      g = after_abandonment (Some m) f
-
       cs : List ChunkPayloadData
       cs = f.queue.inflight.chunks
 
@@ -252,39 +252,43 @@ module _ (ws : List Numbered) (first : ℕ) (number : ℕ → ℕ) where
       kin : AreKin cs ds
       kin = kin-changed (is_of m) as_abandoned (λ d. record { stream = refl; kind = refl; number = refl }) cs
 
-      by : (b : Bool) → waits m f.queue.pending ≡ b → IsSet first (after_abandonment (Some m) f) more
+      by : (b : Bool) → waits m f.queue.pending ≡ b → IsSetOn going first (after_abandonment (Some m) f) more
       by false w =
           let next : f.next_tsn ≡ (first + length more) % 2 ^ 32 = subst (λ b. (if b then following_tsn f.next_tsn else f.next_tsn)
           ≡ (first + length more) % 2 ^ 32) w counted in
           let chunks : (after_abandonment (Some m) f).queue.inflight.chunks ≡ change_where (is_of m) as_abandoned f.queue.inflight.chunks =
           ap (λ o. (with_terminal_chunk o f.next_tsn (payload.with_chunks f.queue.inflight
           (change_where (is_of m) as_abandoned f.queue.inflight.chunks))).chunks) (last_removed_none m f.queue.pending w) in
-          subst (IsSet first (after_abandonment (Some m) f)) (sym (still first f.next_tsn sent more ended h.counted next))
-          (same-set first f (after_abandonment (Some m) f) sent refl (subst (AreKin f.queue.inflight.chunks) (sym chunks) kin) s)
+          subst (IsSetOn going first (after_abandonment (Some m) f)) (sym (still first f.next_tsn sent more ended h.counted next))
+          (same-set going first f (after_abandonment (Some m) f) sent refl (subst (AreKin f.queue.inflight.chunks) (sym chunks) kin) s)
       by true w = from (last_removed m f.queue.pending) refl
         where
-          from : (o : Option ChunkPayloadData) → last_removed m f.queue.pending ≡ o → IsSet first (after_abandonment (Some m) f) more
+          from : (o : Option ChunkPayloadData) → last_removed m f.queue.pending ≡ o → IsSetOn going first (after_abandonment (Some m) f) more
           from None e = absurd (no_last m f.queue.pending w e)
           from (Some c) e =
               let t = terminal_chunk f.next_tsn c in
               let next : following_tsn f.next_tsn ≡ (first + length more) % 2 ^ 32 = subst (λ b. (if b then following_tsn f.next_tsn else f.next_tsn)
               ≡ (first + length more) % 2 ^ 32) w counted in
-              let rest = last-rest all_streams ws first number sent m c f.queue.pending f.queue.inflight.chunks f.queue.next_message_id h.sendable
+              let rest = last-rest going ws first number sent m c f.queue.pending f.queue.inflight.chunks f.queue.next_message_id h.sendable
               (partial m refl w) e h.queued in
               let chunks : (after_abandonment (Some m) f).queue.inflight.chunks
               ≡ insert_before chunk_before (terminal_chunk f.next_tsn c) (change_where (is_of m) as_abandoned f.queue.inflight.chunks) =
               ap (λ o. (with_terminal_chunk o f.next_tsn (payload.with_chunks f.queue.inflight
               (change_where (is_of m) as_abandoned f.queue.inflight.chunks))).chunks) e in
-              subst (IsSet first (after_abandonment (Some m) f)) (sym (moved first f.next_tsn sent more ended h.counted next))
-              (put-set first f (after_abandonment (Some m) f) sent terminal t (change_where (is_of m) as_abandoned f.queue.inflight.chunks) kin
+              subst (IsSetOn going first (after_abandonment (Some m) f)) (sym (moved first f.next_tsn sent more ended h.counted next))
+              (put-set going first f (after_abandonment (Some m) f) sent terminal t (change_where (is_of m) as_abandoned f.queue.inflight.chunks) kin
               (changed-run (is_of m) as_abandoned (λ d. refl) f.queue.inflight.chunks) chunks refl refl few run
-              (λ st. record { step = step-terminal st t sent (λ same. rest.0); on = rest.1 st }) s)
+              (λ st o. record {
+                step = step-terminal st t sent (λ same. where-is (going t.stream_identifier)
+                    (t.unordered ≡ false → IsLatest (begun_on t.stream_identifier sent) t.stream_sequence_number) (ap going same ∙ o) rest.0);
+                on = rest.1 st;
+              }) s)
 
   -- several, one after another
-  leave-each : (ts : List ℕ) (f : Flight) (sent : List Entry) → Stands ws first number f.queue f.next_tsn sent
-      → length (abandoned_each ts f).queue.inflight.chunks < 2 ^ 31 → IsInRun f → IsSet first f sent
-      → (a : Abandons all_streams ws first number sent f.queue (abandoned_each ts f).queue (abandoned_each ts f).next_tsn)
-      × IsSet first (abandoned_each ts f) a.more
+  leave-each : (ts : List ℕ) (f : Flight) (sent : List Entry) → StandsOn going ws first number f.queue f.next_tsn sent
+      → length (abandoned_each ts f).queue.inflight.chunks < 2 ^ 31 → IsInRun f → IsSetOn going first f sent
+      → (a : Abandons going ws first number sent f.queue (abandoned_each ts f).queue (abandoned_each ts f).next_tsn)
+      × IsSetOn going first (abandoned_each ts f) a.more
   leave-each [] f sent h few run s = (record { more = sent; stands = h; ended = inl refl; last = inl refl; none = λ e. (refl, e) }, s)
   leave-each (t ∷ ts) f sent h few run s =
       let g = abandoned_at t f in
@@ -293,7 +297,7 @@ module _ (ws : List Numbered) (first : ℕ) (number : ℕ → ℕ) where
       let all = raises-each g.acked_tsn ts g in
       let long = r.long in
       let rest = all.long in
-      let a = gone-one all_streams ws first number f sent h t in
+      let a = gone-one going ws first number f sent h t in
       let run' = raised-run 1 f g r (omega (arith, few, rest)) run in
       let one = leave-set f sent h o (found-partial f.queue h.sendable t (find (has_tsn t) f.queue.inflight.chunks) refl) (omega (arith, few, long, rest))
       run s a.more a.ended a.stands.counted in
@@ -316,40 +320,41 @@ module _ (ws : List Numbered) (first : ℕ) (number : ℕ → ℕ) where
 
 -- ## A call of the sender
 
-module _ (first : ℕ) (call : SenderCall) (old new : Session) (ns : List Numbered) (sent : List Entry) (f : SenderFollows call old new)
-    (h : Holds first old ns sent) (was : length old.sending.sender.flight.queue.inflight.chunks < 2 ^ 31)
+module _ (going : ℕ → Bool) (first : ℕ) (call : SenderCall) (old new : Session) (ns : List Numbered) (sent : List Entry) (f : SenderFollows call old new)
+    (h : HoldsOn going first old ns sent) (was : length old.sending.sender.flight.queue.inflight.chunks < 2 ^ 31)
     (few : length new.sending.sender.flight.queue.inflight.chunks < 2 ^ 31) (run : IsInRun old.sending.sender.flight)
     (small : (k : Sack) (gone : List Released) → call ≡ outgoing.takes_sack k gone → IsSmall k.cumulative_tsn_ack)
-    (s : IsSet first old.sending.sender.flight sent) where
+    (s : IsSetOn going first old.sending.sender.flight sent) where
   abbrev u : Transmission
   u = old.sending.sender
 
-  abbrev x : Sends all_streams first call old new ns sent
-  x = sender-step first call old new ns sent f h
+  abbrev x : Sends going first call old new ns sent
+  x = sender-step-on going first call old new ns sent f h
 
   abbrev counted : next_tsn old ≡ (first + length sent) % 2 ^ 32
   counted = h.held.stands.counted
 
   -- where the next TSN stays as it is
   quiet-set : (g : Flight) → g.next_tsn ≡ u.flight.next_tsn → (more : List Entry) → IsEnded sent more → g.next_tsn ≡ (first + length more) % 2 ^ 32
-      → IsSet first g sent → IsSet first g more
-  quiet-set g e more ended to i = subst (IsSet first g) (sym (still first g.next_tsn sent more ended (e ∙ counted) to)) i
+      → IsSetOn going first g sent → IsSetOn going first g more
+  quiet-set g e more ended to i = subst (IsSetOn going first g) (sym (still first g.next_tsn sent more ended (e ∙ counted) to)) i
 
   change-set : (c : SenderCall) → c ≡ call → outgoing.IsAccepted c u → (ch : Change c u) → length (flight_after c u ch).queue.inflight.chunks < 2 ^ 31
-      → (more : List Entry) → IsEnded sent more → (flight_after c u ch).next_tsn ≡ (first + length more) % 2 ^ 32 → IsSet first (flight_after c u ch) more
+      → (more : List Entry) → IsEnded sent more → (flight_after c u ch).next_tsn ≡ (first + length more) % 2 ^ 32
+      → IsSetOn going first (flight_after c u ch) more
   change-set c is ok nothing few' more ended to = quiet-set u.flight refl more ended to s
   change-set c is ok (all_start now) few' more ended to =
       let g = with_queue u.flight (all_started now u.flight.queue) in
       quiet-set g refl more ended to
-      (same-set first u.flight g sent refl (kin-chunks u.flight g.queue.inflight.chunks (ap (λ (w : payload.Payload). w.chunks)
+      (same-set going first u.flight g sent refl (kin-chunks u.flight g.queue.inflight.chunks (ap (λ (w : payload.Payload). w.chunks)
       (started-inflight now u.flight.queue))) s)
   change-set c is ok (more_room count) few' more ended to =
       let g = with_queue u.flight (with_room count u.flight.queue) in
-      quiet-set g refl more ended to (same-set first u.flight g sent refl (kin-itself u.flight.queue.inflight.chunks) s)
+      quiet-set g refl more ended to (same-set going first u.flight g sent refl (kin-itself u.flight.queue.inflight.chunks) s)
   change-set c is ok (some_marked p q k) few' more ended to =
       let g = with_queue u.flight (with_inflight u.flight.queue (change_where p q u.flight.queue.inflight.chunks)) in
       quiet-set g refl more ended to
-      (same-set first u.flight g sent refl (kin-changed p q (λ d. record {
+      (same-set going first u.flight g sent refl (kin-changed p q (λ d. record {
         stream = ap (λ (y : ChunkPayloadData). y.stream_identifier) (k d);
         kind = ap (λ (y : ChunkPayloadData). y.unordered) (k d);
         number = ap (λ (y : ChunkPayloadData). y.stream_sequence_number) (k d);
@@ -357,39 +362,40 @@ module _ (first : ℕ) (call : SenderCall) (old new : Session) (ns : List Number
   change-set c is ok (some_missed count) few' more ended to =
       let g = after_misses count u.flight in
       quiet-set g refl more ended to
-      (same-set first u.flight g sent refl (kin-part can_miss missed (λ d. record { stream = refl; kind = refl; number = refl }) count
+      (same-set going first u.flight g sent refl (kin-part can_miss missed (λ d. record { stream = refl; kind = refl; number = refl }) count
       u.flight.queue.inflight.chunks) s)
   change-set c is ok (one_leaves o e found) few' more ended to =
-      leave-set ns first (λ r. number_of r u.streams) u.flight sent h.held.stands o (partial-found u h.held.stands.sendable o found) was run s more ended to
+      leave-set going ns first (λ r. number_of r u.streams) u.flight sent h.held.stands o
+      (partial-found u h.held.stands.sendable o found) was run s more ended to
   change-set c is ok (each_leaves ts short e) few' more ended to =
-      let r = leave-each ns first (λ r. number_of r u.streams) ts u.flight sent h.held.stands few' run s in
+      let r = leave-each going ns first (λ r. number_of r u.streams) ts u.flight sent h.held.stands few' run s in
       let g = abandoned_each ts u.flight in
-      subst (IsSet first g) (one-end first g.next_tsn sent r.0.more more r.0.ended ended r.0.stands.counted to) r.1
+      subst (IsSetOn going first g) (one-end first g.next_tsn sent r.0.more more r.0.ended ended r.0.stands.counted to) r.1
   change-set c is ok (front_expires now d found e) few' more ended to =
       let g = with_queue u.flight (expired_of (Some d) u.flight.queue) in
-      quiet-set g refl more ended to (same-set first u.flight g sent refl (kin-itself u.flight.queue.inflight.chunks) s)
+      quiet-set g refl more ended to (same-set going first u.flight g sent refl (kin-itself u.flight.queue.inflight.chunks) s)
   change-set c is ok (acknowledges k gone e) few' more ended to =
       quiet-set (after_sack k u.flight) (sack-next (is_outdated k u.flight)) more ended to
-      (sack-set first k u.flight sent (small k gone (sym is ∙ e)) was (subst (λ d. outgoing.IsAccepted d u) e ok) run s)
+      (sack-set going first k u.flight sent (small k gone (sym is ∙ e)) was (subst (λ d. outgoing.IsAccepted d u) e ok) run s)
     where
       sack-next : (b : Bool) → (if b then u.flight else take_sack k u.flight).next_tsn ≡ u.flight.next_tsn
       sack-next true = refl
       sack-next false = refl
 
-  to-flight : (v : Flight) → new.sending.sender.flight ≡ v → (v.next_tsn ≡ (first + length x.more) % 2 ^ 32 → IsSet first v x.more)
-      → IsSet first new.sending.sender.flight x.more
+  to-flight : (v : Flight) → new.sending.sender.flight ≡ v → (v.next_tsn ≡ (first + length x.more) % 2 ^ 32 → IsSetOn going first v x.more)
+      → IsSetOn going first new.sending.sender.flight x.more
   to-flight v e k =
-      subst (λ (y : Flight). IsSet first y x.more) (sym e)
+      subst (λ (y : Flight). IsSetOn going first y x.more) (sym e)
       (k (subst (λ (y : Flight). y.next_tsn ≡ (first + length x.more) % 2 ^ 32) e x.holds.held.stands.counted))
 
   sent-set : (now : ℕ) (o : Option ChunkPayloadData) → next_pending (all_started now u.flight.queue).pending ≡ o
       → IsMoreBy (option_map (as_sent u.flight.next_tsn now) o) sent x.more → (v : Flight) → v.acked_tsn ≡ u.flight.acked_tsn
       → v.queue ≡ sent_of o (all_started now u.flight.queue) u.flight.next_tsn now
       → v.next_tsn ≡ (if is_some o then following_tsn u.flight.next_tsn else u.flight.next_tsn) → v.next_tsn ≡ (first + length x.more) % 2 ^ 32
-      → IsSet first v x.more
+      → IsSetOn going first v x.more
   sent-set now None e grown v acked queue next to =
       quiet-set v next x.more grown to
-      (same-set first u.flight v sent acked (kin-chunks u.flight v.queue.inflight.chunks
+      (same-set going first u.flight v sent acked (kin-chunks u.flight v.queue.inflight.chunks
       (ap (λ (q : Outbound). q.inflight.chunks) queue ∙ ap (λ (w : payload.Payload). w.chunks) (started-inflight now u.flight.queue))) s)
   sent-set now (Some c) e grown v acked queue next to =
       let t = as_sent u.flight.next_tsn now c in
@@ -397,18 +403,22 @@ module _ (first : ℕ) (call : SenderCall) (old new : Session) (ns : List Number
       let chunks : v.queue.inflight.chunks ≡ insert_before chunk_before t cs = ap (λ (q : Outbound). q.inflight.chunks) queue
       ∙ ap (λ (w : payload.Payload). insert_before chunk_before t w.chunks) (started-inflight now u.flight.queue) in
       let entry = fragment (data_of t) grown.0 grown.1 in
-      let indexed = subst AreIndexed grown.2 x.holds.held.stands.queued.indexed in
-      subst (IsSet first v) (sym grown.2)
-      (put-set first u.flight v sent entry t cs (kin-itself cs) refl chunks acked refl was run
-      (λ st. record { step = step-fragment st t grown.0 grown.1 sent (λ same. indexed.0); on = refl }) s)
+      let indexed = subst (AreIndexedOn going) grown.2 x.holds.held.stands.queued.indexed in
+      subst (IsSetOn going first v) (sym grown.2)
+      (put-set going first u.flight v sent entry t cs (kin-itself cs) refl chunks acked refl was run
+      (λ st o. record {
+        step = step-fragment st t grown.0 grown.1 sent
+            (λ same. where-is (going t.stream_identifier) (IsIndexed (data_of t) sent) (ap going same ∙ o) indexed.0);
+        on = refl;
+      }) s)
 
-  to-set : (c : SenderCall) → c ≡ call → SenderFollows c old new → IsMoreBy (sent_by c u) sent x.more → IsSet first new.sending.sender.flight x.more
+  to-set : (c : SenderCall) → c ≡ call → SenderFollows c old new → IsMoreBy (sent_by c u) sent x.more → IsSetOn going first new.sending.sender.flight x.more
   to-set (outgoing.writes stream ppi (b ∷ bs)) is g grown =
       let l = accepted-stream stream (length (b ∷ bs)) u g.accepted in
       let cs = fragments_with_mode l.0 ppi (b ∷ bs) in
       let v = with_queue u.flight (with_message cs u.flight.queue) in
       to-flight v (ap (λ (y : Transmission). y.flight) (g.exact.1 (omega arith) l.0 l.1)) (λ to. quiet-set v refl x.more grown to
-      (same-set first u.flight v sent refl (kin-chunks u.flight v.queue.inflight.chunks (ap (λ (w : payload.Payload). w.chunks)
+      (same-set going first u.flight v sent refl (kin-chunks u.flight v.queue.inflight.chunks (ap (λ (w : payload.Payload). w.chunks)
       (message-inflight cs u.flight.queue))) s))
   to-set (outgoing.sends now) is g grown =
       let v = record u.flight { queue = sent_next u.flight.queue u.flight.next_tsn now; next_tsn = next_after_send u.flight } in
@@ -420,5 +430,5 @@ module _ (first : ℕ) (call : SenderCall) (old new : Session) (ns : List Number
       to-flight (flight_after c u ch.change) ch.flight (λ to.
       change-set c is g.accepted ch.change (subst (λ (y : Flight). length y.queue.inflight.chunks < 2 ^ 31) ch.flight few) x.more grown to)
 
-  pub sender-set : IsSet first new.sending.sender.flight x.more
+  pub sender-set : IsSetOn going first new.sending.sender.flight x.more
   sender-set = to-set call refl f x.grown

@@ -10,7 +10,17 @@ use Rattle.sctp_receiver.specs.Receiver.{after_read, message_of, open_stream}
 use Rattle.sctp_receiver.proofs.Forwarded.{found-followed, found-mapped}
 use Rattle.sctp_receiver.proofs.Weights as weights
 use Rattle.sctp_receiver.proofs.Weights.{message_weight}
+use Rattle.sctp_receiver.specs.Receiver.{after_discard, close_stream, repeat_tsn}
+use Rattle.sctp_receiver.specs.Inbound.{numbers_of}
+use Rattle.sctp_receiver.specs.Resets.{stream_reset}
+use Rattle.sctp_receiver.proofs.Closed.{others-left}
+use Rattle.sctp_receiver.proofs.StreamCosts.{are_apart}
+use Rattle.sctp_stream.specs.Numbers.{swapped_out}
+use Rattle.sctp_stream.proofs.Removals.{out-none}
+use Rattle.sctp_delivery.specs.EveryCall.{ReceiverDoes, ReceiverOther, closes_incoming, discards, passes_over, resets_incoming}
 use Rattle.sctp_delivery.specs.ReceiverCalls as incoming
+use Rattle.sctp_delivery.proofs.Cases.{at-test, by-test}
+use Rattle.sctp_delivery.proofs.Names.{has_come, filter_of, with_filter, with_tsn, same-is}
 use Rattle.sctp_delivery.proofs.Kept.{accepted-on, changed-elsewhere, changed-here}
 
 -- w: how chunks are weighed; st: a stream
@@ -98,6 +108,43 @@ module _ (w : ChunkPayloadData → ℕ) (st : ℕ) where
   weighs (incoming.reads stream) old new f =
       let h = read-less stream old.receiving.receiver in let is = ap on f.step.receiver in omega (arith, h, is)
   weighs call old new f = let is = ap on f.step.receiver in omega (arith, is)
+
+  -- after a call of the receiver that most sessions do not have, where each stream has a number of its own
+  pub weighs-so : (call : ReceiverOther) (old new : Session) → are_apart (numbers_of old.receiving.receiver.streams) ≡ true → ReceiverDoes call old new
+      → on new.receiving.receiver ≤ on old.receiving.receiver
+  weighs-so (discards c) old new apart f =
+      let r = old.receiving.receiver in
+      let same : on (after_discard c.tsn r) ≡ on r = at-test (λ b. on (if b then repeat_tsn c.tsn r else with_filter (with_tsn c.tsn (filter_of r)) r) ≡ on r)
+      (has_come c.tsn (filter_of r)) (λ e. refl) (λ e. refl) in
+      let is = ap on f.step.receiver in
+      omega (arith, is, same)
+  weighs-so (closes_incoming s) old new apart f = by-test (s == st)
+      (λ e.
+      let none : on (close_stream s old.receiving.receiver) ≡ 0 = subst (λ k. held_weight w (find (has_number k) (swapped_out (has_number s) ls)) ≡ 0)
+      (same-is s st e) (ap (held_weight w) (out-none (has_number s) ls)) in
+      omega (arith, is, none))
+      (λ e. let same = ap (held_weight w) (others-left s st e ls apart) in omega (arith, is, same))
+    where
+      ls : List InboundStream
+      ls = old.receiving.receiver.streams
+
+      is : on new.receiving.receiver ≡ on (close_stream s old.receiving.receiver)
+      is = ap on f.step.receiver
+  weighs-so (resets_incoming s last) old new apart f =
+      let r = old.receiving.receiver in
+      let is = ap on f.step.receiver in
+      by-test (s == st)
+      (λ e.
+      let here = ap (held_weight w) (changed-here s (stream_reset last) (λ l g. refl) r.streams st e) in
+      let less = begun (stream_of st r) in
+      omega (arith, is, here, less))
+      (λ e. let same = ap (held_weight w) (changed-elsewhere s (stream_reset last) (λ l g. refl) r.streams st e) in omega (arith, is, same))
+    where
+      begun : (o : Option InboundStream) → held_weight w (option_map (stream_reset last) o) ≤ held_weight w o
+      begun None = omega arith
+      begun (Some l) = weights.reset w last l.queue
+  weighs-so (passes_over g) old new apart f =
+      let h = followed g old.receiving.receiver in let is = ap on f.step.receiver in omega (arith, h, is)
 
   -- the message that is read was held
   pub read-held : (r : Reception) → message_weight w (message_on st r) + on (after_read st r) ≡ on r

@@ -20,9 +20,6 @@ IsKnown first sent c = IsKnownOn all_streams first sent c
 abbrev pub AreKnownOn : (ℕ → Bool) → ℕ → List Entry → List ChunkPayloadData → Type 0
 AreKnownOn on first sent cs = Every (IsKnownOn on first sent) cs
 
-abbrev pub AreKnown : ℕ → List Entry → List ChunkPayloadData → Type 0
-AreKnown first sent cs = AreKnownOn all_streams first sent cs
-
 pub known-more : (on : ℕ → Bool) (first : ℕ) (x : Entry) (sent : List Entry) (cs : List ChunkPayloadData) → AreKnownOn on first sent cs
     → AreKnownOn on first (x ∷ sent) cs
 known-more on first x sent cs k =

@@ -8,13 +8,18 @@ use Rattle.std.specs.Prelude.{cond}
 use Rattle.sctp_delivery.specs.InOrder.{Are, AreAmong, AreReadInTurn, keeps_order, read_from, written_to}
 use Rattle.sctp_delivery.specs.Modes.{AreReadAsWritten, unknown, was_written_ordered}
 use Rattle.sctp_delivery.specs.Order.{places_where}
-use Rattle.sctp_delivery.specs.EveryCall.{AfterEachAnyOfFewBytes, AnyCall, RunsAny, is_single, is_steady, makes, of_receiving, of_sending, single_messages}
-use Rattle.sctp_delivery.specs.EveryOrder.{AreReadInTurnWhereUnbroken, is_ordered_throughout, is_unbroken, plain_calls}
+use Rattle.sctp_delivery.specs.EveryCall.{AfterEachAnyOfFewBytes, AnyCall, AreSingleWhereSteady, RunsAny, is_single, is_steady, makes, of_receiving, of_sending}
+use Rattle.sctp_delivery.specs.EveryCall.{single_messages}
+use Rattle.sctp_delivery.specs.EveryOrder.{AreReadInTurnWhereUnbroken, AreSingleReadAsWritten, is_ordered_throughout, is_unbroken, plain_calls}
 use Rattle.sctp_delivery.specs.Recent.{AfterEachYoungRun}
+use Rattle.sctp_delivery.specs.EveryRecent.{WhileAllAnyYoung}
 use Rattle.sctp_delivery.specs.Returns.{at_start_with}
+use Rattle.sctp_sender.specs.declared.sender.Reported.{Reported}
 use Rattle.sctp_delivery.proofs.Cases.{at-test}
 use Rattle.sctp_delivery.proofs.Every.{Every, every-of, every-of-all}
 use Rattle.sctp_delivery.proofs.EveryMessages as messages
+use Rattle.sctp_delivery.proofs.EveryYoung as young
+use Rattle.sctp_delivery.proofs.EveryYoungOrder as young_order
 use Rattle.sctp_delivery.proofs.FewYoung.{of-few}
 use Rattle.sctp_delivery.proofs.YoungOrder.{as-written}
 
@@ -220,21 +225,32 @@ same-on st (m ∷ ms) h = by (is_single m.fragments) refl (same-on st ms h.1)
         (λ f. absurd (not_both (sym e ∙ h.0 f)))
         (λ f. ih)
 
-pub in-turn-any : AfterEachAnyOfFewBytes AreReadInTurnWhereUnbroken
-in-turn-any reported tsn size max most limits cs s r small some' few short =
+-- where what was written ordered is read in that order, and messages are single where the sender is steady
+in-turn-so : (reported : Reported) (tsn size max most : ℕ) (limits : Option Limits) (cs : List AnyCall) (s : Session)
+    → RunsAny (at_start_with reported tsn size max most limits) cs s → AreSingleReadAsWritten cs s → AreSingleWhereSteady cs s
+    → AreReadInTurnWhereUnbroken cs s
+in-turn-so reported tsn size max most limits cs s r law alone =
     record { among = among-on; all = λ st e le. are (read_from st s) (written_to st s) (among-on st e) le }
   where
     among-on : (st : ℕ) → is_ordered_throughout cs st ≡ true → AreAmong (read_from st s) (written_to st s)
     among-on st e =
         let b = both (is_unbroken cs st) (list_all (keeps_order st) (plain_calls cs)) e in
-        let law = messages.as-written reported tsn size max most limits cs s r small some' few short in
         let o = ordered-any st cs (at_start_with reported tsn size max most limits) s at_first r b.1 (record { stream = refl; writes' = tt }) in
         let single : Every (λ (m : Message). is_steady cs m.stream ≡ true → is_single m.fragments ≡ true) s.receiving.read =
-        every-of-all (λ m. is_steady cs m.stream ≡ true → is_single m.fragments ≡ true) s.receiving.read
-        (messages.are-single reported tsn size max most limits cs s r small some' few short) in
+        every-of-all (λ m. is_steady cs m.stream ≡ true → is_single m.fragments ≡ true) s.receiving.read alone in
         subst (λ ms. AreAmong ms (written_to st s))
         (same-on st s.receiving.read
         (every-of (λ (m : Message). is_steady cs m.stream ≡ true → is_single m.fragments ≡ true)
         (λ (m : Message). (m.stream == st) ≡ true → is_single m.fragments ≡ true)
         (λ m h f. h (ap (is_steady cs) (same-is m.stream st f) ∙ messages.steady-there false cs st b.0)) s.receiving.read single))
         (among-places st (modes_from at_first (plain_calls cs)).of_writes s.written o.writes' (single_messages s.receiving.read) law.0 law.1 (law.3 st b.0))
+
+pub in-turn-any : AfterEachAnyOfFewBytes AreReadInTurnWhereUnbroken
+in-turn-any reported tsn size max most limits cs s r small some' few short =
+    in-turn-so reported tsn size max most limits cs s r (messages.as-written reported tsn size max most limits cs s r small some' few short)
+    (messages.are-single reported tsn size max most limits cs s r small some' few short)
+
+pub in-turn-any-young : WhileAllAnyYoung AreReadInTurnWhereUnbroken
+in-turn-any-young reported tsn size max most limits cs s r small some' q y z short =
+    in-turn-so reported tsn size max most limits cs s r (young_order.as-written reported tsn size max most limits cs s r small some' q y z short)
+    (young.single reported tsn size max most limits cs s r small some' q y short)

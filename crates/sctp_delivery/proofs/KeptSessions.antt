@@ -1,6 +1,6 @@
 -- The message that a first fragment is of, among those that were read; and what is so where nothing waits and nothing is held.
 use Rattle.sctp_delivery.proofs.Names.{◌≡◌, ℕ, suc, ◌+◌, ◌<◌, ◌≤◌, ◌^◌, Bool, true, false, List, [], ◌∷◌, ◌++◌, length, Option, Some, inl, inr, refl, ap, sym}
-use Rattle.sctp_delivery.proofs.Names.{subst, ◌∙◌, arith, zero, ◌-◌, None, All, Contains, find, ◌==◌, ◌&&◌, ◌||◌, if◌then◌else◌, slice_index_or, ◌⊎◌, filter}
+use Rattle.sctp_delivery.proofs.Names.{subst, ◌∙◌, arith, zero, ◌-◌, None, All, Contains, find, ◌==◌, ◌&&◌, ◌||◌, if◌then◌else◌, slice_index_or, ◌⊎◌}
 use Rattle.sctp_delivery.proofs.Names.{list_all, list_any, sum_by, sum_by-append, sum_by-cons, AllPass-from_list_all, nat_tests, common_steps, or-split}
 use Rattle.sctp_delivery.proofs.Names.{same-is, both, fails, not_both, ChunkPayloadData, Data, data_of, ChunkSet, Pending, held_chunks, Limits, InboundStream}
 use Rattle.sctp_delivery.proofs.Names.{Reception, stream_of, held_weight, set_weight, Message, fragments_read, is_one_message, Stand, completes, is_complete}
@@ -52,21 +52,6 @@ use Rattle.sctp_delivery.proofs.SpreadFlight.{are-on, are-steps}
 use Rattle.sctp_delivery.proofs.Kept.{IsOther}
 use Rattle.sctp_delivery.proofs.TightFlight.{IsTight, tight-after, tight-later}
 use Rattle.sctp_delivery.proofs.UnwrappedSessions.{IsUnwrapped, receiver-unwrapped, sender-answered, unwrapped-first}
-
--- ## All that was taken was read
-
-pub some-on : (t : ℕ) (cs : List ChunkPayloadData) → list_any (has_tsn t) cs ≡ true → (st : ℕ) × (0 < sum_by (one t) (filter (is_on st) cs))
-some-on t [] e = absurd (not_both e)
-some-on t (c ∷ cs) e = at-test (λ b. (b || list_any (has_tsn t) cs) ≡ true → (st : ℕ) × (0 < sum_by (one t) (filter (is_on st) (c ∷ cs))))
-    (has_tsn t c)
-    (λ h f. (c.stream_identifier, here h))
-    (λ h f. let r = (some-on t cs) f in (r.0, more r.0 r.1)) e
-  where
-    here : has_tsn t c ≡ true → 0 < sum_by (one t) (filter (is_on c.stream_identifier) (c ∷ cs))
-    here h = grind (arith, nat_tests, sum_by-cons (one t) c (filter (is_on c.stream_identifier) cs))
-
-    more : (st : ℕ) → 0 < sum_by (one t) (filter (is_on st) cs) → 0 < sum_by (one t) (filter (is_on st) (c ∷ cs))
-    more st lt = grind (arith, nat_tests, common_steps)
 
 -- ## Each write was read
 

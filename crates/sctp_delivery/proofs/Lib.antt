@@ -44,11 +44,14 @@ pub mod EveryTurns
 pub mod WholeSets
 pub mod EveryFronts
 pub mod EveryEnds
+pub mod EveryGoes
 pub mod EveryShadows
+pub mod EveryHolds
 pub mod Even
 pub mod EveryHeld
 pub mod EverySettled
 pub mod EveryKept
+pub mod EveryRead
 pub mod EveryMessages
 pub mod Uses
 pub mod EveryExamples
@@ -139,6 +142,7 @@ pub mod TakenAgain
 pub mod HeldWeights
 pub mod YoungReads
 pub mod YoungSacks
+pub mod EveryRecent
 pub mod YoungOwn
 pub mod FlightPlaces
 pub mod YoungSpread
@@ -146,3 +150,7 @@ pub mod YoungTurns
 pub mod YoungEnd
 pub mod YoungHeld
 pub mod YoungOrder
+pub mod EveryYoung
+pub mod EveryYoungOrder
+pub mod Ages
+pub mod EveryFewYoung

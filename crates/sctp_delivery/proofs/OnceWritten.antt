@@ -41,11 +41,6 @@ one-begun (x ∷ zs) o d e w v after rest xs ys b c same (inr p) (inl q) =
 one-begun (terminal ∷ zs) o d e w v after rest xs ys b c same (inr p) (inr q) = one-begun zs o d e w v after rest xs ys b c same p q
 one-begun (fragment f u left ∷ zs) o d e w v after rest xs ys b c same (inr p) (inr q) = one-begun zs o.1 d e w v after rest xs ys b c same p q
 
--- they are one chunk
-pub one-first : (sent : List Entry) → AreOnce sent → (d e : Data) (w v : Numbered) (after rest : List ℕ) (xs ys : List Entry) → d.beginning_fragment ≡ true
-    → e.beginning_fragment ≡ true → w.place ≡ v.place → IsPart (fragment d w after ∷ xs) sent → IsPart (fragment e v rest ∷ ys) sent → d ≡ e
-one-first sent o d e w v after rest xs ys b c same p q = let it = one-begun sent o d e w v after rest xs ys b c same p q in cc
-
 -- ## Places
 
 module _ (ns : List Numbered) (sent : List Entry) (once : AreOnce sent) where

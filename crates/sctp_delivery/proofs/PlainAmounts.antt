@@ -17,7 +17,7 @@ use Rattle.sctp_delivery.specs.Returns.{RunsWithReturns, TakesBack}
 use Rattle.sctp_delivery.specs.Returns.{abandoned_so, at_start_with, bytes_back_on, makes, other_calls, returned_by, returned_on, takes_back, tsns_given_so}
 use Rattle.sctp_delivery.specs.Session.{count_in_flight}
 use Rattle.sctp_delivery.proofs.AmountLaws.{AllOf, AreCounted, IsOf, WasMade, all-told, counted-in, counted-then, each-made, ends-of, made-in, moved}
-use Rattle.sctp_delivery.proofs.Cases.{at-if, at-test}
+use Rattle.sctp_delivery.proofs.Cases.{all_streams, at-if, at-test}
 use Rattle.sctp_delivery.proofs.Delivered.{next_tsn}
 use Rattle.sctp_delivery.proofs.Every.{Every, all-of-every, every-of}
 use Rattle.sctp_delivery.proofs.Plain.{AreLike, IsLike, rest_of}
@@ -316,7 +316,7 @@ pub each-told : AfterEachWithReturnsOfFewInFlight (λ calls s. EachIsTold s)
 each-told reported first size max most limits calls s run small some few short k left t f =
     let g = goes reported first size max most limits calls s run small few short in
     let h = has-made first size max most limits small some s _ _ _ g in
-    all-told s t k left f (each-made first h.sent s.made s.sending.sender.flight.queue.inflight.chunks h.made h.holds.held.stands.known)
+    all-told s t k left f (each-made all_streams first h.sent s.made s.sending.sender.flight.queue.inflight.chunks h.made h.holds.held.stands.known)
     h.holds.held.stands.sendable
     (counts-all reported first size max most limits calls s run small some few short).counted
 
@@ -355,7 +355,7 @@ each-return-told reported first size max most limits calls s run small some few 
     made : Every (WasMade s.made) g.shadow.chunks
     made =
         let h = made-in first size max most limits g.plays.plain.calls g.other small some g.plays.plain.run in
-        let w = each-made first h.sent g.other.made g.other.sending.sender.flight.queue.inflight.chunks h.made h.holds.held.stands.known in
+        let w = each-made all_streams first h.sent g.other.made g.other.sending.sender.flight.queue.inflight.chunks h.made h.holds.held.stands.known in
         subst (λ ms. Every (WasMade ms) g.shadow.chunks) g.shadow.made
         (subst (λ (u : Transmission). Every (WasMade g.other.made) u.flight.queue.inflight.chunks) g.shadow.sender w)
 

@@ -38,7 +38,7 @@ sized-alike (l ∷ ls) (m ∷ ms) e z =
     let rest : AreAlike ms ls = cc in
     (subst (λ (x : OutboundStream). 0 < x.max_payload_size) (sym one) z.0, sized-alike ls ms rest z.1)
 
-steady-alike : (ls ms : List OutboundStream) → AreAlike ms ls → IsSteady ls ms
+pub steady-alike : (ls ms : List OutboundStream) → AreAlike ms ls → IsSteady ls ms
 steady-alike ls ms e = record {
   numbers = λ s. sym (numbers-bare s ms) ∙ ap (number_of s) e ∙ numbers-bare s ls;
   there = λ s o. sym (there-bare s ms) ∙ ap (is_there s) e ∙ there-bare s ls ∙ o;
@@ -56,7 +56,7 @@ pub outstanding-like : (k : Option (List ℕ)) (c d : ChunkPayloadData) → IsLi
     → (is_outstanding d ≡ true) × (data_of c ≡ data_of d)
 outstanding-like k c d i o = grind (arith, nat_tests, common_steps, both, negated)
 
-known-like : (on : ℕ → Bool) (first : ℕ) (sent : List Entry) (k : Option (List ℕ)) (c d : ChunkPayloadData) → IsLike k c d → Unit {0}
+pub known-like : (on : ℕ → Bool) (first : ℕ) (sent : List Entry) (k : Option (List ℕ)) (c d : ChunkPayloadData) → IsLike k c d → Unit {0}
     → IsKnownOn on first sent d → IsKnownOn on first sent c
 known-like on first sent k c d i h6 h = (
   λ o. let x = outstanding-like k c d i o in subst (WasSent sent) (sym x.1) (h.0 x.0),

@@ -1,7 +1,7 @@
 -- Sessions of a sender that keeps what is reported: beside each there is one in which no gap ack block is taken, with the same chunks.
 use Rattle.sctp_delivery.proofs.Names.{nat_tests, common_steps, ◌≡◌, AllPairs, ℕ, ◌<◌, ◌≤◌, ◌+◌, ◌^◌, true, List, [], ◌∷◌, ◌++◌, length, refl, ap, ap₂, sym}
-use Rattle.sctp_delivery.proofs.Names.{subst, ◌∙◌, arith, append-nil, append_assoc, Option, ◌==◌, ◌&&◌}
-use Rattle.sctp_delivery.proofs.Names.{Contains, Sack, Limits, Transmission, Drop, Session}
+use Rattle.sctp_delivery.proofs.Names.{subst, ◌∙◌, arith, append_assoc, Option, ◌==◌, ◌&&◌}
+use Rattle.sctp_delivery.proofs.Names.{Contains, Limits, Transmission, Drop, Session}
 use Rattle.sctp_delivery.proofs.Names.{RunsTo, at_start, bytes_written, of_receiver, of_sender, abandoned_in, tsns_given, Modes, at_first, modes_from, Write}
 use Rattle.sctp_delivery.proofs.Names.{chunk_count, is_exhausted, reads_nothing, StandAt, AreMade, AreMessages, Stand, Call, Data}
 use Rattle.sctp_delivery.proofs.Names.{data_chunk, EachOtherIsReadOnce, slice_index_or, AreWrites, AreWritesOfTheirOwn, NoneIsReadTwice, AreReadInOrder}
@@ -10,32 +10,29 @@ use Rattle.std.specs.Prelude.{◌≢◌}
 use Rattle.sctp_util.specs.Serial.{distance}
 use Rattle.sctp_sender.specs.declared.sender.Reported.{Reported}
 use Rattle.sctp_sender.specs.declared.sender.Reported.TheVariants.{Keep}
-use Rattle.sctp_sender.specs.declared.sender.flight.kept.TakenBack.{TakenBack}
 use Rattle.sctp_delivery.specs.Abandoned.{IsEachOtherReadInTheEnd}
 use Rattle.sctp_delivery.specs.Messages.{AreParts, IsPart}
 use Rattle.sctp_delivery.specs.Modes.{AreReadAsWritten, AreSentAsWritten, IsUnorderedAt, was_written_ordered}
 use Rattle.sctp_delivery.specs.Order.{places_where}
 use Rattle.sctp_delivery.specs.Returns.{AfterEachWithReturns, AfterEachWithReturnsOfFewInFlight, AfterEachWithReturnsOfFewTsns, AreFewInFlightSo}
 use Rattle.sctp_delivery.specs.Returns.{CallOrReturn, IsAccountedSo}
-use Rattle.sctp_delivery.specs.Returns.{FollowsOrReturns, RunsWithReturns, TakesBack, abandoned_so, at_start_with, makes, other_calls, takes_back}
+use Rattle.sctp_delivery.specs.Returns.{FollowsOrReturns, RunsWithReturns, abandoned_so, at_start_with, makes, other_calls, takes_back}
 use Rattle.sctp_delivery.specs.Returns.{tsns_given_so}
 use Rattle.sctp_delivery.specs.Sacks.{AcknowledgedCame, LeftCame, ReportWhatCame}
 use Rattle.sctp_delivery.specs.EveryCall.{AcknowledgedArrived, LeftArrived, ReportWhatArrived, drops}
 use Rattle.sctp_delivery.specs.Session.{count_in_flight}
 use Rattle.sctp_delivery.proofs.Delivered as delivered
 use Rattle.sctp_delivery.proofs.Delivered.{next_tsn}
+use Rattle.sctp_delivery.proofs.EveryGoes.{returns-goes, unmoved}
 use Rattle.sctp_delivery.proofs.EveryRuns as every
 use Rattle.sctp_delivery.proofs.FewInFlight.{regular-first}
 use Rattle.sctp_delivery.proofs.ReturnsAny.{any_calls, as_any, follows-any, none-dropped, of-each, of-few-tsns, runs-any}
 use Rattle.sctp_delivery.proofs.FewYoung as few_young
 use Rattle.sctp_delivery.proofs.ModeSessions as modes
-use Rattle.sctp_delivery.proofs.OneRead.{no-way}
 use Rattle.sctp_delivery.proofs.OthersOnce as others
 use Rattle.sctp_delivery.proofs.Plain.{are-long}
 use Rattle.sctp_delivery.proofs.PlainCalls.{sender-goes}
-use Rattle.sctp_delivery.proofs.PlainReturns.{back-like}
-use Rattle.sctp_delivery.proofs.PlainSessions.{Goes, PlaysOn, Shadows, Others, gone_by, kept_of, modes_by, plain, receives-too, small-next}
-use Rattle.sctp_delivery.proofs.PlainStreams.{returned-alike}
+use Rattle.sctp_delivery.proofs.PlainSessions.{Goes, PlaysOn, Shadows, Others, gone_by, kept_of, modes_by, plain, receives-too}
 use Rattle.sctp_delivery.proofs.SackLaws.{IsInStepBut}
 use Rattle.sctp_delivery.proofs.SackSteps.{none_dropped}
 use Rattle.sctp_delivery.proofs.TsnPlaces.{base}
@@ -71,20 +68,6 @@ modes-cons (makes (of_receiver call)) cs m = refl
 modes-cons (takes_back sack back) cs m = refl
 
 module _ (first : ℕ) (others : Others first) where
-  pub returns-goes : (sack : Sack) (back : List TakenBack) (s v : Session) (n : ℕ) (gone : List ℕ) (m : Modes) → TakesBack sack back s v
-      → Goes first others s.sending.sender s n gone m → Goes first others v.sending.sender v n gone m
-  returns-goes sack back s v n gone m f g = grind (arith, nat_tests, common_steps, returned-alike, back-like)
-
-  -- no TSN is given out, and no message abandoned
-  pub unmoved : (s v : Session) (n : ℕ) (gone : List ℕ) (m : Modes) → next_tsn v ≡ next_tsn s → others.Bound n (count_in_flight s)
-      → Goes first others s.sending.sender s n gone m → Goes first others v.sending.sender v n gone m
-      → Goes first others v.sending.sender v (n + distance (next_tsn s) (next_tsn v)) (gone ++ []) m
-  unmoved s v n gone m same few g h =
-      let none : distance (next_tsn s) (next_tsn v) ≡ 0 = ap (distance (next_tsn s)) same
-      ∙ no-way (next_tsn s) (small-next first others s.sending.sender s n gone m few g) in
-      subst (λ k. Goes first others v.sending.sender v k (gone ++ []) m) {x = n} {y = n + distance (next_tsn s) (next_tsn v)} (omega (arith, none))
-      (subst (λ xs. Goes first others v.sending.sender v n xs m) (sym (append-nil gone)) h)
-
   -- one call
   pub one-goes : (c : CallOrReturn) (s v : Session) (n : ℕ) (gone : List ℕ) (m : Modes) → FollowsOrReturns c s v
       → others.Bound n (count_in_flight s) → others.Bound (n + distance (next_tsn s) (next_tsn v)) (count_in_flight v) → bytes_written v < 2 ^ 64
@@ -92,9 +75,9 @@ module _ (first : ℕ) (others : Others first) where
       → Goes first others v.sending.sender v (n + distance (next_tsn s) (next_tsn v)) (gone ++ gone_so c s) (modes_so c m)
   one-goes (makes (of_sender call)) s v n gone m f was few short g = sender-goes first others s v n gone m was few g call short f
   one-goes (makes (of_receiver call)) s v n gone m f was few short g =
-      unmoved s v n gone m (ap (λ (y : Session). next_tsn y) f.after) was g (receives-too first others call s v n gone m was g f)
+      unmoved first others s v n gone m (ap (λ (y : Session). next_tsn y) f.after) was g (receives-too first others call s v n gone m was g f)
   one-goes (takes_back sack back) s v n gone m f was few short g =
-      unmoved s v n gone m (ap (λ (y : Transmission). y.flight.next_tsn) f.exact) was g (returns-goes sack back s v n gone m f g)
+      unmoved first others s v n gone m (ap (λ (y : Transmission). y.flight.next_tsn) f.exact) was g (returns-goes first others sack back s v n gone m f g)
 
 module _ (first size max most : ℕ) (limits : Option Limits) where
   abbrev Going : Session → ℕ → List ℕ → Modes → Type 0

@@ -1,5 +1,6 @@
 -- No TSN is read twice: the fragments of all messages that were read have TSNs of their own.
 use Rattle.sctp_delivery.proofs.Names.{◌≡◌, ℕ, ◌+◌, ◌≤◌, Bool, true, false, not, List, [], ◌∷◌, ◌++◌, Option, refl, ap, sym, subst, ◌∙◌, arith, ◌==◌, ◌&&◌}
+use Rattle.sctp_delivery.proofs.Names.{zero, suc, ◌<◌, nat_lt}
 use Rattle.sctp_delivery.proofs.Names.{◌||◌, if◌then◌else◌, filter, list_all, list_any, sum_by, sum_by-cons, sum_by-append, nat_tests, common_steps, negated}
 use Rattle.sctp_delivery.proofs.Names.{or-right, same-is, same-yes, and, both, not_both, ChunkPayloadData, Limits, Message, fragments_read, has_tsn, is_on}
 use Rattle.sctp_delivery.proofs.Names.{NoneIsReadTwice, fragments_of_all, AfterEachSessionOfFewTsns, NoneIsTakenTwice, are_apart, Session, at_start}
@@ -141,6 +142,85 @@ none-twice-so first most limits calls s run apart = apart-where (fragments_of_al
         let f = sessions.read-on-so first most limits calls s run in
         let all = count-all t st s.receiving.read e f in
         omega (arith, all, weighs st (one t), fewer t (is_on st) s.receiving.accepted, once t s.receiving.accepted apart)
+
+-- ## No TSN is read more often than it is taken
+
+-- on the streams below one
+module _ (t : ℕ) where
+  abbrev read_under : ℕ → List Message → List ChunkPayloadData
+  read_under k [] = []
+  read_under k (m ∷ ms) = if nat_lt m.stream k then m.fragments ++ read_under k ms else read_under k ms
+
+  abbrev taken_under : ℕ → List ChunkPayloadData → List ChunkPayloadData
+  taken_under k cs = filter (λ c. nat_lt c.stream_identifier k) cs
+
+  one-more : (x k w : ℕ) → ◌≡◌ {A = ℕ} (if nat_lt x (k + 1) then w else 0) ((if x == k then w else 0) + (if nat_lt x k then w else 0))
+  one-more x k w = grind (arith, nat_tests)
+
+  picked : (b : Bool) (cs ds : List ChunkPayloadData) → count t (if b then cs ++ ds else ds) ≡ (if b then count t cs else 0) + count t ds
+  picked true cs ds = sum_by-append (one t) cs ds
+  picked false cs ds = omega arith
+
+  passed : (p : ChunkPayloadData → Bool) (c : ChunkPayloadData) (cs : List ChunkPayloadData)
+      → count t (filter p (c ∷ cs)) ≡ (if p c then one t c else 0) + count t (filter p cs)
+  passed p c cs = by (p c)
+    where
+      by : (b : Bool) → count t (if b then c ∷ filter p cs else filter p cs) ≡ (if b then one t c else 0) + count t (filter p cs)
+      by true = more t c (filter p cs)
+      by false = omega arith
+
+  read-more : (k : ℕ) (ms : List Message) → count t (read_under (k + 1) ms) ≡ count t (fragments_read k ms) + count t (read_under k ms)
+  read-more k [] = omega arith
+  read-more k (m ∷ ms) =
+      let all = picked (nat_lt m.stream (k + 1)) m.fragments (read_under (k + 1) ms) in
+      let here = picked (m.stream == k) m.fragments (fragments_read k ms) in
+      let below = picked (nat_lt m.stream k) m.fragments (read_under k ms) in
+      omega (arith, all, here, below, one-more m.stream k (count t m.fragments), read-more k ms)
+
+  taken-more : (k : ℕ) (cs : List ChunkPayloadData) → count t (taken_under (k + 1) cs) ≡ count t (filter (is_on k) cs) + count t (taken_under k cs)
+  taken-more k [] = omega arith
+  taken-more k (c ∷ cs) =
+      let all = passed (λ d. nat_lt d.stream_identifier (k + 1)) c cs in
+      let here = passed (is_on k) c cs in
+      let below = passed (λ d. nat_lt d.stream_identifier k) c cs in
+      omega (arith, all, here, below, one-more c.stream_identifier k (one t c), taken-more k cs)
+
+  none-under : (ms : List Message) → count t (read_under 0 ms) ≡ 0
+  none-under [] = omega arith
+  none-under (m ∷ ms) =
+      let no : nat_lt m.stream 0 ≡ false = grind (arith, nat_tests) in
+      ap (λ b. count t (if b then m.fragments ++ read_under 0 ms else read_under 0 ms)) no ∙ none-under ms
+
+  all-under : (ms : List Message) → (k : ℕ) × ((j : ℕ) → k ≤ j → read_under j ms ≡ fragments_of_all ms)
+  all-under [] = (0, λ j le. refl)
+  all-under (m ∷ ms) =
+      let rest = all-under ms in (
+        m.stream + 1 + rest.0,
+        λ j le.
+            let lt : m.stream < j = omega (arith, le) in
+            let yes : nat_lt m.stream j ≡ true = grind (arith, nat_tests, lt) in
+            ap (λ b. if b then m.fragments ++ read_under j ms else read_under j ms) yes ∙ ap (λ cs. m.fragments ++ cs) (rest.1 j (omega (arith, le))),
+      )
+
+  pub none-more : (first most : ℕ) (limits : Option Limits) (calls : List receiver_runs.Call) (s : Session)
+      → receiver_runs.RunsTo (receiver_runs.at_start first most limits) calls s.receiving
+      → count t (fragments_of_all s.receiving.read) ≤ count t s.receiving.accepted
+  none-more first most limits calls s run =
+      let all = all-under s.receiving.read in
+      let le = upto all.0 in
+      let less = fewer t (λ c. nat_lt c.stream_identifier all.0) s.receiving.accepted in
+      let is = ap (count t) (all.1 all.0 (omega arith)) in
+      omega (arith, le, less, is)
+    where
+      upto : (k : ℕ) → count t (read_under k s.receiving.read) ≤ count t (taken_under k s.receiving.accepted)
+      upto zero = let z = none-under s.receiving.read in omega (arith, z)
+      upto (suc k) =
+          let a = read-more k s.receiving.read in
+          let b = taken-more k s.receiving.accepted in
+          let w = handed.accepted first most limits calls s.receiving run k (one t) in
+          let ih = upto k in
+          subst (λ j. count t (read_under j s.receiving.read) ≤ count t (taken_under j s.receiving.accepted)) {x = k + 1} {y = suc k} (omega arith)
+          (omega (arith, a, b, w, ih))
 
 pub none-twice : AfterEachSessionOfFewTsns (λ first given s. NoneIsReadTwice s)
 none-twice first size max most limits cs s run small few =

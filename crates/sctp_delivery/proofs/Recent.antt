@@ -4,8 +4,9 @@ use Rattle.sctp_delivery.proofs.Names.{◌≡◌, ℕ, ◌+◌, ◌-◌, ◌<◌
 use Rattle.sctp_delivery.proofs.Names.{subst, ◌∙◌, arith, nat_tests, inl, inr, ◌⊎◌, cases_lt, filter, insert_before, not_both, both, if◌then◌else◌}
 use Rattle.sctp_delivery.proofs.Names.{tsn, Sack, Flight, ChunkPayloadData, Transmission, Reception, Released, after_sack, take_sack, is_outdated}
 use Rattle.sctp_delivery.proofs.Names.{follow_forward_tsn, without_incomplete, is_stale, New, Repeat, list_any}
-use Rattle.sctp_delivery.proofs.Names.{Session, SenderFollows, ReceiverFollows, SenderCall, ReceiverCall, RunsTo, Call, at_start, of_sender, of_receiver}
-use Rattle.sctp_delivery.proofs.Names.{CanBeAnswered, fragments_with_mode, with_message, sent_next, next_after_send}
+use Rattle.sctp_delivery.proofs.Names.{Session, SenderFollows, ReceiverFollows, SenderCall, ReceiverCall, at_start, of_sender, of_receiver}
+use Rattle.sctp_delivery.proofs.Names.{CanBeAnswered, Contains, ForwardTsn, after_forward_tsn, filter_of, has_come, with_filter, with_tsn}
+use Rattle.sctp_delivery.proofs.Names.{fragments_with_mode, with_message, sent_next, next_after_send}
 use Rattle.sctp_delivery.proofs.Names.{nat_lt, ◌&&◌, ◌==◌, tsns, all_started, with_inflight, after_misses, abandoned_each, after_abandonment, change_where}
 use Rattle.sctp_delivery.proofs.Names.{changed-run, started-inflight, can_miss, missed, sack_refusal, data_chunk, data_of, forward_tsn, Ledger, IsReported}
 use Rattle.sctp_outbound.specs.payload_queue.PayloadQueue as payload
@@ -14,7 +15,7 @@ use Rattle.sctp_delivery.proofs.Sessions.{neither}
 use Rattle.sctp_receiver.specs.TsnFilter.{rise_beyond}
 use Rattle.sctp_sender.specs.Flight.{count_acked, with_queue, with_room}
 use Rattle.sctp_util.specs.Serial.{at_or_before, comes_before, distance}
-use Rattle.sctp_delivery.specs.Recent.{AreRecent, IsRecent, WhileRecent}
+use Rattle.sctp_delivery.specs.Recent.{IsRecent}
 use Rattle.sctp_delivery.specs.ReceiverCalls as incoming
 use Rattle.sctp_delivery.specs.SenderCalls as outgoing
 use Rattle.sctp_delivery.specs.Session.{count_in_flight}
@@ -38,11 +39,11 @@ use Rattle.sctp_delivery.proofs.Writing.{accepted-stream}
 abbrev pub any : ℕ → Bool
 any t = true
 
-abbrev none : ℕ → Bool
+abbrev pub none : ℕ → Bool
 none t = false
 
 -- what came at the receiver, behind the place acknowledged
-abbrev HasArrived : Flight → Reception → Type 0
+abbrev pub HasArrived : Flight → Reception → Type 0
 HasArrived f r = IsArrived f.acked_tsn (length f.queue.inflight.chunks) any r.cumulative_tsn r.beyond
 
 pub record IsNear (s : Session) : Type 0 where
@@ -74,13 +75,13 @@ pub record IsLonger (f g : Flight) : Type 0 where
   pub acked : g.acked_tsn ≡ f.acked_tsn
   pub long : length f.queue.inflight.chunks ≤ length g.queue.inflight.chunks
 
-same-longer : (f g : Flight) → tsns g.queue.inflight.chunks ≡ tsns f.queue.inflight.chunks → g.acked_tsn ≡ f.acked_tsn → IsLonger f g
+pub same-longer : (f g : Flight) → tsns g.queue.inflight.chunks ≡ tsns f.queue.inflight.chunks → g.acked_tsn ≡ f.acked_tsn → IsLonger f g
 same-longer f g same acked = record { acked = acked; long = let n = as-long g.queue.inflight.chunks f.queue.inflight.chunks same in omega (arith, n) }
 
 raised-longer : (most : ℕ) (f g : Flight) → Raises f.acked_tsn most f g → IsLonger f g
 raised-longer most f g r = record { acked = r.acked; long = let n = r.long in omega (arith, n) }
 
-longer-arrived : (f g : Flight) (r : Reception) → IsLonger f g → HasArrived f r → HasArrived g r
+pub longer-arrived : (f g : Flight) (r : Reception) → IsLonger f g → HasArrived f r → HasArrived g r
 longer-arrived f g r l h =
     subst (λ a. IsArrived a (length g.queue.inflight.chunks) any r.cumulative_tsn r.beyond) (sym l.acked)
     (more-arrived f.acked_tsn (length f.queue.inflight.chunks) (length g.queue.inflight.chunks) any any r.cumulative_tsn r.beyond l.long (λ t e. e) h)
@@ -260,7 +261,7 @@ module _ (old new : Session) (few : count_in_flight new < 2 ^ 31) (i : IsNear ol
   abbrev n : ℕ
   n = count_in_flight old
 
-  abbrev Comes : Reception → Type 0
+  abbrev pub Comes : Reception → Type 0
   Comes q = HasArrived old.sending.sender.flight q × IsInOrder q
 
   to : (q : Reception) → new.receiving.receiver ≡ q → Comes q → Comes new.receiving.receiver
@@ -273,31 +274,32 @@ module _ (old new : Session) (few : count_in_flight new < 2 ^ 31) (i : IsNear ol
     | inr all ↦ absurd (not_both (sym past ∙ (ap (at_or_before t) i.arrived.is ∙ all i.arrived.place i.arrived.within)))
   ]
 
-  receiver-comes : (c : ReceiverCall) → ReceiverFollows c old new → IsRecent (of_receiver c) old → Comes new.receiving.receiver
-  receiver-comes (incoming.opens stream) g q = to _ g.step.receiver.1 (i.arrived, record { small = i.order.small; rise = i.order.rise })
-  receiver-comes (incoming.takes c Repeat) g q = to _ g.step.receiver (i.arrived, record { small = i.order.small; rise = i.order.rise })
-  receiver-comes (incoming.takes c (New answered)) g q =
-      let fresh = fresh-new c.tsn answered r g.accepted.1 in
-      let small = every-contained IsMadeSmall old.made (data_chunk (data_of c)) g.handed i.regular.made in
-      let a = given c.tsn small q (neither (at_or_before c.tsn r.cumulative_tsn) (list_any (λ t. t == c.tsn) r.beyond) fresh).0 in
-      let k = order-with p n r any i.few i.arrived i.order c.tsn a fresh in
-      to _ g.step.receiver.after (
-        advanced p n any r.cumulative_tsn (insert_before comes_before c.tsn r.beyond) i.few (record {
+  pub fresh-given : (t : ℕ) → IsSmall t → comes_before t u.flight.next_tsn ≡ true → has_come t (filter_of r) ≡ false → IsGiven p n t
+  fresh-given t small e fresh = given t small e (neither (at_or_before t r.cumulative_tsn) (list_any (λ x. x == t) r.beyond) fresh).0
+
+  -- behind one that came, and behind a FORWARD-TSN
+  pub comes-with : (t : ℕ) → IsGiven p n t → has_come t (filter_of r) ≡ false → Comes (with_filter (with_tsn t (filter_of r)) r)
+  comes-with t a fresh =
+      let k = order-with p n r any i.few i.arrived i.order t a fresh in (
+        advanced p n any r.cumulative_tsn (insert_before comes_before t r.beyond) i.few (record {
           place = i.arrived.place;
           within = i.arrived.within;
           is = i.arrived.is;
           so_far = λ j pos le. refl;
-          each = every-inserted (IsKnown p n any) comes_before c.tsn r.beyond
+          each = every-inserted (IsKnown p n any) comes_before t r.beyond
               (record { place = a.place; some = a.some; within = a.within; is = a.is; so = refl }) i.arrived.each;
         }),
         record { small = k.small; rise = k.rise },
       )
-  receiver-comes (incoming.follows c) g q = to _ g.step.receiver (by (is_stale c r) refl)
+
+  pub comes-past : (c : ForwardTsn) → Contains old.made (forward_tsn c) → comes_before c.new_cumulative_tsn u.flight.next_tsn ≡ true
+      → Comes (after_forward_tsn c r)
+  comes-past c handed q = by (is_stale c r) refl
     where
       by : (b : Bool) → is_stale c r ≡ b → Comes (if b then r else without_incomplete c.new_cumulative_tsn (if b then r else follow_forward_tsn c r))
       by true e = (i.arrived, i.order)
       by false e =
-          let small = every-contained IsMadeSmall old.made (forward_tsn c) g.handed i.regular.made in
+          let small = every-contained IsMadeSmall old.made (forward_tsn c) handed i.regular.made in
           let a = given c.new_cumulative_tsn small q e in
           let o = subst (λ b. IsInOrder (if b then r else without_incomplete c.new_cumulative_tsn (if b then r else follow_forward_tsn c r))) e
           (order-past p n r any i.few i.arrived i.order c a) in (
@@ -310,6 +312,15 @@ module _ (old new : Session) (few : count_in_flight new < 2 ^ 31) (i : IsNear ol
             }),
             o,
           )
+
+  receiver-comes : (c : ReceiverCall) → ReceiverFollows c old new → IsRecent (of_receiver c) old → Comes new.receiving.receiver
+  receiver-comes (incoming.opens stream) g q = to _ g.step.receiver.1 (i.arrived, record { small = i.order.small; rise = i.order.rise })
+  receiver-comes (incoming.takes c Repeat) g q = to _ g.step.receiver (i.arrived, record { small = i.order.small; rise = i.order.rise })
+  receiver-comes (incoming.takes c (New answered)) g q =
+      let fresh = fresh-new c.tsn answered r g.accepted.1 in
+      let small = every-contained IsMadeSmall old.made (data_chunk (data_of c)) g.handed i.regular.made in
+      to _ g.step.receiver.after (comes-with c.tsn (fresh-given c.tsn small q fresh) fresh)
+  receiver-comes (incoming.follows c) g q = to _ g.step.receiver (comes-past c g.handed q)
   receiver-comes c g q = to _ g.step.receiver (i.arrived, record { small = i.order.small; rise = i.order.rise })
 
   pub receiver-near : (c : ReceiverCall) → ReceiverFollows c old new → IsRecent (of_receiver c) old → IsNear new
@@ -324,12 +335,7 @@ module _ (old new : Session) (few : count_in_flight new < 2 ^ 31) (i : IsNear ol
         few = few;
       }
 
--- ## Each session
-
-near-then : (cs : List Call) (s new : Session) (run : RunsTo s cs new) → AreRecent s cs new run → IsNear s → IsNear new
-near-then [] s new run q i = subst IsNear (sym run) i
-near-then (of_sender call ∷ cs) s new run q i = near-then cs run.0 new run.1.1 q.2 (sender-near s run.0 q.1 i call run.1.0 q.0)
-near-then (of_receiver call ∷ cs) s new run q i = near-then cs run.0 new run.1.1 q.2 (receiver-near s run.0 q.1 i call run.1.0 q.0)
+-- ## The beginning, and what is so of each
 
 pub near-first : (first size max most : ℕ) (limits : Option Limits) → first < 2 ^ 32 → IsNear (at_start first size max most limits)
 near-first first size max most limits small = record {
@@ -340,8 +346,7 @@ near-first first size max most limits small = record {
   few = omega arith;
 }
 
-pub all-can : WhileRecent CanBeAnswered
-all-can first size max most limits cs s small run q =
-    let i = near-then cs (at_start first size max most limits) s run q (near-first first size max most limits small) in
+pub near-can : (s : Session) → IsNear s → CanBeAnswered s
+near-can s i =
     can-near any s.sending.sender.flight.acked_tsn (count_in_flight s) s i.few i.regular.regular.numbered i.arrived
     (settled any none s.sending.sender.flight.queue.inflight.chunks i.valid.inflight)

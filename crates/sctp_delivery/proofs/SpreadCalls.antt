@@ -180,12 +180,6 @@ pub sender-spreads : (first n : ℕ) (call : SenderCall) (old new : Session) (ns
     → n + distance (next_tsn old) (next_tsn new) < 2 ^ 31 → SenderFollows call old new → Spreads first n call old new ns sent i
 sender-spreads first n call old new ns sent i few f = sender-spreads-on all_streams none_dropped first n call old new ns sent i few f
 
-pub same-more : (first n : ℕ) (call : SenderCall) (old new : Session) (ns : List Numbered) (sent : List Entry) (i : IsSpread first n old ns sent)
-    (few : n + distance (next_tsn old) (next_tsn new) < 2 ^ 31) (f : SenderFollows call old new)
-    → (delivered.sender-step first call old new ns sent f i.holds).more ≡ (sender-spreads first n call old new ns sent i few f).more
-unfolding sender-spreads sender-spreads-on delivered.sender-step
-same-more first n call old new ns sent i few f = refl
-
 -- ## A call of the receiver
 
 -- where the sender stays as it is

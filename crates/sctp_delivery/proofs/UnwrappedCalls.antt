@@ -4,15 +4,13 @@ use Rattle.sctp_delivery.proofs.Names.{ap, sym, subst, ◌∙◌, arith, ◌⊎�
 use Rattle.sctp_delivery.proofs.Names.{cases_lt, eq-eqb, nat_tests, find-append, change_where, insert_before, at_or_before, comes_before, negated, or-left}
 use Rattle.sctp_delivery.proofs.Names.{or-right, or-split, same-is, list_any-inserted, list_any-those, both, fails, not_both, tsn, ChunkPayloadData}
 use Rattle.sctp_delivery.proofs.Names.{ChunkForwardTsnStream, ChunkSet, ForwardTsn, has_tsn, is_on, is_complete, Reassembly, held_after_ordered_skip}
-use Rattle.sctp_delivery.proofs.Names.{held_after_unordered_skip, message_read, cannot_complete, misses, InboundStream, new_stream, number, skipped_each}
+use Rattle.sctp_delivery.proofs.Names.{held_after_unordered_skip, cannot_complete, misses, InboundStream, new_stream, number, skipped_each}
 use Rattle.sctp_delivery.proofs.Names.{ssns_of, stream_forwarded, stream_read, unassembled_forwarded, with_queue, Accepts, Reception, filter_of}
-use Rattle.sctp_delivery.proofs.Names.{follow_forward_tsn, is_open, is_stale, message_on, stream_of, Message, Stand, after_forward_tsn, incomplete_forwarded}
+use Rattle.sctp_delivery.proofs.Names.{follow_forward_tsn, is_open, is_stale, stream_of, Stand, after_forward_tsn, incomplete_forwarded}
 use Rattle.sctp_delivery.proofs.Names.{is_ahead, names_too_far, with_filter, with_tsn, without_incomplete, is_name_too_far, is_named_too_far, is_ssn_too_far}
 use Rattle.sctp_delivery.proofs.Names.{is_too_far_on, has_come, is_pair_of, is_ordered_on, found-passes}
 use Rattle.std.specs.Prelude.{is_some}
 use Rattle.sctp_receiver.specs.Inbound.{has_number}
-use Rattle.sctp_receiver.specs.Receiver.{message_of}
-use Rattle.sctp_receiver.specs.ReceiverRuns.{with_message}
 use Rattle.sctp_receiver.proofs.Forwarded.{found-followed, found-mapped}
 use Rattle.sctp_delivery.proofs.Cases.{by-test}
 use Rattle.sctp_delivery.proofs.Every.{Every, every-inserted, every-of, every-passing}
@@ -23,8 +21,7 @@ use Rattle.sctp_delivery.proofs.UnwrappedReads.{AreSets, Gone, IsDue, IsKeptAt, 
 use Rattle.sctp_delivery.proofs.UnwrappedReads.{later-none, read-due, recame, unassembled-due}
 use Rattle.sctp_delivery.proofs.Sessions.{neither, unnot}
 use Rattle.sctp_delivery.proofs.UnwrappedHolds as holds
-use Rattle.sctp_delivery.proofs.UnwrappedHolds.{Where, advance-back, advanced, at-in, beyond-more, on-of, rises-put, turn-more}
-use Rattle.sctp_delivery.proofs.OrderedMessages.{starts_ordered}
+use Rattle.sctp_delivery.proofs.UnwrappedHolds.{Where, advance-back, advanced, at-in, beyond-more, on-of, rises-put}
 
 -- st: a stream. Of n TSNs from the base p on, B k says how many ordered messages of the stream the first k begin
 -- E k: the chunk at place k is an ordered one of the stream; M c: the chunk was made
@@ -46,9 +43,6 @@ module _ (p st n : ℕ) (B : ℕ → ℕ) (E : ℕ → Bool) (M : ChunkPayloadDa
 
   abbrev DueOn : (ℕ → Type 0) → ℕ → ℕ → Option InboundStream → Type 0
   DueOn = holds.DueOn p st n B E M
-
-  abbrev AreInTurn : ℕ → List Message → Type 0
-  AreInTurn = holds.AreInTurn p st n B E M
 
   abbrev AreDue : ℕ → Stand → Type 0
   AreDue = holds.AreDue p st n B E M
@@ -94,16 +88,15 @@ module _ (p st n : ℕ) (B : ℕ → ℕ) (E : ℕ → Bool) (M : ChunkPayloadDa
 
     -- no TSN comes
     abbrev pub moved : (a : ℕ) (old new : Stand) (d : AreDue a old) (k : ℕ)
-        → DueOn (Came old.receiver.cumulative_tsn old.receiver.beyond) k d.reach (stream_of st new.receiver) → AreInTurn k new.read
+        → DueOn (Came old.receiver.cumulative_tsn old.receiver.beyond) k d.reach (stream_of st new.receiver)
         → new.receiver.cumulative_tsn ≡ old.receiver.cumulative_tsn → new.receiver.beyond ≡ old.receiver.beyond → AreDue d.arrived.place new
-    moved a old new d k due turns c b =
+    moved a old new d k due c b =
         let h = d.arrived in
         record {
           k = k;
           reach = d.reach;
           due = subst (λ t. DueOn (Came t new.receiver.beyond) k d.reach (stream_of st new.receiver)) (sym c)
               (subst (λ ts. DueOn (Came old.receiver.cumulative_tsn ts) k d.reach (stream_of st new.receiver)) (sym b) due);
-          turns = turns;
           most = d.most;
           arrived = record {
             place = h.place;
@@ -116,10 +109,10 @@ module _ (p st n : ℕ) (B : ℕ → ℕ) (E : ℕ → Bool) (M : ChunkPayloadDa
         }
 
     -- and nothing is read
-    abbrev pub quiet : (a : ℕ) (old new : Stand) (d : AreDue a old) → new.read ≡ old.read
+    abbrev pub quiet : (a : ℕ) (old new : Stand) (d : AreDue a old)
         → DueOn (Came old.receiver.cumulative_tsn old.receiver.beyond) d.k d.reach (stream_of st new.receiver)
         → new.receiver.cumulative_tsn ≡ old.receiver.cumulative_tsn → new.receiver.beyond ≡ old.receiver.beyond → AreDue d.arrived.place new
-    quiet a old new d e due = moved a old new d d.k due (subst (AreInTurn d.k) (sym e) d.turns)
+    quiet a old new d due = moved a old new d d.k due
 
     -- one that did not come, by its place
     module _ (a : ℕ) (c : ChunkPayloadData) (old : Stand) (d : AreDue a old) (g : IsStepOf c)
@@ -150,7 +143,7 @@ module _ (p st n : ℕ) (B : ℕ → ℕ) (E : ℕ → Bool) (M : ChunkPayloadDa
     module _ (a : ℕ) (near : B n ≤ B a + 2 ^ 14) where
       -- a chunk with a new TSN comes
       module _ (c : ChunkPayloadData) (old new : Stand) (d : AreDue a old) (g : IsStepOf c) (kept : Reception)
-          (after : new.receiver ≡ with_filter (with_tsn c.tsn (filter_of old.receiver)) kept) (read : new.read ≡ old.read)
+          (after : new.receiver ≡ with_filter (with_tsn c.tsn (filter_of old.receiver)) kept)
           (fresh : has_come c.tsn (filter_of old.receiver) ≡ false) where
         abbrev Old : ℕ → Type 0
         Old = Came old.receiver.cumulative_tsn old.receiver.beyond
@@ -195,7 +188,6 @@ module _ (p st n : ℕ) (B : ℕ → ℕ) (E : ℕ → Bool) (M : ChunkPayloadDa
           k = d.k;
           reach = more;
           due = due;
-          turns = subst (AreInTurn d.k) (sym read) d.turns;
           most = most;
           arrived =
               subst (λ (r : Reception). Covers more d.arrived.place r.cumulative_tsn r.beyond) (sym after)
@@ -215,7 +207,7 @@ module _ (p st n : ℕ) (B : ℕ → ℕ) (E : ℕ → Bool) (M : ChunkPayloadDa
       -- that is not too far past the lowest number
       module _ (c : ChunkPayloadData) (answered : Bool) (old new : Stand) (d : AreDue a old) (g : IsStepOf c)
           (acc : Accepts c answered old.receiver new.receiver)
-          (read : new.read ≡ old.read) (fresh : has_come c.tsn (filter_of old.receiver) ≡ false)
+          (fresh : has_come c.tsn (filter_of old.receiver) ≡ false)
           (close : is_too_far_on c (stream_of c.stream_identifier old.receiver) ≡ false) where
         abbrev Was : ℕ → Type 0
         Was = Came old.receiver.cumulative_tsn old.receiver.beyond
@@ -267,11 +259,11 @@ module _ (p st n : ℕ) (B : ℕ → ℕ) (E : ℕ → Bool) (M : ChunkPayloadDa
                 let x = push-ordered p n B Fits Was (at-in p st n B E M few up) d.k d.reach more i (g.before + 1) c answered acc.stream.queue acc.queue dd kind
                 (of, omega arith, tt)
                 (λ cs none r. rises-put p st n B E M few up i 0 c cs of (omega arith) none r) o.2 at o.1 wide.0 wide.1 le lt far acc.pushed in (
-                  build c old new d g with_chunk acc.after read fresh more le most
+                  build c old new d g with_chunk acc.after fresh more le most
                       (is-due (Came new.receiver.cumulative_tsn new.receiver.beyond) d.k more (λ no. absurd (not_both (sym no ∙ on.0)))
                       (λ yes held.
                       recame p n B Fits Was (Came new.receiver.cumulative_tsn new.receiver.beyond) d.k more acc.queue.held x.0
-                      (λ y m h. elim (back c old new d g with_chunk acc.after read fresh y m h) [
+                      (λ y m h. elim (back c old new d g with_chunk acc.after fresh y m h) [
                         | inl z ↦ inl z
                         | inr z ↦ inr (subst (IsKeptAt p n B Fits Was x.0.index acc.queue.held.ordered) (sym z.0) x.1)
                       ]))) (inr (omega (arith, b, lt))),
@@ -280,7 +272,7 @@ module _ (p st n : ℕ) (B : ℕ → ℕ) (E : ℕ → Bool) (M : ChunkPayloadDa
 
         other : is_ordered_on st c ≡ false → AreDueSince d.k d.arrived.place new
         other e = (
-          other-due c old new d g with_chunk acc.after read fresh e
+          other-due c old new d g with_chunk acc.after fresh e
               (is-due Was d.k d.reach (λ no. d.due) (λ on held.
               push-unordered p n B Fits Was (at-in p st n B E M few up) d.k d.reach c answered acc.stream.queue acc.queue
               (unnot c.unordered (ap (λ b. b && not c.unordered) (sym on) ∙ e)) acc.pushed held)),
@@ -293,56 +285,30 @@ module _ (p st n : ℕ) (B : ℕ → ℕ) (E : ℕ → Bool) (M : ChunkPayloadDa
     -- a message is read
     module _ (a stream : ℕ) (old new : Stand) (d : AreDue a old)
         (streams : new.receiver.streams ≡ change_where (has_number stream) stream_read old.receiver.streams)
-        (cumulative : new.receiver.cumulative_tsn ≡ old.receiver.cumulative_tsn) (beyond : new.receiver.beyond ≡ old.receiver.beyond)
-        (read : new.read ≡ with_message stream (message_on stream old.receiver) old.read) where
+        (cumulative : new.receiver.cumulative_tsn ≡ old.receiver.cumulative_tsn) (beyond : new.receiver.beyond ≡ old.receiver.beyond) where
       abbrev Then : ℕ → Type 0
       Then = Came old.receiver.cumulative_tsn old.receiver.beyond
 
-      read-to : (k : ℕ) → DueOn Then k d.reach (stream_of st new.receiver) → AreInTurn k (with_message stream (message_on stream old.receiver) old.read)
-          → AreDue d.arrived.place new
-      read-to k due turns = moved a old new d k due (subst (AreInTurn k) (sym read) turns) cumulative beyond
+      read-to : (k : ℕ) → DueOn Then k d.reach (stream_of st new.receiver) → AreDue d.arrived.place new
+      read-to k due = moved a old new d k due cumulative beyond
 
       found : stream_of st new.receiver ≡ find (has_number st) (change_where (has_number stream) stream_read old.receiver.streams)
       found = ap (find (has_number st)) streams
 
-      -- what is read has an index from k on
-      turn : (l : InboundStream) (after : ℕ) → d.k ≤ after → ((set : ChunkSet) → message_read l.queue.held ≡ Some set → starts_ordered set.chunks ≡ true
-          → (i : ℕ) × ((d.k ≤ i) × (i < after)) × Fits i set.chunks)
-          → (o : Option ChunkSet) → message_read l.queue.held ≡ o → AreInTurn after (with_message stream o old.read)
-      turn l after le t None f = turn-more p st n B E M few up d.k after old.read le d.turns
-      turn l after le t (Some set) f = by (stream == st) (starts_ordered set.chunks) refl
-        where
-          by : (b c : Bool) → starts_ordered set.chunks ≡ c
-              → Where (b && c) ((i : ℕ) × (i < after) × Fits i set.chunks × AreInTurn i old.read) (AreInTurn after old.read)
-          by true true h = let x = t set f h in (x.0, x.1.1, x.2, turn-more p st n B E M few up d.k x.0 old.read x.1.0 d.turns)
-          by true false h = turn-more p st n B E M few up d.k after old.read le d.turns
-          by false c h = turn-more p st n B E M few up d.k after old.read le d.turns
-
       here : (stream == st) ≡ true → (o : Option InboundStream) → stream_of st old.receiver ≡ o → AreDue d.arrived.place new
-      here on o e = by o (found ∙ changed-here stream stream_read (λ l h. refl) old.receiver.streams st on ∙ ap (option_map stream_read) e)
-          (subst (DueOn Then d.k d.reach) e d.due) (ap (λ s. stream_of s old.receiver) (same-is stream st on) ∙ e)
+      here on o e =
+          by o (found ∙ changed-here stream stream_read (λ l h. refl) old.receiver.streams st on ∙ ap (option_map stream_read) e)
+          (subst (DueOn Then d.k d.reach) e d.due)
         where
-          by : (o : Option InboundStream) → stream_of st new.receiver ≡ option_map stream_read o → DueOn Then d.k d.reach o → stream_of stream old.receiver ≡ o
-              → AreDue d.arrived.place new
-          by None is due there =
-              read-to d.k (subst (DueOn Then d.k d.reach) (sym is) due)
-              (subst (λ f. AreInTurn d.k (with_message stream (message_of f) old.read)) (sym there) d.turns)
-          by (Some l) is due there =
+          by : (o : Option InboundStream) → stream_of st new.receiver ≡ option_map stream_read o → DueOn Then d.k d.reach o → AreDue d.arrived.place new
+          by None is due = read-to d.k (subst (DueOn Then d.k d.reach) (sym is) due)
+          by (Some l) is due =
               let r = read-due p n B Fits Then (at-in p st n B E M few up) d.k d.reach l.queue.held due in
               read-to r.after (subst (DueOn Then r.after d.reach) (sym is) r.due)
-              (subst (λ f. AreInTurn r.after (with_message stream (message_of f) old.read)) (sym there)
-              (turn l r.after r.up r.turn (message_read l.queue.held) refl))
 
       elsewhere : (stream == st) ≡ false → AreDue d.arrived.place new
       elsewhere differ =
           read-to d.k (subst (DueOn Then d.k d.reach) (sym (found ∙ changed-elsewhere stream stream_read (λ l h. refl) old.receiver.streams st differ)) d.due)
-          (by (message_on stream old.receiver))
-        where
-          by : (o : Option ChunkSet) → AreInTurn d.k (with_message stream o old.read)
-          by None = d.turns
-          by (Some set) =
-              subst (λ b. Where (b && starts_ordered set.chunks) ((i : ℕ) × (i < d.k) × Fits i set.chunks × AreInTurn i old.read)
-              (AreInTurn d.k old.read)) (sym differ) d.turns
 
       pub read-on-due : AreDue d.arrived.place new
       read-on-due = by-test (stream == st) (λ e. here e (stream_of st old.receiver) refl) elsewhere
@@ -485,7 +451,7 @@ module _ (p st n : ℕ) (B : ℕ → ℕ) (E : ℕ → Bool) (M : ChunkPayloadDa
           twice (Some l) = refl
 
     module _ (a : ℕ) (near : B n ≤ B a + 2 ^ 14) (f : ForwardTsn) (m : ℕ) (old new : Stand) (d : AreDue a old) (le : m ≤ n)
-        (is : f.new_cumulative_tsn ≡ tsn p m) (after : new.receiver ≡ after_forward_tsn f old.receiver) (read : new.read ≡ old.read)
+        (is : f.new_cumulative_tsn ≡ tsn p m) (after : new.receiver ≡ after_forward_tsn f old.receiver)
         (naming : IsNamingTo a m f.streams) (answered : names_too_far f old.receiver ≡ false)
         (open' : d.arrived.place < m → (j : ℕ) → filter (is_pair_of st) f.streams ≡ record { identifier = st; sequence = j } ∷ []
         → is_open st old.receiver ≡ true)
@@ -539,7 +505,6 @@ module _ (p st n : ℕ) (B : ℕ → ℕ) (E : ℕ → Bool) (M : ChunkPayloadDa
         k = d.k;
         reach = more;
         due = subst (DueOn New d.k more) (sym (found-after f old new after e)) due;
-        turns = subst (AreInTurn d.k) (sym read) d.turns;
         most = most;
         arrived =
             subst (λ (r : Reception). Covers more d.arrived.place r.cumulative_tsn r.beyond) (sym (now-is f old new after e))
@@ -611,7 +576,7 @@ module _ (p st n : ℕ) (B : ℕ → ℕ) (E : ℕ → Bool) (M : ChunkPayloadDa
       followed-due = by-test (is_stale f old.receiver)
           (λ e.
           let same = stale-same f old new after e in (
-            quiet a old new d read (subst (λ (r : Reception). DueOn Prior d.k d.reach (stream_of st r)) (sym same) d.due)
+            quiet a old new d (subst (λ (r : Reception). DueOn Prior d.k d.reach (stream_of st r)) (sym same) d.due)
                 (ap (λ (r : Reception). r.cumulative_tsn) same) (ap (λ (r : Reception). r.beyond) same),
             omega arith,
           ))

@@ -3,7 +3,7 @@ use Rattle.sctp_delivery.proofs.Names.{◌≡◌, ℕ, ◌+◌, ◌%◌, ◌^◌
 use Rattle.sctp_delivery.proofs.Names.{arith, not, length, subst, ⊤, ◌⊎◌, ◌==◌, if◌then◌else◌, nat_lt, ◌&&◌, nat_le, list_any, filter, cases_lt, eq-eqb}
 use Rattle.sctp_delivery.proofs.Names.{nat_tests, Seen, advance_over, insert_before, at_or_before, at_or_before16, comes_before16, or-left, or-right, or-split}
 use Rattle.sctp_delivery.proofs.Names.{same-is, not_both, both, fails, tsn, ChunkPayloadData, chunk_before, has_tsn, InboundStream, Reception, stream_of}
-use Rattle.sctp_delivery.proofs.Names.{Message, Stand, is_ordered_on, common_steps, at_or_before16-index, comes_before16-index, next16, ChunkSet, has_ssn}
+use Rattle.sctp_delivery.proofs.Names.{Stand, is_ordered_on, common_steps, at_or_before16-index, comes_before16-index, next16, ChunkSet, has_ssn}
 use Rattle.sctp_delivery.proofs.Names.{is_complete, new_set, set_before, sets_with, Reassembly, after_read, front_readable, held_after_ordered_push}
 use Rattle.sctp_delivery.proofs.Names.{held_after_ordered_skip, is_passed, is_readable, cannot_complete, held_after_incomplete_skip, is_name_too_far}
 use Rattle.sctp_delivery.proofs.Cases.{at-if, at-test}
@@ -12,7 +12,6 @@ use Rattle.sctp_delivery.proofs.TakenTsns.{come, any-inserted}
 use Rattle.sctp_delivery.proofs.TsnPlaces.{before, next-place, same-place, upto-yes, upto-is}
 use Rattle.sctp_delivery.proofs.UnwrappedReads.{IsDue, recame}
 use Rattle.sctp_delivery.proofs.Sessions.{neither, unnot}
-use Rattle.sctp_delivery.proofs.OrderedMessages.{is_in_order}
 use Rattle.sctp_reassembly.specs.reassembly_queue.Fragments.{with_chunk}
 use Rattle.sctp_delivery.proofs.KeptSets.{front-read, without_front, every-first}
 use Rattle.sctp_delivery.proofs.UnwrappedReads as reads
@@ -79,16 +78,10 @@ module _ (p st n : ℕ) (B : ℕ → ℕ) (E : ℕ → Bool) (M : ChunkPayloadDa
   abbrev pub DueIn : ℕ → ℕ → Reception → Type 0
   DueIn k reach r = DueOn (Came r.cumulative_tsn r.beyond) k reach (stream_of st r)
 
-  -- the ordered messages of the stream that were read have indexes below this one, each later one a greater one
-  abbrev pub AreInTurn : ℕ → List Message → Type 0
-  AreInTurn k [] = ⊤
-  AreInTurn k (m ∷ ms) = Where (is_in_order st m) ((i : ℕ) × (i < k) × Fits i m.fragments × AreInTurn i ms) (AreInTurn k ms)
-
   pub record AreDue (a : ℕ) (s : Stand) : Type 0 where
     pub k : ℕ
     pub reach : ℕ
     pub due : DueIn k reach s.receiver
-    pub turns : AreInTurn k s.read
     pub most : reach ≤ B n
     pub arrived : Covers reach a s.receiver.cumulative_tsn s.receiver.beyond
 
@@ -221,15 +214,6 @@ module _ (p st n : ℕ) (B : ℕ → ℕ) (E : ℕ → Bool) (M : ChunkPayloadDa
     pub on-of : (C D : ℕ → Type 0) → ((y : ℕ) → y ≤ n → D y → C y) → (k reach : ℕ) (o : Option InboundStream) → DueOn C k reach o → DueOn D k reach o
     on-of C D less k reach None d = (d.0, d.1, λ y le h. d.2 y le (less y le h))
     on-of C D less k reach (Some l) d = recame p n B Fits C D k reach l.queue.held d (λ y le h. inl (less y le h))
-
-    pub turn-more : (j k : ℕ) (ms : List Message) → j ≤ k → AreInTurn j ms → AreInTurn k ms
-    turn-more j k [] le t = tt
-    turn-more j k (m ∷ ms) le t = by (is_in_order st m) t (λ h. turn-more j k ms le h)
-      where
-        by : (b : Bool) → Where b ((i : ℕ) × (i < j) × Fits i m.fragments × AreInTurn i ms) (AreInTurn j ms) → (AreInTurn j ms → AreInTurn k ms)
-            → Where b ((i : ℕ) × (i < k) × Fits i m.fragments × AreInTurn i ms) (AreInTurn k ms)
-        by true h ih = let x = h.1 in (h.0, omega (arith, x, le), h.2, h.3)
-        by false h ih = ih h
 
 -- # What a stream holds of ordered messages, where messages may be cut short: each message before the next index came whole, or was cut short
 -- and passed; and each set of such a message is complete. So no fragment that comes for the first time lies before the next index.

@@ -1,6 +1,6 @@
 -- The ordered messages of a stream are read in the order of their writes.
-use Rattle.sctp_delivery.proofs.Names.{◌≡◌, ℕ, zero, suc, ◌<◌, ◌≤◌, true, false, not, List, [], ◌∷◌, inl, inr, ap, sym, subst, ◌∙◌, arith, ◌+◌, ◌^◌, Bool}
-use Rattle.sctp_delivery.proofs.Names.{length, refl, All, ◌==◌, AllPairs, if◌then◌else◌, list_all, negated, same-is, and, both, not_both, ChunkPayloadData}
+use Rattle.sctp_delivery.proofs.Names.{◌≡◌, ℕ, zero, suc, ◌<◌, ◌≤◌, true, false, not, List, [], ◌∷◌, inl, inr, ap, sym, subst, ◌∙◌, arith, ◌+◌, Bool}
+use Rattle.sctp_delivery.proofs.Names.{refl, All, ◌==◌, AllPairs, if◌then◌else◌, list_all, negated, same-is, and, both, not_both, ChunkPayloadData}
 use Rattle.sctp_delivery.proofs.Names.{⊤, data_of, Message, pairs_cons}
 use Rattle.std.proofs.Common.{◌⊎◌}
 use Rattle.sctp_delivery.specs.Order.{is_ordered_on, places_where}
@@ -9,11 +9,9 @@ use Rattle.sctp_delivery.proofs.Delivered.{IsReadOf}
 use Rattle.sctp_delivery.proofs.OnceWritten.{one-begun, EachRead, places}
 use Rattle.sctp_delivery.proofs.OrderedEntries.{AreRising, IsUnder, begun_on, part-fewer}
 use Rattle.sctp_delivery.proofs.OrderedPlaces.{AreNumbered, place-at}
-use Rattle.sctp_delivery.proofs.Sent.{Entry, IsPart, Numbered, fragment, part-itself, terminal, IsLine, WasSent, part-length, part-line}
+use Rattle.sctp_delivery.proofs.Sent.{Entry, IsPart, Numbered, fragment, part-itself, terminal}
 use Rattle.sctp_delivery.proofs.OrderedMessages.{is_in_order, starts_ordered}
-use Rattle.sctp_delivery.proofs.SpreadEntries.{begun_to, is_at, to-part}
-use Rattle.sctp_delivery.proofs.TsnPlaces.{base}
-use Rattle.sctp_delivery.proofs.UnwrappedHolds.{AreInTurn, Fits, Where}
+use Rattle.sctp_delivery.proofs.UnwrappedHolds.{Where}
 
 -- ## Parts of the line
 
@@ -136,36 +134,3 @@ module _ (st : ℕ) (ns : List Numbered) (sent : List Entry) (once : AreOnce sen
           (away m e.0 u.0 u.2 s.0 u.0 ms e.1 (omega arith) u.3) (ih u.0 u.3)
       by false f true g u ih = ih u.0 u.3
       by false f false g u ih = ih k u
-
--- where fewer than 2^31 TSNs were given out, the chunks of a message tell its index
-module _ (st first n : ℕ) (ns : List Numbered) (sent : List Entry) (few : n < 2 ^ 31) (long : length sent ≡ n) (line : IsLine ns first sent)
-    (once : AreOnce sent) (rising : AreRising sent) (numbered : AreNumbered ns) (T : Message → ℕ → Bool)
-    (starts' : (m : Message) (x : IsReadOf ns sent m) → T m x.written.0 ≡ true → (x.chunk.unordered ≡ false) × (is_in_order st m ≡ true)) where
-  abbrev Piece : ℕ → List ChunkPayloadData → Type 0
-  Piece = Fits (base first) st n (λ k. begun_to st k sent) (λ k. is_at st k sent) (λ c. WasSent sent (data_of c))
-
-  abbrev InTurn : ℕ → List Message → Type 0
-  InTurn = AreInTurn (base first) st n (λ k. begun_to st k sent) (λ k. is_at st k sent) (λ c. WasSent sent (data_of c))
-
-  index-is : (m : Message) (x : IsReadOf ns sent m) (i : ℕ) → Piece i m.fragments → begun_on st (up_to ns sent m x) ≡ i + 1
-  index-is m x i h =
-      let o = (subst (Piece i) x.fragments h).0 in
-      let number = (part-line ns first sent (up_to ns sent m x) x.part line).0.number in
-      let same : length (up_to ns sent m x) ≡ o.before + 1 = omega (arith, number, part-length sent (up_to ns sent m x) x.part, long, few) in
-      sym (to-part st sent (up_to ns sent m x) x.part) ∙ ap (λ k. begun_to st k sent) same ∙ o.begun
-
-  indexed-of : (k : ℕ) (ms : List Message) (e : EachRead ns sent once ms) → InTurn k ms
-      → AreIndexedBelow st ns sent once rising numbered T starts' k ms e
-  indexed-of k [] e t = tt
-  indexed-of k (m ∷ ms) e t = by (is_in_order st m) t (λ j u. indexed-of j ms e.1 u)
-    where
-      by : (b : Bool) → Where b ((i : ℕ) × (i < k) × Piece i m.fragments × InTurn i ms) (InTurn k ms)
-          → ((j : ℕ) → InTurn j ms → AreIndexedBelow st ns sent once rising numbered T starts' j ms e.1)
-          → Where b ((i : ℕ) × (i < k) × (begun_on st (up_to ns sent m e.0) ≡ i + 1) × AreIndexedBelow st ns sent once rising numbered T starts' i ms e.1)
-          (AreIndexedBelow st ns sent once rising numbered T starts' k ms e.1)
-      by true u ih = (u.0, u.1, index-is m e.0 u.0 u.2, ih u.0 u.3)
-      by false u ih = ih k u
-
-  pub in-order-of : (k : ℕ) (ms : List Message) (e : EachRead ns sent once ms) → InTurn k ms
-      → AllPairs (λ p q. p < q) (places_where T ms (places ns sent once ms e))
-  in-order-of k ms e t = in-order-by st ns sent once rising numbered T starts' k ms e (indexed-of k ms e t)

@@ -2,7 +2,7 @@
 use Rattle.sctp_delivery.proofs.Names.{◌≡◌, ℕ, ◌+◌, ◌-◌, ◌^◌, ◌<◌, ◌≤◌, Bool, true, false, List, [], ◌∷◌, length, Option, Some, None, inl, inr, refl, ap, sym}
 use Rattle.sctp_delivery.proofs.Names.{subst, ◌∙◌, arith, Contains, IfSome, find, if◌then◌else◌, ◌⊎◌, list_any, none-some, distance, not_both, tsn}
 use Rattle.sctp_delivery.proofs.Names.{ChunkPayloadData, ChunkSet, data_of, Sack, expiring, expiring_tail, message_of, Reassembly, New, InboundStream, Limits}
-use Rattle.sctp_delivery.proofs.Names.{NamedSsnTooFar, NamedStreamUnknown, Reception, forward_refusal, stream_of, Message, Stand, names_closed, names_too_far}
+use Rattle.sctp_delivery.proofs.Names.{NamedSsnTooFar, NamedStreamUnknown, Reception, forward_refusal, stream_of, Stand, names_closed, names_too_far}
 use Rattle.sctp_delivery.proofs.Names.{skip_refusal, after_sack, is_outdated, message_to_abandon, take_sack, late_order, worn_order, Transmission, after_expire}
 use Rattle.sctp_delivery.proofs.Names.{OutboundStream, ReceiverCall, reports_after, SenderCall, data_chunk, forward_tsn, ReceiverFollows, SenderFollows}
 use Rattle.sctp_delivery.proofs.Names.{Session, at_start, misses, has_tsn, cases_lt, Ledger, ForwardTsn, after_forward_tsn, filter, is_open, is_pair_of, not}
@@ -27,9 +27,9 @@ use Rattle.sctp_delivery.proofs.SpreadFlight.{IsMadeNaming}
 use Rattle.sctp_delivery.proofs.TakenCalls.{fresh-new}
 use Rattle.sctp_delivery.proofs.TsnPlaces.{base, same-place}
 use Rattle.sctp_delivery.proofs.UnwrappedCalls.{followed-due, none-among, opened-due, quiet, read-on-due, taken-due}
-use Rattle.sctp_delivery.proofs.UnwrappedHolds.{AreDue, AreInTurn, Came, DueOn, Fits, IsBeyond, IsOf, IsStepOf, Rises, Where, none-past}
+use Rattle.sctp_delivery.proofs.UnwrappedHolds.{AreDue, Came, DueOn, Fits, IsBeyond, IsOf, IsStepOf, Rises, none-past}
 use Rattle.sctp_delivery.proofs.UnwrappedReads.{AreSets, IsDue}
-use Rattle.sctp_delivery.proofs.OrderedMessages.{is_in_order, not-far}
+use Rattle.sctp_delivery.proofs.OrderedMessages.{not-far}
 
 -- ## More TSNs are given out
 
@@ -81,17 +81,6 @@ module _ (p st n m : ℕ) (B C : ℕ → ℕ) (E F : ℕ → Bool) (M N : ChunkP
   on-more D G back k reach None d = (d.0, d.1, λ y most g. let b = back y most g in d.2 y b.0 b.1)
   on-more D G back k reach (Some l) d = due-more D G back k reach l.queue.held d
 
-  pub turns-more : (k : ℕ) (ms : List Message) → AreInTurn p st n B E M k ms → AreInTurn p st m C F N k ms
-  turns-more k [] t = tt
-  turns-more k (x ∷ xs) t = by (is_in_order st x) t (λ j h. turns-more j xs h)
-    where
-      by : (b : Bool)
-          → Where b ((i : ℕ) × (i < k) × Fits p st n B E M i x.fragments × AreInTurn p st n B E M i xs) (AreInTurn p st n B E M k xs)
-          → ((j : ℕ) → AreInTurn p st n B E M j xs → AreInTurn p st m C F N j xs)
-          → Where b ((i : ℕ) × (i < k) × Fits p st m C F N i x.fragments × AreInTurn p st m C F N i xs) (AreInTurn p st m C F N k xs)
-      by true h ih = (h.0, h.1, rises-more h.0 0 x.fragments h.2, ih h.0 h.3)
-      by false h ih = ih k h
-
   pub beyond-more : (reach t : ℕ) → IsBeyond p st n B E M reach t → IsBeyond p st m C F N reach t
   beyond-more reach t b =
       let w = b.within in
@@ -122,7 +111,6 @@ module _ (p st n m : ℕ) (B C : ℕ → ℕ) (E F : ℕ → Bool) (M N : ChunkP
         reach = d.reach;
         due = on-more (Came p st n B E M s.receiver.cumulative_tsn s.receiver.beyond) (Came p st m C F N s.receiver.cumulative_tsn s.receiver.beyond)
             (came-more a s d) d.k d.reach (stream_of st s.receiver) d.due;
-        turns = turns-more d.k s.read d.turns;
         most = omega (arith, most, same n (omega arith), up);
         arrived = record {
           place = h.place;
@@ -339,28 +327,28 @@ module _ (st first : ℕ) where
       abbrev Now : Type 0
       Now = AreDue (base first) st n (to sent) (at sent) (Was sent) d.arrived.place new.receiving
 
-      pub same-streams : new.receiving.read ≡ old.receiving.read → new.receiving.receiver.streams ≡ old.receiving.receiver.streams
+      pub same-streams : new.receiving.receiver.streams ≡ old.receiving.receiver.streams
           → new.receiving.receiver.cumulative_tsn ≡ old.receiving.receiver.cumulative_tsn
           → new.receiving.receiver.beyond ≡ old.receiving.receiver.beyond → Now
-      same-streams read streams cumulative beyond =
-          quiet (base first) st n (to sent) (at sent) (Was sent) few grows acked old.receiving new.receiving d read
+      same-streams streams cumulative beyond =
+          quiet (base first) st n (to sent) (at sent) (Was sent) few grows acked old.receiving new.receiving d
           (subst (λ ls. DueOn (base first) st n (to sent) (at sent) (Was sent) Old d.k d.reach (find (has_number st) ls)) (sym streams) d.due) cumulative beyond
 
       -- a FORWARD-TSN that was made, where the stream is open if it names that
       pub passed-due : (g : ForwardTsn) → Contains old.made (forward_tsn g) → new.receiving.receiver ≡ after_forward_tsn g old.receiving.receiver
-          → new.receiving.read ≡ old.receiving.read → names_too_far g old.receiving.receiver ≡ false
+          → names_too_far g old.receiving.receiver ≡ false
           → ((m : ℕ) → g.new_cumulative_tsn ≡ tsn (base first) m → m ≤ n → d.arrived.place < m → (j : ℕ)
           → filter (is_pair_of st) g.streams ≡ record { identifier = st; sequence = j } ∷ [] → is_open st old.receiving.receiver ≡ true) → Now
-      passed-due g in' after read near-names open' =
+      passed-due g in' after near-names open' =
           let x = every-contained (IsMadeNaming st (base first) acked sent) old.made (forward_tsn g) in' (i.names st o) in
           (followed-due (base first) st n (to sent) (at sent)
-          (Was sent) few grows acked near g x.place old.receiving new.receiving d (omega arith) x.is after read x.tells near-names
+          (Was sent) few grows acked near g x.place old.receiving new.receiving d (omega arith) x.is after x.tells near-names
           (λ lt j only. open' x.place x.is (omega arith) lt j only)
           (λ j cs fits e. missed x.place j cs (omega arith) fits e)).0
 
       due-after : (call : ReceiverCall) → ReceiverFollows call old new → Now
       due-after (incoming.opens stream) f =
-          quiet (base first) st n (to sent) (at sent) (Was sent) few grows acked old.receiving new.receiving d f.step.read
+          quiet (base first) st n (to sent) (at sent) (Was sent) few grows acked old.receiving new.receiving d
           (subst (λ (r : Reception). DueOn (base first) st n (to sent) (at sent) (Was sent) Old d.k d.reach (stream_of st r)) (sym f.step.receiver.1)
           (opened-due (base first) st n (to sent) (at sent) (Was sent) few grows Old d.k d.reach stream old.receiving.receiver.max_message_size
           old.receiving.receiver.streams d.due))
@@ -368,20 +356,20 @@ module _ (st first : ℕ) where
       due-after (incoming.takes c (New answered)) f =
           let fresh = fresh-new c.tsn answered old.receiving.receiver f.accepted.1 in
           (taken-due (base first) st n (to sent) (at sent)
-          (Was sent) few grows acked near c answered old.receiving new.receiving d (step-of c f.handed) f.step.receiver f.step.read
+          (Was sent) few grows acked near c answered old.receiving new.receiving d (step-of c f.handed) f.step.receiver
           fresh (not-far c old.receiving.receiver fresh f.accepted.0)).0
       due-after (incoming.follows g) f =
           let r = refused g old.receiving.receiver f.accepted in
-          passed-due g f.handed f.step.receiver f.step.read r.0
+          passed-due g f.handed f.step.receiver r.0
           (λ m is le lt j only. unnot (is_open st old.receiving.receiver)
           (none-among (base first) st n (to sent) (at sent) (Was sent) few grows acked g m old.receiving d le is
           (λ x. not (is_open x.identifier old.receiving.receiver)) r.1 lt (record { identifier = st; sequence = j }) only))
       due-after (incoming.reads stream) f =
           read-on-due (base first) st n (to sent) (at sent)
           (Was sent) few grows acked stream old.receiving new.receiving d (ap (λ (r : Reception). r.streams) f.step.receiver)
-          (ap (λ (r : Reception). r.cumulative_tsn) f.step.receiver) (ap (λ (r : Reception). r.beyond) f.step.receiver) f.step.read
+          (ap (λ (r : Reception). r.cumulative_tsn) f.step.receiver) (ap (λ (r : Reception). r.beyond) f.step.receiver)
       due-after call f =
-          same-streams f.step.read (ap (λ (r : Reception). r.streams) f.step.receiver) (ap (λ (r : Reception). r.cumulative_tsn) f.step.receiver)
+          same-streams (ap (λ (r : Reception). r.streams) f.step.receiver) (ap (λ (r : Reception). r.cumulative_tsn) f.step.receiver)
           (ap (λ (r : Reception). r.beyond) f.step.receiver)
 
   -- the SACKs that were made
@@ -452,7 +440,6 @@ answered-first st first on dropped size max most limits small some = (
     k = 0;
     reach = 0;
     due = (refl, refl, λ y le h. absurd (let z : y ≡ 0 = omega (arith, le) in not_both h.0));
-    turns = tt;
     most = omega arith;
     arrived = record {
       place = 0;

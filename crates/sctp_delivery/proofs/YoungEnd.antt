@@ -40,7 +40,8 @@ use Rattle.sctp_delivery.proofs.Sent.{Entry, IsLine, IsPart, Numbered, contains-
 use Rattle.sctp_delivery.proofs.TakenCalls.{Knows}
 use Rattle.sctp_delivery.proofs.TakenTsns.{come}
 use Rattle.sctp_delivery.proofs.TsnPlaces.{IsGiven, base, upto-is, upto-yes}
-use Rattle.sctp_delivery.proofs.YoungOwn.{AreAt, AreRead, AreReadOn, Flies, IsOwned, absent, all-recent, all-whole, apart, flies, held_with, now-held}
+use Rattle.sctp_delivery.proofs.TakenAgain.{Flies, flies}
+use Rattle.sctp_delivery.proofs.YoungOwn.{AreAt, AreRead, AreReadOn, IsOwned, IsWhole, absent, all-recent, all-whole, apart, held_with, now-held}
 use Rattle.sctp_delivery.proofs.YoungOwn.{owned-first, reads-are, receiver-owned, sender-owned}
 use Rattle.sctp_delivery.proofs.YoungReads.{IsPlaced, IsYoungSession, each-from, floor, more-long, receiver-young, recent-place, sender-young, young-first}
 
@@ -82,7 +83,8 @@ module _ (first : ℕ) (call : SenderCall) (old new : Session) (ns : List Number
   x = sender-step first call old new ns sent f h
 
   set-after : IsSet first new.sending.sender.flight x.more
-  set-after = sender-set first call old new ns sent f h j.few few j.regular.regular.numbered (λ k gone e. (sack-fits old new few j call f k gone e).0) e
+  set-after =
+      sender-set all_streams first call old new ns sent f h j.few few j.regular.regular.numbered (λ k gone e. (sack-fits old new few j call f k gone e).0) e
 
   same : new.receiving ≡ old.receiving
   same = ap (λ (s : Session). s.receiving) f.after
@@ -270,9 +272,6 @@ module _ (first : ℕ) (call : SenderCall) (old new : Session) (ns : List Number
 
 -- ## A call of the receiver
 
-abbrev IsWhole : Message → Type 0
-IsWhole m = (is_complete m.fragments ≡ true) × (is_one_message m.fragments ≡ true) × (list_all (is_on m.stream) m.fragments ≡ true)
-
 module _ (first : ℕ) (call : ReceiverCall) (old new : Session) (ns : List Numbered) (sent : List Entry) (ages : List Aged)
     (f : ReceiverFollows call old new) (i : IsYoungSession first old ns sent ages) (young : IsYoung (of_receiver call) ages) (recent : HoldsRecent new)
     (few : count_in_flight new < 2 ^ 31) (q : IsRecent (of_receiver call) old) (j : IsNear old) (ps : List ℕ) (h : IsOwned old sent ps)
@@ -445,7 +444,7 @@ module _ (first : ℕ) (call : ReceiverCall) (old new : Session) (ns : List Numb
             where
               e' : EachSentFrom (floor (length sent)) sent set.chunks
               e' = each-from (floor (length sent)) stream sent set.chunks (omega arith)
-                  (all-recent first call old new ns sent ages f i young recent few q j ps h stream g set m)
+                  (all-recent all_streams first call old new ns sent ages f i young recent few q j ps h stream g set m)
 
               w' : Every IsWhole (record { stream = stream; fragments = set.chunks } ∷ old.receiving.read)
               w' = subst (Every IsWhole) read whole
@@ -462,7 +461,7 @@ module _ (first : ℕ) (call : ReceiverCall) (old new : Session) (ns : List Numb
           here y = elim (cases_lt 0 (sum_by (one d.tsn) set.chunks)) [
             | inl lt ↦ first-one lt
             | inr ge ↦
-                let n = now-held first call old new ns sent ages f i young recent few q j ps h stream g set m d.tsn in
+                let n = now-held all_streams first call old new ns sent ages f i young recent few q j ps h stream g set m d.tsn in
                 let held = z.1 in
                 let a = ap (λ k. held_with d.tsn k new) (same-is stream st y) in
                 let c = ap (λ k. held_with d.tsn k old) (same-is stream st y) in
@@ -551,19 +550,20 @@ there-then first (of_sender call ∷ cs) old new ns sent ages r q y all j i ps h
     let x = sender-step first call old r.0 ns sent r.1.0 i.holds in
     let near = sender-near old r.0 q.1 j call r.1.0 q.0 in
     there-then first cs r.0 new (numbered_after call ns) x.more (aged_after (of_sender call) old r.0 ages) r.1.1 q.2 y.2 a.1 near
-    (sender-young first call old r.0 ns sent ages r.1.0 i y.1) ps (sender-owned first call old r.0 ns sent ages r.1.0 i y.1 q.1 j near ps h)
+    (sender-young all_streams first call old r.0 ns sent ages r.1.0 i y.1) ps
+    (sender-owned all_streams first call old r.0 ns sent ages r.1.0 i y.1 q.1 j near ps h)
     (sender-kept call old r.0 a.0 r.1.0 k) (set-after first call old r.0 ns sent r.1.0 i.holds q.1 j near e)
     (sender-there first call old r.0 ns sent r.1.0 i.holds q.1 j near e y.1 ps t)
     (stays-begun-or-gone all_streams [] first old r.0 ns sent x.more i.holds x.once b call
     (λ m g. subst (λ ms. is_gone ms m ≡ true) (none-by call old.sending.sender a.0) g) r.1.0 x.grown) w
 there-then first (of_receiver call ∷ cs) old new ns sent ages r q y all j i ps h k e t b w =
     let a = both (is_reliable_at_receiver call) (list_all is_reliable cs) all in
-    let o = receiver-owned first call old r.0 ns sent ages r.1.0 i y.0 y.1 q.1 q.0 j ps h in
-    let kn = receiver-kept call old r.0 a.0 (absent first call old r.0 ns sent ages r.1.0 i y.0 y.1 q.1 q.0 j ps h) r.1.0 k in
+    let o = receiver-owned all_streams first call old r.0 ns sent ages r.1.0 i y.0 y.1 q.1 q.0 j ps h in
+    let kn = receiver-kept call old r.0 a.0 (absent all_streams first call old r.0 ns sent ages r.1.0 i y.0 y.1 q.1 q.0 j ps h) r.1.0 k in
     let same = ap (λ (s : Session). s.sending) r.1.0.after in
     let e' = subst (λ (l : Ledger). (z : IsSet first l.sender.flight sent) × (z.acked ≡ e.acked)) (sym same) (e, refl) in
     there-then first cs r.0 new ns sent (aged_after (of_receiver call) old r.0 ages) r.1.1 q.2 y.2 a.1 (receiver-near old r.0 q.1 j call r.1.0 q.0)
-    (receiver-young first call old r.0 ns sent ages r.1.0 i y.0) o.0 o.1 kn e'.0
+    (receiver-young all_streams first call old r.0 ns sent ages r.1.0 i y.0) o.0 o.1 kn e'.0
     (subst (λ z. AreThere first r.0 sent z o.0) (sym e'.1)
     (receiver-there first call old r.0 ns sent ages r.1.0 i y.0 y.1 q.1 q.0 j ps h e k kn (whole-before cs r.0 new r.1.1 w) o.0 o.1 o.2 t a.0))
     (subst (λ (l : Ledger). AreBegunOrGone [] (length ns) sent l.sender.flight.queue.pending) (sym same) b) w
@@ -574,7 +574,7 @@ there-then first (of_receiver call ∷ cs) old new ns sent ages r q y all j i ps
 found-place : (ns : List Numbered) (first : ℕ) (sent : List Entry) (once : AreOnce sent) (line : IsLine ns first sent) (indexed : AreIndexed sent) (s : Session)
     (d : Data) (w : Numbered) (after : List ℕ) (xs : List Entry) → IsPart (fragment d w after ∷ xs) sent → (place : ℕ)
     → ((v : Numbered) → (c : Contains ns v) → v ≡ w → c.0 ≡ place) → (ms : List Message) (e : EachRead ns sent once ms) (ps : List ℕ)
-    → AreAt ns first sent once line indexed s ms e ps → (k : ℕ) → k < length ps → slice_index_or ps k (length xs + 1) ≡ length xs + 1
+    → AreAt ns first sent once line s ms e ps → (k : ℕ) → k < length ps → slice_index_or ps k (length xs + 1) ≡ length xs + 1
     → Contains (places ns sent once ms e) place
 found-place ns first sent once line indexed s d w after xs p place at [] e [] a k lt z = absurd (omega (arith, lt))
 found-place ns first sent once line indexed s d w after xs p place at [] e (y ∷ ps) a k lt z = absurd a
@@ -595,7 +595,7 @@ law tsn size max most limits cs s small some r q y all settled =
     let whole = all-whole tsn size max most limits cs s r in
     let a = there-then tsn cs start s [] [] [] r q y all (near-first tsn size max most limits small) (young-first tsn size max most limits small some) []
     (owned-first tsn size max most limits) (kept-first tsn size max most limits)
-    (record { acked = 0; total = omega arith; is = omega (arith, small); set = λ st. (tt, tt) })
+    (record { acked = 0; total = omega arith; is = omega (arith, small); set = λ st o. (tt, tt) })
     (λ d w after xs p b come. absurd (let n = ap length p in omega (arith, n))) (λ m lt g. absurd (omega (arith, lt))) whole in
     let h = a.young.holds in
     let ns = a.numbered in
@@ -609,7 +609,7 @@ law tsn size max most limits cs s small some r q y all settled =
     let idle = idle-of s b.0 in (
       places ns sent once read e.0,
       subst (λ ws. StandAt ws read (places ns sent once read e.0)) h.writes (stand ns sent once read e.0),
-      apart ns tsn sent once line indexed s read e.0 a.places' e.1 a.owned.once.1,
+      apart ns tsn sent once line s read e.0 a.places' e.1 a.owned.once.1,
       λ k lt. here s a idle b.1 e k (let n = ap length h.writes in let m = length-forgotten ns in omega (arith, lt, n, m)),
     )
   where
@@ -618,7 +618,7 @@ law tsn size max most limits cs s small some r q y all settled =
 
     here : (s : Session) (a : After tsn s) → IsIdle s → holds_nothing s.receiving.receiver ≡ true
         → (e : (e : EachRead a.numbered a.sent a.young.holds.held.stands.begun'.once s.receiving.read)
-        × AreAt a.numbered tsn a.sent a.young.holds.held.stands.begun'.once a.young.holds.held.stands.queued.line a.young.holds.held.stands.queued.indexed s
+        × AreAt a.numbered tsn a.sent a.young.holds.held.stands.begun'.once a.young.holds.held.stands.queued.line s
         s.receiving.read e a.places') → (k : ℕ) → k < length a.numbered
         → Contains (places a.numbered a.sent a.young.holds.held.stands.begun'.once s.receiving.read e.0) k
     here s a idle empty e k lt =

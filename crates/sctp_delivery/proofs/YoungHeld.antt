@@ -4,6 +4,7 @@ use Rattle.sctp_delivery.proofs.Names.{is_reliable, is_reliable_at_receiver, is_
 use Rattle.sctp_delivery.specs.Complete.{IsHeldOrRead}
 use Rattle.sctp_delivery.specs.Recent.{Aged, AreRecent, AreYoung, WhileReliableAndYoung, aged_after}
 use Rattle.sctp_delivery.proofs.Calls.{numbered_after}
+use Rattle.sctp_delivery.proofs.Cases.{all_streams}
 use Rattle.sctp_delivery.proofs.Delivered.{sender-step}
 use Rattle.sctp_delivery.proofs.Kept.{IsKeptIn, kept-first, of-kept, receiver-kept, sender-kept}
 use Rattle.sctp_delivery.proofs.Recent.{IsNear, near-first, receiver-near, sender-near}
@@ -20,14 +21,15 @@ kept-then first (of_sender call ∷ cs) old new ns sent ages r q y all j i ps h 
     let x = sender-step first call old r.0 ns sent r.1.0 i.holds in
     let near = sender-near old r.0 q.1 j call r.1.0 q.0 in
     kept-then first cs r.0 new (numbered_after call ns) x.more (aged_after (of_sender call) old r.0 ages) r.1.1 q.2 y.2 b.1 near
-    (sender-young first call old r.0 ns sent ages r.1.0 i y.1) ps (sender-owned first call old r.0 ns sent ages r.1.0 i y.1 q.1 j near ps h)
+    (sender-young all_streams first call old r.0 ns sent ages r.1.0 i y.1) ps
+    (sender-owned all_streams first call old r.0 ns sent ages r.1.0 i y.1 q.1 j near ps h)
     (sender-kept call old r.0 b.0 r.1.0 k)
 kept-then first (of_receiver call ∷ cs) old new ns sent ages r q y all j i ps h k =
     let b = both (is_reliable_at_receiver call) (list_all is_reliable cs) all in
-    let o = receiver-owned first call old r.0 ns sent ages r.1.0 i y.0 y.1 q.1 q.0 j ps h in
+    let o = receiver-owned all_streams first call old r.0 ns sent ages r.1.0 i y.0 y.1 q.1 q.0 j ps h in
     kept-then first cs r.0 new ns sent (aged_after (of_receiver call) old r.0 ages) r.1.1 q.2 y.2 b.1 (receiver-near old r.0 q.1 j call r.1.0 q.0)
-    (receiver-young first call old r.0 ns sent ages r.1.0 i y.0) o.0 o.1
-    (receiver-kept call old r.0 b.0 (absent first call old r.0 ns sent ages r.1.0 i y.0 y.1 q.1 q.0 j ps h) r.1.0 k)
+    (receiver-young all_streams first call old r.0 ns sent ages r.1.0 i y.0) o.0 o.1
+    (receiver-kept call old r.0 b.0 (absent all_streams first call old r.0 ns sent ages r.1.0 i y.0 y.1 q.1 q.0 j ps h) r.1.0 k)
 
 pub law : WhileReliableAndYoung IsHeldOrRead
 law tsn size max most limits cs s small some r q y all =

@@ -1,15 +1,15 @@
 -- Sessions of a whole life: no write is read twice, while what is handed over and what is held is less than 2^31 TSNs old.
 use Rattle.sctp_delivery.proofs.Names.{◌⊎◌, Limits, ◌≡◌, ℕ, zero, suc, ◌+◌, ◌%◌, ◌<◌, ◌≤◌, ◌^◌, Bool, true, false, List, [], ◌∷◌, length, Option, Some, None}
-use Rattle.sctp_delivery.proofs.Names.{refl, ap, sym, subst, ◌∙◌, arith, nat_tests, inl, inr, ◌==◌, if◌then◌else◌, nat_lt, list_all, list_any}
+use Rattle.sctp_delivery.proofs.Names.{refl, ap, sym, subst, ◌∙◌, arith, nat_tests, inl, inr, if◌then◌else◌, nat_lt, list_all}
 use Rattle.sctp_delivery.proofs.Names.{All, AllPairs, pairs_cons, sum_by, sum_by-cons, AllPass-from_list_all, both, and}
-use Rattle.sctp_delivery.proofs.Names.{not, not_both, fails, negated, same-is, same-yes, ChunkPayloadData, ChunkSet, Data, data_of, data_chunk, forward_tsn}
+use Rattle.sctp_delivery.proofs.Names.{not, not_both, fails, negated, same-is, same-yes, ChunkPayloadData, ChunkSet, Data, data_of}
 use Rattle.sctp_delivery.proofs.Names.{is_on, has_tsn, is_complete}
-use Rattle.sctp_delivery.proofs.Names.{is_one_message, Message, fragments_on, held_weight, message_on, stream_of, New, Repeat, ReceiverCall}
+use Rattle.sctp_delivery.proofs.Names.{is_one_message, Message, fragments_on, held_weight, message_on, stream_of, New, ReceiverCall}
 use Rattle.sctp_delivery.proofs.Names.{SenderCall, Call, RunsTo, Session, SenderFollows, ReceiverFollows, at_start, of_receiver, of_sender, Reception, Stand}
 use Rattle.sctp_delivery.proofs.Names.{Ledger}
-use Rattle.sctp_delivery.proofs.Names.{after_forward_tsn, is_stale, without_incomplete, follow_forward_tsn, AreWritesOfTheirOwn, StandAt}
+use Rattle.sctp_delivery.proofs.Names.{AreWritesOfTheirOwn, StandAt}
 use Rattle.std.proofs.Common.{◌≢◌}
-use Rattle.sctp_util.specs.Serial.{at_or_before, comes_before, distance}
+use Rattle.sctp_util.specs.Serial.{comes_before, distance}
 use Rattle.sctp_receiver.specs.ReceiverRuns.{with_message}
 use Rattle.sctp_receiver.proofs.Weights.{message_weight}
 use Rattle.sctp_delivery.specs.ReceiverCalls as incoming
@@ -18,81 +18,24 @@ use Rattle.sctp_delivery.specs.Session.{count_in_flight}
 use Rattle.sctp_delivery.proofs.Begun.{AreOnce}
 use Rattle.sctp_delivery.proofs.Calls.{numbered_after}
 use Rattle.sctp_delivery.proofs.Cases.{all_streams, at-test, by-test}
-use Rattle.sctp_delivery.proofs.Delivered.{EachSentFrom, IsReadOf, Sends, next_tsn, sender-step, single-is, single-on}
-use Rattle.sctp_delivery.proofs.Every.{Every, every-all, every-contained, every-of-all}
-use Rattle.sctp_delivery.proofs.FewInFlight.{IsMadeSmall}
+use Rattle.sctp_delivery.proofs.Delivered.{EachSentFrom, IsReadOf, Sends, next_tsn, sender-step, sender-step-on, single-is, single-on}
+use Rattle.sctp_delivery.proofs.Every.{Every, every-all, every-of, every-of-all}
 use Rattle.sctp_delivery.proofs.HeldWeights.{read-held, weighs}
 use Rattle.sctp_delivery.proofs.Kept.{IsAbsent, held-weighs}
 use Rattle.sctp_delivery.proofs.OrderedEntries.{AreIndexed}
 use Rattle.sctp_delivery.proofs.OnceWritten.{EachRead, one-start, places, stand}
 use Rattle.sctp_delivery.proofs.Queues.{IsOnceMore}
 use Rattle.sctp_delivery.proofs.ReadOnce.{one}
-use Rattle.sctp_delivery.proofs.Recent.{IsNear, any, given, near-first, receiver-near, sender-near}
+use Rattle.sctp_delivery.proofs.Recent.{IsNear, near-first, receiver-near, sender-near}
 use Rattle.sctp_delivery.proofs.Sent.{Entry, IsLine, IsPart, Numbered, fragment, part-length, part-line, same-parts}
 use Rattle.sctp_delivery.proofs.Sessions as sessions
-use Rattle.sctp_delivery.proofs.Sessions.{all-pass, neither}
-use Rattle.sctp_delivery.proofs.TakenAgain.{flew}
-use Rattle.sctp_delivery.proofs.TakenCalls.{Knows, fresh-new, new-come, skip-come}
+use Rattle.sctp_delivery.proofs.Sessions.{all-pass}
+use Rattle.sctp_delivery.proofs.TakenAgain.{Flies, comes, flew, flies, fresh, small, stays}
+use Rattle.sctp_delivery.proofs.TakenCalls.{Knows}
 use Rattle.sctp_delivery.proofs.TakenTsns.{come}
 use Rattle.sctp_delivery.proofs.TsnPlaces.{IsGiven}
-use Rattle.sctp_delivery.proofs.YoungReads.{IsReadFrom, IsYoungSession, each-from, each-more, floor, is_recent, more-long, more-part, receiver-young}
+use Rattle.sctp_delivery.proofs.YoungReads.{IsReadFrom, IsYoungOn, IsYoungSession, each-from, each-more, floor, is_recent, more-long, more-part, receiver-young}
 use Rattle.sctp_delivery.proofs.YoungReads.{sender-young, weight-none, young-first}
-
--- the TSN is in flight
-abbrev pub Flies : ℕ → Session → Type 0
-Flies t s = IsGiven s.sending.sender.flight.acked_tsn (count_in_flight s) t
-
--- ## What came has come after a call of the receiver
-
-module _ (old new : Session) (few : count_in_flight new < 2 ^ 31) (i : IsNear old) (t : ℕ) (g : Flies t old) where
-  abbrev r : Reception
-  r = old.receiving.receiver
-
-  abbrev p : ℕ
-  p = old.sending.sender.flight.acked_tsn
-
-  abbrev n : ℕ
-  n = count_in_flight old
-
-  stays : (call : ReceiverCall) → ReceiverFollows call old new → IsRecent (of_receiver call) old → Knows t r → Knows t new.receiving.receiver
-  stays (incoming.opens stream) f q e = subst (Knows t) (sym f.step.receiver.1) e
-  stays (incoming.takes c Repeat) f q e = subst (Knows t) (sym f.step.receiver) e
-  stays (incoming.takes c (New said)) f q e =
-      let fresh = fresh-new c.tsn said r f.accepted.1 in
-      let small = every-contained IsMadeSmall old.made (data_chunk (data_of c)) f.handed i.regular.made in
-      let a = given old new few i c.tsn small q (neither (at_or_before c.tsn r.cumulative_tsn) (list_any (λ u. u == c.tsn) r.beyond) fresh).0 in
-      (new-come p n r any i.few i.arrived c new.receiving.receiver (record c { tsn = t } ∷ []) a fresh
-      (ap (λ (y : Reception). y.cumulative_tsn) f.step.receiver.after) (ap (λ (y : Reception). y.beyond) f.step.receiver.after)
-      (record { each = ((g, e), tt); apart = refl })).each.1.0.1
-  stays (incoming.follows c) f q e = subst (Knows t) (sym f.step.receiver) (by (is_stale c r) refl)
-    where
-      by : (z : Bool) → is_stale c r ≡ z → Knows t (after_forward_tsn c r)
-      by true s = subst (λ b. Knows t (if b then r else without_incomplete c.new_cumulative_tsn (if b then r else follow_forward_tsn c r))) (sym s) e
-      by false s =
-          let small = every-contained IsMadeSmall old.made (forward_tsn c) f.handed i.regular.made in
-          skip-come p n r any i.few i.arrived c (given old new few i c.new_cumulative_tsn small q s) t g e
-  stays call f q e = subst (Knows t) (sym f.step.receiver) e
-
--- a chunk that is taken as new is in flight, and comes
-module _ (old new : Session) (few : count_in_flight new < 2 ^ 31) (i : IsNear old) (c : ChunkPayloadData) (said : Bool)
-    (f : ReceiverFollows (incoming.takes c (New said)) old new) (q : IsRecent (of_receiver (incoming.takes c (New said))) old) where
-  small : c.tsn < 2 ^ 32
-  small = every-contained IsMadeSmall old.made (data_chunk (data_of c)) f.handed i.regular.made
-
-  fresh : Knows c.tsn old.receiving.receiver → ⊥
-  fresh e = not_both (sym (fresh-new c.tsn said old.receiving.receiver f.accepted.1) ∙ e)
-
-  pub flies : Flies c.tsn old
-  flies =
-      let r = old.receiving.receiver in
-      given old new few i c.tsn small q (neither (at_or_before c.tsn r.cumulative_tsn) (list_any (λ u. u == c.tsn) r.beyond)
-      (fresh-new c.tsn said r f.accepted.1)).0
-
-  comes : Knows c.tsn new.receiving.receiver
-  comes =
-      (new-come old.sending.sender.flight.acked_tsn (count_in_flight old) old.receiving.receiver any i.few i.arrived c new.receiving.receiver [] flies
-      (fresh-new c.tsn said old.receiving.receiver f.accepted.1) (ap (λ (y : Reception). y.cumulative_tsn) f.step.receiver.after)
-      (ap (λ (y : Reception). y.beyond) f.step.receiver.after) (record { each = tt; apart = refl })).each.0.1
 
 -- ## The messages that were read, by the places of their first fragments
 
@@ -140,7 +83,7 @@ pub record IsOwned (s : Session) (sent : List Entry) (ps : List ℕ) : Type 0 wh
   pub recent : HoldsRecent s
 
 -- where the facts of each are kept
-read-kept : (s v : Session) (sent more : List Entry) → IsOnceMore sent more
+pub read-kept : (s v : Session) (sent more : List Entry) → IsOnceMore sent more
     → ((stream : ℕ) (c : ChunkPayloadData) (w : Numbered) (after : List ℕ) (xs : List Entry) → IsDone s sent stream c w after xs
     → IsDone v more stream c w after xs)
     → (ms : List Message) (ps : List ℕ) → AreRead s sent ms ps → AreRead v more ms ps
@@ -192,11 +135,11 @@ none-next s st t small h is = sym (held-weighs (one t) (stream_of st s.receiving
 
 -- ## A call of the sender
 
-module _ (first : ℕ) (call : SenderCall) (old new : Session) (ns : List Numbered) (sent : List Entry) (ages : List Aged)
-    (f : SenderFollows call old new) (i : IsYoungSession first old ns sent ages) (recent : HoldsRecent new)
+module _ (going : ℕ → Bool) (first : ℕ) (call : SenderCall) (old new : Session) (ns : List Numbered) (sent : List Entry) (ages : List Aged)
+    (f : SenderFollows call old new) (i : IsYoungOn going first old ns sent ages) (recent : HoldsRecent new)
     (few : count_in_flight new < 2 ^ 31) (j : IsNear old) (k : IsNear new) (ps : List ℕ) (h : IsOwned old sent ps) where
-  abbrev x : Sends all_streams first call old new ns sent
-  x = sender-step first call old new ns sent f i.holds
+  abbrev x : Sends going first call old new ns sent
+  x = sender-step-on going first call old new ns sent f i.holds
 
   same : new.receiving ≡ old.receiving
   same = ap (λ (s : Session). s.receiving) f.after
@@ -255,8 +198,8 @@ module _ (first : ℕ) (call : SenderCall) (old new : Session) (ns : List Number
 
 -- ## A call of the receiver
 
-module _ (first : ℕ) (call : ReceiverCall) (old new : Session) (ns : List Numbered) (sent : List Entry) (ages : List Aged)
-    (f : ReceiverFollows call old new) (i : IsYoungSession first old ns sent ages) (young : IsYoung (of_receiver call) ages) (recent : HoldsRecent new)
+module _ (going : ℕ → Bool) (first : ℕ) (call : ReceiverCall) (old new : Session) (ns : List Numbered) (sent : List Entry) (ages : List Aged)
+    (f : ReceiverFollows call old new) (i : IsYoungOn going first old ns sent ages) (young : IsYoung (of_receiver call) ages) (recent : HoldsRecent new)
     (few : count_in_flight new < 2 ^ 31) (q : IsRecent (of_receiver call) old) (j : IsNear old) (ps : List ℕ) (h : IsOwned old sent ps) where
   sending : new.sending ≡ old.sending
   sending = ap (λ (s : Session). s.sending) f.after
@@ -352,7 +295,7 @@ module _ (first : ℕ) (call : ReceiverCall) (old new : Session) (ns : List Numb
         let p = sessions.fails (is_recent sent stream) in
         let a = read-held p stream old.receiving.receiver in
         let b = ap (λ o. message_weight p o) is in
-        let z = weight-none first call old new ns sent ages f i young stream in
+        let z = weight-none going first call old new ns sent ages f i young stream in
         all-pass (is_recent sent stream) set.chunks (omega (arith, a, b, z))
 
     abbrev it : Message
@@ -479,20 +422,23 @@ owned-then first (of_sender call ∷ cs) old new ns sent ages r q y j i ps h =
     let x = sender-step first call old r.0 ns sent r.1.0 i.holds in
     let k = sender-near old r.0 q.1 j call r.1.0 q.0 in
     owned-then first cs r.0 new (numbered_after call ns) x.more (aged_after (of_sender call) old r.0 ages) r.1.1 q.2 y.2 k
-    (sender-young first call old r.0 ns sent ages r.1.0 i y.1) ps
-    (sender-owned first call old r.0 ns sent ages r.1.0 i y.1 q.1 j k ps h)
+    (sender-young all_streams first call old r.0 ns sent ages r.1.0 i y.1) ps
+    (sender-owned all_streams first call old r.0 ns sent ages r.1.0 i y.1 q.1 j k ps h)
 owned-then first (of_receiver call ∷ cs) old new ns sent ages r q y j i ps h =
-    let o = receiver-owned first call old r.0 ns sent ages r.1.0 i y.0 y.1 q.1 q.0 j ps h in
+    let o = receiver-owned all_streams first call old r.0 ns sent ages r.1.0 i y.0 y.1 q.1 q.0 j ps h in
     owned-then first cs r.0 new ns sent (aged_after (of_receiver call) old r.0 ages) r.1.1 q.2 y.2 (receiver-near old r.0 q.1 j call r.1.0 q.0)
-    (receiver-young first call old r.0 ns sent ages r.1.0 i y.0) o.0 o.1
+    (receiver-young all_streams first call old r.0 ns sent ages r.1.0 i y.0) o.0 o.1
 
 -- ## The law
 
-module _ (ns : List Numbered) (first : ℕ) (sent : List Entry) (once : AreOnce sent) (line : IsLine ns first sent) (indexed : AreIndexed sent)
-    (s : Session) where
-  abbrev pub IsWhole : Message → Type 0
-  IsWhole m = (is_complete m.fragments ≡ true) × (is_one_message m.fragments ≡ true) × (list_all (is_on m.stream) m.fragments ≡ true)
+-- it is complete, and on its stream; and where its fragments got TSNs, none of them but the first begins a message
+abbrev pub IsSole : List Entry → Message → Type 0
+IsSole sent m =
+    (is_complete m.fragments ≡ true) × (list_all (is_on m.stream) m.fragments ≡ true)
+    × ((low : ℕ) → EachSentFrom low sent m.fragments → (c : ChunkPayloadData) (cs : List ChunkPayloadData) → m.fragments ≡ c ∷ cs
+    → Every (λ (d : ChunkPayloadData). d.beginning_fragment ≡ false) cs)
 
+module _ (ns : List Numbered) (first : ℕ) (sent : List Entry) (once : AreOnce sent) (line : IsLine ns first sent) (s : Session) where
   -- the first fragments of these messages stand at these places
   abbrev pub AreAt : (ms : List Message) → EachRead ns sent once ms → List ℕ → Type 0
   AreAt [] e [] = Unit {0}
@@ -500,7 +446,7 @@ module _ (ns : List Numbered) (first : ℕ) (sent : List Entry) (once : AreOnce 
   AreAt (m ∷ ms) e [] = ⊥
   AreAt (m ∷ ms) e (p ∷ ps) = (p ≡ length e.0.entries + 1) × AreAt ms e.1 ps
 
-  read-is : (m : Message) → IsWhole m → (r : IsReadFrom sent m) (p : ℕ) → AtFirst (IsDone s sent m.stream) p r.0 sent m.fragments r.1
+  read-is : (m : Message) → IsSole sent m → (r : IsReadFrom sent m) (p : ℕ) → AtFirst (IsDone s sent m.stream) p r.0 sent m.fragments r.1
       → (x : IsReadOf ns sent m) × (p ≡ length x.entries + 1)
   read-is m h r p a = by m.fragments refl r.1 a
     where
@@ -508,20 +454,19 @@ module _ (ns : List Numbered) (first : ℕ) (sent : List Entry) (once : AreOnce 
           → (x : IsReadOf ns sent m) × (p ≡ length x.entries + 1)
       by [] is e a = absurd (not_both (sym (ap is_complete is) ∙ h.0))
       by (c ∷ cs) is e a =
-          let x = single-is ns first sent r.0 line m h.0 c cs is e
-          (single-on ns first sent r.0 line all_streams indexed m h.0 h.1 (subst (EachSentFrom r.0 sent) (sym is) e) h.2 refl c cs is)
-          (ap (list_all (is_on m.stream)) (sym is) ∙ h.2) in
+          let x = single-is ns first sent r.0 line m h.0 c cs is e (h.2 r.0 (subst (EachSentFrom r.0 sent) (sym is) e) c cs is)
+          (ap (list_all (is_on m.stream)) (sym is) ∙ h.1) in
           let long = ap length x.1 in
           let at = a.0 in
           (x.0, omega (arith, long, at))
 
-  pub reads-are : (ms : List Message) (ps : List ℕ) → AreRead s sent ms ps → Every IsWhole ms → (e : EachRead ns sent once ms) × AreAt ms e ps
-  reads-are [] [] a w = (tt, tt)
-  reads-are [] (p ∷ ps) a w = absurd a
-  reads-are (m ∷ ms) [] a w = absurd a
-  reads-are (m ∷ ms) (p ∷ ps) a w =
+  pub sole-are : (ms : List Message) (ps : List ℕ) → AreRead s sent ms ps → Every (IsSole sent) ms → (e : EachRead ns sent once ms) × AreAt ms e ps
+  sole-are [] [] a w = (tt, tt)
+  sole-are [] (p ∷ ps) a w = absurd a
+  sole-are (m ∷ ms) [] a w = absurd a
+  sole-are (m ∷ ms) (p ∷ ps) a w =
       let x = read-is m w.0 a.0.0 p a.0.1 in
-      let r = reads-are ms ps a.1 w.1 in
+      let r = sole-are ms ps a.1 w.1 in
       ((x.0, r.0), (x.1, r.1))
 
   away : (m : Message) (x : IsReadOf ns sent m) (p : ℕ) → p ≡ length x.entries + 1 → (ms : List Message) (e : EachRead ns sent once ms) (ps : List ℕ)
@@ -541,19 +486,30 @@ module _ (ns : List Numbered) (first : ℕ) (sent : List Entry) (once : AreOnce 
   apart (m ∷ ms) e (p ∷ ps) a d =
       pairs_cons (λ p q. p ≢ q) e.0.written.0 (places ns sent once ms e.1) (away m e.0 p a.0 ms e.1 ps a.1 d.0) (apart ms e.1 ps a.1 d.1)
 
+-- where on each stream ordered messages have numbers one behind another
+abbrev pub IsWhole : Message → Type 0
+IsWhole m = (is_complete m.fragments ≡ true) × (is_one_message m.fragments ≡ true) × (list_all (is_on m.stream) m.fragments ≡ true)
+
+pub reads-are : (ns : List Numbered) (first : ℕ) (sent : List Entry) (once : AreOnce sent) (line : IsLine ns first sent) → AreIndexed sent → (s : Session)
+    (ms : List Message) (ps : List ℕ) → AreRead s sent ms ps → Every IsWhole ms
+    → (e : EachRead ns sent once ms) × AreAt ns first sent once line s ms e ps
+reads-are ns first sent once line indexed s ms ps a w =
+    sole-are ns first sent once line s ms ps a
+    (every-of IsWhole (IsSole sent)
+    (λ m h. (h.0, h.2, λ low e c cs is. single-on ns first sent low line all_streams indexed m h.0 h.1 e h.2 refl c cs is)) ms w)
+
 pub owned-first : (tsn size max most : ℕ) (limits : Option Limits) → IsOwned (at_start tsn size max most limits) [] []
 owned-first tsn size max most limits =
     record { single = λ st t. omega arith; missing = λ t lt fl off st. refl; once = (tt, tt); recent = λ st. refl }
 
 -- each message that was read is whole, of one message, and on its stream
 pub all-whole : (tsn size max most : ℕ) (limits : Option Limits) (cs : List Call) (s : Session) → RunsTo (at_start tsn size max most limits) cs s
-    → Every (λ (m : Message). (is_complete m.fragments ≡ true) × (is_one_message m.fragments ≡ true) × (list_all (is_on m.stream) m.fragments ≡ true))
-    s.receiving.read
+    → Every IsWhole s.receiving.read
 all-whole tsn size max most limits cs s r =
     let read = s.receiving.read in
     let whole = sessions.messages tsn size max most limits cs s r in
     let on = sessions.read-on tsn size max most limits cs s r in
-    every-of-all (λ m. (is_complete m.fragments ≡ true) × (is_one_message m.fragments ≡ true) × (list_all (is_on m.stream) m.fragments ≡ true)) read
+    every-of-all IsWhole read
     (λ k m lt. (
       AllPass-from_list_all (λ x. is_complete x.fragments) read whole.0 k m lt,
       AllPass-from_list_all (λ x. is_one_message x.fragments) read whole.1 k m lt,
@@ -574,5 +530,5 @@ law tsn size max most limits cs s small some r q y =
     (all-whole tsn size max most limits cs s r) in (
       places ns sent once read e.0,
       subst (λ ws. StandAt ws read (places ns sent once read e.0)) h.writes (stand ns sent once read e.0),
-      apart ns tsn sent once h.held.stands.queued.line h.held.stands.queued.indexed s read e.0 a.places' e.1 a.owned.once.1,
+      apart ns tsn sent once h.held.stands.queued.line s read e.0 a.places' e.1 a.owned.once.1,
     )

@@ -15,7 +15,7 @@ use Rattle.sctp_delivery.specs.Recent.{Aged, AreYoung, HoldsRecent, IsYoung, Whi
 use Rattle.sctp_delivery.specs.SenderCalls as outgoing
 use Rattle.sctp_delivery.proofs.Calls.{contains-forgotten, forget, numbered_after, sent_by}
 use Rattle.sctp_delivery.proofs.Cases.{all_streams, at-test}
-use Rattle.sctp_delivery.proofs.Delivered.{EachSentFrom, Holds, Sends, at-first, message-is, next_tsn, receiver-step, sender-step}
+use Rattle.sctp_delivery.proofs.Delivered.{EachSentFrom, HoldsOn, Sends, at-first, beside-on, message-is, next_tsn, sender-step, sender-step-on}
 use Rattle.sctp_delivery.proofs.Every.{Every, every-at, every-contained, every-joined, every-mapped, every-of}
 use Rattle.sctp_delivery.proofs.HeldWeights.{read-held, weighs}
 use Rattle.sctp_delivery.proofs.Kept.{held-weighs}
@@ -111,11 +111,15 @@ IsPlaced sent a = IsPlacedAt sent a.age a.chunk
 abbrev pub IsReadFrom : List Entry → Message → Type 0
 IsReadFrom sent m = (low : ℕ) × EachSentFrom low sent m.fragments
 
-pub record IsYoungSession (first : ℕ) (s : Session) (ns : List Numbered) (sent : List Entry) (ages : List Aged) : Type 0 where
-  pub holds : Holds first s ns sent
+-- going: the streams on which numbers go on
+pub record IsYoungOn (going : ℕ → Bool) (first : ℕ) (s : Session) (ns : List Numbered) (sent : List Entry) (ages : List Aged) : Type 0 where
+  pub holds : HoldsOn going first s ns sent
   pub placed : Every (IsPlaced sent) ages
   pub held : (st : ℕ) → list_all (is_recent sent st) (fragments_on (stream_of st s.receiving.receiver)) ≡ true
   pub read : Every (IsReadFrom sent) s.receiving.read
+
+abbrev pub IsYoungSession : ℕ → Session → List Numbered → List Entry → List Aged → Type 0
+IsYoungSession first s ns sent ages = IsYoungOn all_streams first s ns sent ages
 
 -- ## More TSNs are given out
 
@@ -154,10 +158,10 @@ recent-place first n k next t lt most is at e =
     let near : distance t next < 2 ^ 31 = grind (arith, nat_tests, b.1) in
     omega (arith, lt, most, is, at, near)
 
-module _ (first : ℕ) (call : SenderCall) (old new : Session) (ns : List Numbered) (sent : List Entry) (ages : List Aged)
-    (f : SenderFollows call old new) (i : IsYoungSession first old ns sent ages) (recent : HoldsRecent new) where
-  abbrev x : Sends all_streams first call old new ns sent
-  x = sender-step first call old new ns sent f i.holds
+module _ (going : ℕ → Bool) (first : ℕ) (call : SenderCall) (old new : Session) (ns : List Numbered) (sent : List Entry) (ages : List Aged)
+    (f : SenderFollows call old new) (i : IsYoungOn going first old ns sent ages) (recent : HoldsRecent new) where
+  abbrev x : Sends going first call old new ns sent
+  x = sender-step-on going first call old new ns sent f i.holds
 
   abbrev pub given : ℕ
   given = distance (next_tsn old) (next_tsn new)
@@ -200,7 +204,7 @@ module _ (first : ℕ) (call : SenderCall) (old new : Session) (ns : List Number
       and (is_on st c) (stands_from (floor (length x.more)) (data_of c) x.more) b.0
       (to-test (floor (length x.more)) (data_of c) y.0 y.1 y.2 x.more part le)
 
-  pub sender-young : IsYoungSession first new (numbered_after call ns) x.more (aged_after (of_sender call) old new ages)
+  pub sender-young : IsYoungOn going first new (numbered_after call ns) x.more (aged_after (of_sender call) old new ages)
   sender-young = record {
     holds = x.holds;
     placed = all-placed;
@@ -214,8 +218,8 @@ module _ (first : ℕ) (call : SenderCall) (old new : Session) (ns : List Number
 
 -- ## A call of the receiver
 
-module _ (first : ℕ) (call : ReceiverCall) (old new : Session) (ns : List Numbered) (sent : List Entry) (ages : List Aged)
-    (f : ReceiverFollows call old new) (i : IsYoungSession first old ns sent ages) (young : IsYoung (of_receiver call) ages) where
+module _ (going : ℕ → Bool) (first : ℕ) (call : ReceiverCall) (old new : Session) (ns : List Numbered) (sent : List Entry) (ages : List Aged)
+    (f : ReceiverFollows call old new) (i : IsYoungOn going first old ns sent ages) (young : IsYoung (of_receiver call) ages) where
   p : ℕ → ChunkPayloadData → Bool
   p st c = is_recent sent st c
 
@@ -264,9 +268,10 @@ module _ (first : ℕ) (call : ReceiverCall) (old new : Session) (ns : List Numb
           )
   read-after c g = subst (Every (IsReadFrom sent)) (sym g.step.read) i.read
 
-  pub receiver-young : IsYoungSession first new ns sent (aged_after (of_receiver call) old new ages)
+  pub receiver-young : IsYoungOn going first new ns sent (aged_after (of_receiver call) old new ages)
   receiver-young = record {
-    holds = receiver-step first call old new ns sent f i.holds;
+    holds = beside-on going first old new ns sent (ap (λ (s : Session). s.sending) f.after) (ap (λ (s : Session). s.made) f.after)
+        (ap (λ (s : Session). s.written) f.after) i.holds;
     placed = every-mapped (IsPlaced sent) (IsPlaced sent) (older (distance (next_tsn old) (next_tsn new)))
         (placed-older (distance (next_tsn old) (next_tsn new)) sent sent (inl refl) (omega arith)) ages i.placed;
     held = λ st.
@@ -290,10 +295,10 @@ young-then first [] old new ns sent ages r q i =
 young-then first (of_sender call ∷ cs) old new ns sent ages r q i =
     let x = sender-step first call old r.0 ns sent r.1.0 i.holds in
     young-then first cs r.0 new (numbered_after call ns) x.more (aged_after (of_sender call) old r.0 ages) r.1.1 q.2
-    (sender-young first call old r.0 ns sent ages r.1.0 i q.1)
+    (sender-young all_streams first call old r.0 ns sent ages r.1.0 i q.1)
 young-then first (of_receiver call ∷ cs) old new ns sent ages r q i =
     young-then first cs r.0 new ns sent (aged_after (of_receiver call) old r.0 ages) r.1.1 q.2
-    (receiver-young first call old r.0 ns sent ages r.1.0 i q.0)
+    (receiver-young all_streams first call old r.0 ns sent ages r.1.0 i q.0)
 
 pub young-first : (tsn size max most : ℕ) (limits : Option Limits) → tsn < 2 ^ 32 → 0 < size → IsYoungSession tsn (at_start tsn size max most limits) [] [] []
 young-first tsn size max most limits small some =

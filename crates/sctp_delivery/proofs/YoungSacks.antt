@@ -1,31 +1,30 @@
 -- Sessions of a whole life: no SACK is refused that is less than 2^31 TSNs old.
-use Rattle.sctp_delivery.proofs.Names.{◌≡◌, ℕ, ◌+◌, ◌-◌, ◌<◌, ◌≤◌, ◌^◌, Bool, true, List, [], ◌∷◌, ◌++◌, length, map, None, refl, ap, sym, subst}
-use Rattle.sctp_delivery.proofs.Names.{arith, nat_tests, inl, inr, cases_lt, tsn, Sack, Flight, Reception, is_outdated, sack_refusal, max_sack_entries}
-use Rattle.sctp_delivery.proofs.Names.{sack_entries}
-use Rattle.sctp_delivery.proofs.Names.{sack_of_entries, Ledger, Call, RunsTo, Session, ReceiverCall, at_start, of_receiver, of_sender}
+use Rattle.sctp_delivery.proofs.Names.{◌≡◌, ℕ, ◌+◌, ◌-◌, ◌<◌, ◌≤◌, ◌^◌, Bool, true, false, [], length, map, None, refl, ap, ap₂, sym, subst, ◌∙◌}
+use Rattle.sctp_delivery.proofs.Names.{arith, nat_tests, inl, inr, cases_lt, if◌then◌else◌, tsn, distance-tsn, Sack, Flight, Reception, is_outdated}
+use Rattle.sctp_delivery.proofs.Names.{sack_refusal, max_sack_entries, sack_entries, after_sack, take_sack}
+use Rattle.sctp_delivery.proofs.Names.{sack_of_entries, Session, SenderCall, SenderFollows, ReceiverCall}
 use Rattle.sctp_util.specs.Serial.{at_or_before, comes_before, distance}
 use Rattle.sctp_outbound.specs.payload_queue.Blocks.{is_in_blocks}
+use Rattle.sctp_sender.specs.Flight.{count_acked}
 use Rattle.sctp_delivery.specs.ReceiverCalls as incoming
 use Rattle.sctp_delivery.specs.ReceiverCalls.{reports_after}
-use Rattle.sctp_delivery.specs.Recent.{AgedSack, AreRecent, NoYoungSackIsRefused, NoneYoungIsRefused, sack_older, sacks_aged}
+use Rattle.sctp_delivery.specs.Recent.{AgedSack, sack_older}
 use Rattle.sctp_delivery.specs.Session.{count_in_flight}
-use Rattle.sctp_delivery.proofs.Calls.{numbered_after}
-use Rattle.sctp_delivery.proofs.Delivered.{Holds, at-first, next_tsn, receiver-step, sender-step}
-use Rattle.sctp_delivery.proofs.Every.{Every, all-of-every, every-joined, every-mapped, every-of}
-use Rattle.sctp_delivery.proofs.FlightPlaces.{IsSet, sender-set}
-use Rattle.sctp_delivery.proofs.Recent.{IsNear, any, near-first, receiver-near, sack-fits, sender-near}
+use Rattle.sctp_delivery.proofs.Delivered.{next_tsn}
+use Rattle.sctp_delivery.proofs.Every.{Every}
+use Rattle.sctp_delivery.proofs.FewInFlight.{IsInRun, IsSmall, sack-place}
+use Rattle.sctp_delivery.proofs.Recent.{IsNear, any, sack-fits, sender-moves}
 use Rattle.sctp_delivery.proofs.ReportedTsns.{IsTruthful, not-refused, sack-truthful}
-use Rattle.sctp_delivery.proofs.Sent.{Entry, Numbered}
+use Rattle.sctp_delivery.proofs.TakenAgain.{sacked-left}
 use Rattle.sctp_delivery.proofs.TsnPlaces.{base}
-use Rattle.sctp_delivery.proofs.YoungReads.{more-long}
 
 -- its cumulative TSN has a place, fewer than 2^31 before those that were given out since, and what it reports lies before the next TSN
-abbrev IsSackAt : ℕ → ℕ → AgedSack → Type 0
+abbrev pub IsSackAt : ℕ → ℕ → AgedSack → Type 0
 IsSackAt first n k =
     (x : ℕ) × (k.sack.cumulative_tsn_ack ≡ tsn (base first) x) × (x ≤ n) × (n < x + k.age + 2 ^ 31)
     × ((d : ℕ) → is_in_blocks k.sack.gap_ack_blocks d ≡ true → (0 < d) × (x + d ≤ n))
 
-sack-later : (first n m given : ℕ) → n ≤ m → m ≤ n + given → (k : AgedSack) → IsSackAt first n k → IsSackAt first m (sack_older given k)
+pub sack-later : (first n m given : ℕ) → n ≤ m → m ≤ n + given → (k : AgedSack) → IsSackAt first n k → IsSackAt first m (sack_older given k)
 sack-later first n m given le most k h =
     let upto = h.2 in
     let old = h.3 in (
@@ -36,9 +35,58 @@ sack-later first n m given le most k h =
       λ d e. let b = h.4 d e in let far = b.1 in (b.0, omega (arith, far, le)),
     )
 
+-- ## How many TSNs were given out
+
+-- so many; the last of them are in flight
+pub record AreGiven (first n : ℕ) (f : Flight) : Type 0 where
+  pub acked : ℕ
+  pub total : acked + length f.queue.inflight.chunks ≡ n
+  pub is : f.acked_tsn ≡ tsn (base first) acked
+
+sacked : (first n : ℕ) (k : Sack) (f : Flight) → IsSmall k.cumulative_tsn_ack → length f.queue.inflight.chunks < 2 ^ 31 → sack_refusal k f ≡ None → IsInRun f
+    → AreGiven first n f → AreGiven first n (after_sack k f)
+sacked first n k f small few fits run e = by (is_outdated k f) refl
+  where
+    by : (b : Bool) → is_outdated k f ≡ b → AreGiven first n (if b then f else take_sack k f)
+    by true o = e
+    by false o =
+        let at = sack-place k f small fits run o in
+        let left = sacked-left k f small few fits run o in
+        let all = e.total in
+        let was = e.is in
+        let place = at.1 in
+        record { acked = e.acked + count_acked k f; total = omega (arith, all, left); is = omega (arith, was, place) }
+
+-- after a call of the sender, the others keep them
+pub given-after : (first n : ℕ) (call : SenderCall) (old new : Session) → SenderFollows call old new → (few : count_in_flight new < 2 ^ 31)
+    → IsNear old → IsNear new → AreGiven first n old.sending.sender.flight
+    → (m : ℕ) × (n ≤ m) × (m ≤ n + distance (next_tsn old) (next_tsn new)) × AreGiven first m new.sending.sender.flight
+given-after first n call old new f few i j e = elim (sender-moves old new few i call f) [
+  | inl l ↦
+      let p = old.sending.sender.flight.acked_tsn in
+      let more = l.long in
+      let all = e.total in
+      let far : distance (next_tsn old) (next_tsn new) ≡ count_in_flight new - count_in_flight old =
+      ap₂ distance i.regular.regular.numbered.next_is (j.regular.regular.numbered.next_is ∙ ap (λ a. tsn a (count_in_flight new + 1)) l.acked)
+      ∙ distance-tsn p (count_in_flight old + 1) (count_in_flight new + 1) (omega (arith, more)) (omega (arith, few))
+      ∙ (let d : count_in_flight new + 1 - (count_in_flight old + 1) ≡ count_in_flight new - count_in_flight old = omega arith in d) in (
+        e.acked + count_in_flight new,
+        omega (arith, all, more),
+        omega (arith, all, more, far),
+        record { acked = e.acked; total = refl; is = l.acked ∙ e.is },
+      )
+  | inr x ↦
+      let fits = sack-fits old new few i call f x.0 x.1 x.2 in (
+        n,
+        omega arith,
+        omega arith,
+        subst (AreGiven first n) (sym x.3) (sacked first n x.0 old.sending.sender.flight fits.0 i.few fits.1 i.regular.regular.numbered e),
+      )
+]
+
 -- ## One SACK
 
-module _ (first : ℕ) (s : Session) (sent : List Entry) (i : IsNear s) (e : IsSet first s.sending.sender.flight sent) where
+module _ (first most : ℕ) (s : Session) (i : IsNear s) (e : AreGiven first most s.sending.sender.flight) where
   abbrev r : Reception
   r = s.receiving.receiver
 
@@ -49,7 +97,7 @@ module _ (first : ℕ) (s : Session) (sent : List Entry) (i : IsNear s) (e : IsS
   n = count_in_flight s
 
   -- that is made now
-  made-at : (credit entries : ℕ) → IsSackAt first (length sent) (record { sack = sack_of_entries credit entries s.receiving.receiver; age = 0 })
+  made-at : (credit entries : ℕ) → IsSackAt first most (record { sack = sack_of_entries credit entries s.receiving.receiver; age = 0 })
   made-at credit entries =
       let t = sack-truthful f.acked_tsn n any credit entries r i.few i.arrived in
       let total = e.total in
@@ -64,14 +112,14 @@ module _ (first : ℕ) (s : Session) (sent : List Entry) (i : IsNear s) (e : IsS
         λ d b. let k = t.blocks d b in let far = k.within in (k.some, omega (arith, total, far)),
       )
 
-  all-made : (c : ReceiverCall) → Every (IsSackAt first (length sent)) (map (λ k. record { sack = k; age = 0 }) (reports_after c s.receiving.receiver []))
+  pub all-made : (c : ReceiverCall) → Every (IsSackAt first most) (map (λ k. record { sack = k; age = 0 }) (reports_after c s.receiving.receiver []))
   all-made (incoming.reports credit) = (made-at credit max_sack_entries, tt)
   all-made (incoming.reports_within credit bytes) = (made-at credit (sack_entries bytes), tt)
   all-made (incoming.makes_sack credit bytes) = (made-at credit (sack_entries bytes), tt)
   all-made c = tt
 
   -- none is refused
-  module _ (k : Sack) (age : ℕ) (h : IsSackAt first (length sent) (record { sack = k; age = age })) (young : age < 2 ^ 31)
+  module _ (k : Sack) (age : ℕ) (h : IsSackAt first most (record { sack = k; age = age })) (young : age < 2 ^ 31)
       (recent : at_or_before k.cumulative_tsn_ack s.receiving.receiver.cumulative_tsn ≡ true) where
     abbrev x : ℕ
     x = h.0
@@ -122,7 +170,7 @@ module _ (first : ℕ) (s : Session) (sent : List Entry) (i : IsNear s) (e : IsS
               record { some = y.0; within = omega (arith, total, far, le); so = refl };
         }
 
-    is-taken : sack_refusal k f ≡ None
+    pub is-taken : sack_refusal k f ≡ None
     is-taken = elim (cases_lt x e.acked) [
       | inl lt ↦ by (is_outdated k f) refl (outdated lt)
       | inr ge ↦ not-refused f.acked_tsn n any k f i.few i.regular.regular.numbered (truthful ge)
@@ -130,41 +178,3 @@ module _ (first : ℕ) (s : Session) (sent : List Entry) (i : IsNear s) (e : IsS
       where
         by : (b : Bool) → is_outdated k f ≡ b → b ≡ true → sack_refusal k f ≡ None
         by b e t = cc
-
--- ## Each session
-
-sacks-then : (first : ℕ) (cs : List Call) (old new : Session) (ns : List Numbered) (sent : List Entry) (ks : List AgedSack) (r : RunsTo old cs new)
-    → AreRecent old cs new r → IsNear old → Holds first old ns sent → IsSet first old.sending.sender.flight sent
-    → Every (IsSackAt first (length sent)) ks → NoneYoungIsRefused (sacks_aged ks old cs new r) new
-sacks-then first [] old new ns sent ks r q i h e k =
-    subst (NoneYoungIsRefused ks) (sym r)
-    (all-of-every (λ a. a.age < 2 ^ 31 → at_or_before a.sack.cumulative_tsn_ack old.receiving.receiver.cumulative_tsn ≡ true
-    → sack_refusal a.sack old.sending.sender.flight ≡ None) ks
-    (every-of (IsSackAt first (length sent)) (λ a. a.age < 2 ^ 31 → at_or_before a.sack.cumulative_tsn_ack old.receiving.receiver.cumulative_tsn ≡ true
-    → sack_refusal a.sack old.sending.sender.flight ≡ None) (λ a y young recent. is-taken first old sent i e a.sack a.age y young recent) ks k))
-sacks-then first (of_sender call ∷ cs) old new ns sent ks r q i h e k =
-    let x = sender-step first call old r.0 ns sent r.1.0 h in
-    let long = more-long sent x.more x.once in
-    let lo = long.0 in
-    let given = distance (next_tsn old) (next_tsn r.0) in
-    sacks-then first cs r.0 new (numbered_after call ns) x.more (map (sack_older given) ks) r.1.1 q.2 (sender-near old r.0 q.1 i call r.1.0 q.0) x.holds
-    (sender-set first call old r.0 ns sent r.1.0 h i.few q.1 i.regular.regular.numbered (λ k gone e. (sack-fits old r.0 q.1 i call r.1.0 k gone e).0) e)
-    (every-mapped (IsSackAt first (length sent)) (IsSackAt first (length x.more)) (sack_older given)
-    (sack-later first (length sent) (length x.more) given lo x.few) ks k)
-sacks-then first (of_receiver call ∷ cs) old new ns sent ks r q i h e k =
-    let given = distance (next_tsn old) (next_tsn r.0) in
-    let same = ap (λ (s : Session). s.sending) r.1.0.after in
-    sacks-then first cs r.0 new ns sent
-    (map (λ k. record { sack = k; age = 0 }) (reports_after call old.receiving.receiver []) ++ map (sack_older given) ks) r.1.1 q.2
-    (receiver-near old r.0 q.1 i call r.1.0 q.0) (receiver-step first call old r.0 ns sent r.1.0 h)
-    (subst (λ (l : Ledger). IsSet first l.sender.flight sent) (sym same) e)
-    (every-joined (IsSackAt first (length sent)) (map (λ k. record { sack = k; age = 0 }) (reports_after call old.receiving.receiver []))
-    (map (sack_older given) ks)
-    (all-made first old sent i e call)
-    (every-mapped (IsSackAt first (length sent)) (IsSackAt first (length sent)) (sack_older given)
-    (sack-later first (length sent) (length sent) given (omega arith) (omega arith)) ks k))
-
-pub law : NoYoungSackIsRefused
-law first size max most limits cs s small some r q =
-    sacks-then first cs (at_start first size max most limits) s [] [] [] r q (near-first first size max most limits small)
-    (at-first first size max most limits small some) (record { acked = 0; total = omega arith; is = omega (arith, small); set = λ st. (tt, tt) }) tt

@@ -5,9 +5,8 @@ use Rattle.sctp_delivery.proofs.Names.{tsn, ChunkPayloadData, ChunkSet, data_of,
 use Rattle.sctp_delivery.proofs.Names.{Reassembly, Reception, stream_of, misses}
 use Rattle.sctp_receiver.specs.TsnFilter.{rise_beyond}
 use Rattle.sctp_util.specs.Serial.{distance}
-use Rattle.sctp_delivery.proofs.Cases.{all_streams}
 use Rattle.sctp_delivery.proofs.Every.{every-both}
-use Rattle.sctp_delivery.proofs.OrderedEntries.{AreIndexed, AreJoined}
+use Rattle.sctp_delivery.proofs.OrderedEntries.{AreIndexedOn, AreJoined}
 use Rattle.sctp_delivery.proofs.Queues.{IsOnceMore}
 use Rattle.sctp_delivery.proofs.Recent.{rise-each}
 use Rattle.sctp_delivery.proofs.Sent.{Entry, IsLine, Numbered, fragment, part-length, part-line}
@@ -181,7 +180,6 @@ module _ (st first : ℕ) where
             k = x.k;
             reach = x.reach;
             due = on-later r.cumulative_tsn r.beyond x.k x.reach (stream_of st r) test x.due;
-            turns = tt;
             most = let b = ap (λ k. begun_to st k sent) all in omega (arith, most, b);
             arrived = record {
               place = h.place - d;
@@ -215,8 +213,8 @@ module _ (st first : ℕ) where
 
   -- ## What was made
 
-  module _ (ns : List Numbered) (sent : List Entry) (line : IsLine ns first sent) (indexed : AreIndexed sent) (joined : AreJoined sent) (low : ℕ)
-      (few : length sent - low < 2 ^ 31) (within : low ≤ length sent) where
+  module _ (going : ℕ → Bool) (goes : going st ≡ true) (ns : List Numbered) (sent : List Entry) (line : IsLine ns first sent)
+      (indexed : AreIndexedOn going sent) (joined : AreJoined sent) (low : ℕ) (few : length sent - low < 2 ^ 31) (within : low ≤ length sent) where
     abbrev q : ℕ
     q = base first + low
 
@@ -225,7 +223,7 @@ module _ (st first : ℕ) where
 
     entry-of : (c : ChunkPayloadData) → Stands sent low c → (e : IsEntry st first sent c) × (low ≤ e.before)
     entry-of c w =
-        let x = made-entry all_streams ns first sent line indexed joined st refl c (w.0, w.1, w.2, w.3) in
+        let x = made-entry going ns first sent line indexed joined st goes c (w.0, w.1, w.2, w.3) in
         let same = x.1 in
         let lo = w.4 in
         (x.0, omega (arith, same, lo))

@@ -23,6 +23,7 @@ pub mod Delivering
 pub mod BothWays
 pub mod EveryCall
 pub mod EveryOrder
+pub mod EveryRecent
 pub mod EveryEnd
 pub mod StandAny
 pub mod Uses

@@ -1,3 +1,4 @@
+use Rattle.sctp_delivery.proofs.EveryRecent as recent
 use Rattle.sctp_delivery.proofs.EveryRuns as runs
 use Rattle.sctp_delivery.proofs.laws.every_call.whatever_is_called_sacks_tell_what_came.Goals as goal
 
@@ -15,4 +16,8 @@ returns c = record {
   all = runs.all-leaves;
   once = runs.none-taken-twice;
   read = runs.none-read-twice;
+  can_recent = recent.can;
+  refused_recent = recent.none-refused;
+  once_recent = recent.taken;
+  read_recent = recent.read;
 }
