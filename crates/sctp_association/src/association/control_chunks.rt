@@ -96,6 +96,7 @@ impl Association {
         ensures tells { Tells self.old self.new }
         ensures came { ArrivesAsOffered datagram.now self.old self.new }
         ensures refused { (r : Reason) → result ≡ Ok (step.Refused r) → self.new ≡ self.old }
+        ensures why { (r : Reason) → result ≡ Ok (step.Refused r) → r ≡ Unexpected }
         ensures err { OnErr result (self.new ≡ self.old) }
         ensures whole { result ≡ Ok step.Cut → ⊥ }
         ensures expected { (self.old.machine.state ≡ Closed → ⊥) → expects chunk.typ self.old ≡ true
@@ -141,6 +142,7 @@ impl Association {
         ensures tells { PassesOn answer.told self.old self.new }
         ensures refused { (r : Reason) → result ≡ step.Refused r
             → (answer ≡ silent) × (self.new ≡ self.old) }
+        ensures why { (r : Reason) → result ≡ step.Refused r → r ≡ Unexpected }
         ensures expected { speaks answer ≡ true → (r : Reason) → result ≡ step.Refused r → ⊥ }
         ensures kept { IsKept self.old self.new }
         ensures begun { BeginsBy answer.told self.old.machine self.old.config
@@ -161,6 +163,7 @@ impl Association {
     fn take_abort(&mut self) -> Step
         ensures tells { TellsEnd self.old self.new }
         ensures refused { (r : Reason) → result ≡ step.Refused r → self.new ≡ self.old }
+        ensures why { (r : Reason) → result ≡ step.Refused r → r ≡ Unexpected }
         ensures halves { HalvesAlike self.old self.new }
         ensures peer { KeepsPeer self.old self.new }
         ensures whole { result ≡ step.Cut → ⊥ }
@@ -191,6 +194,8 @@ impl Association {
         ensures came { CallsArrive datagram.now (halves_of self.old) (halves_of self.new) }
         ensures peer { KeepsPeer self.old self.new }
         ensures refused { (r : Reason) → result ≡ Ok (step.Refused r) → self.new ≡ self.old }
+        ensures why { chunk.typ ≡ 7
+            → (r : Reason) → result ≡ Ok (step.Refused r) → r ≡ Unexpected }
         ensures err { OnErr result (self.new ≡ self.old) }
         ensures whole { result ≡ Ok step.Cut → ⊥ }
         ensures shuts { IfOk result
@@ -228,6 +233,8 @@ impl Association {
         requires place { IsPlace datagram.now chunk }
         ensures tells { TellsEnd self.old self.new }
         ensures refused { (r : Reason) → result ≡ Ok (step.Refused r) → self.new ≡ self.old }
+        ensures why { chunk.typ ≡ 4
+            → (r : Reason) → result ≡ Ok (step.Refused r) → r ≡ Unexpected }
         ensures halves { HalvesAlike self.old self.new }
         ensures kept { IsKept self.old self.new }
         ensures err { OnErr result (self.new ≡ self.old) }
@@ -264,6 +271,8 @@ impl Association {
         requires place { IsPlace datagram.now chunk }
         ensures tells { TellsEnd self.old self.new }
         ensures refused { (r : Reason) → result ≡ Ok (step.Refused r) → self.new ≡ self.old }
+        ensures why { chunk.typ ≡ 5
+            → (r : Reason) → result ≡ Ok (step.Refused r) → r ≡ Unexpected }
         ensures halves { HalvesAlike self.old self.new }
         ensures kept { IsKept self.old self.new }
         ensures err { OnErr result (self.new ≡ self.old) }

@@ -12,7 +12,9 @@ ghost use Rattle.sctp_association.specs.Reports.{AnswersHostName, EndsBegun, End
 ghost use Rattle.sctp_association.specs.Rows.{StepsOn};
 ghost use Rattle.sctp_association.specs.Steps.{is_taken};
 ghost use Rattle.sctp_association.specs.Telling.{Tells, TellsEnd};
+ghost use Rattle.sctp_association.specs.Walks.{BringsCookie};
 ghost use Rattle.sctp_association.specs.declared.association.Reason.{Reason};
+ghost use Rattle.sctp_association.specs.declared.association.Reason.TheVariants.{Unexpected};
 ghost use Rattle.sctp_association.specs.declared.association.arrivals.Step.TheVariants as step;
 ghost use Rattle.sctp_datagram.specs.Carried.{IsChunkOf};
 ghost use Rattle.sctp_datagram.specs.Places.{IsPlace};
@@ -111,6 +113,8 @@ impl Association {
         requires typ { chunk.typ ≡ 2 }
         ensures tells { Tells self.old self.new }
         ensures refused { (r : Reason) → result ≡ Ok (step.Refused r) → self.new ≡ self.old }
+        ensures why { BringsCookie chunk datagram.now
+            → (r : Reason) → result ≡ Ok (step.Refused r) → r ≡ Unexpected }
         ensures err { OnErr result (self.new ≡ self.old) }
         ensures whole { result ≡ Ok step.Cut → ⊥ }
         ensures came { ArrivesAsOffered datagram.now self.old self.new }
@@ -263,6 +267,7 @@ impl Association {
         ensures tells { Tells self.old self.new }
         ensures came { ArrivesAsOffered datagram.now self.old self.new }
         ensures refused { (r : Reason) → result ≡ step.Refused r → self.new ≡ self.old }
+        ensures why { (r : Reason) → result ≡ step.Refused r → r ≡ Unexpected }
         ensures whole { result ≡ step.Cut → ⊥ }
         ensures row { StepsOn (on_cookie_ack self.old.machine) 0 now result self.old self.new }
         ensures expected { speaks (on_cookie_ack self.old.machine).answer ≡ true

@@ -11,6 +11,7 @@ ghost use Rattle.sctp_association.specs.Leaving.{AsksNoMore, IsReconfigOf, PutsR
 ghost use Rattle.sctp_association.specs.Telling.{Tells, TellsEnd};
 ghost use Rattle.sctp_association.specs.declared.fault.Fault.TheVariants.{NoSuchStream, OutOfMemory};
 ghost use Rattle.sctp_association.specs.declared.association.Reason.{Reason};
+ghost use Rattle.sctp_association.specs.declared.association.Reason.TheVariants.{Unexpected};
 ghost use Rattle.sctp_association.specs.declared.association.arrivals.Step.TheVariants as step;
 ghost use Rattle.sctp_datagram.specs.Carried.{IsChunkOf};
 ghost use Rattle.sctp_datagram.specs.Places.{IsPlace};
@@ -276,6 +277,7 @@ impl Association {
         ensures came { CallsArrive datagram.now (halves_of self.old) (halves_of self.new) }
         ensures kept { IsKept self.old self.new }
         ensures refused { (r : Reason) → result ≡ Ok (step.Refused r) → self.new ≡ self.old }
+        ensures why { (r : Reason) → result ≡ Ok (step.Refused r) → r ≡ Unexpected }
         ensures err { OnErr result (self.new ≡ self.old) }
         ensures rest { RestStays self.old self.new }
         ensures goes_on { result ≡ Ok step.Stop → ⊥ }

@@ -247,3 +247,39 @@ returns-in-14-clause-expected c begun expected reads r is =
     let refused : c.take_answer-in-14.result ≡ Refused r = search rules in
     c.take_answer-in-14.ensures.expected (ap speaks c.shutdown_complete-answer.ensures.takes.answer
     ∙ sym (ap (λ n. expects n c.args.self.now) typ) ∙ expected) r refused
+
+-- ## Why a chunk is refused
+
+pub returns-in-4-clause-why : goal.returns-in-4-clause-why
+returns-in-4-clause-why c = c.take_heartbeat.ensures.why (search rules)
+
+pub returns-in-5-clause-why : goal.returns-in-5-clause-why
+returns-in-5-clause-why c = c.take_heartbeat_ack.ensures.why (search rules)
+
+pub returns-in-6-clause-why : goal.returns-in-6-clause-why
+returns-in-6-clause-why c r is =
+    let refused : c.take_abort.result ≡ Refused r = search rules in
+    c.take_abort.ensures.why r refused
+
+pub returns-in-7-clause-why : goal.returns-in-7-clause-why
+returns-in-7-clause-why c = c.take_shutdown.ensures.why (search rules)
+
+pub returns-in-8-clause-why : goal.returns-in-8-clause-why
+returns-in-8-clause-why c r is =
+    let refused : c.take_answer.result ≡ Refused r = search rules in
+    c.take_answer.ensures.why r refused
+
+pub returns-in-9-clause-why : goal.returns-in-9-clause-why
+returns-in-9-clause-why c r is =
+    let refused : c.take_error.result ≡ Refused r = search rules in
+    absurd (c.take_error.ensures.never r refused)
+
+pub returns-in-11-clause-why : goal.returns-in-11-clause-why
+returns-in-11-clause-why c r is =
+    let refused : c.take_cookie_ack.result ≡ Refused r = search rules in
+    c.take_cookie_ack.ensures.why r refused
+
+pub returns-in-14-clause-why : goal.returns-in-14-clause-why
+returns-in-14-clause-why c r is =
+    let refused : c.take_answer-in-14.result ≡ Refused r = search rules in
+    c.take_answer-in-14.ensures.why r refused

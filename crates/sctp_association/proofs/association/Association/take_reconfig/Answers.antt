@@ -61,3 +61,12 @@ returns-then-end-len-clause-expected c takes r is =
       | then-end-len-via-else-end-len+then-chunk-end w ↦
           omega (arith, within, c.saturating_add-end.ensures, c.len.ensures.value, c.len.ensures.bound, w.if-chunk-end.true)
     ]
+
+pub returns-then-end-len-clause-why : goal.returns-then-end-len-clause-why
+returns-then-end-len-clause-why c r is =
+    let within = place_within _ _ c.requires.place in
+    absurd (elim c.then-end-len.branch [
+      | then-end-len-via-then-end-len w ↦ omega (arith, within, c.saturating_add-end.ensures, c.len.ensures.value, c.len.ensures.bound, w.if-end-len.true)
+      | then-end-len-via-else-end-len+then-chunk-end w ↦
+          omega (arith, within, c.saturating_add-end.ensures, c.len.ensures.value, c.len.ensures.bound, w.if-chunk-end.true)
+    ])

@@ -119,3 +119,9 @@ returns-clause-still c =
 
 pub returns-clause-row : goal.returns-clause-row
 returns-clause-row c = inr (ap goes_on c.requires.typ, returns-clause-still c)
+
+-- ## Why it is refused
+
+pub returns-in-Err-clause-why : goal.returns-in-Err-clause-why
+returns-in-Err-clause-why c r e = absurd (
+    sack_read _ _ c.requires.place c.requires.typ _ c.bytes_of.ensures _ c.in_ok-unless_memory-in-Err.ensures c.in-Err.ensures.fault)

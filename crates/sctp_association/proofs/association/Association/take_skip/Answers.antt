@@ -123,3 +123,10 @@ returns-clause-row c =
     (λ next. subst (λ (x : Association). FollowsStep step 0 c.args.now old x) (sym (c.end_by.ensures.on next))
     (follows_still 0 c.args.now old _ refl refl refl refl refl refl))
     (still_stop c.args.chunk c.args.datagram.now old c.end_by.new.self c.end_by.result (returns-clause-still c))
+
+-- ## Why it is refused
+
+pub returns-in_default-clause-why : goal.returns-in_default-clause-why
+returns-in_default-clause-why c r e =
+    let read = forward_read _ _ c.requires.place c.requires.typ in
+    absurd (c.in_ok-skip.ensures.some read.0 read.1.0 read.1.1 (ap Ok c.in_default.is))
