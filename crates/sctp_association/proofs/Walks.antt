@@ -3,11 +3,15 @@ use Rattle.std.proofs.Common.{◌≡◌, ◌⊎◌, ℕ, Bool, true, false, List
 use Rattle.std.proofs.lemmas.Bool.{and_parts, cases_Bool, eqb-true, false≢true}
 use Rattle.std.specs.Prelude.{Result, Ok, IfOk, ◌==◌, ◌&&◌, not, if◌then◌else◌}
 use Rattle.sctp_association.proofs.Coming.{if_ok}
+use Rattle.sctp_association.proofs.Ends.{row_has}
+use Rattle.sctp_association.proofs.Expected.{taken_where}
 use Rattle.sctp_association.specs.Behind.{StillAs, StillOn}
 use Rattle.sctp_association.specs.Coming.{goes_on}
-use Rattle.sctp_association.specs.Expected.{IsExpected}
+use Rattle.sctp_association.specs.Expected.{AsExpected, IsExpected, is_expected}
 use Rattle.sctp_association.specs.Once.{has_seen, seen}
+use Rattle.sctp_association.specs.Rows.{has_row}
 use Rattle.sctp_association.specs.Single.{AloneOn}
+use Rattle.sctp_association.specs.Steps.{is_taken}
 use Rattle.sctp_association.specs.Tags.{has_tag, is_admitted, is_reflected}
 use Rattle.sctp_association.specs.Walks.{BringsCookie, EndsUnread, FirstOn, OtherOn, PassesOver, TakesChunk, Walks, WalksOf, counts}
 use Rattle.sctp_association.specs.declared.association.Association.{Association}
@@ -38,28 +42,40 @@ still-reports : (with : Bool) (a b : Association) → StillAs with a b → (b.du
 still-reports with a b h = (ap (λ (d : Due). d.heartbeat) h.due, ap (λ (d : Due). d.report) h.due)
 
 module _ (c : ChunkPlace) (tag count : ℕ) (d : List ℕ) (now : ℕ) (a b : Association) (r : Result Step Fault)
-    (foreign : is_admitted c tag count a.machine ≡ false → r ≡ Ok (Refused Tag)) where
+    (foreign : is_admitted c tag count a.machine ≡ false → r ≡ Ok (Refused Tag))
+    (expected : is_admitted c tag count a.machine ≡ true → has_row c.typ ≡ true → IfOk r (λ s. AsExpected (is_expected c.typ a) s)) where
   admitted-by : (s : Step) → r ≡ Ok s → (s ≡ Refused Tag → ⊥) → is_admitted c tag count a.machine ≡ true
   admitted-by s is other = elim (cases_Bool (is_admitted c tag count a.machine)) [
     | inl may ↦ may
     | inr off ↦ absurd (other (same-step r s (Refused Tag) is (foreign off)))
   ]
 
-  takes : (s : Step) → r ≡ Ok s → (s ≡ Refused Tag → ⊥) → AloneOn c tag d now s a b → (goes_on c.typ ≡ true → IfOk r (λ s. StillOn c d s a b))
+  takes : (s : Step) → r ≡ Ok s → is_taken s ≡ true → AloneOn c tag d now s a b → (goes_on c.typ ≡ true → IfOk r (λ s. StillOn c d s a b))
       → TakesChunk c tag count d now s a b
-  takes s is other by still = record {
-    admitted = admitted-by s is other;
+  takes s is took by still = record {
+    admitted = may;
+    expected = λ row. taken_where (is_expected c.typ a) r (expected may row) s is took;
     by_type = by;
     beside = λ goes next. still-reports (c.typ == 0) a b (subst (λ (x : Step). StillOn c d x a b) next (if_ok (λ s. StillOn c d s a b) r s is (still goes)));
   }
+    where
+      may : is_admitted c tag count a.machine ≡ true
+      may = admitted-by s is (λ e. false≢true (sym (ap is_taken e) ∙ took))
 
   -- what is taken, or refused
   pub first_on : (s : Step) → r ≡ Ok s → AloneOn c tag d now s a b → (goes_on c.typ ≡ true → IfOk r (λ s. StillOn c d s a b))
       → FirstOn c tag count d now s a b
-  first_on Next is by still = inl (takes Next is (λ e. cc) by still)
-  first_on Stop is by still = takes Stop is (λ e. cc) by still
+  first_on Next is by still = inl (takes Next is refl by still)
+  first_on Stop is by still = takes Stop is refl by still
   first_on Cut is by still = tt
   first_on (Refused k) is by still = tt
+
+  pub other_on : count ≡ 2 → (s : Step) → r ≡ Ok s → ((k : Reason) → s ≡ Refused k → ⊥) → AloneOn c tag d now s a b
+      → (goes_on c.typ ≡ true → IfOk r (λ s. StillOn c d s a b)) → OtherOn c tag d now s a b
+  other_on two Next is taken by still = inl (subst (λ (n : ℕ). TakesChunk c tag n d now Next a b) two (takes Next is refl by still))
+  other_on two Stop is taken by still = subst (λ (n : ℕ). TakesChunk c tag n d now Stop a b) two (takes Stop is refl by still)
+  other_on two Cut is taken by still = tt
+  other_on two (Refused k) is taken by still = absurd (taken k refl)
 
   -- what is refused since it is not expected
   pub passes : (is_admitted c tag count a.machine ≡ true → IsExpected c tag d now a → (k : Reason) → r ≡ Ok (Refused k) → ⊥)
@@ -76,41 +92,32 @@ module _ (c : ChunkPlace) (tag count : ℕ) (d : List ℕ) (now : ℕ) (a b : As
 -- ## Behind the first chunk
 
 module _ (c : ChunkPlace) (tag : ℕ) (d : List ℕ) (now : ℕ) (a b : Association) (r : Result Step Fault)
-    (foreign : is_admitted c tag 2 a.machine ≡ false → r ≡ Ok (Refused Tag)) where
-  pub other_on : (s : Step) → r ≡ Ok s → ((k : Reason) → s ≡ Refused k → ⊥) → AloneOn c tag d now s a b
-      → (goes_on c.typ ≡ true → IfOk r (λ s. StillOn c d s a b)) → OtherOn c tag d now s a b
-  other_on Next is taken by still = inl (takes c tag 2 d now a b r foreign Next is (λ e. cc) by still)
-  other_on Stop is taken by still = takes c tag 2 d now a b r foreign Stop is (λ e. cc) by still
-  other_on Cut is taken by still = tt
-  other_on (Refused k) is taken by still = absurd (taken k refl)
+    (foreign : is_admitted c tag 2 a.machine ≡ false → r ≡ Ok (Refused Tag))
+    (expected : is_admitted c tag 2 a.machine ≡ true → has_row c.typ ≡ true → IfOk r (λ s. AsExpected (is_expected c.typ a) s))
+    (due : is_admitted c tag 2 a.machine ≡ true → IsExpected c tag d now a → (k : Reason) → r ≡ Ok (Refused k) → ⊥)
+    (why : is_admitted c tag 2 a.machine ≡ true → c.typ ≡ 2 → BringsCookie c d → (k : Reason) → r ≡ Ok (Refused k) → k ≡ Unexpected)
+    (counted : c.typ ≡ 10 → ⊥) (same : b ≡ a) where
+  unread : (k : Reason) → r ≡ Ok (Refused k) → (k ≡ Unexpected → ⊥) → EndsUnread c tag d a b
+  unread k is other = record { why = by (is_admitted c tag 2 a.machine) refl; same = same }
+    where
+      typed : (two : Bool) → (c.typ == 2) ≡ two → is_admitted c tag 2 a.machine ≡ true → (c.typ ≡ 2) × (BringsCookie c d → ⊥)
+      typed true e may = (eqb-true c.typ 2 e, λ brings. other (why may (eqb-true c.typ 2 e) brings k is))
+      typed false e may =
+          let row = row_has c.typ (behind-init c tag a.machine may) (λ two. false≢true (sym e ∙ ap (λ (n : ℕ). n == 2) two)) counted in
+          absurd (other (if_ok (λ s. AsExpected (is_expected c.typ a) s) r (Refused k) is (expected may row)).0)
 
-  module _ (due : is_admitted c tag 2 a.machine ≡ true → IsExpected c tag d now a → (k : Reason) → r ≡ Ok (Refused k) → ⊥)
-      (why : is_admitted c tag 2 a.machine ≡ true → (c.typ ≡ 1 → ⊥) → (c.typ ≡ 10 → ⊥) → (c.typ ≡ 2 → BringsCookie c d)
-      → (k : Reason) → r ≡ Ok (Refused k) → k ≡ Unexpected)
-      (counted : c.typ ≡ 10 → ⊥) (same : b ≡ a) where
-    unread : (k : Reason) → r ≡ Ok (Refused k) → (k ≡ Unexpected → ⊥) → EndsUnread c tag d a b
-    unread k is other = record { why = by (is_admitted c tag 2 a.machine) refl; same = same }
-      where
-        typed : (two : Bool) → (c.typ == 2) ≡ two → is_admitted c tag 2 a.machine ≡ true → (c.typ ≡ 2) × (BringsCookie c d → ⊥)
-        typed true e may = (
-          eqb-true c.typ 2 e,
-          λ brings. other (why may (behind-init c tag a.machine may) counted (λ _. brings) k is),
-        )
-        typed false e may =
-            absurd (other (why may (behind-init c tag a.machine may) counted (λ two. absurd (false≢true (sym e ∙ ap (λ n. n == 2) two))) k is))
+      by : (may : Bool) → is_admitted c tag 2 a.machine ≡ may
+          → (is_admitted c tag 2 a.machine ≡ false) ⊎ ((c.typ ≡ 2) × (BringsCookie c d → ⊥))
+      by true e = inr (typed (c.typ == 2) refl e)
+      by false e = inl e
 
-        by : (may : Bool) → is_admitted c tag 2 a.machine ≡ may
-            → (is_admitted c tag 2 a.machine ≡ false) ⊎ ((c.typ ≡ 2) × (BringsCookie c d → ⊥))
-        by true e = inr (typed (c.typ == 2) refl e)
-        by false e = inl e
-
-    -- what is refused is passed over, or the datagram is read no further
-    pub other_past : (k : Reason) (s : Step) → r ≡ Ok (Refused k) → (k ≡ Unexpected → s ≡ Next) → ((k ≡ Unexpected → ⊥) → s ≡ Refused k)
-        → OtherOn c tag d now s a b
-    other_past Unexpected s is next end =
-        subst (λ (x : Step). OtherOn c tag d now x a b) (sym (next refl)) (inr (passes c tag 2 d now a b r foreign due is same))
-    other_past Tag s is next end = subst (λ (x : Step). OtherOn c tag d now x a b) (sym (end (λ e. cc))) (unread Tag is (λ e. cc))
-    other_past k s is next end = subst (λ (x : Step). OtherOn c tag d now x a b) (sym (end (λ e. cc))) (unread k is (λ e. cc))
+  -- what is refused is passed over, or the datagram is read no further
+  pub other_past : (k : Reason) (s : Step) → r ≡ Ok (Refused k) → (k ≡ Unexpected → s ≡ Next) → ((k ≡ Unexpected → ⊥) → s ≡ Refused k)
+      → OtherOn c tag d now s a b
+  other_past Unexpected s is next end =
+      subst (λ (x : Step). OtherOn c tag d now x a b) (sym (next refl)) (inr (passes c tag 2 d now a b r foreign expected due is same))
+  other_past Tag s is next end = subst (λ (x : Step). OtherOn c tag d now x a b) (sym (end (λ e. cc))) (unread Tag is (λ e. cc))
+  other_past k s is next end = subst (λ (x : Step). OtherOn c tag d now x a b) (sym (end (λ e. cc))) (unread k is (λ e. cc))
 
 -- no COOKIE-ECHO counts
 pub no_echo : (typ : ℕ) (o : Once) → counts typ o ≡ true → typ ≡ 10 → ⊥

@@ -1,11 +1,11 @@
 -- What the chunks of a datagram make, one after the other (RFC 9260 4, 5, 6, 8.5, 9). Moments are nanoseconds.
 use Rattle.std.specs.Prelude.{◌≡◌, ◌⊎◌, ⊤, ℕ, ◌+◌, ◌<◌, ◌≤◌, ◌==◌, ◌&&◌, Bool, true, false, not, List, [], ◌∷◌, length, Ok, None}
 use Rattle.sctp_association.specs.Coming.{goes_on}
-use Rattle.sctp_association.specs.Expected.{IsExpected}
+use Rattle.sctp_association.specs.Expected.{IsExpected, is_expected}
 use Rattle.sctp_association.specs.Halves.{receiver_of}
 use Rattle.sctp_association.specs.Once.{has_seen, none_seen, seen}
 use Rattle.sctp_association.specs.Reports.{value_in}
-use Rattle.sctp_association.specs.Rows.{Settles}
+use Rattle.sctp_association.specs.Rows.{Settles, has_row}
 use Rattle.sctp_association.specs.Single.{AloneOn}
 use Rattle.sctp_association.specs.Tags.{is_admitted}
 use Rattle.sctp_association.specs.declared.association.Association.{Association}
@@ -22,11 +22,12 @@ use Rattle.sctp_util.specs.Field.{u32_at}
 
 -- ## A chunk
 
--- A chunk is taken: it may stand in a packet with this tag, of so many chunks, and what is said of its type is so. DATA, a SACK and a FORWARD-TSN
--- leave the HEARTBEAT-ACK and the ERROR that are due.
+-- A chunk is taken: it may stand in a packet with this tag, of so many chunks. The state expects it, and what is said of its type is so. DATA, a SACK
+-- and a FORWARD-TSN leave the HEARTBEAT-ACK and the ERROR that are due.
 pub record TakesChunk (c : ChunkPlace) (tag count : ℕ) (datagram : List ℕ) (now : ℕ) (s : Step)
     (old new : Association) : Type 0 where
   pub admitted : is_admitted c tag count old.machine ≡ true
+  pub expected : has_row c.typ ≡ true → is_expected c.typ old ≡ true
   pub by_type : AloneOn c tag datagram now s old new
   pub beside : goes_on c.typ ≡ true → s ≡ Next
       → (new.due.heartbeat ≡ old.due.heartbeat) × (new.due.report ≡ old.due.report)

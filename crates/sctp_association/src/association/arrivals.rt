@@ -12,12 +12,12 @@ ghost use Rattle.sctp_association.specs.Cookies.{IsAlive, IsSealed, cookie_in};
 ghost use Rattle.sctp_association.specs.Ends.{EndsIn, EndsOn, IsAborted, abort_for};
 ghost use Rattle.sctp_association.specs.Entering.{usable_in};
 ghost use Rattle.sctp_association.specs.Halves.{HalvesAlike, halves_of};
-ghost use Rattle.sctp_association.specs.Expected.{IsDue, IsExpected};
+ghost use Rattle.sctp_association.specs.Expected.{AsExpected, IsDue, IsExpected, is_expected};
 ghost use Rattle.sctp_association.specs.Lasting.{KeepsLimits};
 ghost use Rattle.sctp_association.specs.Sacks.{HearsFirstOf, HearsOn, TakesSacksOf};
 ghost use Rattle.sctp_association.specs.Paths.{MovesBehind, MovesByFirstOf, MovesOn, all_go_on};
 ghost use Rattle.sctp_association.specs.Reached.{most_user_data};
-ghost use Rattle.sctp_association.specs.Rows.{RowOn, Settles};
+ghost use Rattle.sctp_association.specs.Rows.{RowOn, Settles, has_row};
 ghost use Rattle.sctp_association.specs.Steps.{is_accepted, is_taken};
 ghost use Rattle.sctp_association.specs.Telling.{Tells, TellsEnd};
 ghost use Rattle.sctp_association.specs.Timers.{KeepsTimers};
@@ -205,9 +205,9 @@ impl Association {
         // of what was not sent; or by DATA or a FORWARD-TSN that is refused for good. By these three an ABORT is due, with that cause (RFC 9260
         // 3.3.10, 5.1, 6.2, 9).
         ensures over { EndsIn datagram.now self.old self.new }
-        // Each of its chunks makes what RFC 9260 says of its type (`AloneOn` has a field for each), in their order; or it is passed over, where the
-        // state does not expect it, or its kind came before. Behind one by which this side or the peer ends the association nothing more is looked
-        // at, and none behind one that may not stand in the packet. Then the datagram ends, which may take a shutdown on (4, 5, 6, 8.3, 8.5, 9).
+        // Each of its chunks makes in its turn what RFC 9260 says of its type: `AloneOn` has a field for each. Or it is passed over, since the state
+        // does not expect it, or its kind came before. Reading stops behind a chunk that ends the association, and at one that may not stand in the
+        // packet. Then a shutdown may go on (4, 5, 6, 8.3, 8.5, 9).
         ensures walks { result ≡ Ok Accepted → self.old.is_over ≡ false
             → (chunks : List ChunkPlace) → TellsAll place_at datagram.now chunks
             → WalksOf chunks datagram.now now self.old self.new }
@@ -564,9 +564,11 @@ impl Association {
         ensures still { goes_on chunk.typ ≡ true
             → IfOk result (λ s. StillOn chunk datagram.now s self.old self.new) }
         ensures why { is_admitted chunk tag count self.old.machine ≡ true
-            → (chunk.typ ≡ 1 → ⊥) → (chunk.typ ≡ 10 → ⊥)
-            → (chunk.typ ≡ 2 → BringsCookie chunk datagram.now)
+            → chunk.typ ≡ 2 → BringsCookie chunk datagram.now
             → (r : Reason) → result ≡ Ok (step.Refused r) → r ≡ Unexpected }
+        ensures expected { is_admitted chunk tag count self.old.machine ≡ true
+            → has_row chunk.typ ≡ true
+            → IfOk result (λ s. AsExpected (is_expected chunk.typ self.old) s) }
         ensures alone { IfOk result
             (λ s. AloneOn chunk tag datagram.now now s self.old self.new) }
     {
@@ -598,11 +600,9 @@ impl Association {
         ensures came { CallsArrive datagram.now (halves_of self.old) (halves_of self.new) }
         ensures peer { KeepsPeer self.old self.new }
         ensures refused { (r : Reason) → result ≡ Ok (step.Refused r) → self.new ≡ self.old }
-        ensures why { (r : Reason) → result ≡ Ok (step.Refused r) → r ≡ Unexpected }
         ensures err { OnErr result (self.new ≡ self.old) }
         ensures takes { IfOk result (λ s. FollowsData chunk.at datagram.now s self.old self.new) }
-        ensures due { is_due 0 self.old ≡ true → (r : Reason)
-            → result ≡ Ok (step.Refused r) → ⊥ }
+        ensures due { IfOk result (λ s. AsExpected (is_due 0 self.old) s) }
         ensures on { (tag : ℕ) → TakesDataOf tag self.old
             → IfOk result (λ s. GoesOn chunk tag datagram.now s self.old self.new) }
         ensures sacks { (tag : ℕ) → TakesSacksOf tag self.old
@@ -638,10 +638,8 @@ impl Association {
         ensures came { CallsArrive datagram.now (halves_of self.old) (halves_of self.new) }
         ensures peer { KeepsPeer self.old self.new }
         ensures refused { (r : Reason) → result ≡ Ok (step.Refused r) → self.new ≡ self.old }
-        ensures why { (r : Reason) → result ≡ Ok (step.Refused r) → r ≡ Unexpected }
         ensures err { OnErr result (self.new ≡ self.old) }
-        ensures due { is_due 192 self.old ≡ true → (r : Reason)
-            → result ≡ Ok (step.Refused r) → ⊥ }
+        ensures due { IfOk result (λ s. AsExpected (is_due 192 self.old) s) }
         ensures on { (tag : ℕ) → TakesDataOf tag self.old
             → IfOk result (λ s. GoesOn chunk tag datagram.now s self.old self.new) }
         ensures sacks { (tag : ℕ) → TakesSacksOf tag self.old
@@ -697,11 +695,9 @@ impl Association {
         ensures came { CallsArrive datagram.now (halves_of self.old) (halves_of self.new) }
         ensures peer { KeepsPeer self.old self.new }
         ensures refused { (r : Reason) → result ≡ Ok (step.Refused r) → self.new ≡ self.old }
-        ensures why { (r : Reason) → result ≡ Ok (step.Refused r) → r ≡ Unexpected }
         ensures err { OnErr result (self.new ≡ self.old) }
         ensures whole { result ≡ Ok step.Cut → ⊥ }
-        ensures due { is_due 3 self.old ≡ true → (r : Reason)
-            → result ≡ Ok (step.Refused r) → ⊥ }
+        ensures due { IfOk result (λ s. AsExpected (is_due 3 self.old) s) }
         ensures on { (tag : ℕ) → TakesDataOf tag self.old
             → IfOk result (λ s. GoesOn chunk tag datagram.now s self.old self.new) }
         ensures sacks { (tag : ℕ) → TakesSacksOf tag self.old

@@ -1,12 +1,12 @@
 //! INIT, INIT ACK and the cookie (RFC 9260 5).
 
-ghost use Rattle.std.specs.Prelude.{◌≡◌, ◌≢◌, ◌⊎◌, ◌≤◌, Ok, IfOk, OnErr, None, Some, length, true, false};
+ghost use Rattle.std.specs.Prelude.{◌≡◌, ◌≢◌, ◌⊎◌, ◌≤◌, ◌&&◌, Ok, IfOk, OnErr, None, Some, length, true, false};
 ghost use Rattle.sctp_association.specs.Single.{OffersOn};
 ghost use Rattle.sctp_association.specs.Beginnings.{ArrivesAsOffered, BeginsByTicket, IsOwedFor, KeepsPeer, is_standing};
 ghost use Rattle.sctp_association.specs.Kept.{OwesNoMore, OwesTicket, ticket_in_kind};
 ghost use Rattle.sctp_association.specs.Cookies.{IsAlive, IsSealed, cookie_in};
 ghost use Rattle.sctp_association.specs.Halves.{HalvesAlike, halves_of};
-ghost use Rattle.sctp_association.specs.Expected.{IsEchoExpected, IsInitAckExpected, IsInitExpected, may_begin, speaks};
+ghost use Rattle.sctp_association.specs.Expected.{AsExpected, IsEchoExpected, IsInitAckExpected, IsInitExpected, may_begin, speaks};
 ghost use Rattle.sctp_association.specs.Openings.{EchoesOn, InitAckOn, owed_to_init};
 ghost use Rattle.sctp_association.specs.Reports.{AnswersHostName, EndsBegun, EndsByHostName, value_in};
 ghost use Rattle.sctp_association.specs.Rows.{StepsOn};
@@ -267,11 +267,10 @@ impl Association {
         ensures tells { Tells self.old self.new }
         ensures came { ArrivesAsOffered datagram.now self.old self.new }
         ensures refused { (r : Reason) → result ≡ step.Refused r → self.new ≡ self.old }
-        ensures why { (r : Reason) → result ≡ step.Refused r → r ≡ Unexpected }
         ensures whole { result ≡ step.Cut → ⊥ }
         ensures row { StepsOn (on_cookie_ack self.old.machine) 0 now result self.old self.new }
-        ensures expected { speaks (on_cookie_ack self.old.machine).answer ≡ true
-            → may_begin self.old ≡ true → (r : Reason) → result ≡ step.Refused r → ⊥ }
+        ensures expected { AsExpected
+            (speaks (on_cookie_ack self.old.machine).answer && may_begin self.old) result }
     {
         if !self.may_begin() {
             return Step::Refused(Reason::Unexpected);

@@ -4,14 +4,13 @@ ghost use Rattle.std.specs.Prelude.{◌≡◌, ◌⊎◌, ◌<◌, ◌≤◌, tr
 ghost use Rattle.sctp_association.specs.Arrivals.{CallsArrive, HearsBy, Does, Follows, IsReset, IsResetAt, IsRestart, ParamAsks, ParamAsksIn, ReceivedIn};
 ghost use Rattle.sctp_association.specs.Kept.{IsKept, IsUnmoved, RestStays};
 ghost use Rattle.sctp_association.specs.Calls.{is_resettable};
-ghost use Rattle.sctp_association.specs.Expected.{takes_resets};
+ghost use Rattle.sctp_association.specs.Expected.{AsExpected, takes_resets};
 ghost use Rattle.sctp_association.specs.Halves.{HalvesAlike, PutsDue, halves_of, receiver_of};
 ghost use Rattle.sctp_association.specs.Idle.{sack_delay};
 ghost use Rattle.sctp_association.specs.Leaving.{AsksNoMore, IsReconfigOf, PutsReconfig, replies_of, requests_due, responses_due};
 ghost use Rattle.sctp_association.specs.Telling.{Tells, TellsEnd};
 ghost use Rattle.sctp_association.specs.declared.fault.Fault.TheVariants.{NoSuchStream, OutOfMemory};
 ghost use Rattle.sctp_association.specs.declared.association.Reason.{Reason};
-ghost use Rattle.sctp_association.specs.declared.association.Reason.TheVariants.{Unexpected};
 ghost use Rattle.sctp_association.specs.declared.association.arrivals.Step.TheVariants as step;
 ghost use Rattle.sctp_datagram.specs.Carried.{IsChunkOf};
 ghost use Rattle.sctp_datagram.specs.Places.{IsPlace};
@@ -277,12 +276,11 @@ impl Association {
         ensures came { CallsArrive datagram.now (halves_of self.old) (halves_of self.new) }
         ensures kept { IsKept self.old self.new }
         ensures refused { (r : Reason) → result ≡ Ok (step.Refused r) → self.new ≡ self.old }
-        ensures why { (r : Reason) → result ≡ Ok (step.Refused r) → r ≡ Unexpected }
         ensures err { OnErr result (self.new ≡ self.old) }
         ensures rest { RestStays self.old self.new }
         ensures goes_on { result ≡ Ok step.Stop → ⊥ }
-        ensures expected { takes_resets self.old.machine.state ≡ true
-            → (r : Reason) → result ≡ Ok (step.Refused r) → ⊥ }
+        ensures expected { IfOk result
+            (λ s. AsExpected (takes_resets self.old.machine.state) s) }
     {
         if !self.machine.state().takes_data() && !self.machine.state().takes_sacks() {
             return Ok(Step::Refused(Reason::Unexpected));

@@ -347,18 +347,21 @@ returns-in-Stop-clause-walks c is =
     walks_at c.in-Some.first c.next.new.self.left _ c.args.datagram.now c.args.now c.args.self.now c.take_first.new.self c.in-Some.ensures.place (inl (
     first_at c.in-Some.first _ _ _ _ c.args.datagram.now c.args.now step.Stop c.args.self.now c.take_first.new.self
     (c.header-tag.ensures.verification_tag ∙ ap (λ l. u32_at l 4) c.requires.whole) (c.left-count.ensures ∙ ap length c.in-Some.ensures.place)
-    (if_ok (λ s. FirstOn c.in-Some.first c.header-tag.result.verification_tag c.left-count.result c.args.datagram.now c.args.now s c.args.self.now c.take_first.new.self) c.take_first.result step.Stop
+    (if_ok (λ s. FirstOn c.in-Some.first c.header-tag.result.verification_tag c.left-count.result c.args.datagram.now c.args.now s c.args.self.now
+    c.take_first.new.self) c.take_first.result step.Stop
     (search rules) c.take_first.ensures.walks)
     ))
 
 pub returns-clause-walks : goal.returns-clause-walks
 returns-clause-walks c is =
     let ended = c.end_datagram-2.ensures in
-    walks_at c.in-Some.first c.next.new.self.left _ c.args.datagram.now c.args.now c.args.self.now c.end_datagram-2.new.self c.in-Some.ensures.place (inr (record {
+    walks_at c.in-Some.first c.next.new.self.left _ c.args.datagram.now c.args.now c.args.self.now c.end_datagram-2.new.self c.in-Some.ensures.place
+    (inr (record {
       behind = c.take_first.new.self;
       first = first_at c.in-Some.first _ _ _ _ c.args.datagram.now c.args.now step.Next c.args.self.now c.take_first.new.self
           (c.header-tag.ensures.verification_tag ∙ ap (λ l. u32_at l 4) c.requires.whole) (c.left-count.ensures ∙ ap length c.in-Some.ensures.place)
-          (if_ok (λ s. FirstOn c.in-Some.first c.header-tag.result.verification_tag c.left-count.result c.args.datagram.now c.args.now s c.args.self.now c.take_first.new.self) c.take_first.result step.Next
+          (if_ok (λ s. FirstOn c.in-Some.first c.header-tag.result.verification_tag c.left-count.result c.args.datagram.now c.args.now s c.args.self.now
+          c.take_first.new.self) c.take_first.result step.Next
           (search rules) c.take_first.ensures.walks);
       last = c.take_others-is_whole.new.self;
       others = c.take_others-is_whole.ensures.walks c.if-not-is_whole.false;

@@ -46,7 +46,7 @@ returns-in-Refused-Unexpected-clause-walks c =
     let is : c.take_chunk-2.result ≡ Ok (Refused Unexpected) = search rules in
     inr (record {
       passes = passes c.args.chunk c.args.tag c.args.count c.args.datagram.now c.args.now c.args.self.now c.take_chunk-2.new.self c.take_chunk-2.result
-          c.take_chunk-2.ensures.foreign c.take_chunk-2.ensures.due is (c.take_chunk-2.ensures.refused Unexpected is);
+          c.take_chunk-2.ensures.foreign c.take_chunk-2.ensures.expected c.take_chunk-2.ensures.due is (c.take_chunk-2.ensures.refused Unexpected is);
       others = search rules;
       begun = search rules;
       init = search rules;
@@ -65,11 +65,12 @@ pub returns-in_default-2-clause-walks : goal.returns-in_default-2-clause-walks
 returns-in_default-2-clause-walks c =
     let is : c.take_chunk-2.result ≡ Ok c.in_ok-step.step = c.in_ok-step.was in
     first_on c.args.chunk c.args.tag c.args.count c.args.datagram.now c.args.now c.args.self.now c.take_chunk-2.new.self c.take_chunk-2.result
-    c.take_chunk-2.ensures.foreign c.in_ok-step.step is
+    c.take_chunk-2.ensures.foreign c.take_chunk-2.ensures.expected c.in_ok-step.step is
     (if_ok (λ s. AloneOn c.args.chunk c.args.tag c.args.datagram.now c.args.now s c.args.self.now c.take_chunk-2.new.self) _ _ is c.take_chunk-2.ensures.alone)
     c.take_chunk-2.ensures.still
 
 pub returns-then-is_alone-clause-walks : goal.returns-then-is_alone-clause-walks
 returns-then-is_alone-clause-walks c =
     if_then c.take_chunk.result (λ s is h. first_on c.args.chunk c.args.tag c.args.count c.args.datagram.now c.args.now c.args.self.now
-    c.take_chunk.new.self c.take_chunk.result c.take_chunk.ensures.foreign s is h c.take_chunk.ensures.still) c.take_chunk.ensures.alone
+    c.take_chunk.new.self c.take_chunk.result c.take_chunk.ensures.foreign c.take_chunk.ensures.expected s is h c.take_chunk.ensures.still)
+    c.take_chunk.ensures.alone

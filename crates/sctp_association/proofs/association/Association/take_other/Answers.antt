@@ -1,4 +1,4 @@
-use Rattle.std.proofs.Common.{Ok, ap, rules, subst, sym, ◌≡◌}
+use Rattle.std.proofs.Common.{Ok, ap, refl, rules, subst, sym, ◌≡◌}
 use Rattle.sctp_association.proofs.Coming.{if_ok}
 use Rattle.sctp_association.proofs.Each.{past_goes, past_never, step_same}
 use Rattle.sctp_association.proofs.Paths.{moves_still}
@@ -60,13 +60,14 @@ pub returns-in-Refused-clause-walks : goal.returns-in-Refused-clause-walks
 returns-in-Refused-clause-walks c =
     let is : c.take_chunk.result ≡ Ok (Refused c.in-Refused.reason) = search rules in
     other_past c.args.chunk c.args.tag c.args.datagram.now c.args.now c.args.self.now c.take_chunk.new.self c.take_chunk.result
-    c.take_chunk.ensures.foreign c.take_chunk.ensures.due c.take_chunk.ensures.why c.requires.counted (c.take_chunk.ensures.refused c.in-Refused.reason is)
+    c.take_chunk.ensures.foreign c.take_chunk.ensures.expected c.take_chunk.ensures.due c.take_chunk.ensures.why c.requires.counted
+    (c.take_chunk.ensures.refused c.in-Refused.reason is)
     c.in-Refused.reason c.past.result is c.past.ensures.unexpected c.past.ensures.other
 
 pub returns-in_default-clause-walks : goal.returns-in_default-clause-walks
 returns-in_default-clause-walks c =
     let is : c.take_chunk.result ≡ Ok c.in_ok-taken.taken = c.in_ok-taken.was in
-    other_on c.args.chunk c.args.tag c.args.datagram.now c.args.now c.args.self.now c.take_chunk.new.self c.take_chunk.result c.take_chunk.ensures.foreign
-    c.in_ok-taken.taken is (search rules)
+    other_on c.args.chunk c.args.tag 2 c.args.datagram.now c.args.now c.args.self.now c.take_chunk.new.self c.take_chunk.result
+    c.take_chunk.ensures.foreign c.take_chunk.ensures.expected refl c.in_ok-taken.taken is (search rules)
     (if_ok (λ s. AloneOn c.args.chunk c.args.tag c.args.datagram.now c.args.now s c.args.self.now c.take_chunk.new.self) _ _ is c.take_chunk.ensures.alone)
     c.take_chunk.ensures.still

@@ -58,7 +58,8 @@ loop-preserved-then-not-counts c = record {
   count = one_less _ _ _ _ _ c.in-Some.ensures.place c.loop.invariant.count;
   idle = λ e. absurd (omega (arith, c.left-end.ensures, ap length e, c.loop-test.true));
   over = c.loop.invariant.over;
-  walks = λ last h. c.loop.invariant.walks last (walks_over c.header-tag.result.verification_tag c.args.datagram.now c.args.now c.loop.once c.in-Some.chunk c.next.new.self.left _
+  walks = λ last h. c.loop.invariant.walks last (walks_over c.header-tag.result.verification_tag c.args.datagram.now c.args.now c.loop.once c.in-Some.chunk
+      c.next.new.self.left _
       c.in-Some.ensures.place c.loop.self c.loop.self last (sym c.if-not-counts.ensures.value)
       (walks_seen c.header-tag.result.verification_tag c.args.datagram.now c.args.now _ _ _ _ last c.if-not-counts.ensures.noted h));
 }
@@ -88,9 +89,11 @@ loop-preserved c = record {
       c.loop.invariant.over
       (if_ok (λ s. EndsOn c.in-Some.chunk c.args.datagram.now s c.loop.self c.take_other.new.self) c.take_other.result Next
       (search rules) c.take_other.ensures.over);
-  walks = λ last h. c.loop.invariant.walks last (walks_next c.header-tag.result.verification_tag c.args.datagram.now c.args.now c.loop.once c.in-Some.chunk c.next.new.self.left _
+  walks = λ last h. c.loop.invariant.walks last (walks_next c.header-tag.result.verification_tag c.args.datagram.now c.args.now c.loop.once c.in-Some.chunk
+      c.next.new.self.left _
       c.in-Some.ensures.place c.loop.self c.take_other.new.self last (sym c.if-not-counts.ensures.value)
-      (if_ok (λ s. OtherOn c.in-Some.chunk c.header-tag.result.verification_tag c.args.datagram.now c.args.now s c.loop.self c.take_other.new.self) c.take_other.result Next (search rules) c.take_other.ensures.walks)
+      (if_ok (λ s. OtherOn c.in-Some.chunk c.header-tag.result.verification_tag c.args.datagram.now c.args.now s c.loop.self c.take_other.new.self)
+      c.take_other.result Next (search rules) c.take_other.ensures.walks)
       (walks_seen c.header-tag.result.verification_tag c.args.datagram.now c.args.now _ _ _ _ last c.if-not-counts.ensures.noted h));
 }
 
@@ -143,7 +146,9 @@ returns-after-loop c = record {
   none = λ e. (refl, c.loop.invariant.idle e);
   over = ended_same _ c.args.self.now c.loop.self c.loop.self c.loop.invariant.over refl;
   walks = λ is. subst (λ (n : ℕ). Walks n c.args.datagram.now c.args.now (seen c.args.first none_seen) c.args.chunks.left c.args.self.now c.loop.self)
-      (c.header-tag.ensures.verification_tag ∙ ap (λ l. u32_at l 4) c.requires.whole) (c.loop.invariant.walks c.loop.self (walks_none c.header-tag.result.verification_tag c.args.datagram.now c.args.now c.loop.once c.loop.chunks.left c.loop.self
+      (c.header-tag.ensures.verification_tag ∙ ap (λ l. u32_at l 4) c.requires.whole)
+      (c.loop.invariant.walks c.loop.self (walks_none c.header-tag.result.verification_tag c.args.datagram.now c.args.now c.loop.once c.loop.chunks.left
+      c.loop.self
       (none_left _ _ _ _ c.loop.invariant.count c.left-end.ensures c.loop-test.false)));
 }
 
@@ -163,7 +168,9 @@ returns-in_default c = record {
   none = λ e. (refl, c.loop.invariant.idle e);
   over = ended_same _ c.args.self.now c.loop.self c.loop.self c.loop.invariant.over refl;
   walks = λ is. subst (λ (n : ℕ). Walks n c.args.datagram.now c.args.now (seen c.args.first none_seen) c.args.chunks.left c.args.self.now c.loop.self)
-      (c.header-tag.ensures.verification_tag ∙ ap (λ l. u32_at l 4) c.requires.whole) (c.loop.invariant.walks c.loop.self (walks_none c.header-tag.result.verification_tag c.args.datagram.now c.args.now c.loop.once c.loop.chunks.left c.loop.self
+      (c.header-tag.ensures.verification_tag ∙ ap (λ l. u32_at l 4) c.requires.whole)
+      (c.loop.invariant.walks c.loop.self (walks_none c.header-tag.result.verification_tag c.args.datagram.now c.args.now c.loop.once c.loop.chunks.left
+      c.loop.self
       (search rules)));
 }
 
@@ -190,9 +197,12 @@ returns-in-Ok-Stop c = record {
       c.loop.invariant.over (if_ok (λ s. EndsOn c.in-Some.chunk c.args.datagram.now s c.loop.self c.take_other.new.self) c.take_other.result Stop
       (search rules) c.take_other.ensures.over);
   walks = λ is. subst (λ (n : ℕ). Walks n c.args.datagram.now c.args.now (seen c.args.first none_seen) c.args.chunks.left c.args.self.now c.take_other.new.self)
-      (c.header-tag.ensures.verification_tag ∙ ap (λ l. u32_at l 4) c.requires.whole) (c.loop.invariant.walks c.take_other.new.self (walks_stop c.header-tag.result.verification_tag c.args.datagram.now c.args.now c.loop.once c.in-Some.chunk c.next.new.self.left _
+      (c.header-tag.ensures.verification_tag ∙ ap (λ l. u32_at l 4) c.requires.whole)
+      (c.loop.invariant.walks c.take_other.new.self (walks_stop c.header-tag.result.verification_tag c.args.datagram.now c.args.now c.loop.once
+      c.in-Some.chunk c.next.new.self.left _
       c.in-Some.ensures.place c.loop.self c.take_other.new.self c.take_other.new.self (sym c.if-not-counts.ensures.value)
-      (if_ok (λ s. OtherOn c.in-Some.chunk c.header-tag.result.verification_tag c.args.datagram.now c.args.now s c.loop.self c.take_other.new.self) c.take_other.result Stop (search rules) c.take_other.ensures.walks)));
+      (if_ok (λ s. OtherOn c.in-Some.chunk c.header-tag.result.verification_tag c.args.datagram.now c.args.now s c.loop.self c.take_other.new.self)
+      c.take_other.result Stop (search rules) c.take_other.ensures.walks)));
 }
 
 pub returns-in-Ok-Refused : goal.returns-in-Ok-Refused
@@ -220,8 +230,11 @@ returns-in-Ok-Refused c = record {
   over = ended_same _ c.args.self.now c.loop.self c.take_other.new.self c.loop.invariant.over
       (ap (λ (a : Association). a.is_over) (c.take_other.ensures.refused c.in-Ok-Refused.field-0-0 (c.in-Ok-Refused.is ∙ ap Ok c.in-Ok-Refused.field-0-is)));
   walks = λ is. subst (λ (n : ℕ). Walks n c.args.datagram.now c.args.now (seen c.args.first none_seen) c.args.chunks.left c.args.self.now c.take_other.new.self)
-      (c.header-tag.ensures.verification_tag ∙ ap (λ l. u32_at l 4) c.requires.whole) (c.loop.invariant.walks c.take_other.new.self (walks_unread c.header-tag.result.verification_tag c.args.datagram.now c.args.now c.loop.once c.in-Some.chunk c.next.new.self.left _
+      (c.header-tag.ensures.verification_tag ∙ ap (λ l. u32_at l 4) c.requires.whole)
+      (c.loop.invariant.walks c.take_other.new.self (walks_unread c.header-tag.result.verification_tag c.args.datagram.now c.args.now c.loop.once
+      c.in-Some.chunk c.next.new.self.left _
       c.in-Some.ensures.place c.loop.self c.take_other.new.self c.take_other.new.self (sym c.if-not-counts.ensures.value)
-      (if_ok (λ s. OtherOn c.in-Some.chunk c.header-tag.result.verification_tag c.args.datagram.now c.args.now s c.loop.self c.take_other.new.self) c.take_other.result (Refused c.in-Ok-Refused.field-0-0)
+      (if_ok (λ s. OtherOn c.in-Some.chunk c.header-tag.result.verification_tag c.args.datagram.now c.args.now s c.loop.self c.take_other.new.self)
+      c.take_other.result (Refused c.in-Ok-Refused.field-0-0)
       (c.in-Ok-Refused.is ∙ ap Ok c.in-Ok-Refused.field-0-is) c.take_other.ensures.walks)));
 }

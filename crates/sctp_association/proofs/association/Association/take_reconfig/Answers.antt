@@ -54,16 +54,7 @@ returns-in_default-take_param-clause-tells c = end_then c.loop.invariant.tells c
 
 -- its bytes are there
 pub returns-then-end-len-clause-expected : goal.returns-then-end-len-clause-expected
-returns-then-end-len-clause-expected c takes r is =
-    let within = place_within _ _ c.requires.place in
-    elim c.then-end-len.branch [
-      | then-end-len-via-then-end-len w ↦ omega (arith, within, c.saturating_add-end.ensures, c.len.ensures.value, c.len.ensures.bound, w.if-end-len.true)
-      | then-end-len-via-else-end-len+then-chunk-end w ↦
-          omega (arith, within, c.saturating_add-end.ensures, c.len.ensures.value, c.len.ensures.bound, w.if-chunk-end.true)
-    ]
-
-pub returns-then-end-len-clause-why : goal.returns-then-end-len-clause-why
-returns-then-end-len-clause-why c r is =
+returns-then-end-len-clause-expected c =
     let within = place_within _ _ c.requires.place in
     absurd (elim c.then-end-len.branch [
       | then-end-len-via-then-end-len w ↦ omega (arith, within, c.saturating_add-end.ensures, c.len.ensures.value, c.len.ensures.bound, w.if-end-len.true)

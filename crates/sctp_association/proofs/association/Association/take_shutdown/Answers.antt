@@ -55,9 +55,6 @@ returns-clause-shuts c =
 
 -- a SHUTDOWN is read
 pub returns-in_default-clause-expected : goal.returns-in_default-clause-expected
-returns-in_default-clause-expected c expected tsn reads r is = c.in_ok-shutdown.ensures.some (shutdown_chunk tsn) tt reads (ap Ok c.in_default.is)
-
-pub returns-in_default-clause-why : goal.returns-in_default-clause-why
-returns-in_default-clause-why c typ r e =
+returns-in_default-clause-expected c typ =
     let read = shutdown_read _ _ c.requires.place typ in
     absurd (c.in_ok-shutdown.ensures.some read.0 read.1.0 read.1.1 (ap Ok c.in_default.is))
