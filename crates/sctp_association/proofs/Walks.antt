@@ -7,13 +7,13 @@ use Rattle.sctp_association.proofs.Ends.{row_has}
 use Rattle.sctp_association.proofs.Expected.{taken_where}
 use Rattle.sctp_association.specs.Behind.{StillAs, StillOn}
 use Rattle.sctp_association.specs.Coming.{goes_on}
-use Rattle.sctp_association.specs.Expected.{AsExpected, IsExpected, is_expected}
+use Rattle.sctp_association.specs.Expected.{AsExpected, BringsCookie, IsExpected, is_expected}
 use Rattle.sctp_association.specs.Once.{has_seen, seen}
 use Rattle.sctp_association.specs.Rows.{has_row}
 use Rattle.sctp_association.specs.Single.{AloneOn}
 use Rattle.sctp_association.specs.Steps.{is_taken}
 use Rattle.sctp_association.specs.Tags.{has_tag, is_admitted, is_reflected}
-use Rattle.sctp_association.specs.Walks.{BringsCookie, EndsUnread, FirstOn, OtherOn, PassesOver, TakesChunk, Walks, WalksOf, counts}
+use Rattle.sctp_association.specs.Walks.{EndsUnread, FirstOn, OtherOn, PassesOver, TakesChunk, Walks, WalksOf, counts}
 use Rattle.sctp_association.specs.declared.association.Association.{Association}
 use Rattle.sctp_association.specs.declared.association.Reason.{Reason}
 use Rattle.sctp_association.specs.declared.association.Reason.TheVariants.{Tag, Unexpected}

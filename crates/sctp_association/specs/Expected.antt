@@ -89,15 +89,19 @@ pub record IsInitExpected (c : ChunkPlace) (datagram : List ℕ) : Type 0 where
   pub reads : init_in (value_in datagram c) ≡ Ok said
   pub tagged : said.offer.tag ≢ 0
 
--- An INIT ACK without a Host Name Address is read, and this side waits for it: its cookie lies within it (5.1 C)
-pub record IsInitAckExpected (c : ChunkPlace) (datagram : List ℕ) (a : Association) : Type 0 where
-  pub typ : c.typ ≡ 2
-  pub waits : a.machine.state ≡ CookieWait
+-- an INIT ACK without a Host Name Address is read, and its cookie lies within it (5.1 C, 5.1.2)
+pub record BringsCookie (c : ChunkPlace) (datagram : List ℕ) : Type 0 where
   pub plain : host_name_of (value_in datagram c) ≡ None
   pub offer : Offer
   pub place : ParamPlace
   pub reads : values.cookie_in (init_in (value_in datagram c)) ≡ Ok (offer, place)
   pub within : place.at + place.length ≤ length (value_in datagram c)
+
+-- and this side waits for it
+pub record IsInitAckExpected (c : ChunkPlace) (datagram : List ℕ) (a : Association) : Type 0 where
+  pub typ : c.typ ≡ 2
+  pub waits : a.machine.state ≡ CookieWait
+  pub brings : BringsCookie c datagram
 
 -- a chunk of a packet with this tag is expected
 abbrev pub IsExpected : ChunkPlace → (tag : ℕ) → List ℕ → (now : ℕ) → Association → Type 0

@@ -1,10 +1,9 @@
 -- What the chunks of a datagram make, one after the other (RFC 9260 4, 5, 6, 8.5, 9). Moments are nanoseconds.
-use Rattle.std.specs.Prelude.{◌≡◌, ◌⊎◌, ⊤, ℕ, ◌+◌, ◌<◌, ◌≤◌, ◌==◌, ◌&&◌, Bool, true, false, not, List, [], ◌∷◌, length, Ok, None}
+use Rattle.std.specs.Prelude.{◌≡◌, ◌⊎◌, ⊤, ℕ, ◌<◌, ◌==◌, ◌&&◌, Bool, true, false, not, List, [], ◌∷◌, length}
 use Rattle.sctp_association.specs.Coming.{goes_on}
-use Rattle.sctp_association.specs.Expected.{IsExpected, is_expected}
+use Rattle.sctp_association.specs.Expected.{BringsCookie, IsExpected, is_expected}
 use Rattle.sctp_association.specs.Halves.{receiver_of}
 use Rattle.sctp_association.specs.Once.{has_seen, none_seen, seen}
-use Rattle.sctp_association.specs.Reports.{value_in}
 use Rattle.sctp_association.specs.Rows.{Settles, has_row}
 use Rattle.sctp_association.specs.Single.{AloneOn}
 use Rattle.sctp_association.specs.Tags.{is_admitted}
@@ -13,10 +12,6 @@ use Rattle.sctp_association.specs.declared.association.arrivals.Step.{Step}
 use Rattle.sctp_association.specs.declared.association.arrivals.Step.TheVariants.{Next, Stop, Cut, Refused}
 use Rattle.sctp_association.specs.declared.once.Once.{Once}
 use Rattle.sctp_datagram.specs.declared.datagram.ChunkPlace.{ChunkPlace}
-use Rattle.sctp_datagram.specs.declared.params.ParamPlace.{ParamPlace}
-use Rattle.sctp_handshake.specs.InitValues.{host_name_of, init_in}
-use Rattle.sctp_handshake.specs.InitValues as values
-use Rattle.sctp_handshake.specs.declared.offer.Offer.{Offer}
 use Rattle.sctp_handshake.specs.declared.state.State.TheVariants.{Closed}
 use Rattle.sctp_util.specs.Field.{u32_at}
 
@@ -38,14 +33,6 @@ pub record PassesOver (c : ChunkPlace) (tag count : ℕ) (datagram : List ℕ) (
   pub admitted : is_admitted c tag count old.machine ≡ true
   pub unexpected : IsExpected c tag datagram now old → ⊥
   pub same : new ≡ old
-
--- an INIT ACK is read, and has a cookie within it, and no Host Name Address (5.1 C, 5.1.2)
-pub record BringsCookie (c : ChunkPlace) (datagram : List ℕ) : Type 0 where
-  pub plain : host_name_of (value_in datagram c) ≡ None
-  pub offer : Offer
-  pub place : ParamPlace
-  pub reads : values.cookie_in (init_in (value_in datagram c)) ≡ Ok (offer, place)
-  pub within : place.at + place.length ≤ length (value_in datagram c)
 
 -- The datagram is read no further: behind the first chunk, this one may not stand there, or is an INIT ACK that brings no cookie. Nothing changes.
 pub record EndsUnread (c : ChunkPlace) (tag : ℕ) (datagram : List ℕ) (old new : Association)

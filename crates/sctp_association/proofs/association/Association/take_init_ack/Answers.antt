@@ -91,7 +91,7 @@ returns-clause-row c =
 
 pub returns-in_default-clause-expected : goal.returns-in_default-clause-expected
 returns-in_default-clause-expected c expected r is =
-    let said = said_of _ _ expected.reads in
+    let said = said_of _ _ expected.brings.reads in
     value_found c.args.datagram.now c.args.chunk c.requires.place (inr expected.typ) said.0 said.1 c.bytes_of.result.now c.bytes_of.ensures _
     c.in_default.ensures.fault
 
