@@ -56,8 +56,8 @@ OtherOn c tag datagram now Stop old new = TakesChunk c tag 2 datagram now Stop o
 OtherOn c tag datagram now Cut old new = ⊤
 OtherOn c tag datagram now (Refused r) old new = EndsUnread c tag datagram old new
 
--- Chunks lead on so, each in its turn, where these kinds were seen. One that does not count is passed over. Behind one that is the last to be looked
--- at nothing changes.
+-- Chunks lead on so, each in its turn, where these kinds came before: up to the last one, or up to one behind which nothing more is looked at. One that
+-- does not count is passed over.
 abbrev pub Walks : (tag : ℕ) → List ℕ → (now : ℕ) → Once → List ChunkPlace
     → (old last : Association) → Type 0
 Walks tag datagram now o [] old last = last ≡ old
@@ -70,8 +70,7 @@ Walks tag datagram now o (c ∷ cs) old last =
 
 -- ## A datagram
 
--- Of so many chunks the first one is taken. It is passed over only where others stand behind it: never in Closed, and never an INIT or a COOKIE-ECHO
--- (5.2.5).
+-- The first one of so many chunks is passed over only where others stand behind it: never in Closed, and never an INIT or a COOKIE-ECHO (5.2.5).
 pub record PassesFirst (c : ChunkPlace) (tag count : ℕ) (datagram : List ℕ) (now : ℕ)
     (old new : Association) : Type 0 where
   pub passes : PassesOver c tag count datagram now old new
@@ -80,6 +79,7 @@ pub record PassesFirst (c : ChunkPlace) (tag count : ℕ) (datagram : List ℕ) 
   pub init : c.typ ≡ 1 → ⊥
   pub cookie_echo : c.typ ≡ 10 → ⊥
 
+-- what becomes of it
 abbrev pub FirstOn : ChunkPlace → (tag count : ℕ) → List ℕ → (now : ℕ) → Step
     → (old new : Association) → Type 0
 FirstOn c tag count datagram now Next old new =

@@ -206,8 +206,8 @@ impl Association {
         // 3.3.10, 5.1, 6.2, 9).
         ensures over { EndsIn datagram.now self.old self.new }
         // Each of its chunks makes in its turn what RFC 9260 says of its type: `AloneOn` has a field for each. Or it is passed over, since the state
-        // does not expect it, or its kind came before. Reading stops behind a chunk that ends the association, and at one that may not stand in the
-        // packet. Then a shutdown may go on (4, 5, 6, 8.3, 8.5, 9).
+        // does not expect it, or its kind came before. No more is read behind an INIT, a stale cookie or an ABORT of either side, and at a chunk that
+        // may not stand in the packet. Then a shutdown may go on (4, 5, 6, 8.3, 8.5, 9).
         ensures walks { result ≡ Ok Accepted → self.old.is_over ≡ false
             → (chunks : List ChunkPlace) → TellsAll place_at datagram.now chunks
             → WalksOf chunks datagram.now now self.old self.new }
