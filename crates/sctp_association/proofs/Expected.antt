@@ -1,11 +1,18 @@
 -- Of which packets something is taken.
 use Rattle.std.proofs.Common.{◌≡◌, ◌⊎◌, ◌<◌, ℕ, Bool, true, false, List, drop, length, Option, None, Some, refl, ap, sym, subst, ◌∙◌, inl, inr, arith}
 use Rattle.std.proofs.lemmas.Bool.{and_parts, cases_Bool, false≢true, lt-ltb, ne_eqb}
-use Rattle.std.specs.Prelude.{◌==◌, ◌&&◌, ◌≢◌, not, nat_lt, Result, Ok, Err, if◌then◌else◌}
+use Rattle.std.specs.Prelude.{◌==◌, ◌&&◌, ◌≢◌, not, nat_lt, Result, Ok, Err, IfOk, if◌then◌else◌}
+use Rattle.sctp_association.proofs.Coming.{if_ok}
 use Rattle.sctp_association.proofs.Going.{due_begun}
 use Rattle.sctp_association.specs.Coming.{goes_on, is_due}
-use Rattle.sctp_association.specs.Expected.{IsEchoExpected, IsExpected, IsInitAckExpected, IsInitExpected, IsReadable, expects, is_expected, is_closed}
+use Rattle.sctp_association.specs.Expected.{AsExpected, IsEchoExpected, IsExpected, IsInitAckExpected}
+use Rattle.sctp_association.specs.Expected.{IsInitExpected, expects, is_expected, is_closed, takes_resets}
+use Rattle.sctp_association.specs.Steps.{is_taken}
 use Rattle.sctp_association.specs.declared.association.Association.{Association}
+use Rattle.sctp_association.specs.declared.association.Reason.{Reason}
+use Rattle.sctp_association.specs.declared.association.arrivals.Step.{Step}
+use Rattle.sctp_association.specs.declared.association.arrivals.Step.TheVariants.{Next, Stop, Cut, Refused}
+use Rattle.sctp_association.specs.declared.fault.Fault.{Fault}
 use Rattle.sctp_association.specs.Reports.{value_in}
 use Rattle.sctp_chunks.specs.Framing.{type_at}
 use Rattle.sctp_datagram.proofs.Alone.{no-frame-fault}
@@ -50,7 +57,7 @@ module _ (c : ChunkPlace) (tag : ℕ) (d : List ℕ) (now : ℕ) (a : Associatio
   -- in Closed only a cookie and an INIT are expected
   pub expected_begun : (c.typ ≡ 10 → ⊥) → (c.typ ≡ 1 → ⊥) → a.machine.state ≡ Closed → ⊥
   expected_begun n10 n1 closed = elim expected [
-    | inl h ↦ expects_begun c.typ a h.0 closed
+    | inl h ↦ expects_begun c.typ a h closed
     | inr (inl e) ↦ n10 e.typ
     | inr (inr (inl e)) ↦ n1 e.typ
     | inr (inr (inr e)) ↦ waits≢closed (sym e.waits ∙ closed)
@@ -60,9 +67,9 @@ module _ (c : ChunkPlace) (tag : ℕ) (d : List ℕ) (now : ℕ) (a : Associatio
       waits≢closed e = cc
 
   -- of a chunk of this type, which is no cookie, INIT or INIT ACK
-  pub expected_at : (n : ℕ) → c.typ ≡ n → (n ≡ 10 → ⊥) → (n ≡ 1 → ⊥) → (n ≡ 2 → ⊥) → (is_expected n a ≡ true) × IsReadable n (drop c.at d)
+  pub expected_at : (n : ℕ) → c.typ ≡ n → (n ≡ 10 → ⊥) → (n ≡ 1 → ⊥) → (n ≡ 2 → ⊥) → is_expected n a ≡ true
   expected_at n is n10 n1 n2 = elim expected [
-    | inl h ↦ subst (λ k. (is_expected k a ≡ true) × IsReadable k (drop c.at d)) is h
+    | inl h ↦ sym (ap (λ k. is_expected k a) is) ∙ h
     | inr (inl e) ↦ absurd (n10 (sym is ∙ e.typ))
     | inr (inr (inl e)) ↦ absurd (n1 (sym is ∙ e.typ))
     | inr (inr (inr e)) ↦ absurd (n2 (sym is ∙ e.typ))
@@ -73,7 +80,7 @@ module _ (c : ChunkPlace) (tag : ℕ) (d : List ℕ) (now : ℕ) (a : Associatio
 
   pub expected_echo : c.typ ≡ 10 → IsEchoExpected c tag d now a
   expected_echo is = elim expected [
-    | inl h ↦ absurd (never 10 is refl refl h.0)
+    | inl h ↦ absurd (never 10 is refl refl h)
     | inr (inl e) ↦ e
     | inr (inr (inl e)) ↦ absurd (omega (arith, is, e.typ))
     | inr (inr (inr e)) ↦ absurd (omega (arith, is, e.typ))
@@ -81,7 +88,7 @@ module _ (c : ChunkPlace) (tag : ℕ) (d : List ℕ) (now : ℕ) (a : Associatio
 
   pub expected_init : c.typ ≡ 1 → IsInitExpected c d
   expected_init is = elim expected [
-    | inl h ↦ absurd (never 1 is refl refl h.0)
+    | inl h ↦ absurd (never 1 is refl refl h)
     | inr (inl e) ↦ absurd (omega (arith, is, e.typ))
     | inr (inr (inl e)) ↦ e
     | inr (inr (inr e)) ↦ absurd (omega (arith, is, e.typ))
@@ -89,7 +96,7 @@ module _ (c : ChunkPlace) (tag : ℕ) (d : List ℕ) (now : ℕ) (a : Associatio
 
   pub expected_init_ack : c.typ ≡ 2 → IsInitAckExpected c d a
   expected_init_ack is = elim expected [
-    | inl h ↦ absurd (never 2 is refl refl h.0)
+    | inl h ↦ absurd (never 2 is refl refl h)
     | inr (inl e) ↦ absurd (omega (arith, is, e.typ))
     | inr (inr (inl e)) ↦ absurd (omega (arith, is, e.typ))
     | inr (inr (inr e)) ↦ e
@@ -103,6 +110,63 @@ expected_control a n n0 n3 n192 e =
     let both = and_parts (not (is_closed a.machine.state)) (expects n a)
     (sym (ap (λ b. if b then is_due n a else not (is_closed a.machine.state) && expects n a) off) ∙ e) in
     (λ closed. not-closed a.machine.state both.0 closed, both.1)
+
+-- ## Where a chunk is taken
+
+pub as_taken : (e : Bool) (s : Step) → e ≡ true → ((k : Reason) → s ≡ Refused k → ⊥) → AsExpected e s
+as_taken e Next is never = is
+as_taken e Stop is never = is
+as_taken e Cut is never = is
+as_taken e (Refused k) is never = absurd (never k refl)
+
+module _ (e : Bool) (r : Result Step Fault) (h : IfOk r (λ s. AsExpected e s)) where
+  pub never_refused : (k : Reason) → e ≡ true → r ≡ Ok (Refused k) → ⊥
+  never_refused k is refused = false≢true (sym (if_ok (λ s. AsExpected e s) r (Refused k) refused h).1 ∙ is)
+
+  pub as_same : (d : Bool) → e ≡ d → IfOk r (λ s. AsExpected d s)
+  as_same d same = subst (λ (k : Bool). IfOk r (λ s. AsExpected k s)) same h
+
+  taken-where : (s : Step) → AsExpected e s → is_taken s ≡ true → e ≡ true
+  taken-where Next is took = is
+  taken-where Stop is took = is
+  taken-where Cut is took = is
+  taken-where (Refused k) is took = absurd (false≢true took)
+
+  pub taken_where : (s : Step) → r ≡ Ok s → is_taken s ≡ true → e ≡ true
+  taken_where s is took = taken-where s (if_ok (λ s. AsExpected e s) r s is h) took
+
+pub and_none : (b : Bool) → (b && false) ≡ false
+and_none true = refl
+and_none false = refl
+
+-- in Closed nothing is
+pub closed_unexpected : (typ : ℕ) (a : Association) → a.machine.state ≡ Closed → is_expected typ a ≡ false
+closed_unexpected typ a closed = elim (cases_Bool (is_expected typ a)) [
+  | inl is ↦ absurd (expects_begun typ a is closed)
+  | inr off ↦ off
+]
+
+open-state : (s : State) → (s ≡ Closed → ⊥) → is_closed s ≡ false
+open-state Closed begun = absurd (begun refl)
+open-state _ begun = refl
+
+pub control_expected : (a : Association) (n : ℕ) → (n ≡ 0 → ⊥) → (n ≡ 3 → ⊥) → (n ≡ 192 → ⊥) → (a.machine.state ≡ Closed → ⊥)
+    → expects n a ≡ is_expected n a
+control_expected a n n0 n3 n192 begun =
+    let off : goes_on n ≡ false = rw (ne_eqb n 0 n0) (rw (ne_eqb n 3 n3) (ne_eqb n 192 n192)) in
+    sym (ap (λ b. if b then is_due n a else not (is_closed a.machine.state) && expects n a) off
+    ∙ ap (λ b. not b && expects n a) (open-state a.machine.state begun))
+
+pub resets_expected : (s : State) → takes_resets s ≡ (not (is_closed s) && takes_resets s)
+resets_expected Closed = refl
+resets_expected _ = refl
+
+-- a chunk of an unknown type is expected
+pub unknown_expected : (a : Association) (n : ℕ) → (n ≡ 1 → ⊥) → (n ≡ 2 → ⊥) → (n ≡ 4 → ⊥) → (n ≡ 5 → ⊥) → (n ≡ 6 → ⊥) → (n ≡ 7 → ⊥) → (n ≡ 8 → ⊥)
+    → (n ≡ 10 → ⊥) → (n ≡ 11 → ⊥) → (n ≡ 14 → ⊥) → (n ≡ 130 → ⊥) → expects n a ≡ true
+unknown_expected a n n1 n2 n4 n5 n6 n7 n8 n10 n11 n14 n130 =
+    rw (ne_eqb n 4 n4) (rw (ne_eqb n 5 n5) (rw (ne_eqb n 6 n6) (rw (ne_eqb n 8 n8) (rw (ne_eqb n 14 n14) (rw (ne_eqb n 7 n7) (rw (ne_eqb n 11 n11)
+    (rw (ne_eqb n 130 n130) (rw (ne_eqb n 1 n1) (rw (ne_eqb n 2 n2) (rw (ne_eqb n 10 n10) refl))))))))))
 
 -- ## An INIT and an INIT ACK are read
 

@@ -106,17 +106,6 @@ pub for_admitted : (d : List ℕ) (rows : List ChunkPlace) (key : List ℕ) (m :
 for_admitted d rows key m all (Ok t) h = λ e. record { chunks = rows; tells = all; admits = h e }
 for_admitted d rows key m all (Err e) h = tt
 
--- what an only chunk of a type comes to
-pub only_one : (P : ChunkPlace → Type 0) (n : ℕ) (d : List ℕ) (rows : List ChunkPlace) (key : List ℕ) (m : Machine) → TellsAll place_at d rows
-    → EndsWithFirst d → first_type d ≡ n → AdmitsFirst d rows key m
-    → ((first : ChunkPlace) → rows ≡ first ∷ [] → first.typ ≡ n → P first) → P (place_at d 12)
-only_one P n d rows key m t one typ admits f = elim (one-row d rows t.passed t.end one t.passes t.ended) [
-  | inl e ↦ absurd (none-first admits.first admits.rest (sym e.0 ∙ admits.are))
-  | inr e ↦
-      let place : e.0 ≡ place_at d 12 = first_place d (e.0 ∷ []) (rw (sym e.1) t) in
-      subst P place (f e.0 e.1 (e.2 ∙ typ))
-]
-
 -- the first chunk may stand there, where it is taken
 pub admits_of : (first : ChunkPlace) (rest rows : List ChunkPlace) (d key : List ℕ) (m : Machine) (r : Result Step Fault) (tag count : ℕ)
     → rows ≡ first ∷ rest → tag ≡ u32_at d 4 → count ≡ length rows → (is_admitted first tag count m ≡ false → r ≡ Ok (Refused Tag))

@@ -15,9 +15,8 @@ use Rattle.sctp_association.specs.declared.inbound.Inbound.{Inbound}
 use Rattle.sctp_chunks.specs.Fault.{SackFault}
 use Rattle.sctp_chunks.specs.Framing.{type_at}
 use Rattle.sctp_chunks.specs.Init.{ack_type}
-use Rattle.sctp_chunks.specs.Wire.{IsForwardTsn, Wire, abort_chunk, cookie_ack_chunk, cookie_echo_chunk, data_chunk, error_chunk}
-use Rattle.sctp_chunks.specs.Wire.{forward_tsn_chunk, heartbeat_ack_chunk, heartbeat_chunk, i_forward_tsn_chunk, init_chunk, reconfig_chunk, sack_chunk}
-use Rattle.sctp_chunks.specs.Wire.{shutdown_ack_chunk, shutdown_chunk, shutdown_complete_chunk, type_of}
+use Rattle.sctp_chunks.specs.Wire.{IsForwardTsn, IsHeartbeat, IsHeartbeatAck, IsShutdown, Wire, forward_tsn_chunk, heartbeat_ack_chunk, heartbeat_chunk}
+use Rattle.sctp_chunks.specs.Wire.{init_chunk, shutdown_chunk, type_of}
 use Rattle.sctp_datagram.proofs.InPlace.{sack_valid}
 use Rattle.sctp_datagram.specs.Framing.{ChunkFault, StartsWith}
 use Rattle.sctp_association.specs.declared.config.Config.{Config}
@@ -44,22 +43,21 @@ not-ack : (b : Bool) (n : ℕ) → 3 ≤ n → n ≡ ack_type b → ⊥
 not-ack true n most e = omega (arith, most, e)
 not-ack false n most e = omega (arith, most, e)
 
-forward-kind : (w : Wire) → type_of w ≡ 192 → IsForwardTsn w
-forward-kind (data_chunk d) typ = absurd (omega (arith, typ))
-forward-kind (init_chunk i) typ = absurd (not-ack i.is_ack 192 (omega arith) (sym typ))
-forward-kind (sack_chunk s) typ = absurd (omega (arith, typ))
-forward-kind (heartbeat_chunk ps) typ = absurd (omega (arith, typ))
-forward-kind (heartbeat_ack_chunk ps) typ = absurd (omega (arith, typ))
-forward-kind (abort_chunk cs) typ = absurd (omega (arith, typ))
-forward-kind (shutdown_chunk n) typ = absurd (omega (arith, typ))
-forward-kind shutdown_ack_chunk typ = absurd (omega (arith, typ))
-forward-kind (error_chunk cs) typ = absurd (omega (arith, typ))
-forward-kind (cookie_echo_chunk b) typ = absurd (omega (arith, typ))
-forward-kind cookie_ack_chunk typ = absurd (omega (arith, typ))
-forward-kind shutdown_complete_chunk typ = absurd (omega (arith, typ))
-forward-kind (reconfig_chunk r) typ = absurd (omega (arith, typ))
-forward-kind (forward_tsn_chunk f) typ = tt
-forward-kind (i_forward_tsn_chunk f) typ = absurd (omega (arith, typ))
+abbrev IsOfKind : Wire → Type 0
+IsOfKind w = (type_of w ≡ 4 → IsHeartbeat w) × (type_of w ≡ 5 → IsHeartbeatAck w) × (type_of w ≡ 7 → IsShutdown w) × (type_of w ≡ 192 → IsForwardTsn w)
+
+of-kind : (w : Wire) → IsOfKind w
+of-kind (heartbeat_chunk ps) = (λ t. tt, λ t. absurd (omega (arith, t)), λ t. absurd (omega (arith, t)), λ t. absurd (omega (arith, t)))
+of-kind (heartbeat_ack_chunk ps) = (λ t. absurd (omega (arith, t)), λ t. tt, λ t. absurd (omega (arith, t)), λ t. absurd (omega (arith, t)))
+of-kind (shutdown_chunk n) = (λ t. absurd (omega (arith, t)), λ t. absurd (omega (arith, t)), λ t. tt, λ t. absurd (omega (arith, t)))
+of-kind (forward_tsn_chunk f) = (λ t. absurd (omega (arith, t)), λ t. absurd (omega (arith, t)), λ t. absurd (omega (arith, t)), λ t. tt)
+of-kind (init_chunk i) = (
+  λ t. absurd (not-ack i.is_ack 4 (omega arith) (sym t)),
+  λ t. absurd (not-ack i.is_ack 5 (omega arith) (sym t)),
+  λ t. absurd (not-ack i.is_ack 7 (omega arith) (sym t)),
+  λ t. absurd (not-ack i.is_ack 192 (omega arith) (sym t)),
+)
+of-kind _ = (λ t. absurd (omega (arith, t)), λ t. absurd (omega (arith, t)), λ t. absurd (omega (arith, t)), λ t. absurd (omega (arith, t)))
 
 module _ (d : List ℕ) (p : ChunkPlace) (place : IsPlace d p) where
   type-there : (n : ℕ) → p.typ ≡ n → type_at (drop p.at d) ≡ n
@@ -75,11 +73,24 @@ module _ (d : List ℕ) (p : ChunkPlace) (place : IsPlace d p) where
       let reads = reads-there 3 is refl in
       sack_valid e (drop p.at d) reads.0 reads.1 (type-there 3 is) (subst (ChunkFault SackFault e) cut fault)
 
-  -- so is a FORWARD-TSN
+  read-of : (n : ℕ) → p.typ ≡ n → is_whole_type n ≡ true → (K : Wire → Type 0) → ((w : Wire) → type_of w ≡ n → K w)
+      → (w : Wire) × (K w × StartsWith (drop p.at d) w)
+  read-of n is whole K kind =
+      let reads = reads-there n is whole in
+      (reads.0, (kind reads.0 (sym reads.1.typ ∙ type-there n is), reads.1))
+
+  -- so is a FORWARD-TSN, a HEARTBEAT, a HEARTBEAT-ACK, a SHUTDOWN
   pub forward_read : p.typ ≡ 192 → (w : Wire) × (IsForwardTsn w × StartsWith (drop p.at d) w)
-  forward_read is =
-      let reads = reads-there 192 is refl in
-      (reads.0, (forward-kind reads.0 (sym reads.1.typ ∙ type-there 192 is), reads.1))
+  forward_read is = read-of 192 is refl IsForwardTsn (λ w typ. (of-kind w).3 typ)
+
+  pub heartbeat_read : p.typ ≡ 4 → (w : Wire) × (IsHeartbeat w × StartsWith (drop p.at d) w)
+  heartbeat_read is = read-of 4 is refl IsHeartbeat (λ w typ. (of-kind w).0 typ)
+
+  pub heartbeat_ack_read : p.typ ≡ 5 → (w : Wire) × (IsHeartbeatAck w × StartsWith (drop p.at d) w)
+  heartbeat_ack_read is = read-of 5 is refl IsHeartbeatAck (λ w typ. (of-kind w).1 typ)
+
+  pub shutdown_read : p.typ ≡ 7 → (w : Wire) × (IsShutdown w × StartsWith (drop p.at d) w)
+  shutdown_read is = read-of 7 is refl IsShutdown (λ w typ. (of-kind w).2 typ)
 
 -- ## In which states
 

@@ -1,7 +1,6 @@
 pub mod Entering
 pub mod First
 pub mod BackOff
-pub mod Beats
 pub mod Congested
 pub mod Firsts
 pub mod Stale
@@ -56,6 +55,7 @@ pub mod HostCalls
 pub mod Sized
 pub mod Rows
 pub mod Behind
+pub mod Walks
 pub mod Ends
 pub mod Expected
 pub mod Openings

@@ -8,7 +8,7 @@ use Rattle.sctp_association.specs.Coming.{goes_on}
 use Rattle.sctp_association.specs.Ends.{IsAbortedBy}
 use Rattle.sctp_association.specs.Fresh.{fresh_tag}
 use Rattle.sctp_association.specs.Kept.{IsKept, RestStays}
-use Rattle.sctp_association.specs.Rows.{FollowsAnswer, FollowsStep, RowOn, Settles, StepsBy, StepsOn, StepsTo, asked_for, asked_in}
+use Rattle.sctp_association.specs.Rows.{FollowsAnswer, FollowsStep, RowOn, Settles, StepsOn, asked_for, asked_in}
 use Rattle.sctp_association.specs.Rows.{drained_where, over_by, owed_by, owed_once, row_at, row_of, settled, still_wants, tag_of, tag_to}
 use Rattle.sctp_association.specs.Sending.{holds_nothing}
 use Rattle.sctp_association.specs.Telling.{IsPassedOn}
@@ -21,7 +21,7 @@ use Rattle.sctp_association.specs.declared.fault.Fault.{Fault}
 use Rattle.sctp_association.specs.declared.outbound.Outbound.{Outbound}
 use Rattle.sctp_datagram.specs.declared.datagram.ChunkPlace.{ChunkPlace}
 use Rattle.sctp_handshake.specs.Answers.{silent}
-use Rattle.sctp_handshake.specs.Endings.{abort_row, drained_row, on_abort, on_drained, on_shutdown_asked, shutdown_asked_row}
+use Rattle.sctp_handshake.specs.Endings.{drained_row, on_abort, on_drained, on_shutdown_asked, shutdown_asked_row}
 use Rattle.sctp_handshake.specs.Machines.{Step, dropped}
 use Rattle.sctp_handshake.specs.declared.answer.Answer.{Answer}
 use Rattle.sctp_handshake.specs.declared.answer.Reply.{Reply}
@@ -299,37 +299,3 @@ pub settled_closed : (x : Association) → x.machine.state ≡ Closed → settle
 settled_closed x is =
     ap (λ m. drained_where (holds_nothing x.outbound.sender) m) (asked_closed x.wants_shutdown x.machine is)
     ∙ drained-closed (holds_nothing x.outbound.sender) x.machine is
-
-settles-closed : (now : ℕ) (x : Association) → x.machine.state ≡ Closed → Settles now x x
-settles-closed now x is = record {
-  machine = sym (ap (λ (s : Step). s.machine) (settled_closed x is));
-  due = sym (ap (λ (s : Step). owed_by s.answer.reply 0 x.due) (settled_closed x is));
-  over = refl;
-  outbound = refl;
-  wants = sym (ap (λ (s : State). still_wants s x.wants_shutdown) is);
-  timers =
-      runs_none (settled x).answer _ now x x (ap (λ (s : Step). s.answer.reply) (settled_closed x is)) (ap (λ (s : Step). s.answer.told) (settled_closed x is))
-      (sym (ap (λ (m : Machine). m.state) (asked_closed x.wants_shutdown x.machine is))) refl refl;
-}
-
-abort-closes : (s : State) (m : Machine) → m.state ≡ s → (abort_row s m).machine.state ≡ Closed
-abort-closes Closed m is = is
-abort-closes _ m is = refl
-
--- ABORT, as one of a datagram
-abort-steps : (c : ChunkPlace) (d : List ℕ) (now : ℕ) (a b : Association) → c.typ ≡ 6 → FollowsStep (on_abort a.machine) 0 now a b
-    → StepsTo (row_of c d now a) (tag_to c.typ a.machine) now a b
-abort-steps c d now a b typ h = record {
-  behind = b;
-  follows =
-      subst (λ (n : ℕ). FollowsStep (row_at n (cause_in d c) (fresh_tag a.key now a.machine.own) a.machine) (tag_to n a.machine) now a b) (sym typ) h;
-  settles = settles-closed now b (ap (λ (m : Machine). m.state) h.machine ∙ abort-closes a.machine.state a.machine refl);
-}
-
--- behind the only chunk nothing comes but the end
-pub steps_stop : (c : ChunkPlace) (d : List ℕ) (now : ℕ) (a b : Association) → RowOn c d now Stop a b → StepsBy c d now a b
-steps_stop c d now a b (inl e) = inr (abort-steps c d now a b e.0 e.1)
-steps_stop c d now a b (inr e) = inl e
-
-pub steps_next : (c : ChunkPlace) (d : List ℕ) (now : ℕ) (a b e : Association) → RowOn c d now Next a b → Settles now b e → StepsBy c d now a e
-steps_next c d now a b e row ends = inr (record { behind = b; follows = row; settles = ends })

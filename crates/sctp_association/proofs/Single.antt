@@ -1,29 +1,20 @@
--- A chunk that is the only one of its datagram.
-use Rattle.std.proofs.Common.{◌≡◌, ℕ, Bool, true, false, List, Option, Some, None, refl, ap, sym, subst, ◌∙◌, inl, inr}
+-- A chunk by itself.
+use Rattle.std.proofs.Common.{◌≡◌, ℕ, Bool, true, false, List, refl, ap, sym, subst, ◌∙◌}
 use Rattle.std.proofs.lemmas.Bool.{false≢true, ne_eqb}
 use Rattle.std.specs.Prelude.{Result, Ok, Err, IfOk, ◌==◌, ◌||◌, not}
-use Rattle.sctp_association.proofs.Beats.{answers_still, beats_still}
-use Rattle.sctp_association.proofs.Rows.{steps_next, steps_stop}
-use Rattle.sctp_association.proofs.Shutting.{shuts_still}
-use Rattle.sctp_association.specs.Single.{AloneAt, AloneOn, CauseOn, OffersOn}
+use Rattle.sctp_association.specs.Single.{AloneOn, CauseOn, OffersOn}
 use Rattle.sctp_association.specs.Beats.{AnswersOn, BeatsOn}
 use Rattle.sctp_association.specs.Causes.{cause_after, cause_in}
 use Rattle.sctp_association.specs.Cookies.{cookie_in}
-use Rattle.sctp_association.specs.Halves.{receiver_of}
 use Rattle.sctp_association.specs.Openings.{EchoesOn, InitAckOn}
-use Rattle.sctp_association.specs.Rows.{RowOn, Settles, has_row, owed_by, settled}
+use Rattle.sctp_association.specs.Rows.{RowOn, has_row}
 use Rattle.sctp_association.specs.Shutting.{ShutsOn}
 use Rattle.sctp_association.specs.declared.association.Association.{Association}
 use Rattle.sctp_association.specs.declared.association.Reason.{Reason}
 use Rattle.sctp_association.specs.declared.association.arrivals.Step.{Step}
 use Rattle.sctp_association.specs.declared.association.arrivals.Step.TheVariants.{Next, Stop, Cut, Refused}
-use Rattle.sctp_association.specs.declared.due.Due.{Due}
-use Rattle.sctp_association.specs.declared.event.Events.{Events}
 use Rattle.sctp_association.specs.declared.fault.Fault.{Fault}
 use Rattle.sctp_datagram.specs.declared.datagram.ChunkPlace.{ChunkPlace}
-use Rattle.sctp_handshake.specs.declared.answer.Reply.{Reply}
-use Rattle.sctp_handshake.specs.declared.answer.Reply.TheVariants as reply
-use Rattle.sctp_util.specs.Field.{u32_at}
 
 -- ## By its type
 
@@ -88,49 +79,3 @@ pub plain_other : (typ : ℕ) → (typ ≡ 1 → ⊥) → (typ ≡ 2 → ⊥) �
 plain_other typ n1 n2 n4 n5 n7 n9 n10 =
     rw (ne_eqb typ 1 n1) (rw (ne_eqb typ 2 n2) (rw (ne_eqb typ 4 n4) (rw (ne_eqb typ 5 n5) (rw (ne_eqb typ 7 n7) (rw (ne_eqb typ 9 n9)
     (rw (ne_eqb typ 10 n10) refl))))))
-
--- ## What is said of it is so of its datagram
-
-heartbeat-due : (r : Option Reply) (x y : Due) → y ≡ owed_by r 0 x → y.heartbeat ≡ x.heartbeat
-heartbeat-due None x y e = ap (λ (d : Due). d.heartbeat) e
-heartbeat-due (Some (reply.ShutdownComplete true)) x y e = ap (λ (d : Due). d.heartbeat) e
-heartbeat-due (Some (reply.ShutdownComplete false)) x y e = ap (λ (d : Due). d.heartbeat) e
-heartbeat-due (Some _) x y e = ap (λ (d : Due). d.heartbeat) e
-
-pub alone_stop : (c : ChunkPlace) (d : List ℕ) (now : ℕ) (a b : Association) → AloneOn c (u32_at d 4) d now Stop a b → AloneAt c d now a b
-alone_stop c d now a b h = record {
-  init = λ typ. h.init typ;
-  init_ack = λ typ. inl (h.init_ack typ);
-  heartbeat = λ typ. absurd (h.heartbeat typ);
-  heartbeat_ack = λ typ. absurd (h.heartbeat_ack typ);
-  shutdown = λ typ. absurd (h.shutdown typ);
-  error = λ typ. absurd (h.error typ);
-  cookie_echo = λ typ. let e = h.cookie_echo typ in record {
-    step = e.0;
-    behind = b;
-    echoes = e.2;
-    stale = λ is. refl;
-    settles = λ is. absurd (false≢true (sym is ∙ e.1));
-  };
-  row = λ is. steps_stop c d now a b (h.row is);
-}
-
-pub alone_next : (c : ChunkPlace) (d : List ℕ) (now : ℕ) (a b e : Association) → AloneOn c (u32_at d 4) d now Next a b → Settles now b e
-    → receiver_of e.inbound ≡ receiver_of b.inbound → e.heartbeat ≡ b.heartbeat → e.events ≡ b.events → AloneAt c d now a e
-alone_next c d now a b e h ends came heartbeat events = record {
-  init = λ typ. absurd (h.init typ);
-  init_ack = λ typ. inr (record { behind = b; acks = h.init_ack typ; settles = ends });
-  heartbeat = λ typ. answers_still c.at d a b e
-      (λ info is. heartbeat-due (settled b).answer.reply b.due e.due ends.due ∙ is) ends.outbound came ends.over (h.heartbeat typ);
-  heartbeat_ack = λ typ. beats_still c.at d now a b e ends.outbound heartbeat (h.heartbeat_ack typ);
-  shutdown = λ typ. shuts_still c.at d now a.outbound b.outbound e.outbound ends.outbound (h.shutdown typ);
-  error = λ typ. ap (λ (x : Events). x.peer_error) events ∙ h.error typ;
-  cookie_echo = λ typ. let k = h.cookie_echo typ in record {
-    step = k.0;
-    behind = b;
-    echoes = k.2;
-    stale = λ is. absurd (false≢true (sym k.1 ∙ is));
-    settles = λ is. ends;
-  };
-  row = λ is. steps_next c d now a b e (h.row is) ends;
-}

@@ -118,7 +118,7 @@ abbrev pub is_stale_cause : Option ℕ → Bool
 is_stale_cause None = false
 is_stale_cause (Some code) = code == 3
 
--- By its type: an INIT ACK, ABORT, SHUTDOWN-ACK, SHUTDOWN-COMPLETE, or an ERROR with cause 3. In which state they do, `alone` says.
+-- By its type: an INIT ACK, ABORT, SHUTDOWN-ACK, SHUTDOWN-COMPLETE, or an ERROR with cause 3. In which state they do, `walks` says.
 abbrev pub ends_at : (typ : ℕ) → (cause : Option ℕ) → Bool
 ends_at typ cause = (typ == 2) || ((typ == 6) || ((typ == 8) || ((typ == 14)
     || ((typ == 9) && is_stale_cause cause))))

@@ -1,6 +1,6 @@
 -- Of which packets something is taken, by their first chunk (RFC 9260 5, 6, 8.3, 9). Moments are nanoseconds.
 use Rattle.std.specs.Prelude.{◌≡◌, ◌⊎◌, ℕ, ◌<◌, ◌^◌, ◌==◌, ◌&&◌, ◌||◌, not, if◌then◌else◌, Bool, true, false, List}
-use Rattle.std.specs.Prelude.{[], ◌∷◌, drop, length, None, is_none, is_some, ◌+◌, ◌≤◌, ◌≢◌, Ok}
+use Rattle.std.specs.Prelude.{◌∷◌, length, None, is_none, is_some, ◌+◌, ◌≤◌, ◌≢◌, Ok}
 use Rattle.crc32c.specs.Castagnoli.{crc32c_of}
 use Rattle.sctp_association.specs.Beginnings.{is_standing}
 use Rattle.sctp_association.specs.Coming.{goes_on, is_due, zero_checksum_of}
@@ -10,10 +10,11 @@ use Rattle.sctp_association.specs.Reports.{value_in}
 use Rattle.sctp_association.specs.Rows.{row_at}
 use Rattle.sctp_association.specs.Tags.{is_admitted}
 use Rattle.sctp_association.specs.declared.association.Association.{Association}
-use Rattle.sctp_chunks.specs.Wire.{heartbeat_ack_chunk, heartbeat_chunk, shutdown_chunk}
+use Rattle.sctp_association.specs.declared.association.Reason.TheVariants.{Unexpected}
+use Rattle.sctp_association.specs.declared.association.arrivals.Step.{Step}
+use Rattle.sctp_association.specs.declared.association.arrivals.Step.TheVariants.{Next, Stop, Cut, Refused}
 use Rattle.sctp_datagram.specs.declared.datagram.ChunkPlace.{ChunkPlace}
 use Rattle.sctp_datagram.specs.Fault.{IsAccepted}
-use Rattle.sctp_datagram.specs.Framing.{StartsWith}
 use Rattle.sctp_datagram.specs.Places.{TellsAll, place_at}
 use Rattle.sctp_datagram.specs.declared.params.ParamPlace.{ParamPlace}
 use Rattle.sctp_handshake.specs.InitValues.{host_name_of, init_in}
@@ -24,7 +25,6 @@ use Rattle.sctp_handshake.specs.declared.init_value.Said.{Said}
 use Rattle.sctp_handshake.specs.declared.offer.Offer.{Offer}
 use Rattle.sctp_handshake.specs.declared.state.State.{State}
 use Rattle.sctp_handshake.specs.declared.state.State.TheVariants.{Closed, CookieWait, ShutdownReceived}
-use Rattle.sctp_params.specs.Param.{heartbeat_info}
 use Rattle.sctp_util.specs.Field.{u16_at, u32_at}
 
 -- the machine replies, or tells
@@ -65,13 +65,12 @@ abbrev pub is_expected : (typ : ℕ) → Association → Bool
 is_expected typ a = if goes_on typ then is_due typ a
     else not (is_closed a.machine.state) && expects typ a
 
--- a HEARTBEAT, its answer and a SHUTDOWN have what their kind asks for
-pub record IsReadable (typ : ℕ) (bytes : List ℕ) : Type 0 where
-  pub heartbeat : typ ≡ 4 → (info : List ℕ)
-      × StartsWith bytes (heartbeat_chunk (heartbeat_info info ∷ []))
-  pub heartbeat_ack : typ ≡ 5 → (info : List ℕ)
-      × StartsWith bytes (heartbeat_ack_chunk (heartbeat_info info ∷ []))
-  pub shutdown : typ ≡ 7 → (tsn : ℕ) × StartsWith bytes (shutdown_chunk tsn)
+-- a chunk is taken where it is expected; elsewhere it is refused for that reason
+abbrev pub AsExpected : (expected : Bool) → Step → Type 0
+AsExpected expected Next = expected ≡ true
+AsExpected expected Stop = expected ≡ true
+AsExpected expected Cut = expected ≡ true
+AsExpected expected (Refused r) = (r ≡ Unexpected) × (expected ≡ false)
 
 -- a COOKIE-ECHO brings back a cookie that this side has sealed, and the machine replies or tells (5.1 D, 5.2.4)
 pub record IsEchoExpected (c : ChunkPlace) (tag : ℕ) (datagram : List ℕ) (now : ℕ) (a : Association)
@@ -90,20 +89,24 @@ pub record IsInitExpected (c : ChunkPlace) (datagram : List ℕ) : Type 0 where
   pub reads : init_in (value_in datagram c) ≡ Ok said
   pub tagged : said.offer.tag ≢ 0
 
--- An INIT ACK without a Host Name Address is read, and this side waits for it: its cookie lies within it (5.1 C)
-pub record IsInitAckExpected (c : ChunkPlace) (datagram : List ℕ) (a : Association) : Type 0 where
-  pub typ : c.typ ≡ 2
-  pub waits : a.machine.state ≡ CookieWait
+-- an INIT ACK without a Host Name Address is read, and its cookie lies within it (5.1 C, 5.1.2)
+pub record BringsCookie (c : ChunkPlace) (datagram : List ℕ) : Type 0 where
   pub plain : host_name_of (value_in datagram c) ≡ None
   pub offer : Offer
   pub place : ParamPlace
   pub reads : values.cookie_in (init_in (value_in datagram c)) ≡ Ok (offer, place)
   pub within : place.at + place.length ≤ length (value_in datagram c)
 
+-- and this side waits for it
+pub record IsInitAckExpected (c : ChunkPlace) (datagram : List ℕ) (a : Association) : Type 0 where
+  pub typ : c.typ ≡ 2
+  pub waits : a.machine.state ≡ CookieWait
+  pub brings : BringsCookie c datagram
+
 -- a chunk of a packet with this tag is expected
 abbrev pub IsExpected : ChunkPlace → (tag : ℕ) → List ℕ → (now : ℕ) → Association → Type 0
 IsExpected c tag datagram now a =
-    ((is_expected c.typ a ≡ true) × IsReadable c.typ (drop c.at datagram))
+    (is_expected c.typ a ≡ true)
     ⊎ (IsEchoExpected c tag datagram now a ⊎ (IsInitExpected c datagram ⊎ IsInitAckExpected c datagram a))
 
 -- a packet for the association, which goes on: it is valid, has its ports and its tag, and begins with a chunk that is expected

@@ -63,3 +63,4 @@ pub mod Telling
 pub mod Timers
 pub mod Told
 pub mod Waiting
+pub mod Walks

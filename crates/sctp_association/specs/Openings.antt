@@ -1,9 +1,9 @@
 -- What an INIT, an INIT ACK and a COOKIE-ECHO make of an association (RFC 9260 5.1, 5.2). Moments are nanoseconds.
-use Rattle.std.specs.Prelude.{◌≡◌, ◌⊎◌, ⊤, ℕ, ◌+◌, ◌-◌, ◌<◌, Bool, true, false, nat_lt, List, slice_range, Option, Some, None, Ok, Err, is_some}
-use Rattle.sctp_association.specs.Cookies.{IsSealedAt, cookie_in}
+use Rattle.std.specs.Prelude.{◌≡◌, ◌⊎◌, ⊤, ℕ, ◌+◌, ◌-◌, Bool, true, false, nat_lt, List, slice_range, Option, Some, None, Ok, Err, is_some}
+use Rattle.sctp_association.specs.Cookies.{IsSealedAt}
 use Rattle.sctp_association.specs.Fresh.{fresh_tag}
 use Rattle.sctp_association.specs.Reports.{EndsBegun, to_tag, value_in}
-use Rattle.sctp_association.specs.Rows.{FollowsStep, Settles, owed_by}
+use Rattle.sctp_association.specs.Rows.{FollowsStep, owed_by}
 use Rattle.sctp_association.specs.declared.association.Association.{Association}
 use Rattle.sctp_association.specs.declared.association.arrivals.Step as arrivals
 use Rattle.sctp_association.specs.declared.association.arrivals.Step.TheVariants as chunk
@@ -60,15 +60,6 @@ EchoesOn tag cookie now chunk.Stop old new = (step : Step)
 EchoesOn tag cookie now chunk.Cut old new = ⊥
 EchoesOn tag cookie now (chunk.Refused r) old new = ⊤
 
--- so it is of a datagram that has only it
-pub record EchoesBy (c : ChunkPlace) (datagram : List ℕ) (now : ℕ) (old new : Association)
-    : Type 0 where
-  pub step : Step
-  pub behind : Association
-  pub echoes : Echoes (u32_at datagram 4) (cookie_in datagram c) now step old behind
-  pub stale : is_stale_reply step.answer.reply ≡ true → new ≡ behind
-  pub settles : is_stale_reply step.answer.reply ≡ false → Settles now behind new
-
 -- ## An INIT ACK
 
 -- It makes this offer: the machine takes the step, and the cookie is kept, to be echoed (5.1 C).
@@ -96,17 +87,6 @@ InitAckOn c datagram now chunk.Next old new = TakesInitAck c datagram now old ne
 InitAckOn c datagram now chunk.Stop old new = EndsAsked c datagram old new
 InitAckOn c datagram now chunk.Cut old new = ⊥
 InitAckOn c datagram now (chunk.Refused r) old new = ⊤
-
--- and of a datagram that has only it
-pub record InitAckThen (c : ChunkPlace) (datagram : List ℕ) (now : ℕ) (old new : Association)
-    : Type 0 where
-  pub behind : Association
-  pub acks : TakesInitAck c datagram now old behind
-  pub settles : Settles now behind new
-
-abbrev pub InitAckBy : ChunkPlace → List ℕ → (now : ℕ) → (old new : Association) → Type 0
-InitAckBy c datagram now old new =
-    EndsAsked c datagram old new ⊎ InitAckThen c datagram now old new
 
 -- ## An INIT
 

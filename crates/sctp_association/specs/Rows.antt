@@ -187,15 +187,3 @@ RowOn c datagram now chunk.Stop old new =
     ⊎ ((goes_on c.typ ≡ true) × IsAbortedBy c datagram old.machine.peer new)
 RowOn c datagram now chunk.Cut old new = ⊤
 RowOn c datagram now (chunk.Refused r) old new = ⊤
-
--- the step is taken, and the datagram has ended
-pub record StepsTo (s : Step) (tag now : ℕ) (old new : Association) : Type 0 where
-  pub behind : Association
-  pub follows : FollowsStep s tag now old behind
-  pub settles : Settles now behind new
-
--- so it is of the only chunk of a datagram; or that is DATA, a SACK or a FORWARD-TSN by which this side ends the association
-abbrev pub StepsBy : ChunkPlace → List ℕ → (now : ℕ) → (old new : Association) → Type 0
-StepsBy c datagram now old new =
-    ((goes_on c.typ ≡ true) × IsAbortedBy c datagram old.machine.peer new)
-    ⊎ StepsTo (row_of c datagram now old) (tag_to c.typ old.machine) now old new

@@ -2,9 +2,9 @@
 
 ghost use Rattle.std.specs.Prelude.{◌≡◌, ◌⊎◌, ◌<◌, ◌≤◌, ℕ, List, [], ◌∷◌, None, Some, Ok, IfOk, IfSome, OnErr, OnOk, true, false, drop, length};
 ghost use Rattle.std.specs.List.{AllByRecursion};
-ghost use Rattle.sctp_association.specs.Single.{AloneAt, AloneOn};
+ghost use Rattle.sctp_association.specs.Single.{AloneOn};
 ghost use Rattle.sctp_association.specs.Arrivals.{Arrives, CallsArrive};
-ghost use Rattle.sctp_association.specs.Behind.{FirstOf, FirstOn, IsAbortedIn, StillAs, StillOn, has_data};
+ghost use Rattle.sctp_association.specs.Behind.{StillOn};
 ghost use Rattle.sctp_association.specs.Beginnings.{ArrivesAsOffered, BeginsByDatagram, BeginsByTicket, KeepsPeer};
 ghost use Rattle.sctp_association.specs.Kept.{IsKept, OwesNoMore, ticket_in_kind};
 ghost use Rattle.sctp_association.specs.Coming.{FollowsData, GoesOn, TakesDataAt, TakesDataOf, TakesEachOf, TakesOnlyData, goes_on, is_due};
@@ -12,15 +12,17 @@ ghost use Rattle.sctp_association.specs.Cookies.{IsAlive, IsSealed, cookie_in};
 ghost use Rattle.sctp_association.specs.Ends.{EndsIn, EndsOn, IsAborted, abort_for};
 ghost use Rattle.sctp_association.specs.Entering.{usable_in};
 ghost use Rattle.sctp_association.specs.Halves.{HalvesAlike, halves_of};
-ghost use Rattle.sctp_association.specs.Expected.{IsDue, IsExpected};
+ghost use Rattle.sctp_association.specs.Expected.{AsExpected, BringsCookie, IsDue, IsExpected, is_expected};
 ghost use Rattle.sctp_association.specs.Lasting.{KeepsLimits};
 ghost use Rattle.sctp_association.specs.Sacks.{HearsFirstOf, HearsOn, TakesSacksOf};
 ghost use Rattle.sctp_association.specs.Paths.{MovesBehind, MovesByFirstOf, MovesOn, all_go_on};
 ghost use Rattle.sctp_association.specs.Reached.{most_user_data};
-ghost use Rattle.sctp_association.specs.Rows.{RowOn, Settles};
+ghost use Rattle.sctp_association.specs.Rows.{RowOn, Settles, has_row};
 ghost use Rattle.sctp_association.specs.Steps.{is_accepted, is_taken};
 ghost use Rattle.sctp_association.specs.Telling.{Tells, TellsEnd};
 ghost use Rattle.sctp_association.specs.Timers.{KeepsTimers};
+ghost use Rattle.sctp_association.specs.Once.{none_seen, seen};
+ghost use Rattle.sctp_association.specs.Walks.{FirstOn, OtherOn, Walks, WalksOf};
 ghost use Rattle.sctp_association.specs.Tags.{AdmitsFirst, BeginsByCookie, EndsWithFirst, FirstIs, FirstIsAlive, IsFor, first_type, is_admitted, is_all_or_nothing};
 ghost use Rattle.sctp_association.specs.declared.association.Reason.{Reason};
 ghost use Rattle.sctp_association.specs.declared.association.Reason.TheVariants.{Tag, Unexpected};
@@ -203,16 +205,12 @@ impl Association {
         // of what was not sent; or by DATA or a FORWARD-TSN that is refused for good. By these three an ABORT is due, with that cause (RFC 9260
         // 3.3.10, 5.1, 6.2, 9).
         ensures over { EndsIn datagram.now self.old self.new }
-        // What RFC 9260 says of its type is so of a chunk that is accepted as the only one: `AloneAt` has a field for each (4, 5, 6, 8.3, 9).
-        ensures alone { EndsWithFirst datagram.now → result ≡ Ok Accepted
-            → self.old.is_over ≡ false
-            → AloneAt (place_at datagram.now 12) datagram.now now self.old self.new }
-        // So it is of the first chunk, where DATA, SACKs and FORWARD-TSNs alone stand behind it: it is taken, or its state does not expect it. They
-        // leave the state, and what is due, but that DATA may make a SHUTDOWN due; or by one of them this side ends the association (RFC 9260 5.2.5,
-        // 6.10, 9.2).
-        ensures behind { result ≡ Ok Accepted → self.old.is_over ≡ false
+        // Each of its chunks makes in its turn what RFC 9260 says of its type: `AloneOn` has a field for each. Or it is passed over, since the state
+        // does not expect it, or its kind came before. No more is read behind an INIT, a stale cookie or an ABORT of either side, and at a chunk that
+        // may not stand in the packet. Then a shutdown may go on (4, 5, 6, 8.3, 8.5, 9).
+        ensures walks { result ≡ Ok Accepted → self.old.is_over ≡ false
             → (chunks : List ChunkPlace) → TellsAll place_at datagram.now chunks
-            → FirstOf chunks datagram.now now self.old self.new }
+            → WalksOf chunks datagram.now now self.old self.new }
     {
         let zero = if self.config.zero_checksum {
             ZeroChecksum::Allowed
@@ -303,10 +301,8 @@ impl Association {
             → all_go_on chunks.entry.left ≡ true
             → MovesByFirstOf chunks.entry.left datagram.now now self.old self.new }
         ensures over { EndsIn datagram.now self.old self.new }
-        ensures behind { result ≡ Ok Accepted
-            → FirstOf chunks.entry.left datagram.now now self.old self.new }
-        ensures alone { (first : ChunkPlace) → chunks.entry.left ≡ first ∷ []
-            → result ≡ Ok Accepted → AloneAt first datagram.now now self.old self.new }
+        ensures walks { result ≡ Ok Accepted
+            → WalksOf chunks.entry.left datagram.now now self.old self.new }
     {
         let mut chunks = chunks;
         let tag = chunks.header().verification_tag;
@@ -410,10 +406,8 @@ impl Association {
         ensures path { TakesSacksOf tag self.old → goes_on chunk.typ ≡ true → IfOk result
             (λ s. MovesOn chunk datagram.now now s self.old.outbound self.new.outbound) }
         ensures over { IfOk result (λ s. EndsOn chunk datagram.now s self.old self.new) }
-        ensures first { IfOk result (λ s. FirstOn chunk tag datagram.now now s
+        ensures walks { IfOk result (λ s. FirstOn chunk tag count datagram.now now s
             self.old self.new) }
-        ensures alone { count < 2 → IfOk result
-            (λ s. AloneOn chunk tag datagram.now now s self.old self.new) }
     {
         let is_alone = chunk.typ == 1 || chunk.typ == 10 || count < 2;
         if is_alone || self.machine.state() == State::Closed {
@@ -442,9 +436,8 @@ impl Association {
             ⊎ MovesBehind first chunks.entry.left datagram.now now
             self.old.outbound self.new.outbound }
         ensures over { EndsIn datagram.now self.old self.new }
-        ensures still { all_go_on chunks.entry.left ≡ true → result ≡ true
-            → IsAbortedIn datagram.now self.old self.new
-            ⊎ StillAs (has_data chunks.entry.left) self.old self.new }
+        ensures walks { result ≡ true → Walks (u32_at datagram.now 4) datagram.now now
+            (seen first none_seen) chunks.entry.left self.old self.new }
     {
         let mut chunks = chunks;
         let tag = chunks.header().verification_tag;
@@ -477,6 +470,7 @@ impl Association {
     ) -> Result<Step, Fault>
         requires place { IsPlace datagram.now chunk }
         requires own { IsChunkOf datagram.now chunk }
+        requires counted { chunk.typ ≡ 10 → ⊥ }
         ensures tells { Tells self.old self.new }
         ensures came { ArrivesAsOffered datagram.now self.old self.new }
         ensures on { TakesDataOf tag self.old → goes_on chunk.typ ≡ true
@@ -490,8 +484,8 @@ impl Association {
         ensures never_sacks { TakesSacksOf tag self.old → goes_on chunk.typ ≡ true
             → (r : Reason) → result ≡ Ok (step.Refused r) → ⊥ }
         ensures over { IfOk result (λ s. EndsOn chunk datagram.now s self.old self.new) }
-        ensures still { goes_on chunk.typ ≡ true
-            → IfOk result (λ s. StillOn chunk datagram.now s self.old self.new) }
+        ensures walks { IfOk result (λ s. OtherOn chunk tag datagram.now now s
+            self.old self.new) }
         ensures refused { (r : Reason) → result ≡ Ok (step.Refused r) → self.new ≡ self.old }
         ensures err { OnErr result (self.new ≡ self.old) }
     {
@@ -569,6 +563,12 @@ impl Association {
         ensures over { IfOk result (λ s. EndsOn chunk datagram.now s self.old self.new) }
         ensures still { goes_on chunk.typ ≡ true
             → IfOk result (λ s. StillOn chunk datagram.now s self.old self.new) }
+        ensures why { is_admitted chunk tag count self.old.machine ≡ true
+            → chunk.typ ≡ 2 → BringsCookie chunk datagram.now
+            → (r : Reason) → result ≡ Ok (step.Refused r) → r ≡ Unexpected }
+        ensures expected { is_admitted chunk tag count self.old.machine ≡ true
+            → has_row chunk.typ ≡ true
+            → IfOk result (λ s. AsExpected (is_expected chunk.typ self.old) s) }
         ensures alone { IfOk result
             (λ s. AloneOn chunk tag datagram.now now s self.old self.new) }
     {
@@ -602,8 +602,7 @@ impl Association {
         ensures refused { (r : Reason) → result ≡ Ok (step.Refused r) → self.new ≡ self.old }
         ensures err { OnErr result (self.new ≡ self.old) }
         ensures takes { IfOk result (λ s. FollowsData chunk.at datagram.now s self.old self.new) }
-        ensures due { is_due 0 self.old ≡ true → (r : Reason)
-            → result ≡ Ok (step.Refused r) → ⊥ }
+        ensures due { IfOk result (λ s. AsExpected (is_due 0 self.old) s) }
         ensures on { (tag : ℕ) → TakesDataOf tag self.old
             → IfOk result (λ s. GoesOn chunk tag datagram.now s self.old self.new) }
         ensures sacks { (tag : ℕ) → TakesSacksOf tag self.old
@@ -640,8 +639,7 @@ impl Association {
         ensures peer { KeepsPeer self.old self.new }
         ensures refused { (r : Reason) → result ≡ Ok (step.Refused r) → self.new ≡ self.old }
         ensures err { OnErr result (self.new ≡ self.old) }
-        ensures due { is_due 192 self.old ≡ true → (r : Reason)
-            → result ≡ Ok (step.Refused r) → ⊥ }
+        ensures due { IfOk result (λ s. AsExpected (is_due 192 self.old) s) }
         ensures on { (tag : ℕ) → TakesDataOf tag self.old
             → IfOk result (λ s. GoesOn chunk tag datagram.now s self.old self.new) }
         ensures sacks { (tag : ℕ) → TakesSacksOf tag self.old
@@ -699,8 +697,7 @@ impl Association {
         ensures refused { (r : Reason) → result ≡ Ok (step.Refused r) → self.new ≡ self.old }
         ensures err { OnErr result (self.new ≡ self.old) }
         ensures whole { result ≡ Ok step.Cut → ⊥ }
-        ensures due { is_due 3 self.old ≡ true → (r : Reason)
-            → result ≡ Ok (step.Refused r) → ⊥ }
+        ensures due { IfOk result (λ s. AsExpected (is_due 3 self.old) s) }
         ensures on { (tag : ℕ) → TakesDataOf tag self.old
             → IfOk result (λ s. GoesOn chunk tag datagram.now s self.old self.new) }
         ensures sacks { (tag : ℕ) → TakesSacksOf tag self.old

@@ -1,6 +1,6 @@
 //! Control chunks that come: HEARTBEAT, ABORT, SHUTDOWN, ERROR and the like (RFC 9260 3.3.5 to 3.3.13, 8.3, 9).
 
-ghost use Rattle.std.specs.Prelude.{◌≡◌, ◌||◌, ℕ, List, [], ◌∷◌, drop, is_some, map, None, Some, Ok, IfOk, IfSome, OnErr, true};
+ghost use Rattle.std.specs.Prelude.{◌≡◌, ◌||◌, ℕ, List, [], ◌∷◌, drop, is_some, map, None, Some, Ok, IfOk, IfSome, OnErr};
 ghost use Rattle.sctp_association.specs.Single.{AloneOn, IsOther};
 ghost use Rattle.sctp_association.specs.Arrivals.{CallsArrive};
 ghost use Rattle.sctp_association.specs.Beats.{AnswersOn, BeatsOn, IsBeaten, nonce_in};
@@ -8,7 +8,7 @@ ghost use Rattle.sctp_association.specs.Beginnings.{ArrivesAsOffered, BeginsBy, 
 ghost use Rattle.sctp_association.specs.Causes.{cause_after, cause_in};
 ghost use Rattle.sctp_association.specs.Kept.{IsKept};
 ghost use Rattle.sctp_association.specs.Halves.{HalvesAlike, halves_of};
-ghost use Rattle.sctp_association.specs.Expected.{IsReadable, expects, is_received, speaks};
+ghost use Rattle.sctp_association.specs.Expected.{AsExpected, expects, is_received, speaks};
 ghost use Rattle.sctp_association.specs.Fresh.{fresh_tag};
 ghost use Rattle.sctp_association.specs.Rows.{FollowsAnswer, FollowsStep, StepsOn, error_row, tag_of};
 ghost use Rattle.sctp_association.specs.Shutting.{ShutsOn};
@@ -16,7 +16,7 @@ ghost use Rattle.sctp_association.specs.Telling.{PassesOn, Tells, TellsEnd};
 ghost use Rattle.sctp_association.specs.declared.association.Reason.{Reason};
 ghost use Rattle.sctp_association.specs.declared.association.Reason.TheVariants.{Unexpected};
 ghost use Rattle.sctp_association.specs.declared.association.arrivals.Step.TheVariants as step;
-ghost use Rattle.sctp_chunks.specs.Wire.{Wire, heartbeat_ack_chunk, heartbeat_chunk, shutdown_chunk};
+ghost use Rattle.sctp_chunks.specs.Wire.{Wire};
 ghost use Rattle.sctp_datagram.specs.Carried.{IsChunkOf};
 ghost use Rattle.sctp_datagram.specs.Framing.{StartsWith};
 ghost use Rattle.sctp_datagram.specs.Places.{IsPlace};
@@ -24,7 +24,6 @@ ghost use Rattle.sctp_datagram.specs.declared.datagram.ChunkPlace.{ChunkPlace};
 ghost use Rattle.sctp_handshake.specs.Answers.{silent};
 ghost use Rattle.sctp_handshake.specs.Endings.{on_abort, on_shutdown};
 ghost use Rattle.sctp_handshake.specs.Machines.{dropped};
-ghost use Rattle.sctp_handshake.specs.declared.state.State.TheVariants.{Closed};
 ghost use Rattle.sctp_params.specs.Param.{heartbeat_info};
 ghost use Rattle.sctp_params.specs.ParamKind.{parameter_of};
 
@@ -98,9 +97,8 @@ impl Association {
         ensures refused { (r : Reason) → result ≡ Ok (step.Refused r) → self.new ≡ self.old }
         ensures err { OnErr result (self.new ≡ self.old) }
         ensures whole { result ≡ Ok step.Cut → ⊥ }
-        ensures expected { (self.old.machine.state ≡ Closed → ⊥) → expects chunk.typ self.old ≡ true
-            → IsReadable chunk.typ (drop chunk.at datagram.now)
-            → (r : Reason) → result ≡ Ok (step.Refused r) → ⊥ }
+        ensures expected { IsOther chunk.typ → (chunk.typ ≡ 130 → ⊥)
+            → IfOk result (λ s. AsExpected (expects chunk.typ self.old) s) }
         ensures alone { IsOther chunk.typ → (tag : ℕ) → IfOk result
             (λ s. AloneOn chunk tag datagram.now now s self.old self.new) }
     {
@@ -141,7 +139,7 @@ impl Association {
         ensures tells { PassesOn answer.told self.old self.new }
         ensures refused { (r : Reason) → result ≡ step.Refused r
             → (answer ≡ silent) × (self.new ≡ self.old) }
-        ensures expected { speaks answer ≡ true → (r : Reason) → result ≡ step.Refused r → ⊥ }
+        ensures expected { AsExpected (speaks answer) result }
         ensures kept { IsKept self.old self.new }
         ensures begun { BeginsBy answer.told self.old.machine self.old.config
             (halves_of self.old) (halves_of self.new) }
@@ -167,8 +165,7 @@ impl Association {
         ensures next { result ≡ step.Next → ⊥ }
         ensures row { result ≡ step.Stop → (now : ℕ)
             → FollowsStep (on_abort self.old.machine) 0 now self.old self.new }
-        ensures expected { speaks (on_abort self.old.machine).answer ≡ true
-            → (r : Reason) → result ≡ step.Refused r → ⊥ }
+        ensures expected { AsExpected (speaks (on_abort self.old.machine).answer) result }
     {
         let answer = self.machine.abort();
         if answer.told.is_none() {
@@ -197,10 +194,9 @@ impl Association {
             (λ s. ShutsOn chunk.at datagram.now now s self.old.outbound self.new.outbound) }
         ensures row { IfOk result
             (λ s. StepsOn (on_shutdown self.old.machine) 0 now s self.old self.new) }
-        ensures expected { (speaks (on_shutdown self.old.machine).answer
-            || is_received self.old.machine.state) ≡ true
-            → (tsn : ℕ) → StartsWith (drop chunk.at datagram.now) (shutdown_chunk tsn)
-            → (r : Reason) → result ≡ Ok (step.Refused r) → ⊥ }
+        ensures expected { chunk.typ ≡ 7 → IfOk result (λ s. AsExpected
+            (speaks (on_shutdown self.old.machine).answer
+            || is_received self.old.machine.state) s) }
     {
         let Some(shutdown) = self.read_chunk::<ChunkShutdown>(datagram, chunk)? else {
             return Ok(Step::Refused(Reason::NoPacket));
@@ -236,10 +232,8 @@ impl Association {
             (λ s. AnswersOn chunk.at datagram.now s self.old self.new) }
         ensures row { (now : ℕ) → IfOk result
             (λ s. StepsOn (dropped self.old.machine) 0 now s self.old self.new) }
-        ensures expected { is_some self.old.machine.peer ≡ true → (info : List ℕ)
-            → StartsWith (drop chunk.at datagram.now)
-            (heartbeat_chunk (heartbeat_info info ∷ []))
-            → (r : Reason) → result ≡ Ok (step.Refused r) → ⊥ }
+        ensures expected { chunk.typ ≡ 4
+            → IfOk result (λ s. AsExpected (is_some self.old.machine.peer) s) }
     {
         // Who asks answers from COOKIE-ECHOED on, who is asked once the association stands (RFC 9260 8.3).
         if self.machine.peer().is_none() {
@@ -272,10 +266,8 @@ impl Association {
             (λ s. BeatsOn chunk.at datagram.now now s self.old self.new) }
         ensures row { IfOk result
             (λ s. StepsOn (dropped self.old.machine) 0 now s self.old self.new) }
-        ensures expected { is_some self.old.heartbeat ≡ true → (info : List ℕ)
-            → StartsWith (drop chunk.at datagram.now)
-            (heartbeat_ack_chunk (heartbeat_info info ∷ []))
-            → (r : Reason) → result ≡ Ok (step.Refused r) → ⊥ }
+        ensures expected { chunk.typ ≡ 5
+            → IfOk result (λ s. AsExpected (is_some self.old.heartbeat) s) }
     {
         let Some(ack) = self.read_chunk::<ChunkHeartbeatAck>(datagram, chunk)? else {
             return Ok(Step::Refused(Reason::NoPacket));

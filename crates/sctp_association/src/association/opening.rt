@@ -1,18 +1,19 @@
 //! INIT, INIT ACK and the cookie (RFC 9260 5).
 
-ghost use Rattle.std.specs.Prelude.{◌≡◌, ◌≢◌, ◌⊎◌, ◌≤◌, Ok, IfOk, OnErr, None, Some, length, true, false};
+ghost use Rattle.std.specs.Prelude.{◌≡◌, ◌≢◌, ◌⊎◌, ◌≤◌, ◌&&◌, Ok, IfOk, OnErr, None, Some, length, true, false};
 ghost use Rattle.sctp_association.specs.Single.{OffersOn};
 ghost use Rattle.sctp_association.specs.Beginnings.{ArrivesAsOffered, BeginsByTicket, IsOwedFor, KeepsPeer, is_standing};
 ghost use Rattle.sctp_association.specs.Kept.{OwesNoMore, OwesTicket, ticket_in_kind};
 ghost use Rattle.sctp_association.specs.Cookies.{IsAlive, IsSealed, cookie_in};
 ghost use Rattle.sctp_association.specs.Halves.{HalvesAlike, halves_of};
-ghost use Rattle.sctp_association.specs.Expected.{IsEchoExpected, IsInitAckExpected, IsInitExpected, may_begin, speaks};
+ghost use Rattle.sctp_association.specs.Expected.{AsExpected, BringsCookie, IsEchoExpected, IsInitAckExpected, IsInitExpected, may_begin, speaks};
 ghost use Rattle.sctp_association.specs.Openings.{EchoesOn, InitAckOn, owed_to_init};
 ghost use Rattle.sctp_association.specs.Reports.{AnswersHostName, EndsBegun, EndsByHostName, value_in};
 ghost use Rattle.sctp_association.specs.Rows.{StepsOn};
 ghost use Rattle.sctp_association.specs.Steps.{is_taken};
 ghost use Rattle.sctp_association.specs.Telling.{Tells, TellsEnd};
 ghost use Rattle.sctp_association.specs.declared.association.Reason.{Reason};
+ghost use Rattle.sctp_association.specs.declared.association.Reason.TheVariants.{Unexpected};
 ghost use Rattle.sctp_association.specs.declared.association.arrivals.Step.TheVariants as step;
 ghost use Rattle.sctp_datagram.specs.Carried.{IsChunkOf};
 ghost use Rattle.sctp_datagram.specs.Places.{IsPlace};
@@ -111,6 +112,8 @@ impl Association {
         requires typ { chunk.typ ≡ 2 }
         ensures tells { Tells self.old self.new }
         ensures refused { (r : Reason) → result ≡ Ok (step.Refused r) → self.new ≡ self.old }
+        ensures why { BringsCookie chunk datagram.now
+            → (r : Reason) → result ≡ Ok (step.Refused r) → r ≡ Unexpected }
         ensures err { OnErr result (self.new ≡ self.old) }
         ensures whole { result ≡ Ok step.Cut → ⊥ }
         ensures came { ArrivesAsOffered datagram.now self.old self.new }
@@ -265,8 +268,8 @@ impl Association {
         ensures refused { (r : Reason) → result ≡ step.Refused r → self.new ≡ self.old }
         ensures whole { result ≡ step.Cut → ⊥ }
         ensures row { StepsOn (on_cookie_ack self.old.machine) 0 now result self.old self.new }
-        ensures expected { speaks (on_cookie_ack self.old.machine).answer ≡ true
-            → may_begin self.old ≡ true → (r : Reason) → result ≡ step.Refused r → ⊥ }
+        ensures expected { AsExpected
+            (speaks (on_cookie_ack self.old.machine).answer && may_begin self.old) result }
     {
         if !self.may_begin() {
             return Step::Refused(Reason::Unexpected);

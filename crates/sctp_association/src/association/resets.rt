@@ -4,7 +4,7 @@ ghost use Rattle.std.specs.Prelude.{◌≡◌, ◌⊎◌, ◌<◌, ◌≤◌, tr
 ghost use Rattle.sctp_association.specs.Arrivals.{CallsArrive, HearsBy, Does, Follows, IsReset, IsResetAt, IsRestart, ParamAsks, ParamAsksIn, ReceivedIn};
 ghost use Rattle.sctp_association.specs.Kept.{IsKept, IsUnmoved, RestStays};
 ghost use Rattle.sctp_association.specs.Calls.{is_resettable};
-ghost use Rattle.sctp_association.specs.Expected.{takes_resets};
+ghost use Rattle.sctp_association.specs.Expected.{AsExpected, takes_resets};
 ghost use Rattle.sctp_association.specs.Halves.{HalvesAlike, PutsDue, halves_of, receiver_of};
 ghost use Rattle.sctp_association.specs.Idle.{sack_delay};
 ghost use Rattle.sctp_association.specs.Leaving.{AsksNoMore, IsReconfigOf, PutsReconfig, replies_of, requests_due, responses_due};
@@ -279,8 +279,8 @@ impl Association {
         ensures err { OnErr result (self.new ≡ self.old) }
         ensures rest { RestStays self.old self.new }
         ensures goes_on { result ≡ Ok step.Stop → ⊥ }
-        ensures expected { takes_resets self.old.machine.state ≡ true
-            → (r : Reason) → result ≡ Ok (step.Refused r) → ⊥ }
+        ensures expected { IfOk result
+            (λ s. AsExpected (takes_resets self.old.machine.state) s) }
     {
         if !self.machine.state().takes_data() && !self.machine.state().takes_sacks() {
             return Ok(Step::Refused(Reason::Unexpected));

@@ -1,14 +1,13 @@
-use Rattle.sctp_association.specs.Behind.{FirstOf}
+use Rattle.sctp_association.specs.Walks.{WalksOf}
 use Rattle.sctp_association.proofs.Telling.{tells_due, tells_same}
 use Rattle.std.proofs.Common.{ap, inl, refl, rules, ◌∙◌, List, subst, sym, ◌≡◌, ◌∷◌}
 use Rattle.sctp_association.proofs.Arrived.{arrives_of, arrives_same}
 use Rattle.sctp_association.specs.Halves.{halves_of}
 use Rattle.sctp_association.specs.declared.association.Association.{Association}
 use Rattle.std.proofs.lemmas.Bool.{false≢true}
-use Rattle.sctp_association.specs.Single.{AloneAt}
 use Rattle.sctp_association.proofs.Coming.{if_ok, never_accepted, never_told, on_ok}
 use Rattle.sctp_association.proofs.Going.{accepted_as}
-use Rattle.sctp_association.proofs.First.{begins, first_is, for_admitted, on_err, only_data, only_one, type_of_one}
+use Rattle.sctp_association.proofs.First.{begins, first_is, for_admitted, on_err, only_data, type_of_one}
 use Rattle.sctp_association.proofs.Offered.{limits_of_offered, offered_less, offered_same}
 use Rattle.sctp_association.proofs.association.Association.handle_datagram.Goals as goal
 use Rattle.sctp_association.proofs.Each.{told_once}
@@ -47,8 +46,7 @@ returns-in-Err c = record {
   partly = λ e. absurd (never_told _ _ e refl c.dropped_by.ensures.never);
   takes = λ one typ e. absurd (never_told _ _ e refl c.dropped_by.ensures.never);
   over = λ going over. absurd (false≢true (sym going ∙ over));
-  behind = λ e. absurd (never_told _ _ e refl c.dropped_by.ensures.never);
-  alone = λ one e. absurd (never_told _ _ e refl c.dropped_by.ensures.never);
+  walks = λ e. absurd (never_told _ _ e refl c.dropped_by.ensures.never);
   due = λ due r e.
       let zero : zero_checksum_of c.args.self.now.config ≡ c.if-self.zero = elim c.if-self.branch [
         | then-self w ↦ rw w.if-self.true (sym w.zero-is)
@@ -152,29 +150,18 @@ returns-clause-path c takes is chunks tells each =
     subst (λ (l : List ChunkPlace). MovesByFirstOf l c.args.datagram.now c.args.now c.args.self.now c.take_chunks.new.self) same
     (c.take_chunks.ensures.path takes is (subst (λ (l : List ChunkPlace). all_go_on l ≡ true) (sym same) each))
 
--- ## A chunk that comes alone
-
-pub returns-then-self-2-clause-alone : goal.returns-then-self-2-clause-alone
-returns-then-self-2-clause-alone c one is going = absurd (false≢true (sym going ∙ c.if-self-2.true))
-
-pub returns-clause-alone : goal.returns-clause-alone
-returns-clause-alone c one is going =
-    let all : TellsAll place_at c.args.datagram.now c.in-Ok.chunks.left = search rules in
-    only_one (λ p. AloneAt p c.args.datagram.now c.args.now c.args.self.now c.take_chunks.new.self) _ _ _ _ _ all one refl
-    (if_ok _ _ _ is c.take_chunks.ensures.accepted refl) (λ first are t. c.take_chunks.ensures.alone first are is)
-
 -- ## What ends the association
 
 pub returns-then-self-2-clause-over : goal.returns-then-self-2-clause-over
 returns-then-self-2-clause-over c going over = absurd (false≢true (sym going ∙ c.if-self-2.true))
 
--- ## The first chunk, and others
+-- ## Each chunk
 
-pub returns-then-self-2-clause-behind : goal.returns-then-self-2-clause-behind
-returns-then-self-2-clause-behind c is going = absurd (false≢true (sym going ∙ c.if-self-2.true))
+pub returns-then-self-2-clause-walks : goal.returns-then-self-2-clause-walks
+returns-then-self-2-clause-walks c is going = absurd (false≢true (sym going ∙ c.if-self-2.true))
 
-pub returns-clause-behind : goal.returns-clause-behind
-returns-clause-behind c is going chunks tells =
+pub returns-clause-walks : goal.returns-clause-walks
+returns-clause-walks c is going chunks tells =
     let all : TellsAll place_at c.args.datagram.now c.in-Ok.chunks.left = search rules in
-    subst (λ (l : List ChunkPlace). FirstOf l c.args.datagram.now c.args.now c.args.self.now c.take_chunks.new.self) (told_once _ _ _ all tells)
-    (c.take_chunks.ensures.behind is)
+    subst (λ (l : List ChunkPlace). WalksOf l c.args.datagram.now c.args.now c.args.self.now c.take_chunks.new.self) (told_once _ _ _ all tells)
+    (c.take_chunks.ensures.walks is)

@@ -3,7 +3,11 @@ use Rattle.std.proofs.Common.{Ok}
 use Rattle.sctp_association.proofs.Behind.{still_ends}
 use Rattle.sctp_association.proofs.Ends.{ends_echo, ends_init_ack, ends_row, ends_same_of, if_then, off_other, row_has}
 use Rattle.sctp_association.specs.declared.association.Association.{Association}
-use Rattle.sctp_association.proofs.Expected.{expected_at, expected_begun, expected_control, expected_echo, expected_init, expected_init_ack}
+use Rattle.sctp_association.proofs.Expected.{as_same, closed_unexpected, control_expected, expected_at, expected_begun, expected_control, expected_echo}
+use Rattle.sctp_association.proofs.Expected.{expected_init, expected_init_ack, never_refused, resets_expected}
+use Rattle.sctp_association.specs.Coming.{is_due}
+use Rattle.sctp_association.specs.Expected.{expects, is_expected, takes_resets}
+use Rattle.sctp_handshake.specs.declared.state.State.TheVariants.{Closed}
 use Rattle.sctp_association.proofs.Telling.{tells_due, tells_peer, tells_same, tells_still}
 use Rattle.std.proofs.Common.{ap, arith, refl, rules, sym, ◌≡◌, ◌∙◌}
 use Rattle.std.proofs.lemmas.Bool.{false≢true}
@@ -135,12 +139,6 @@ pub returns-then-not-is_beginning-clause-due : goal.returns-then-not-is_beginnin
 returns-then-not-is_beginning-clause-due c admitted expected r is =
     expected_begun c.args.chunk c.args.tag c.args.datagram.now c.args.now c.args.self.now expected (search rules) (search rules) (search rules)
 
-pub returns-in-0-clause-due : goal.returns-in-0-clause-due
-returns-in-0-clause-due c admitted expected =
-    let typ : c.args.chunk.typ ≡ 0 = search rules in
-    c.take_data.ensures.due (expected_at c.args.chunk c.args.tag c.args.datagram.now c.args.now c.args.self.now expected 0 typ (λ e. omega (arith, e))
-    (λ e. omega (arith, e)) (λ e. omega (arith, e))).0
-
 pub returns-in-1-clause-due : goal.returns-in-1-clause-due
 returns-in-1-clause-due c admitted expected =
     let typ : c.args.chunk.typ ≡ 1 = search rules in
@@ -151,36 +149,100 @@ returns-in-2-clause-due c admitted expected =
     let typ : c.args.chunk.typ ≡ 2 = search rules in
     c.take_init_ack.ensures.expected (expected_init_ack c.args.chunk c.args.tag c.args.datagram.now c.args.now c.args.self.now expected typ)
 
-pub returns-in-3-clause-due : goal.returns-in-3-clause-due
-returns-in-3-clause-due c admitted expected =
-    let typ : c.args.chunk.typ ≡ 3 = search rules in
-    c.take_sack.ensures.due (expected_at c.args.chunk c.args.tag c.args.datagram.now c.args.now c.args.self.now expected 3 typ (λ e. omega (arith, e))
-    (λ e. omega (arith, e)) (λ e. omega (arith, e))).0
-
 pub returns-in-10-clause-due : goal.returns-in-10-clause-due
 returns-in-10-clause-due c admitted expected =
     let typ : c.args.chunk.typ ≡ 10 = search rules in
     c.take_cookie.ensures.expected (expected_echo c.args.chunk c.args.tag c.args.datagram.now c.args.now c.args.self.now expected typ)
 
+pub returns-in-0-clause-due : goal.returns-in-0-clause-due
+returns-in-0-clause-due c admitted expected r =
+    let typ : c.args.chunk.typ ≡ 0 = search rules in
+    never_refused (is_due 0 c.args.self.now) c.take_data.result c.take_data.ensures.due r
+    (expected_at c.args.chunk c.args.tag c.args.datagram.now c.args.now c.args.self.now expected 0 typ (λ e. omega (arith, e)) (λ e. omega (arith, e))
+    (λ e. omega (arith, e)))
+
+pub returns-in-3-clause-due : goal.returns-in-3-clause-due
+returns-in-3-clause-due c admitted expected r =
+    let typ : c.args.chunk.typ ≡ 3 = search rules in
+    never_refused (is_due 3 c.args.self.now) c.take_sack.result c.take_sack.ensures.due r
+    (expected_at c.args.chunk c.args.tag c.args.datagram.now c.args.now c.args.self.now expected 3 typ (λ e. omega (arith, e)) (λ e. omega (arith, e))
+    (λ e. omega (arith, e)))
+
+pub returns-in-192-clause-due : goal.returns-in-192-clause-due
+returns-in-192-clause-due c admitted expected r =
+    let typ : c.args.chunk.typ ≡ 192 = search rules in
+    never_refused (is_due 192 c.args.self.now) c.take_skip.result c.take_skip.ensures.due r
+    (expected_at c.args.chunk c.args.tag c.args.datagram.now c.args.now c.args.self.now expected 192 typ (λ e. omega (arith, e)) (λ e. omega (arith, e))
+    (λ e. omega (arith, e)))
+
 pub returns-in-130-clause-due : goal.returns-in-130-clause-due
-returns-in-130-clause-due c admitted expected =
+returns-in-130-clause-due c admitted expected r =
     let typ : c.args.chunk.typ ≡ 130 = search rules in
     let at = expected_at c.args.chunk c.args.tag c.args.datagram.now c.args.now c.args.self.now expected 130 typ (λ e. omega (arith, e))
     (λ e. omega (arith, e)) (λ e. omega (arith, e)) in
-    c.take_reconfig.ensures.expected (expected_control c.args.self.now 130 (λ e. omega (arith, e)) (λ e. omega (arith, e)) (λ e. omega (arith, e)) at.0).1
-
-pub returns-in-192-clause-due : goal.returns-in-192-clause-due
-returns-in-192-clause-due c admitted expected =
-    let typ : c.args.chunk.typ ≡ 192 = search rules in
-    c.take_skip.ensures.due (expected_at c.args.chunk c.args.tag c.args.datagram.now c.args.now c.args.self.now expected 192 typ (λ e. omega (arith, e))
-    (λ e. omega (arith, e)) (λ e. omega (arith, e))).0
+    never_refused (takes_resets c.args.self.now.machine.state) c.take_reconfig.result c.take_reconfig.ensures.expected r
+    (expected_control c.args.self.now 130 (λ e. omega (arith, e)) (λ e. omega (arith, e)) (λ e. omega (arith, e)) at).1
 
 pub returns-in_default-clause-due : goal.returns-in_default-clause-due
-returns-in_default-clause-due c admitted expected =
+returns-in_default-clause-due c admitted expected r =
     let at = expected_at c.args.chunk c.args.tag c.args.datagram.now c.args.now c.args.self.now expected c.args.chunk.typ refl (search rules) (search rules)
     (search rules) in
-    let control = expected_control c.args.self.now c.args.chunk.typ (search rules) (search rules) (search rules) at.0 in
-    c.take_control.ensures.expected control.0 control.1 at.1
+    never_refused (expects c.args.chunk.typ c.args.self.now) c.take_control.result
+    (c.take_control.ensures.expected (search rules, search rules, search rules, search rules) (search rules)) r
+    (expected_control c.args.self.now c.args.chunk.typ (search rules) (search rules) (search rules) at).1
+
+-- ## Where a chunk is taken
+
+pub returns-then-not-is_beginning-clause-expected : goal.returns-then-not-is_beginning-clause-expected
+returns-then-not-is_beginning-clause-expected c admitted row =
+    let closed : c.args.self.now.machine.state ≡ Closed = search rules in
+    (refl, closed_unexpected c.args.chunk.typ c.args.self.now closed)
+
+pub returns-in-0-clause-expected : goal.returns-in-0-clause-expected
+returns-in-0-clause-expected c admitted row =
+    let typ : c.args.chunk.typ ≡ 0 = search rules in
+    as_same (is_due 0 c.args.self.now) c.take_data.result c.take_data.ensures.due (is_expected c.args.chunk.typ c.args.self.now)
+    (sym (ap (λ n. is_expected n c.args.self.now) typ))
+
+pub returns-in-3-clause-expected : goal.returns-in-3-clause-expected
+returns-in-3-clause-expected c admitted row =
+    let typ : c.args.chunk.typ ≡ 3 = search rules in
+    as_same (is_due 3 c.args.self.now) c.take_sack.result c.take_sack.ensures.due (is_expected c.args.chunk.typ c.args.self.now)
+    (sym (ap (λ n. is_expected n c.args.self.now) typ))
+
+pub returns-in-192-clause-expected : goal.returns-in-192-clause-expected
+returns-in-192-clause-expected c admitted row =
+    let typ : c.args.chunk.typ ≡ 192 = search rules in
+    as_same (is_due 192 c.args.self.now) c.take_skip.result c.take_skip.ensures.due (is_expected c.args.chunk.typ c.args.self.now)
+    (sym (ap (λ n. is_expected n c.args.self.now) typ))
+
+pub returns-in-1-clause-expected : goal.returns-in-1-clause-expected
+returns-in-1-clause-expected c admitted row =
+    let typ : c.args.chunk.typ ≡ 1 = search rules in
+    absurd (false≢true (sym (ap has_row typ) ∙ row))
+
+pub returns-in-2-clause-expected : goal.returns-in-2-clause-expected
+returns-in-2-clause-expected c admitted row =
+    let typ : c.args.chunk.typ ≡ 2 = search rules in
+    absurd (false≢true (sym (ap has_row typ) ∙ row))
+
+pub returns-in-10-clause-expected : goal.returns-in-10-clause-expected
+returns-in-10-clause-expected c admitted row =
+    let typ : c.args.chunk.typ ≡ 10 = search rules in
+    absurd (false≢true (sym (ap has_row typ) ∙ row))
+
+pub returns-in-130-clause-expected : goal.returns-in-130-clause-expected
+returns-in-130-clause-expected c admitted row =
+    let typ : c.args.chunk.typ ≡ 130 = search rules in
+    as_same (takes_resets c.args.self.now.machine.state) c.take_reconfig.result c.take_reconfig.ensures.expected (is_expected c.args.chunk.typ c.args.self.now)
+    (resets_expected c.args.self.now.machine.state ∙ sym (ap (λ n. is_expected n c.args.self.now) typ))
+
+pub returns-in_default-clause-expected : goal.returns-in_default-clause-expected
+returns-in_default-clause-expected c admitted row =
+    let begun : c.args.self.now.machine.state ≡ Closed → ⊥ = search rules in
+    as_same (expects c.args.chunk.typ c.args.self.now) c.take_control.result
+    (c.take_control.ensures.expected (search rules, search rules, search rules, search rules) (search rules)) (is_expected c.args.chunk.typ c.args.self.now)
+    (control_expected c.args.self.now c.args.chunk.typ (search rules) (search rules) (search rules) begun)
 
 -- ## What ends the association
 

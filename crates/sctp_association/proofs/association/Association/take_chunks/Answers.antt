@@ -1,15 +1,12 @@
-use Rattle.sctp_association.proofs.Behind.{behind_next, behind_stop}
-use Rattle.sctp_association.specs.Behind.{FirstOn}
+use Rattle.sctp_association.proofs.Walks.{first_at, walks_at}
+use Rattle.sctp_association.specs.Walks.{FirstOn}
 use Rattle.sctp_association.proofs.Ends.{ended_first, ended_next, ended_same, ended_still, ended_stop, ended_then}
 use Rattle.sctp_association.specs.Ends.{EndsOn}
 use Rattle.sctp_association.proofs.Telling.{tells_peer, tells_same, tells_then}
 use Rattle.std.proofs.Common.{Ok, ap, arith, inl, inr, length, refl, rules, subst, sym, ◌≡◌, ◌<◌, ◌∙◌, ◌∷◌, List}
 use Rattle.std.proofs.lemmas.Bool.{false≢true}
 use Rattle.sctp_association.proofs.Arrived.{arrives_of, alike_halves}
-use Rattle.sctp_association.proofs.Single.{alone_next, alone_stop}
-use Rattle.sctp_association.specs.Single.{AloneAt, AloneOn}
 use Rattle.sctp_association.specs.Expected.{IsExpected}
-use Rattle.sctp_association.specs.Rows.{Settles}
 use Rattle.sctp_association.proofs.Coming.{if_ok, takes_still}
 use Rattle.sctp_association.proofs.First.{admits_of, one_first}
 use Rattle.sctp_association.proofs.Firsts.{by_datagram}
@@ -302,35 +299,6 @@ returns-clause-path c takes is all =
     )
     )
 
--- ## A chunk that comes alone
-
-pub returns-in-Stop-clause-alone : goal.returns-in-Stop-clause-alone
-returns-in-Stop-clause-alone c first are is =
-    let same = one_first _ _ _ (sym c.in-Some.ensures.place ∙ are) in
-    let stop : c.take_first.result ≡ Ok step.Stop = search rules in
-    let alone : c.left-count.result < 2 = omega (arith, c.left-count.ensures, ap length are) in
-    subst (λ (p : ChunkPlace). AloneAt p c.args.datagram.now c.args.now c.args.self.now c.take_first.new.self) same.0
-    (alone_stop c.in-Some.first c.args.datagram.now c.args.now c.args.self.now c.take_first.new.self (
-    subst (λ (n : ℕ). AloneOn c.in-Some.first n c.args.datagram.now c.args.now step.Stop c.args.self.now c.take_first.new.self)
-    (c.header-tag.ensures.verification_tag ∙ ap (λ l. u32_at l 4) c.requires.whole) (if_ok _ _ _ stop (c.take_first.ensures.alone alone))
-    ))
-
-pub returns-clause-alone : goal.returns-clause-alone
-returns-clause-alone c first are is =
-    let same = one_first _ _ _ (sym c.in-Some.ensures.place ∙ are) in
-    let next : c.take_first.result ≡ Ok step.Next = search rules in
-    let alone : c.left-count.result < 2 = omega (arith, c.left-count.ensures, ap length are) in
-    let idle = (c.take_others-is_whole.ensures.none same.1).1 in
-    let ended = c.end_datagram-2.ensures in
-    subst (λ (p : ChunkPlace). AloneAt p c.args.datagram.now c.args.now c.args.self.now c.end_datagram-2.new.self) same.0
-    (alone_next c.in-Some.first c.args.datagram.now c.args.now c.args.self.now c.take_first.new.self c.end_datagram-2.new.self (
-    subst (λ (n : ℕ). AloneOn c.in-Some.first n c.args.datagram.now c.args.now step.Next c.args.self.now c.take_first.new.self)
-    (c.header-tag.ensures.verification_tag ∙ ap (λ l. u32_at l 4) c.requires.whole) (if_ok _ _ _ next (c.take_first.ensures.alone alone))
-    )
-    (subst (λ (x : Association). Settles c.args.now x c.end_datagram-2.new.self) idle ended.settles)
-    (ended.halves.receiver ∙ ap (λ (a : Association). receiver_of a.inbound) idle) (ended.heartbeat ∙ ap (λ (a : Association). a.heartbeat) idle)
-    (ended.events ∙ ap (λ (a : Association). a.events) idle))
-
 -- ## What ends the association
 
 pub returns-in-Stop-clause-over : goal.returns-in-Stop-clause-over
@@ -372,23 +340,30 @@ returns-clause-over c =
     ) c.take_others-is_whole.ensures.over
     )
 
--- ## The first chunk, and others
+-- ## Each chunk
 
-pub returns-in-Stop-clause-behind : goal.returns-in-Stop-clause-behind
-returns-in-Stop-clause-behind c is =
-    let tag = c.header-tag.ensures.verification_tag ∙ ap (λ l. u32_at l 4) c.requires.whole in
-    behind_stop c.in-Some.first c.next.new.self.left _ c.args.datagram.now c.args.now c.args.self.now c.take_first.new.self c.in-Some.ensures.place
-    (subst (λ (n : ℕ). FirstOn c.in-Some.first n c.args.datagram.now c.args.now step.Stop c.args.self.now c.take_first.new.self) tag
-    (if_ok (λ s. FirstOn c.in-Some.first c.header-tag.result.verification_tag c.args.datagram.now c.args.now s c.args.self.now c.take_first.new.self)
-    c.take_first.result step.Stop (search rules) c.take_first.ensures.first))
+pub returns-in-Stop-clause-walks : goal.returns-in-Stop-clause-walks
+returns-in-Stop-clause-walks c is =
+    walks_at c.in-Some.first c.next.new.self.left _ c.args.datagram.now c.args.now c.args.self.now c.take_first.new.self c.in-Some.ensures.place (inl (
+    first_at c.in-Some.first _ _ _ _ c.args.datagram.now c.args.now step.Stop c.args.self.now c.take_first.new.self
+    (c.header-tag.ensures.verification_tag ∙ ap (λ l. u32_at l 4) c.requires.whole) (c.left-count.ensures ∙ ap length c.in-Some.ensures.place)
+    (if_ok (λ s. FirstOn c.in-Some.first c.header-tag.result.verification_tag c.left-count.result c.args.datagram.now c.args.now s c.args.self.now
+    c.take_first.new.self) c.take_first.result step.Stop
+    (search rules) c.take_first.ensures.walks)
+    ))
 
-pub returns-clause-behind : goal.returns-clause-behind
-returns-clause-behind c is =
-    let tag = c.header-tag.ensures.verification_tag ∙ ap (λ l. u32_at l 4) c.requires.whole in
-    behind_next c.in-Some.first c.next.new.self.left _ c.args.datagram.now c.args.now c.args.self.now c.take_first.new.self c.take_others-is_whole.new.self
-    c.end_datagram-2.new.self c.in-Some.ensures.place
-    (subst (λ (n : ℕ). FirstOn c.in-Some.first n c.args.datagram.now c.args.now step.Next c.args.self.now c.take_first.new.self) tag
-    (if_ok (λ s. FirstOn c.in-Some.first c.header-tag.result.verification_tag c.args.datagram.now c.args.now s c.args.self.now c.take_first.new.self)
-    c.take_first.result step.Next (search rules) c.take_first.ensures.first))
-    (λ all. c.take_others-is_whole.ensures.still all c.if-not-is_whole.false) c.end_datagram-2.ensures.halves.receiver c.end_datagram-2.ensures.events
-    c.end_datagram-2.ensures.settles
+pub returns-clause-walks : goal.returns-clause-walks
+returns-clause-walks c is =
+    let ended = c.end_datagram-2.ensures in
+    walks_at c.in-Some.first c.next.new.self.left _ c.args.datagram.now c.args.now c.args.self.now c.end_datagram-2.new.self c.in-Some.ensures.place
+    (inr (record {
+      behind = c.take_first.new.self;
+      first = first_at c.in-Some.first _ _ _ _ c.args.datagram.now c.args.now step.Next c.args.self.now c.take_first.new.self
+          (c.header-tag.ensures.verification_tag ∙ ap (λ l. u32_at l 4) c.requires.whole) (c.left-count.ensures ∙ ap length c.in-Some.ensures.place)
+          (if_ok (λ s. FirstOn c.in-Some.first c.header-tag.result.verification_tag c.left-count.result c.args.datagram.now c.args.now s c.args.self.now
+          c.take_first.new.self) c.take_first.result step.Next
+          (search rules) c.take_first.ensures.walks);
+      last = c.take_others-is_whole.new.self;
+      others = c.take_others-is_whole.ensures.walks c.if-not-is_whole.false;
+      ends = record { settles = ended.settles; events = ended.events; receiver = ended.halves.receiver; heartbeat = ended.heartbeat };
+    }))

@@ -1,9 +1,10 @@
-use Rattle.std.proofs.lemmas.Bool.{and_parts}
-use Rattle.sctp_association.specs.Expected.{expects, may_begin, speaks}
-use Rattle.sctp_association.specs.declared.association.arrivals.Step.TheVariants.{Refused}
+use Rattle.sctp_association.proofs.Ends.{if_then}
+use Rattle.sctp_association.proofs.Expected.{as_same, as_taken, unknown_expected}
+use Rattle.sctp_association.specs.Expected.{AsExpected, expects, is_received, may_begin, speaks}
+use Rattle.sctp_association.specs.declared.association.arrivals.Step.{Step}
 use Rattle.sctp_association.proofs.Telling.{tells_due, tells_peer, tells_still}
-use Rattle.std.proofs.Common.{Ok, ap, arith, refl, rules, sym, ◌≡◌, ◌∙◌}
-use Rattle.std.specs.Prelude.{true}
+use Rattle.std.proofs.Common.{Ok, ap, arith, refl, rules, subst, sym, ◌≡◌, ◌∙◌}
+use Rattle.std.specs.Prelude.{◌&&◌, ◌||◌, is_some, true}
 use Rattle.sctp_association.proofs.Single.{alone_by, alone_plain, cause_on, is_plain, plain_other}
 use Rattle.sctp_association.proofs.Rows.{follows_from, follows_step, row_abort, row_other, row_steps, row_typ, steps_on, tag_other}
 use Rattle.sctp_association.specs.Fresh.{fresh_tag}
@@ -11,7 +12,7 @@ use Rattle.sctp_association.specs.Causes.{cause_in}
 use Rattle.sctp_association.specs.Rows.{FollowsStep, error_row, tag_to}
 use Rattle.sctp_association.specs.declared.association.arrivals.Step.TheVariants.{Next}
 use Rattle.sctp_handshake.specs.Cookies.{on_cookie_ack}
-use Rattle.sctp_handshake.specs.Endings.{on_shutdown, on_shutdown_ack, on_shutdown_complete}
+use Rattle.sctp_handshake.specs.Endings.{on_abort, on_shutdown, on_shutdown_ack, on_shutdown_complete}
 use Rattle.sctp_handshake.specs.Machines.{dropped}
 use Rattle.sctp_association.proofs.Arrived.{came_alike, came_same}
 use Rattle.sctp_association.proofs.Begun.{quiet_complete, quiet_shutdown_ack}
@@ -196,54 +197,59 @@ returns-in_default-clause-alone c other tag =
     (search rules) (search rules) (search rules)) (tag_other c.args.chunk.typ c.args.self.now.machine (search rules))
     c.note_unknown.result (c.note_unknown.ensures.row c.args.now))
 
--- ## What is expected is not refused
+-- ## Where a chunk is taken
 
 pub returns-in-4-clause-expected : goal.returns-in-4-clause-expected
-returns-in-4-clause-expected c begun expected reads =
+returns-in-4-clause-expected c other reset =
     let typ : c.args.chunk.typ ≡ 4 = search rules in
-    let info = reads.heartbeat typ in
-    c.take_heartbeat.ensures.expected (sym (ap (λ n. expects n c.args.self.now) typ) ∙ expected) info.0 info.1
+    as_same (is_some c.args.self.now.machine.peer) (c.take_heartbeat.result) (c.take_heartbeat.ensures.expected typ)
+    (expects c.args.chunk.typ c.args.self.now) (sym (ap (λ n. expects n c.args.self.now) typ))
 
 pub returns-in-5-clause-expected : goal.returns-in-5-clause-expected
-returns-in-5-clause-expected c begun expected reads =
+returns-in-5-clause-expected c other reset =
     let typ : c.args.chunk.typ ≡ 5 = search rules in
-    let info = reads.heartbeat_ack typ in
-    c.take_heartbeat_ack.ensures.expected (sym (ap (λ n. expects n c.args.self.now) typ) ∙ expected) info.0 info.1
+    as_same (is_some c.args.self.now.heartbeat) (c.take_heartbeat_ack.result) (c.take_heartbeat_ack.ensures.expected typ)
+    (expects c.args.chunk.typ c.args.self.now) (sym (ap (λ n. expects n c.args.self.now) typ))
 
 pub returns-in-6-clause-expected : goal.returns-in-6-clause-expected
-returns-in-6-clause-expected c begun expected reads r is =
+returns-in-6-clause-expected c other reset =
     let typ : c.args.chunk.typ ≡ 6 = search rules in
-    let refused : c.take_abort.result ≡ Refused r = search rules in
-    c.take_abort.ensures.expected (sym (ap (λ n. expects n c.args.self.now) typ) ∙ expected) r refused
+    as_same (speaks (on_abort c.args.self.now.machine).answer) (Ok c.take_abort.result) c.take_abort.ensures.expected
+    (expects c.args.chunk.typ c.args.self.now) (sym (ap (λ n. expects n c.args.self.now) typ))
 
 pub returns-in-7-clause-expected : goal.returns-in-7-clause-expected
-returns-in-7-clause-expected c begun expected reads =
+returns-in-7-clause-expected c other reset =
     let typ : c.args.chunk.typ ≡ 7 = search rules in
-    let tsn = reads.shutdown typ in
-    c.take_shutdown.ensures.expected (sym (ap (λ n. expects n c.args.self.now) typ) ∙ expected) tsn.0 tsn.1
+    as_same (speaks (on_shutdown c.args.self.now.machine).answer || is_received c.args.self.now.machine.state) (c.take_shutdown.result)
+    (c.take_shutdown.ensures.expected typ) (expects c.args.chunk.typ c.args.self.now) (sym (ap (λ n. expects n c.args.self.now) typ))
 
 pub returns-in-8-clause-expected : goal.returns-in-8-clause-expected
-returns-in-8-clause-expected c begun expected reads r is =
+returns-in-8-clause-expected c other reset =
     let typ : c.args.chunk.typ ≡ 8 = search rules in
-    let refused : c.take_answer.result ≡ Refused r = search rules in
-    c.take_answer.ensures.expected (ap speaks c.shutdown_ack-answer.ensures.takes.answer ∙ sym (ap (λ n. expects n c.args.self.now) typ) ∙ expected) r refused
+    as_same (speaks c.shutdown_ack-answer.result) (Ok c.take_answer.result) c.take_answer.ensures.expected (expects c.args.chunk.typ c.args.self.now)
+    (ap speaks c.shutdown_ack-answer.ensures.takes.answer ∙ sym (ap (λ n. expects n c.args.self.now) typ))
 
 pub returns-in-9-clause-expected : goal.returns-in-9-clause-expected
-returns-in-9-clause-expected c begun expected reads r is =
-    let refused : c.take_error.result ≡ Refused r = search rules in
-    c.take_error.ensures.never r refused
+returns-in-9-clause-expected c other reset =
+    let typ : c.args.chunk.typ ≡ 9 = search rules in
+    as_taken (expects c.args.chunk.typ c.args.self.now) c.take_error.result (ap (λ n. expects n c.args.self.now) typ) c.take_error.ensures.never
 
 pub returns-in-11-clause-expected : goal.returns-in-11-clause-expected
-returns-in-11-clause-expected c begun expected reads r is =
+returns-in-11-clause-expected c other reset =
     let typ : c.args.chunk.typ ≡ 11 = search rules in
-    let refused : c.take_cookie_ack.result ≡ Refused r = search rules in
-    let both = and_parts (speaks (on_cookie_ack c.args.self.now.machine).answer) (may_begin c.args.self.now)
-    (sym (ap (λ n. expects n c.args.self.now) typ) ∙ expected) in
-    c.take_cookie_ack.ensures.expected both.0 both.1 r refused
+    as_same (speaks (on_cookie_ack c.args.self.now.machine).answer && may_begin c.args.self.now) (Ok c.take_cookie_ack.result)
+    c.take_cookie_ack.ensures.expected (expects c.args.chunk.typ c.args.self.now) (sym (ap (λ n. expects n c.args.self.now) typ))
 
 pub returns-in-14-clause-expected : goal.returns-in-14-clause-expected
-returns-in-14-clause-expected c begun expected reads r is =
+returns-in-14-clause-expected c other reset =
     let typ : c.args.chunk.typ ≡ 14 = search rules in
-    let refused : c.take_answer-in-14.result ≡ Refused r = search rules in
-    c.take_answer-in-14.ensures.expected (ap speaks c.shutdown_complete-answer.ensures.takes.answer
-    ∙ sym (ap (λ n. expects n c.args.self.now) typ) ∙ expected) r refused
+    as_same (speaks c.shutdown_complete-answer.result) (Ok c.take_answer-in-14.result) c.take_answer-in-14.ensures.expected
+    (expects c.args.chunk.typ c.args.self.now) (ap speaks c.shutdown_complete-answer.ensures.takes.answer ∙ sym (ap (λ n. expects n c.args.self.now) typ))
+
+pub returns-in_default-clause-expected : goal.returns-in_default-clause-expected
+returns-in_default-clause-expected c other reset =
+    let on = unknown_expected c.args.self.now c.args.chunk.typ other.1 other.2 (search rules) (search rules) (search rules) (search rules) (search rules)
+    other.3 (search rules)
+    (search rules) reset in
+    if_then c.note_unknown.result (λ s is next. subst (λ (x : Step). AsExpected (expects c.args.chunk.typ c.args.self.now) x) (sym next) on)
+    c.note_unknown.ensures.goes_on

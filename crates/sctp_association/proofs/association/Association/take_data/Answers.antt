@@ -6,8 +6,7 @@ use Rattle.sctp_association.proofs.Ends.{data_aborts}
 use Rattle.std.specs.Prelude.{true, ◌==◌}
 use Rattle.sctp_association.proofs.Rows.{follows_from, follows_step, row_goes, row_typ}
 use Rattle.sctp_association.specs.Coming.{goes_on}
-use Rattle.sctp_association.specs.Rows.{FollowsAnswer, FollowsStep, tag_to}
-use Rattle.sctp_handshake.specs.declared.state.State.{State}
+use Rattle.sctp_association.specs.Rows.{FollowsStep, tag_to}
 use Rattle.sctp_handshake.specs.Timeouts.{on_packet_arrived}
 use Rattle.sctp_association.proofs.Telling.{end_then, to_in}
 use Rattle.std.proofs.Common.{arith, Ok, Some, ap, refl, subst, sym, ◌≡◌, ◌∙◌}
@@ -27,6 +26,13 @@ use Rattle.sctp_association.proofs.Going.{arrived_state, arrived_told, goes_by, 
 use Rattle.sctp_association.proofs.Sacks.{hears_by, sacks_on}
 use Rattle.sctp_association.specs.Sacks.{TakesSacksOf}
 use Rattle.sctp_handshake.specs.declared.machine.Machine.{Machine}
+use Rattle.std.proofs.Common.{Bool, None, Option, false, rules}
+use Rattle.std.proofs.lemmas.Bool.{and_from}
+use Rattle.std.specs.Prelude.{◌&&◌, is_some}
+use Rattle.sctp_association.proofs.Expected.{and_none, as_taken}
+use Rattle.sctp_association.specs.Coming.{is_due}
+use Rattle.sctp_association.specs.declared.inbound.Inbound.{Inbound}
+use Rattle.sctp_handshake.specs.States.{takes_data}
 use Rattle.sctp_association.proofs.association.Association.take_data.Goals as goal
 
 pub returns-then-not-takes_data-clause-came : goal.returns-then-not-takes_data-clause-came
@@ -188,3 +194,29 @@ returns-clause-row c =
     )
     )
     ) (still_stop c.args.chunk c.args.datagram.now old c.end_by.new.self c.end_by.result (returns-clause-still c))
+
+-- ## Where it is taken
+
+pub returns-then-not-takes_data-clause-due : goal.returns-then-not-takes_data-clause-due
+returns-then-not-takes_data-clause-due c =
+    let off : takes_data c.args.self.now.machine.state ≡ false = search rules in
+    (refl, ap (λ (b : Bool). b && is_some c.args.self.now.inbound) off)
+
+pub returns-in_default-clause-due : goal.returns-in_default-clause-due
+returns-in_default-clause-due c =
+    let none : c.args.self.now.inbound ≡ None = search rules in (
+      refl,
+      ap (λ (o : Option Inbound). takes_data c.args.self.now.machine.state && is_some o) none ∙ and_none (takes_data c.args.self.now.machine.state),
+    )
+
+pub returns-in-Wanting-clause-due : goal.returns-in-Wanting-clause-due
+returns-in-Wanting-clause-due c =
+    let on : takes_data c.args.self.now.machine.state ≡ true = search rules in
+    and_from (takes_data c.args.self.now.machine.state) (is_some c.args.self.now.inbound) on (ap (λ (o : Option Inbound). is_some o) c.in-Some.is)
+
+pub returns-clause-due : goal.returns-clause-due
+returns-clause-due c =
+    let on : takes_data c.args.self.now.machine.state ≡ true = search rules in
+    as_taken (is_due 0 c.args.self.now) c.end_by.result (
+    and_from (takes_data c.args.self.now.machine.state) (is_some c.args.self.now.inbound) on (ap (λ (o : Option Inbound). is_some o) c.in-Some.is)
+    ) c.end_by.ensures.never

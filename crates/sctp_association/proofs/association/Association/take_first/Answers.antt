@@ -1,8 +1,7 @@
-use Rattle.sctp_association.proofs.Single.{alone_refused}
-use Rattle.std.proofs.Common.{inl, inr, refl}
-use Rattle.sctp_association.proofs.Behind.{not_expected}
+use Rattle.sctp_association.proofs.Walks.{first_on, passes}
+use Rattle.sctp_association.specs.Single.{AloneOn}
+use Rattle.std.proofs.Common.{inr}
 use Rattle.sctp_association.proofs.Ends.{if_then}
-use Rattle.sctp_association.specs.declared.association.Reason.TheVariants.{Tag}
 use Rattle.sctp_association.proofs.Ends.{ends_same}
 use Rattle.std.proofs.Common.{Ok, ap, refl, rules, ◌≡◌}
 use Rattle.sctp_association.proofs.Coming.{if_ok}
@@ -42,22 +41,36 @@ returns-in-Refused-Unexpected-clause-over c =
 
 -- ## The first chunk
 
-pub returns-in-Refused-Unexpected-clause-first : goal.returns-in-Refused-Unexpected-clause-first
-returns-in-Refused-Unexpected-clause-first c =
+pub returns-in-Refused-Unexpected-clause-walks : goal.returns-in-Refused-Unexpected-clause-walks
+returns-in-Refused-Unexpected-clause-walks c =
     let is : c.take_chunk-2.result ≡ Ok (Refused Unexpected) = search rules in
-    inr (
-      refl,
-      c.take_chunk-2.ensures.refused Unexpected is,
-      not_expected c.args.chunk c.args.tag c.args.count c.args.datagram.now c.args.now c.args.self.now c.take_chunk-2.result Unexpected Tag
-          c.take_chunk-2.ensures.foreign tag≢unexpected c.take_chunk-2.ensures.due is,
-    )
-  where
-    tag≢unexpected : Tag ≡ Unexpected → ⊥
-    tag≢unexpected e = cc
+    inr (record {
+      passes = passes c.args.chunk c.args.tag c.args.count c.args.datagram.now c.args.now c.args.self.now c.take_chunk-2.new.self c.take_chunk-2.result
+          c.take_chunk-2.ensures.foreign c.take_chunk-2.ensures.expected c.take_chunk-2.ensures.due is (c.take_chunk-2.ensures.refused Unexpected is);
+      others = search rules;
+      begun = search rules;
+      init = search rules;
+      cookie_echo = search rules;
+    })
 
-pub returns-in_default-clause-first : goal.returns-in_default-clause-first
-returns-in_default-clause-first c =
-    inl (alone_refused c.args.chunk c.args.tag c.args.datagram.now c.args.now c.args.self.now c.take_chunk-2.new.self _)
+pub returns-in_default-clause-walks : goal.returns-in_default-clause-walks
+returns-in_default-clause-walks c = tt
 
-pub returns-then-is_alone-clause-first : goal.returns-then-is_alone-clause-first
-returns-then-is_alone-clause-first c = if_then c.take_chunk.result (λ s is h. inl h) c.take_chunk.ensures.alone
+pub returns-in_default-clause-due : goal.returns-in_default-clause-due
+returns-in_default-clause-due c admitted expected r is =
+    let refused : c.take_chunk-2.result ≡ Ok (Refused r) = search rules in
+    c.take_chunk-2.ensures.due admitted expected r refused
+
+pub returns-in_default-2-clause-walks : goal.returns-in_default-2-clause-walks
+returns-in_default-2-clause-walks c =
+    let is : c.take_chunk-2.result ≡ Ok c.in_ok-step.step = c.in_ok-step.was in
+    first_on c.args.chunk c.args.tag c.args.count c.args.datagram.now c.args.now c.args.self.now c.take_chunk-2.new.self c.take_chunk-2.result
+    c.take_chunk-2.ensures.foreign c.take_chunk-2.ensures.expected c.in_ok-step.step is
+    (if_ok (λ s. AloneOn c.args.chunk c.args.tag c.args.datagram.now c.args.now s c.args.self.now c.take_chunk-2.new.self) _ _ is c.take_chunk-2.ensures.alone)
+    c.take_chunk-2.ensures.still
+
+pub returns-then-is_alone-clause-walks : goal.returns-then-is_alone-clause-walks
+returns-then-is_alone-clause-walks c =
+    if_then c.take_chunk.result (λ s is h. first_on c.args.chunk c.args.tag c.args.count c.args.datagram.now c.args.now c.args.self.now
+    c.take_chunk.new.self c.take_chunk.result c.take_chunk.ensures.foreign c.take_chunk.ensures.expected s is h c.take_chunk.ensures.still)
+    c.take_chunk.ensures.alone

@@ -91,7 +91,7 @@ returns-clause-row c =
 
 pub returns-in_default-clause-expected : goal.returns-in_default-clause-expected
 returns-in_default-clause-expected c expected r is =
-    let said = said_of _ _ expected.reads in
+    let said = said_of _ _ expected.brings.reads in
     value_found c.args.datagram.now c.args.chunk c.requires.place (inr expected.typ) said.0 said.1 c.bytes_of.result.now c.bytes_of.ensures _
     c.in_default.ensures.fault
 
@@ -125,3 +125,11 @@ returns-in_err-cookie-clause-came c = offered_same _ _ _ refl
 
 pub returns-in_err-reported-clause-came : goal.returns-in_err-reported-clause-came
 returns-in_err-reported-clause-came c = offered_same _ _ _ refl
+
+-- ## Why it is refused
+
+pub returns-in_default-clause-why : goal.returns-in_default-clause-why
+returns-in_default-clause-why c brings r is =
+    let said = said_of _ _ brings.reads in
+    absurd (value_found c.args.datagram.now c.args.chunk c.requires.place (inr c.requires.typ) said.0 said.1 c.bytes_of.result.now c.bytes_of.ensures _
+    c.in_default.ensures.fault)

@@ -1,8 +1,10 @@
-use Rattle.std.proofs.Common.{Ok, ap, rules, subst, sym, ◌≡◌}
+use Rattle.std.proofs.Common.{Ok, ap, refl, rules, subst, sym, ◌≡◌}
 use Rattle.sctp_association.proofs.Coming.{if_ok}
 use Rattle.sctp_association.proofs.Each.{past_goes, past_never, step_same}
 use Rattle.sctp_association.proofs.Paths.{moves_still}
 use Rattle.sctp_association.proofs.Sacks.{past_hears, past_hears_never}
+use Rattle.sctp_association.proofs.Walks.{other_on, other_past}
+use Rattle.sctp_association.specs.Single.{AloneOn}
 use Rattle.sctp_association.specs.Coming.{GoesOn}
 use Rattle.sctp_association.specs.Sacks.{HearsOn, TakesSacksOf}
 use Rattle.sctp_association.specs.declared.association.Association.{Association}
@@ -51,3 +53,21 @@ returns-in-Refused-clause-path c takes going =
     if_ok (λ s. HearsOn c.args.chunk c.args.tag c.args.datagram.now s c.args.self.now c.take_chunk.new.self) _ _ is (c.take_chunk.ensures.sacks takes going) in
     moves_still c.args.chunk c.args.datagram.now c.args.now c.past.result c.args.self.now.outbound c.take_chunk.new.self.outbound was.1
     (ap (λ (a : Association). a.outbound) (c.take_chunk.ensures.refused c.in-Refused.reason is))
+
+-- ## What becomes of it
+
+pub returns-in-Refused-clause-walks : goal.returns-in-Refused-clause-walks
+returns-in-Refused-clause-walks c =
+    let is : c.take_chunk.result ≡ Ok (Refused c.in-Refused.reason) = search rules in
+    other_past c.args.chunk c.args.tag c.args.datagram.now c.args.now c.args.self.now c.take_chunk.new.self c.take_chunk.result
+    c.take_chunk.ensures.foreign c.take_chunk.ensures.expected c.take_chunk.ensures.due c.take_chunk.ensures.why c.requires.counted
+    (c.take_chunk.ensures.refused c.in-Refused.reason is)
+    c.in-Refused.reason c.past.result is c.past.ensures.unexpected c.past.ensures.other
+
+pub returns-in_default-clause-walks : goal.returns-in_default-clause-walks
+returns-in_default-clause-walks c =
+    let is : c.take_chunk.result ≡ Ok c.in_ok-taken.taken = c.in_ok-taken.was in
+    other_on c.args.chunk c.args.tag 2 c.args.datagram.now c.args.now c.args.self.now c.take_chunk.new.self c.take_chunk.result
+    c.take_chunk.ensures.foreign c.take_chunk.ensures.expected refl c.in_ok-taken.taken is (search rules)
+    (if_ok (λ s. AloneOn c.args.chunk c.args.tag c.args.datagram.now c.args.now s c.args.self.now c.take_chunk.new.self) _ _ is c.take_chunk.ensures.alone)
+    c.take_chunk.ensures.still

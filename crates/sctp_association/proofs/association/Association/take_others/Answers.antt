@@ -1,4 +1,4 @@
-use Rattle.std.proofs.Common.{◌≡◌, Ok, ap, arith, inl, inr, length, refl, rules, subst, sym, ◌∙◌}
+use Rattle.std.proofs.Common.{◌≡◌, ℕ, Ok, ap, arith, inl, inr, length, refl, rules, subst, sym, ◌∙◌}
 use Rattle.std.proofs.lemmas.Bool.{false≢true}
 use Rattle.sctp_association.proofs.Each.{data_counts, none_left, one_less, owed_at, owed_first, owed_next, owed_none, owed_passed, owed_refused, owed_stop}
 use Rattle.sctp_association.proofs.Each.{tagged}
@@ -6,20 +6,19 @@ use Rattle.sctp_association.proofs.Arrived.{arrives_of}
 use Rattle.sctp_association.proofs.Paths.{move_at, move_next, move_none, move_noted, move_passed, move_refused, move_stop, owed_move}
 use Rattle.sctp_association.proofs.Sacks.{owed_sack, sack_at, sack_next, sack_none, sack_noted, sack_passed, sack_refused, sack_stop}
 use Rattle.sctp_association.proofs.Sacks.{sacks_tagged}
-use Rattle.sctp_association.specs.Once.{seen}
+use Rattle.sctp_association.specs.Once.{none_seen, seen}
 use Rattle.sctp_association.specs.Halves.{halves_of}
 use Rattle.sctp_util.specs.Field.{u32_at}
 use Rattle.sctp_association.proofs.Offered.{offered_same, offered_then}
 use Rattle.sctp_association.proofs.Telling.{tells_same, tells_then}
 use Rattle.sctp_association.proofs.Carrying.{next_own}
-use Rattle.sctp_association.proofs.Behind.{data_next, go_on_next, still_as, still_same, still_then}
+use Rattle.sctp_association.proofs.Walks.{no_echo, walks_next, walks_none, walks_over, walks_seen, walks_stop, walks_unread}
 use Rattle.sctp_association.proofs.Coming.{if_ok}
-use Rattle.sctp_association.specs.Behind.{StillOn}
+use Rattle.sctp_association.specs.Walks.{OtherOn, Walks}
 use Rattle.sctp_association.proofs.Ends.{ended_first, ended_next, ended_same, ended_stop}
-use Rattle.sctp_association.specs.Ends.{EndsOn, IsAbortedBy}
-use Rattle.sctp_handshake.specs.declared.machine.Machine.{Machine}
+use Rattle.sctp_association.specs.Ends.{EndsOn}
 use Rattle.sctp_association.specs.declared.association.Association.{Association}
-use Rattle.sctp_association.specs.declared.association.arrivals.Step.TheVariants.{Cut, Next, Stop}
+use Rattle.sctp_association.specs.declared.association.arrivals.Step.TheVariants.{Cut, Next, Refused, Stop}
 use Rattle.sctp_association.proofs.association.Association.take_others.Goals as goal
 
 pub loop-init : goal.loop-init
@@ -34,7 +33,7 @@ loop-init c = record {
   count = omega arith;
   idle = λ e. refl;
   over = ended_first c.args.datagram.now c.args.self.now;
-  still = λ all. (all, λ e. e, still_same _ _);
+  walks = λ last h. walks_seen c.header-tag.result.verification_tag c.args.datagram.now c.args.now _ _ _ _ last c.behind-once.ensures h;
 }
 
 pub loop-preserved-then-not-counts : goal.loop-preserved-then-not-counts
@@ -59,9 +58,10 @@ loop-preserved-then-not-counts c = record {
   count = one_less _ _ _ _ _ c.in-Some.ensures.place c.loop.invariant.count;
   idle = λ e. absurd (omega (arith, c.left-end.ensures, ap length e, c.loop-test.true));
   over = c.loop.invariant.over;
-  still = λ all.
-      let h = c.loop.invariant.still all in
-      ((go_on_next _ _ _ c.in-Some.ensures.place h.0).1, (data_next _ _ _ c.in-Some.ensures.place _ h.1).1, h.2);
+  walks = λ last h. c.loop.invariant.walks last (walks_over c.header-tag.result.verification_tag c.args.datagram.now c.args.now c.loop.once c.in-Some.chunk
+      c.next.new.self.left _
+      c.in-Some.ensures.place c.loop.self c.loop.self last (sym c.if-not-counts.ensures.value)
+      (walks_seen c.header-tag.result.verification_tag c.args.datagram.now c.args.now _ _ _ _ last c.if-not-counts.ensures.noted h));
 }
 
 pub loop-preserved : goal.loop-preserved
@@ -89,16 +89,17 @@ loop-preserved c = record {
       c.loop.invariant.over
       (if_ok (λ s. EndsOn c.in-Some.chunk c.args.datagram.now s c.loop.self c.take_other.new.self) c.take_other.result Next
       (search rules) c.take_other.ensures.over);
-  still = λ all. let h = c.loop.invariant.still all in
-      let goes = go_on_next _ _ _ c.in-Some.ensures.place h.0 in
-      let has = data_next _ _ _ c.in-Some.ensures.place _ h.1 in (
-        goes.1,
-        has.1,
-        still_then _ _ c.args.self.now c.loop.self c.take_other.new.self has.0 h.2
-            (if_ok (λ s. StillOn c.in-Some.chunk c.args.datagram.now s c.loop.self c.take_other.new.self) c.take_other.result Next (search rules)
-            (c.take_other.ensures.still goes.0)),
-      );
+  walks = λ last h. c.loop.invariant.walks last (walks_next c.header-tag.result.verification_tag c.args.datagram.now c.args.now c.loop.once c.in-Some.chunk
+      c.next.new.self.left _
+      c.in-Some.ensures.place c.loop.self c.take_other.new.self last (sym c.if-not-counts.ensures.value)
+      (if_ok (λ s. OtherOn c.in-Some.chunk c.header-tag.result.verification_tag c.args.datagram.now c.args.now s c.loop.self c.take_other.new.self)
+      c.take_other.result Next (search rules) c.take_other.ensures.walks)
+      (walks_seen c.header-tag.result.verification_tag c.args.datagram.now c.args.now _ _ _ _ last c.if-not-counts.ensures.noted h));
 }
+
+-- no COOKIE-ECHO counts
+pub take_other-requires-clause-counted : goal.take_other-requires-clause-counted
+take_other-requires-clause-counted c is = no_echo c.in-Some.chunk.typ c.loop.once (sym c.if-not-counts.ensures.value) is
 
 pub take_other-requires-clause-own : goal.take_other-requires-clause-own
 take_other-requires-clause-own c = (next_own _ _ _ _ c.in-Some.ensures.place c.loop.invariant.own).0
@@ -113,7 +114,7 @@ returns-in-Ok-Cut c = record {
   tells = tells_then _ _ _ c.loop.invariant.tells c.take_other.ensures.tells;
   over = ended_same _ c.args.self.now c.loop.self c.take_other.new.self c.loop.invariant.over (if_ok
       (λ s. EndsOn c.in-Some.chunk c.args.datagram.now s c.loop.self c.take_other.new.self) c.take_other.result Cut (search rules) c.take_other.ensures.over);
-  still = λ all is. absurd (false≢true is);
+  walks = λ is. absurd (false≢true is);
 }
 
 pub returns-in-Ok-Cut-2 : goal.returns-in-Ok-Cut-2
@@ -126,7 +127,7 @@ returns-in-Ok-Cut-2 c = record {
   tells = tells_then _ _ _ c.loop.invariant.tells c.take_other.ensures.tells;
   over = let same : c.take_other.new.self ≡ c.loop.self = search rules in
       ended_same _ c.args.self.now c.loop.self c.take_other.new.self c.loop.invariant.over (ap (λ (a : Association). a.is_over) same);
-  still = λ all is. absurd (false≢true is);
+  walks = λ is. absurd (false≢true is);
 }
 
 pub returns-after-loop : goal.returns-after-loop
@@ -144,7 +145,11 @@ returns-after-loop c = record {
   tells = c.loop.invariant.tells;
   none = λ e. (refl, c.loop.invariant.idle e);
   over = ended_same _ c.args.self.now c.loop.self c.loop.self c.loop.invariant.over refl;
-  still = λ all is. inr (c.loop.invariant.still all).2;
+  walks = λ is. subst (λ (n : ℕ). Walks n c.args.datagram.now c.args.now (seen c.args.first none_seen) c.args.chunks.left c.args.self.now c.loop.self)
+      (c.header-tag.ensures.verification_tag ∙ ap (λ l. u32_at l 4) c.requires.whole)
+      (c.loop.invariant.walks c.loop.self (walks_none c.header-tag.result.verification_tag c.args.datagram.now c.args.now c.loop.once c.loop.chunks.left
+      c.loop.self
+      (none_left _ _ _ _ c.loop.invariant.count c.left-end.ensures c.loop-test.false)));
 }
 
 pub returns-in_default : goal.returns-in_default
@@ -162,7 +167,11 @@ returns-in_default c = record {
   tells = c.loop.invariant.tells;
   none = λ e. (refl, c.loop.invariant.idle e);
   over = ended_same _ c.args.self.now c.loop.self c.loop.self c.loop.invariant.over refl;
-  still = λ all is. inr (c.loop.invariant.still all).2;
+  walks = λ is. subst (λ (n : ℕ). Walks n c.args.datagram.now c.args.now (seen c.args.first none_seen) c.args.chunks.left c.args.self.now c.loop.self)
+      (c.header-tag.ensures.verification_tag ∙ ap (λ l. u32_at l 4) c.requires.whole)
+      (c.loop.invariant.walks c.loop.self (walks_none c.header-tag.result.verification_tag c.args.datagram.now c.args.now c.loop.once c.loop.chunks.left
+      c.loop.self
+      (search rules)));
 }
 
 pub returns-in-Ok-Stop : goal.returns-in-Ok-Stop
@@ -187,14 +196,13 @@ returns-in-Ok-Stop c = record {
   over = ended_stop _ c.args.self.now c.loop.self c.take_other.new.self c.in-Some.chunk (next_own _ _ _ _ c.in-Some.ensures.place c.loop.invariant.own).0
       c.loop.invariant.over (if_ok (λ s. EndsOn c.in-Some.chunk c.args.datagram.now s c.loop.self c.take_other.new.self) c.take_other.result Stop
       (search rules) c.take_other.ensures.over);
-  still = λ all is. let h = c.loop.invariant.still all in
-      inl (record {
-        chunk = c.in-Some.chunk;
-        own = (next_own _ _ _ _ c.in-Some.ensures.place c.loop.invariant.own).0;
-        ends = subst (λ (m : Machine). IsAbortedBy c.in-Some.chunk c.args.datagram.now m.peer c.take_other.new.self) h.2.machine
-            (if_ok (λ s. StillOn c.in-Some.chunk c.args.datagram.now s c.loop.self c.take_other.new.self) c.take_other.result Stop (search rules)
-            (c.take_other.ensures.still (go_on_next _ _ _ c.in-Some.ensures.place h.0).0));
-      });
+  walks = λ is. subst (λ (n : ℕ). Walks n c.args.datagram.now c.args.now (seen c.args.first none_seen) c.args.chunks.left c.args.self.now c.take_other.new.self)
+      (c.header-tag.ensures.verification_tag ∙ ap (λ l. u32_at l 4) c.requires.whole)
+      (c.loop.invariant.walks c.take_other.new.self (walks_stop c.header-tag.result.verification_tag c.args.datagram.now c.args.now c.loop.once
+      c.in-Some.chunk c.next.new.self.left _
+      c.in-Some.ensures.place c.loop.self c.take_other.new.self c.take_other.new.self (sym c.if-not-counts.ensures.value)
+      (if_ok (λ s. OtherOn c.in-Some.chunk c.header-tag.result.verification_tag c.args.datagram.now c.args.now s c.loop.self c.take_other.new.self)
+      c.take_other.result Stop (search rules) c.take_other.ensures.walks)));
 }
 
 pub returns-in-Ok-Refused : goal.returns-in-Ok-Refused
@@ -221,6 +229,12 @@ returns-in-Ok-Refused c = record {
   none = λ e. absurd (omega (arith, c.left-end.ensures, ap length e, c.loop-test.true));
   over = ended_same _ c.args.self.now c.loop.self c.take_other.new.self c.loop.invariant.over
       (ap (λ (a : Association). a.is_over) (c.take_other.ensures.refused c.in-Ok-Refused.field-0-0 (c.in-Ok-Refused.is ∙ ap Ok c.in-Ok-Refused.field-0-is)));
-  still = λ all is. inr (still_then _ _ c.args.self.now c.loop.self c.take_other.new.self (λ e. e) (c.loop.invariant.still all).2
-      (still_as _ _ _ (c.take_other.ensures.refused c.in-Ok-Refused.field-0-0 (c.in-Ok-Refused.is ∙ ap Ok c.in-Ok-Refused.field-0-is))));
+  walks = λ is. subst (λ (n : ℕ). Walks n c.args.datagram.now c.args.now (seen c.args.first none_seen) c.args.chunks.left c.args.self.now c.take_other.new.self)
+      (c.header-tag.ensures.verification_tag ∙ ap (λ l. u32_at l 4) c.requires.whole)
+      (c.loop.invariant.walks c.take_other.new.self (walks_unread c.header-tag.result.verification_tag c.args.datagram.now c.args.now c.loop.once
+      c.in-Some.chunk c.next.new.self.left _
+      c.in-Some.ensures.place c.loop.self c.take_other.new.self c.take_other.new.self (sym c.if-not-counts.ensures.value)
+      (if_ok (λ s. OtherOn c.in-Some.chunk c.header-tag.result.verification_tag c.args.datagram.now c.args.now s c.loop.self c.take_other.new.self)
+      c.take_other.result (Refused c.in-Ok-Refused.field-0-0)
+      (c.in-Ok-Refused.is ∙ ap Ok c.in-Ok-Refused.field-0-is) c.take_other.ensures.walks)));
 }

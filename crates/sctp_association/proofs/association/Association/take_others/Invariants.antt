@@ -5,12 +5,14 @@ use Rattle.sctp_association.proofs.Ends.{EndedSo}
 use Rattle.sctp_association.proofs.Paths.{OwedMove}
 use Rattle.sctp_association.proofs.Sacks.{OwedSack}
 use Rattle.sctp_association.specs.Beginnings.{ArrivesAsOffered}
-use Rattle.sctp_association.specs.Behind.{StillAs, has_data}
+use Rattle.sctp_association.specs.Once.{none_seen, seen}
 use Rattle.sctp_association.specs.Telling.{Tells}
 use Rattle.sctp_association.specs.Coming.{TakesDataOf}
 use Rattle.sctp_association.specs.Halves.{halves_of}
 use Rattle.sctp_association.specs.Paths.{MovesBehind, all_go_on}
 use Rattle.sctp_association.specs.Sacks.{TakesSacksOf}
+use Rattle.sctp_association.specs.Walks.{Walks}
+use Rattle.sctp_association.specs.declared.association.Association.{Association}
 use Rattle.sctp_datagram.specs.Carried.{IsChunkOf}
 use Rattle.sctp_association.proofs.association.Association.take_others.Given as goal
 
@@ -30,6 +32,6 @@ invariant-loop l = record {
   count : l.counter + length l.chunks.left ≡ length l.initial.chunks.left;
   idle : l.initial.chunks.left ≡ [] → l.self ≡ l.initial.self;
   over : EndedSo l.datagram l.initial.self l.self;
-  still : all_go_on l.initial.chunks.left ≡ true → (all_go_on l.chunks.left ≡ true)
-      × (has_data l.chunks.left ≡ true → has_data l.initial.chunks.left ≡ true) × StillAs (has_data l.initial.chunks.left) l.initial.self l.self;
+  walks : (last : Association) → Walks l.tag l.datagram l.now l.once l.chunks.left l.self last
+      → Walks l.tag l.datagram l.now (seen l.first none_seen) l.initial.chunks.left l.initial.self last;
 }

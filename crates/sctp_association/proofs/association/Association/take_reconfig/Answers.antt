@@ -54,10 +54,10 @@ returns-in_default-take_param-clause-tells c = end_then c.loop.invariant.tells c
 
 -- its bytes are there
 pub returns-then-end-len-clause-expected : goal.returns-then-end-len-clause-expected
-returns-then-end-len-clause-expected c takes r is =
+returns-then-end-len-clause-expected c =
     let within = place_within _ _ c.requires.place in
-    elim c.then-end-len.branch [
+    absurd (elim c.then-end-len.branch [
       | then-end-len-via-then-end-len w ↦ omega (arith, within, c.saturating_add-end.ensures, c.len.ensures.value, c.len.ensures.bound, w.if-end-len.true)
       | then-end-len-via-else-end-len+then-chunk-end w ↦
           omega (arith, within, c.saturating_add-end.ensures, c.len.ensures.value, c.len.ensures.bound, w.if-chunk-end.true)
-    ]
+    ])

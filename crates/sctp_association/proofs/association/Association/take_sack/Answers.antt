@@ -23,10 +23,6 @@ returns-then-not-takes_sacks-clause-came c = came_same _ _ _ refl
 pub returns-in-Err-clause-came : goal.returns-in-Err-clause-came
 returns-in-Err-clause-came c = came_same _ _ _ refl
 
-pub returns-in-Err-clause-due : goal.returns-in-Err-clause-due
-returns-in-Err-clause-due c due r e =
-    sack_read _ _ c.requires.place c.requires.typ _ c.bytes_of.ensures _ c.in_ok-unless_memory-in-Err.ensures c.in-Err.ensures.fault
-
 pub returns-in-Err-clause-on : goal.returns-in-Err-clause-on
 returns-in-Err-clause-on c tag takes = absurd (
     sack_read _ _ c.requires.place c.requires.typ _ c.bytes_of.ensures _ c.in_ok-unless_memory-in-Err.ensures c.in-Err.ensures.fault)
@@ -119,3 +115,9 @@ returns-clause-still c =
 
 pub returns-clause-row : goal.returns-clause-row
 returns-clause-row c = inr (ap goes_on c.requires.typ, returns-clause-still c)
+
+-- ## Where it is taken
+
+pub returns-in-Err-clause-due : goal.returns-in-Err-clause-due
+returns-in-Err-clause-due c = absurd (
+    sack_read _ _ c.requires.place c.requires.typ _ c.bytes_of.ensures _ c.in_ok-unless_memory-in-Err.ensures c.in-Err.ensures.fault)

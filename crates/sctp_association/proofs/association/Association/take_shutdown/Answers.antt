@@ -9,6 +9,7 @@ use Rattle.std.proofs.Common.{◌≡◌}
 use Rattle.sctp_association.proofs.Shutting.{shutdown_still, shuts_still}
 use Rattle.sctp_association.specs.Shutting.{ShutsBy}
 use Rattle.sctp_association.proofs.Known.{keeps_by, knows_shutdown}
+use Rattle.sctp_association.proofs.Going.{shutdown_read}
 use Rattle.sctp_association.proofs.association.Association.take_shutdown.Goals as goal
 
 pub returns-in_err-shutdown-clause-came : goal.returns-in_err-shutdown-clause-came
@@ -54,4 +55,6 @@ returns-clause-shuts c =
 
 -- a SHUTDOWN is read
 pub returns-in_default-clause-expected : goal.returns-in_default-clause-expected
-returns-in_default-clause-expected c expected tsn reads r is = c.in_ok-shutdown.ensures.some (shutdown_chunk tsn) tt reads (ap Ok c.in_default.is)
+returns-in_default-clause-expected c typ =
+    let read = shutdown_read _ _ c.requires.place typ in
+    absurd (c.in_ok-shutdown.ensures.some read.0 read.1.0 read.1.1 (ap Ok c.in_default.is))

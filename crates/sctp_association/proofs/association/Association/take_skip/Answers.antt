@@ -21,6 +21,13 @@ use Rattle.sctp_association.proofs.Arrived.{came_alike, came_same, came_then, re
 use Rattle.sctp_chunks.specs.Wire.{forward_tsn_chunk}
 use Rattle.sctp_datagram.specs.Framing.{StartsWith}
 use Rattle.sctp_data.specs.ForwardTsn.{forward_tsn_of}
+use Rattle.std.proofs.Common.{Bool, None, Option, true, ◌∙◌}
+use Rattle.std.proofs.lemmas.Bool.{and_from}
+use Rattle.std.specs.Prelude.{◌&&◌, is_some}
+use Rattle.sctp_association.proofs.Expected.{and_none, as_taken}
+use Rattle.sctp_association.specs.Coming.{is_due}
+use Rattle.sctp_association.specs.declared.inbound.Inbound.{Inbound}
+use Rattle.sctp_handshake.specs.States.{takes_data}
 use Rattle.sctp_association.proofs.association.Association.take_skip.Goals as goal
 
 pub returns-then-not-takes_data-clause-came : goal.returns-then-not-takes_data-clause-came
@@ -57,11 +64,6 @@ pub returns-clause-tells : goal.returns-clause-tells
 returns-clause-tells c = end_then (to_in _ _ _ _ _ _ c.in-Some-inbound.is c.take_skip.ensures.tells) c.end_by.ensures.tells
 
 -- ## It is read, and DATA is taken as before
-
-pub returns-in_default-clause-due : goal.returns-in_default-clause-due
-returns-in_default-clause-due c due r e =
-    let read = forward_read _ _ c.requires.place c.requires.typ in
-    c.in_ok-skip.ensures.some read.0 read.1.0 read.1.1 (ap Ok c.in_default.is)
 
 pub returns-in_default-clause-on : goal.returns-in_default-clause-on
 returns-in_default-clause-on c tag takes =
@@ -123,3 +125,34 @@ returns-clause-row c =
     (λ next. subst (λ (x : Association). FollowsStep step 0 c.args.now old x) (sym (c.end_by.ensures.on next))
     (follows_still 0 c.args.now old _ refl refl refl refl refl refl))
     (still_stop c.args.chunk c.args.datagram.now old c.end_by.new.self c.end_by.result (returns-clause-still c))
+
+-- ## Where it is taken
+
+pub returns-then-not-takes_data-clause-due : goal.returns-then-not-takes_data-clause-due
+returns-then-not-takes_data-clause-due c =
+    let off : takes_data c.args.self.now.machine.state ≡ false = search rules in
+    (refl, ap (λ (b : Bool). b && is_some c.args.self.now.inbound) off)
+
+pub returns-in_default-clause-due : goal.returns-in_default-clause-due
+returns-in_default-clause-due c =
+    let read = forward_read _ _ c.requires.place c.requires.typ in
+    absurd (c.in_ok-skip.ensures.some read.0 read.1.0 read.1.1 (ap Ok c.in_default.is))
+
+pub returns-in_default-inbound-clause-due : goal.returns-in_default-inbound-clause-due
+returns-in_default-inbound-clause-due c =
+    let none : c.args.self.now.inbound ≡ None = search rules in (
+      refl,
+      ap (λ (o : Option Inbound). takes_data c.args.self.now.machine.state && is_some o) none ∙ and_none (takes_data c.args.self.now.machine.state),
+    )
+
+pub returns-in_default-take_skip-clause-due : goal.returns-in_default-take_skip-clause-due
+returns-in_default-take_skip-clause-due c =
+    let on : takes_data c.args.self.now.machine.state ≡ true = search rules in
+    and_from (takes_data c.args.self.now.machine.state) (is_some c.args.self.now.inbound) on (ap (λ (o : Option Inbound). is_some o) c.in-Some-inbound.is)
+
+pub returns-clause-due : goal.returns-clause-due
+returns-clause-due c =
+    let on : takes_data c.args.self.now.machine.state ≡ true = search rules in
+    as_taken (is_due 192 c.args.self.now) c.end_by.result (
+    and_from (takes_data c.args.self.now.machine.state) (is_some c.args.self.now.inbound) on (ap (λ (o : Option Inbound). is_some o) c.in-Some-inbound.is)
+    ) c.end_by.ensures.never
