@@ -1,17 +1,17 @@
 -- What follows from a step of the state machine.
-use Rattle.std.proofs.Common.{◌≡◌, ◌⊎◌, ℕ, Bool, true, false, List, Option, Some, None, refl, ap, sym, subst, ◌∙◌, inl, inr}
-use Rattle.std.proofs.lemmas.Bool.{ne_eqb}
-use Rattle.std.specs.Prelude.{Result, Ok, Err, IfOk, ◌==◌, ◌≢◌, if◌then◌else◌}
+use Rattle.std.proofs.Common.{◌≡◌, ◌⊎◌, ℕ, Bool, true, false, List, Option, Some, None, refl, ap, sym, subst, arith, ◌∙◌, inl, inr}
+use Rattle.std.proofs.lemmas.Bool.{false≢true, ne_eqb}
+use Rattle.std.specs.Prelude.{Result, Ok, Err, IfOk, ◌==◌, ◌≢◌, if◌then◌else◌, is_some}
 use Rattle.sctp_association.proofs.Timers.{runs_from, runs_none, runs_told}
 use Rattle.sctp_association.specs.Causes.{cause_in}
 use Rattle.sctp_association.specs.Coming.{goes_on}
-use Rattle.sctp_association.specs.Ends.{IsAbortedBy}
+use Rattle.sctp_association.specs.Ends.{IsAbortedBy, IsAbortedByPeer}
 use Rattle.sctp_association.specs.Fresh.{fresh_tag}
 use Rattle.sctp_association.specs.Kept.{IsKept, RestStays}
-use Rattle.sctp_association.specs.Rows.{FollowsAnswer, FollowsStep, RowOn, Settles, StepsBy, StepsOn, StepsTo, asked_for, asked_in}
+use Rattle.sctp_association.specs.Rows.{FollowsAnswer, FollowsStep, RowOn, Settles, StepsOn, asked_for, asked_in}
 use Rattle.sctp_association.specs.Rows.{drained_where, over_by, owed_by, owed_once, row_at, row_of, settled, still_wants, tag_of, tag_to}
 use Rattle.sctp_association.specs.Sending.{holds_nothing}
-use Rattle.sctp_association.specs.Telling.{IsPassedOn}
+use Rattle.sctp_association.specs.Telling.{IsPassedOn, ending_by}
 use Rattle.sctp_association.specs.Timers.{KeepsTimers, RunsTimers, StartsTimers, StopsTimers, stops}
 use Rattle.sctp_association.specs.declared.association.Association.{Association}
 use Rattle.sctp_association.specs.declared.association.arrivals.Step as arrivals
@@ -21,7 +21,7 @@ use Rattle.sctp_association.specs.declared.fault.Fault.{Fault}
 use Rattle.sctp_association.specs.declared.outbound.Outbound.{Outbound}
 use Rattle.sctp_datagram.specs.declared.datagram.ChunkPlace.{ChunkPlace}
 use Rattle.sctp_handshake.specs.Answers.{silent}
-use Rattle.sctp_handshake.specs.Endings.{abort_row, drained_row, on_abort, on_drained, on_shutdown_asked, shutdown_asked_row}
+use Rattle.sctp_handshake.specs.Endings.{drained_row, on_drained, on_shutdown_asked, shutdown_asked_row}
 use Rattle.sctp_handshake.specs.Machines.{Step, dropped}
 use Rattle.sctp_handshake.specs.declared.answer.Answer.{Answer}
 use Rattle.sctp_handshake.specs.declared.answer.Reply.{Reply}
@@ -41,7 +41,7 @@ follows_none a tag before now x reply told state = record {
   due = sym (ap (λ o. by (owed_once a.told (owed_by o tag x.due))) reply ∙ ap (λ o. by (owed_once o x.due)) told);
   timers = runs_none a before now x x reply told state refl refl;
   over = sym (ap (λ o. over_by o x.is_over) told);
-  told = subst (λ o. IsPassedOn o x.events) (sym told) tt;
+  told = subst (λ o. IsPassedOn o (ending_by (is_some a.reply)) x.events) (sym told) tt;
   wants = refl;
 }
   where
@@ -117,7 +117,8 @@ module _ (a : Answer) (tag : ℕ) (before : State) (now : ℕ) (x y z e : Associ
 
   pub follows_told : ((y.machine.state ≢ before) ⊎ (a.reply ≡ Some reply.Shutdown) → StartsTimers now x y)
       → (y.machine.state ≡ before → a.reply ≢ Some reply.Shutdown → KeepsTimers x y) → (t : Told) → a.told ≡ Some t → e.due ≡ owed_once (Some t) z.due
-      → e.is_over ≡ over_by (Some t) z.is_over → IsPassedOn (Some t) e.events → e.wants_shutdown ≡ z.wants_shutdown → e.machine ≡ z.machine
+      → e.is_over ≡ over_by (Some t) z.is_over → IsPassedOn (Some t) (ending_by (is_some a.reply)) e.events → e.wants_shutdown ≡ z.wants_shutdown
+      → e.machine ≡ z.machine
       → e.config ≡ z.config → (stops (Some t) ≡ true → StopsTimers e) → (stops (Some t) ≡ false → KeepsTimers z e)
       → (stops (Some t) ≡ false → e.outbound.rto ≡ z.outbound.rto) → FollowsAnswer a tag before now x e
   follows_told start keep t is due over told wants machine config stop kept rto = record {
@@ -128,7 +129,7 @@ module _ (a : Answer) (tag : ℕ) (before : State) (now : ℕ) (x y z e : Associ
           guard = k.guard ∙ ap (λ (k : Association). k.guard) next;
         }) (λ s. rto (goes false s) ∙ ap (λ (k : Association). k.outbound.rto) next);
     over = over ∙ ap (λ (k : Association). over_by (Some t) k.is_over) ran ∙ ap (λ o. over_by o x.is_over) (sym is);
-    told = subst (λ o. IsPassedOn o e.events) (sym is) told;
+    told = subst (λ o. IsPassedOn o (ending_by (is_some a.reply)) e.events) (sym is) told;
     wants = wants ∙ ap (λ (k : Association). k.wants_shutdown) ran;
   }
     where
@@ -154,22 +155,23 @@ pub row_typ : (c : ChunkPlace) (d : List ℕ) (now : ℕ) (a : Association) (n :
 row_typ c d now a n typ = ap (λ k. row_at k (cause_in d c) (fresh_tag a.key now a.machine.own) a.machine) typ
 
 module _ (c : ChunkPlace) (d : List ℕ) (now : ℕ) (a b : Association) where
-  pub row_is : (t : Step) (n : ℕ) → row_of c d now a ≡ t → tag_to c.typ a.machine ≡ n → (s : arrivals.Step) → StepsOn t n now s a b → RowOn c d now s a b
-  row_is t n row tag Next h =
-      subst (λ k. FollowsStep (row_of c d now a) k now a b) (sym tag) (subst (λ (k : Step). FollowsStep k n now a b) (sym row) h)
-  row_is t n row tag Stop h = absurd h
-  row_is t n row tag Cut h = absurd h
-  row_is t n row tag (Refused r) h = tt
+  pub row_is : (t : Step) (n : ℕ) → c.typ ≢ 6 → row_of c d now a ≡ t → tag_to c.typ a.machine ≡ n → (s : arrivals.Step) → StepsOn t n now s a b
+      → RowOn c d now s a b
+  row_is t n other row tag Next h =
+      (other, subst (λ k. FollowsStep (row_of c d now a) k now a b) (sym tag) (subst (λ (k : Step). FollowsStep k n now a b) (sym row) h))
+  row_is t n other row tag Stop h = absurd h
+  row_is t n other row tag Cut h = absurd h
+  row_is t n other row tag (Refused r) h = tt
 
-  pub row_steps : (t : Step) (n : ℕ) → row_of c d now a ≡ t → tag_to c.typ a.machine ≡ n → (r : Result arrivals.Step Fault)
+  pub row_steps : (t : Step) (n : ℕ) → c.typ ≢ 6 → row_of c d now a ≡ t → tag_to c.typ a.machine ≡ n → (r : Result arrivals.Step Fault)
       → IfOk r (λ s. StepsOn t n now s a b) → IfOk r (λ s. RowOn c d now s a b)
-  row_steps t n row tag (Ok s) h = row_is t n row tag s h
-  row_steps t n row tag (Err e) h = tt
+  row_steps t n other row tag (Ok s) h = row_is t n other row tag s h
+  row_steps t n other row tag (Err e) h = tt
 
   -- a chunk behind which the datagram goes on may end the association
   pub row_goes : (t : Step) (n : ℕ) → row_of c d now a ≡ t → tag_to c.typ a.machine ≡ n → goes_on c.typ ≡ true → (s : arrivals.Step)
       → (s ≡ Next → FollowsStep t n now a b) → (s ≡ Stop → IsAbortedBy c d a.machine.peer b) → RowOn c d now s a b
-  row_goes t n row tag goes Next next stop = row_is t n row tag Next (next refl)
+  row_goes t n row tag goes Next next stop = row_is t n (λ is. false≢true (sym (ap goes_on is) ∙ goes)) row tag Next (next refl)
   row_goes t n row tag goes Stop next stop = inr (goes, stop refl)
   row_goes t n row tag goes Cut next stop = tt
   row_goes t n row tag goes (Refused r) next stop = tt
@@ -183,7 +185,8 @@ module _ (c : ChunkPlace) (d : List ℕ) (now : ℕ) (a b : Association) where
           (rest.due ∙ ap (λ (k : Due). record a.due { heartbeat = k.heartbeat; report = k.report }) (sym rest.due)) rest.over rest.wants rest.control rest.guard
 
       on : (s : arrivals.Step) → r ≡ Ok s → RowOn c d now s a b
-      on Next is = row_is (dropped a.machine) 0 (row_typ c d now a 130 typ) (ap (λ n. tag_to n a.machine) typ) Next still
+      on Next is =
+          row_is (dropped a.machine) 0 (λ e. omega (arith, e, typ)) (row_typ c d now a 130 typ) (ap (λ n. tag_to n a.machine) typ) Next still
       on Stop is = absurd (stop is)
       on Cut is = tt
       on (Refused why) is = tt
@@ -192,7 +195,7 @@ module _ (c : ChunkPlace) (d : List ℕ) (now : ℕ) (a b : Association) where
       by (Ok s) is = on s is
       by (Err e) is = tt
 
-  pub row_abort : (s : arrivals.Step) → c.typ ≡ 6 → (s ≡ Next → ⊥) → (s ≡ Stop → FollowsStep (on_abort a.machine) 0 now a b) → RowOn c d now s a b
+  pub row_abort : (s : arrivals.Step) → c.typ ≡ 6 → (s ≡ Next → ⊥) → (s ≡ Stop → IsAbortedByPeer a b) → RowOn c d now s a b
   row_abort Next typ next stop = absurd (next refl)
   row_abort Stop typ next stop = inl (typ, stop refl)
   row_abort Cut typ next stop = tt
@@ -299,37 +302,3 @@ pub settled_closed : (x : Association) → x.machine.state ≡ Closed → settle
 settled_closed x is =
     ap (λ m. drained_where (holds_nothing x.outbound.sender) m) (asked_closed x.wants_shutdown x.machine is)
     ∙ drained-closed (holds_nothing x.outbound.sender) x.machine is
-
-settles-closed : (now : ℕ) (x : Association) → x.machine.state ≡ Closed → Settles now x x
-settles-closed now x is = record {
-  machine = sym (ap (λ (s : Step). s.machine) (settled_closed x is));
-  due = sym (ap (λ (s : Step). owed_by s.answer.reply 0 x.due) (settled_closed x is));
-  over = refl;
-  outbound = refl;
-  wants = sym (ap (λ (s : State). still_wants s x.wants_shutdown) is);
-  timers =
-      runs_none (settled x).answer _ now x x (ap (λ (s : Step). s.answer.reply) (settled_closed x is)) (ap (λ (s : Step). s.answer.told) (settled_closed x is))
-      (sym (ap (λ (m : Machine). m.state) (asked_closed x.wants_shutdown x.machine is))) refl refl;
-}
-
-abort-closes : (s : State) (m : Machine) → m.state ≡ s → (abort_row s m).machine.state ≡ Closed
-abort-closes Closed m is = is
-abort-closes _ m is = refl
-
--- ABORT, as one of a datagram
-abort-steps : (c : ChunkPlace) (d : List ℕ) (now : ℕ) (a b : Association) → c.typ ≡ 6 → FollowsStep (on_abort a.machine) 0 now a b
-    → StepsTo (row_of c d now a) (tag_to c.typ a.machine) now a b
-abort-steps c d now a b typ h = record {
-  behind = b;
-  follows =
-      subst (λ (n : ℕ). FollowsStep (row_at n (cause_in d c) (fresh_tag a.key now a.machine.own) a.machine) (tag_to n a.machine) now a b) (sym typ) h;
-  settles = settles-closed now b (ap (λ (m : Machine). m.state) h.machine ∙ abort-closes a.machine.state a.machine refl);
-}
-
--- behind the only chunk nothing comes but the end
-pub steps_stop : (c : ChunkPlace) (d : List ℕ) (now : ℕ) (a b : Association) → RowOn c d now Stop a b → StepsBy c d now a b
-steps_stop c d now a b (inl e) = inr (abort-steps c d now a b e.0 e.1)
-steps_stop c d now a b (inr e) = inl e
-
-pub steps_next : (c : ChunkPlace) (d : List ℕ) (now : ℕ) (a b e : Association) → RowOn c d now Next a b → Settles now b e → StepsBy c d now a e
-steps_next c d now a b e row ends = inr (record { behind = b; follows = row; settles = ends })

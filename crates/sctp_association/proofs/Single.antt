@@ -3,7 +3,6 @@ use Rattle.std.proofs.Common.{◌≡◌, ℕ, Bool, true, false, List, Option, S
 use Rattle.std.proofs.lemmas.Bool.{false≢true, ne_eqb}
 use Rattle.std.specs.Prelude.{Result, Ok, Err, IfOk, ◌==◌, ◌||◌, not}
 use Rattle.sctp_association.proofs.Beats.{answers_still, beats_still}
-use Rattle.sctp_association.proofs.Rows.{steps_next, steps_stop}
 use Rattle.sctp_association.proofs.Shutting.{shuts_still}
 use Rattle.sctp_association.specs.Single.{AloneAt, AloneOn, CauseOn, OffersOn}
 use Rattle.sctp_association.specs.Beats.{AnswersOn, BeatsOn}
@@ -112,7 +111,7 @@ alone_stop c d now a b h = record {
     stale = λ is. refl;
     settles = λ is. absurd (false≢true (sym is ∙ e.1));
   };
-  row = λ is. steps_stop c d now a b (h.row is);
+  row = λ is. inl (h.row is);
 }
 
 pub alone_next : (c : ChunkPlace) (d : List ℕ) (now : ℕ) (a b e : Association) → AloneOn c (u32_at d 4) d now Next a b → Settles now b e
@@ -132,5 +131,5 @@ alone_next c d now a b e h ends came heartbeat events = record {
     stale = λ is. absurd (false≢true (sym k.1 ∙ is));
     settles = λ is. ends;
   };
-  row = λ is. steps_next c d now a b e (h.row is) ends;
+  row = λ is. inr (record { behind = b; row = h.row is; settles = ends });
 }

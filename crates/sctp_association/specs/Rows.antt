@@ -1,12 +1,12 @@
 -- What the state machine makes of a chunk that comes (RFC 9260 4, 5, 9), and what follows from its answer. Moments are nanoseconds.
-use Rattle.std.specs.Prelude.{◌≡◌, ◌⊎◌, ⊤, ℕ, ◌==◌, ◌||◌, Bool, true, false, not, if◌then◌else◌, List, Option, Some, None}
+use Rattle.std.specs.Prelude.{◌≡◌, ◌⊎◌, ⊤, ℕ, ◌≢◌, ◌==◌, ◌||◌, Bool, true, false, not, if◌then◌else◌, List, Option, Some, None, is_some}
 use Rattle.sctp_association.specs.Causes.{cause_in}
 use Rattle.sctp_association.specs.Coming.{goes_on}
-use Rattle.sctp_association.specs.Ends.{IsAbortedBy}
+use Rattle.sctp_association.specs.Ends.{IsAbortedBy, IsAbortedByPeer}
 use Rattle.sctp_association.specs.Fresh.{fresh_tag}
 use Rattle.sctp_association.specs.Reports.{to_tag}
 use Rattle.sctp_association.specs.Sending.{holds_nothing}
-use Rattle.sctp_association.specs.Telling.{IsPassedOn}
+use Rattle.sctp_association.specs.Telling.{IsPassedOn, ending_by}
 use Rattle.sctp_association.specs.Timers.{RunsTimers}
 use Rattle.sctp_association.specs.declared.association.Association.{Association}
 use Rattle.sctp_association.specs.declared.association.arrivals.Step.TheVariants as chunk
@@ -87,7 +87,7 @@ pub record FollowsAnswer (a : Answer) (tag : ℕ) (before : State) (now : ℕ)
   }
   pub timers : RunsTimers a before now old new
   pub over : new.is_over ≡ over_by a.told old.is_over
-  pub told : IsPassedOn a.told new.events
+  pub told : IsPassedOn a.told (ending_by (is_some a.reply)) new.events
   pub wants : new.wants_shutdown ≡ old.wants_shutdown
 
 -- the machine takes the step, and what it answers is followed
@@ -177,25 +177,24 @@ tag_of (Some peer) = peer.tag
 abbrev pub tag_to : (typ : ℕ) → Machine → ℕ
 tag_to typ m = if typ == 8 then tag_of m.peer else 0
 
--- it is taken so; the datagram ends with an ABORT, and with DATA, a SACK or a FORWARD-TSN by which this side ends the association
+-- It is taken so. With an ABORT the datagram ends, and the association; with DATA, a SACK or a FORWARD-TSN where this side ends it by them.
 abbrev pub RowOn : ChunkPlace → List ℕ → (now : ℕ) → arrivals.Step → (old new : Association)
     → Type 0
-RowOn c datagram now chunk.Next old new =
-    FollowsStep (row_of c datagram now old) (tag_to c.typ old.machine) now old new
-RowOn c datagram now chunk.Stop old new =
-    ((c.typ ≡ 6) × FollowsStep (on_abort old.machine) 0 now old new)
+RowOn c datagram now chunk.Next old new = (c.typ ≢ 6)
+    × FollowsStep (row_of c datagram now old) (tag_to c.typ old.machine) now old new
+RowOn c datagram now chunk.Stop old new = ((c.typ ≡ 6) × IsAbortedByPeer old new)
     ⊎ ((goes_on c.typ ≡ true) × IsAbortedBy c datagram old.machine.peer new)
 RowOn c datagram now chunk.Cut old new = ⊤
 RowOn c datagram now (chunk.Refused r) old new = ⊤
 
--- the step is taken, and the datagram has ended
-pub record StepsTo (s : Step) (tag now : ℕ) (old new : Association) : Type 0 where
+-- so it is of one behind which the datagram has ended
+pub record RowThen (c : ChunkPlace) (datagram : List ℕ) (now : ℕ) (old new : Association)
+    : Type 0 where
   pub behind : Association
-  pub follows : FollowsStep s tag now old behind
+  pub row : RowOn c datagram now chunk.Next old behind
   pub settles : Settles now behind new
 
--- so it is of the only chunk of a datagram; or that is DATA, a SACK or a FORWARD-TSN by which this side ends the association
+-- and of the only chunk of a datagram
 abbrev pub StepsBy : ChunkPlace → List ℕ → (now : ℕ) → (old new : Association) → Type 0
 StepsBy c datagram now old new =
-    ((goes_on c.typ ≡ true) × IsAbortedBy c datagram old.machine.peer new)
-    ⊎ StepsTo (row_of c datagram now old) (tag_to c.typ old.machine) now old new
+    RowOn c datagram now chunk.Stop old new ⊎ RowThen c datagram now old new

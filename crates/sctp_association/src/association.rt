@@ -138,7 +138,7 @@ fn outbound_config(config: &Config, first_tsn: u32) -> OutboundConfig
 impl Association {
     ghost use Rattle.sctp_association.specs.Beginnings.{BeginsToAsk, HasAsked, IsMadeOf, IsUnbegun, KeepsPeer};
     ghost use Rattle.sctp_association.specs.Halves.{HalvesAlike, first_halves, halves_of};
-    ghost use Rattle.sctp_association.specs.Failing.{farewell_to};
+    ghost use Rattle.sctp_association.specs.Ends.{IsAborted};
     ghost use Rattle.sctp_association.specs.Held.{HoldsFewChunks, OfReceiver, OpensFewStreams, held_by};
     ghost use Rattle.sctp_association.specs.Reads.{AreReadOff, IsSameBeside, length_of, message_in};
     ghost use Rattle.sctp_association.specs.Lasting.{BeginsWithin, LastsNoLonger};
@@ -339,11 +339,8 @@ impl Association {
         ensures tells { Tells self.old self.new }
         ensures accepted { IsOk result → self.old.is_over ≡ false }
         ensures going { self.old.is_over ≡ false → IsOk result }
-        ensures over { OnOk result (self.new.is_over ≡ true) }
-        // Where the peer is known the ABORT is due.
-        ensures owed { OnOk result (self.new.due.alone
-            ≡ farewell_to (Abort 12) self.old.machine.peer) }
-        ensures timers { OnOk result (StopsTimers self.new) }
+        // Where the peer is known the ABORT is due, and that it ended so waits to be told.
+        ensures aborts { OnOk result (IsAborted (Abort 12) self.old.machine.peer self.new) }
         ensures left { LastsNoLonger self.old self.new }
         ensures refused { IfErr result (λ e. e ≡ WrongState) }
         // The receiving half stays: so the peer may use the same streams.

@@ -60,7 +60,7 @@ pub returns-clause-tells : goal.returns-clause-tells
 returns-clause-tells c =
     let rest = c.note_params.ensures.rest in
     let told = c.follow.ensures.tells in
-    tells_init_ack _ _ _ _ (c.follow.ensures.kept.machine ∙ ap (λ (x : Association). x.machine) rest) (end_then (end_same _ _ rest) told.end) told.told _
+    tells_init_ack _ _ _ _ _ _ (c.follow.ensures.kept.machine ∙ ap (λ (x : Association). x.machine) rest) (end_then (end_same _ _ rest) told.end) told _
     c.init_ack-answer.ensures.takes
 
 -- ## The row of its offer
