@@ -62,11 +62,3 @@ module _ (m n : Machine) (c : Config) (x y : Halves) (a : Answer) (begun : Begin
 
   pub quiet_arrived : a ≡ (on_packet_arrived true m).answer → y ≡ x
   quiet_arrived e = arrived-quiet m.state m n c x y (told-as (on_packet_arrived true m).answer e)
-
-asked-told : (s : State) (m : Machine) → s ≢ CookieWait → (shutdown_asked_row s m).answer.told ≡ None
-asked-told CookieWait m other = absurd (other refl)
-asked-told _ m other = refl
-
--- nothing begins or ends by a shutdown that is asked for behind the handshake
-pub asked_told : (m : Machine) (a : Answer) → m.state ≢ CookieWait → a ≡ (on_shutdown_asked m).answer → a.told ≡ None
-asked_told m a other e = ap (λ (k : Answer). k.told) e ∙ asked-told m.state m other

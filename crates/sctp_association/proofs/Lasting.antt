@@ -36,14 +36,6 @@ drained-left _ m is = omega arith
 pub drained_left : (m n : Machine) (a : Answer) → Takes (on_drained m) n a → control_left n ≤ control_left m
 drained_left m n a t = subst (λ (k : Machine). control_left k ≤ control_left m) (sym t.machine) (drained-left m.state m refl)
 
-asked-left : (s : State) (m : Machine) → m.state ≡ s → s ≢ CookieWait → control_left (shutdown_asked_row s m).machine ≤ control_left m
-asked-left CookieWait m is other = absurd (other refl)
-asked-left Established m is other = omega (arith, in-state Established m is)
-asked-left _ m is other = omega arith
-
-pub asked_left : (m n : Machine) (a : Answer) → m.state ≢ CookieWait → Takes (on_shutdown_asked m) n a → control_left n ≤ control_left m
-asked_left m n a other t = subst (λ (k : Machine). control_left k ≤ control_left m) (sym t.machine) (asked-left m.state m refl other)
-
 -- the timer of the state ran out, and the association goes on
 again-fewer : (b : Bool) (most : ℕ) (r : Reply) (m : Machine) → nat_lt m.attempts most ≡ b
     → is_some (if b then sent_again r m else failed m).answer.told ≡ false → control_left m ≡ most - m.attempts

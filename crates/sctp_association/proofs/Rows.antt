@@ -1,6 +1,7 @@
 -- What follows from a step of the state machine.
 use Rattle.std.proofs.Common.{◌≡◌, ◌⊎◌, ℕ, Bool, true, false, List, Option, Some, None, refl, ap, sym, subst, arith, ◌∙◌, inl, inr}
 use Rattle.std.proofs.lemmas.Bool.{false≢true, ne_eqb}
+use Rattle.std.proofs.lemmas.Option.{none-some}
 use Rattle.std.specs.Prelude.{Result, Ok, Err, IfOk, ◌==◌, ◌≢◌, if◌then◌else◌, is_some}
 use Rattle.sctp_association.proofs.Timers.{runs_from, runs_none, runs_told}
 use Rattle.sctp_association.specs.Causes.{cause_in}
@@ -12,7 +13,7 @@ use Rattle.sctp_association.specs.Rows.{FollowsAnswer, FollowsStep, RowOn, Settl
 use Rattle.sctp_association.specs.Rows.{drained_where, over_by, owed_by, owed_once, row_at, row_of, settled, still_wants, tag_of, tag_to}
 use Rattle.sctp_association.specs.Sending.{holds_nothing}
 use Rattle.sctp_association.specs.Telling.{IsPassedOn, ending_by}
-use Rattle.sctp_association.specs.Timers.{KeepsTimers, RunsTimers, StartsTimers, StopsTimers, stops}
+use Rattle.sctp_association.specs.Timers.{EntersTimers, KeepsTimers, RunsTimers, StartsTimers, StopsTimers, stops}
 use Rattle.sctp_association.specs.declared.association.Association.{Association}
 use Rattle.sctp_association.specs.declared.association.arrivals.Step as arrivals
 use Rattle.sctp_association.specs.declared.association.arrivals.Step.TheVariants.{Next, Stop, Cut, Refused}
@@ -30,7 +31,8 @@ use Rattle.sctp_handshake.specs.declared.answer.Told.{Told}
 use Rattle.sctp_handshake.specs.declared.answer.Told.TheVariants as told
 use Rattle.sctp_handshake.specs.declared.machine.Machine.{Machine}
 use Rattle.sctp_handshake.specs.declared.state.State.{State}
-use Rattle.sctp_handshake.specs.declared.state.State.TheVariants.{Closed, Established}
+use Rattle.sctp_handshake.specs.declared.state.State.TheVariants.{Closed, Established, ShutdownAckSent, ShutdownPending, ShutdownReceived, ShutdownSent}
+use Rattle.sctp_handshake.specs.States.{timer}
 
 -- ## An answer is followed
 
@@ -297,8 +299,94 @@ settles_by now x y e is waits drained due over outbound wants timers = record {
     machine-of true b = drained b ∙ sym (ap (λ (k : Bool). (drained_where k y.machine).machine) b)
     machine-of false b = ap (λ (k : Association). k.machine) (waits b) ∙ sym (ap (λ (k : Bool). (drained_where k y.machine).machine) b)
 
+-- what came before left all that this looks at
+pub settles_from : (now : ℕ) (x y e : Association) → y.machine ≡ x.machine → y.due ≡ x.due → y.is_over ≡ x.is_over → y.outbound ≡ x.outbound
+    → y.wants_shutdown ≡ x.wants_shutdown → y.control ≡ x.control → y.guard ≡ x.guard → Settles now y e → Settles now x e
+settles_from now x y e machine due over outbound wants control guard h = record {
+  machine = h.machine ∙ ap (λ (s : Step). s.machine) step;
+  due = h.due ∙ ap (λ (s : Step). owed_by s.answer.reply 0 y.due) step ∙ ap (λ (d : Due). owed_by (settled x).answer.reply 0 d) due;
+  over = h.over ∙ over;
+  outbound = h.outbound ∙ outbound;
+  wants = h.wants ∙ ap (λ (m : Machine). still_wants m.state y.wants_shutdown) machine ∙ ap (λ (w : Bool). still_wants x.machine.state w) wants;
+  timers = subst (λ (s : Step). RunsTimers s.answer (asked_for x.wants_shutdown x.machine).state now x e) step (
+      subst (λ (m : Machine). RunsTimers (settled y).answer m.state now x e) asked (runs_from _ _ now x y e control guard h.timers)
+      );
+}
+  where
+    asked : asked_for y.wants_shutdown y.machine ≡ asked_for x.wants_shutdown x.machine
+    asked = ap (λ (m : Machine). asked_for y.wants_shutdown m) machine ∙ ap (λ (w : Bool). asked_for w x.machine) wants
+
+    step : settled y ≡ settled x
+    step = ap (λ (m : Machine). drained_where (holds_nothing y.outbound.sender) m) asked
+        ∙ ap (λ (o : Outbound). drained_where (holds_nothing o.sender) (asked_for x.wants_shutdown x.machine)) outbound
+
 -- where it is closed no shutdown goes on
 pub settled_closed : (x : Association) → x.machine.state ≡ Closed → settled x ≡ dropped x.machine
 settled_closed x is =
     ap (λ m. drained_where (holds_nothing x.outbound.sender) m) (asked_closed x.wants_shutdown x.machine is)
     ∙ drained-closed (holds_nothing x.outbound.sender) x.machine is
+
+-- ## A shutdown goes on
+
+-- another state is entered that has a timer, and nothing is told
+record Moves (m : Machine) (s : Step) : Type 0 where
+  other : s.machine.state ≢ m.state
+  timed : is_some (timer s.machine.state) ≡ true
+  silent : s.answer.told ≡ None
+
+drained-moves : (s : State) (m : Machine) → m.state ≡ s → (drained_row s m ≡ dropped m) ⊎ Moves m (drained_row s m)
+drained-moves ShutdownPending m is = inr (record { other = λ same. state-differs (same ∙ is); timed = refl; silent = refl })
+  where
+    state-differs : ShutdownSent ≡ ShutdownPending → ⊥
+    state-differs e = cc
+drained-moves ShutdownReceived m is = inr (record { other = λ same. state-differs (same ∙ is); timed = refl; silent = refl })
+  where
+    state-differs : ShutdownAckSent ≡ ShutdownReceived → ⊥
+    state-differs e = cc
+drained-moves _ m is = inl refl
+
+goes-or-stays : (drained : Bool) (m : Machine) → (drained_where drained m ≡ dropped m) ⊎ Moves m (drained_where drained m)
+goes-or-stays true m = drained-moves m.state m refl
+goes-or-stays false m = inl refl
+
+-- the state once the shutdown is asked for
+asked-state : (s : State) (wants : Bool) (m : Machine) → m.state ≡ s
+    → ((if wants then asked_in s m else m).state ≡ m.state) ⊎ ((s ≡ Established) × ((if wants then asked_in s m else m).state ≡ ShutdownPending))
+asked-state Established true m is = inr (refl, refl)
+asked-state _ true m is = inl refl
+asked-state _ false m is = inl refl
+
+pub settles_enters : (now : ℕ) (x e : Association) → Settles now x e → EntersTimers now x e
+settles_enters now x e h = by (goes-or-stays (holds_nothing x.outbound.sender) n)
+  where
+    n : Machine
+    n = asked_for x.wants_shutdown x.machine
+
+    state : e.machine.state ≡ (settled x).machine.state
+    state = ap (λ (m : Machine). m.state) h.machine
+
+    asked : (n.state ≡ x.machine.state) ⊎ ((x.machine.state ≡ Established) × (n.state ≡ ShutdownPending))
+    asked = asked-state x.machine.state x.wants_shutdown x.machine refl
+
+    never : Moves n (settled x) → (e.machine.state ≡ x.machine.state) ⊎ (timer e.machine.state ≡ None) → ⊥
+    never m (inl same) = elim asked [
+      | inl is ↦ m.other (sym state ∙ same ∙ sym is)
+      | inr p ↦ false≢true (sym (ap (λ s. is_some (timer s)) (sym state ∙ same ∙ p.0)) ∙ m.timed)
+    ]
+    never m (inr none) = false≢true (sym (ap is_some none) ∙ ap (λ s. is_some (timer s)) state ∙ m.timed)
+
+    by : (settled x ≡ dropped n) ⊎ Moves n (settled x) → EntersTimers now x e
+    by (inl stays) =
+        let same : e.machine.state ≡ n.state = state ∙ ap (λ (s : Step). s.machine.state) stays in
+        record {
+          start = λ other has. elim asked [
+            | inl is ↦ absurd (other (same ∙ is))
+            | inr p ↦ absurd (false≢true (sym (ap (λ s. is_some (timer s)) (same ∙ p.1)) ∙ has))
+          ];
+          keep = λ why. h.timers.keep (ap (λ (s : Step). stops s.answer.told) stays) same (λ is.
+              none-some reply.Shutdown (sym (ap (λ (s : Step). s.answer.reply) stays) ∙ is));
+        }
+    by (inr m) = record {
+      start = λ other has. h.timers.start (ap stops m.silent) (inl (λ is. m.other (sym state ∙ is)));
+      keep = λ why. absurd (never m why);
+    }

@@ -15,9 +15,11 @@ ghost use Rattle.sctp_association.specs.Offering.{HasFirst, IsInitWith, IsReplyO
 ghost use Rattle.sctp_association.specs.declared.due.AloneKind.{AloneKind};
 ghost use Rattle.sctp_association.specs.Replying.{AddsReply, IsReply, LeavesAlone, PutsOne, header_to, host_name_causes};
 ghost use Rattle.sctp_association.specs.Reports.{one_cause};
+ghost use Rattle.sctp_association.specs.Rows.{SettlesToSend};
 ghost use Rattle.sctp_association.specs.Sending.{IsTimed};
 ghost use Rattle.sctp_association.specs.Still.{IsLater, heartbeat_time};
 ghost use Rattle.sctp_association.specs.Telling.{Tells};
+ghost use Rattle.sctp_association.specs.Timers.{EntersTimers};
 ghost use Rattle.sctp_association.specs.Packets.{IsPacketOf, IsWritten, Transmits};
 ghost use Rattle.sctp_chunks.specs.Init.{init_of};
 ghost use Rattle.sctp_chunks.specs.Wire.{abort_chunk, error_chunk};
@@ -82,6 +84,11 @@ impl Association {
         // The peer may use the same streams.
         ensures usable { (s : ℕ) → usable_in s self.new.inbound ≡ usable_in s self.old.inbound }
         ensures left { LastsNoLonger self.old self.new }
+        // The shutdown that was asked for begins, and goes on where nothing waits or is in flight (RFC 9260 9.2).
+        ensures settles { self.old.due.alone ≡ None → self.old.is_over ≡ false
+            → OnOk result (SettlesToSend now self.old self.new) }
+        // T2-shutdown, and T5-shutdown-guard, begin as its state is entered, whatever is answered.
+        ensures timers { EntersTimers now self.old self.new }
         // The one reply that is due leaves first, in a packet of its own, with exactly its chunks.
         ensures reply { IfSome self.old.due.alone (λ alone. IfOk result
             (λ sent. (sent ≡ true) × LeavesAlone alone self.old self.new)) }
