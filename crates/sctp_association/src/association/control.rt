@@ -71,6 +71,7 @@ impl Association {
             (halves_of self.old) (halves_of self.new) }
         ensures init { answer.reply ≡ Some Init → answer.told ≡ None → OwesInit self.new }
         ensures answer { FollowsAnswer answer tag before now self.old self.new }
+        ensures report { self.new.due.report ≡ self.old.due.report }
         ensures over { answer.told ≡ None → self.new.is_over ≡ self.old.is_over }
         ensures stays { answer.told ≡ None → StaysDue self.old self.new }
         ensures due { answer.told ≡ None
@@ -102,6 +103,7 @@ impl Association {
             (halves_of self.old) (halves_of self.new) }
         ensures init { answer.reply ≡ Some Init → answer.told ≡ None → OwesInit self.new }
         ensures answer { FollowsAnswer answer tag before now self.old self.new }
+        ensures report { self.new.due.report ≡ self.old.due.report }
         ensures over { answer.told ≡ None → self.new.is_over ≡ self.old.is_over }
         ensures stays { answer.told ≡ None → StaysDue self.old self.new }
         ensures due { answer.told ≡ None

@@ -11,10 +11,10 @@ ghost use Rattle.sctp_association.specs.Kept.{IsUnmoved};
 ghost use Rattle.sctp_association.specs.Lasting.{LastsNoLonger};
 ghost use Rattle.sctp_association.specs.Leaving.{AsksNoMore, IsDueOrData, LeavesBy, LeavesInto, OwesNothingNew, beats, owed_at, owed_before, owed_of, replies_of};
 ghost use Rattle.sctp_association.specs.Most.{FewerWherePut, most_data, most_packets};
-ghost use Rattle.sctp_association.specs.Offering.{HasFirst, IsInitWith, IsReplyOf, OffersAsDue, PutsReply};
+ghost use Rattle.sctp_association.specs.Offering.{IsReplyOf, OffersAsDue, PutsReply, answered, init_with};
 ghost use Rattle.sctp_association.specs.declared.due.AloneKind.{AloneKind};
 ghost use Rattle.sctp_association.specs.Replying.{AddsReply, IsReply, LeavesAlone, PutsOne, header_to, host_name_causes};
-ghost use Rattle.sctp_association.specs.Reports.{one_cause};
+ghost use Rattle.sctp_association.specs.Reports.{one_cause, unrecognized_in};
 ghost use Rattle.sctp_association.specs.Rows.{SettlesToSend};
 ghost use Rattle.sctp_association.specs.Sending.{IsTimed};
 ghost use Rattle.sctp_association.specs.Still.{IsLater, heartbeat_time};
@@ -244,7 +244,9 @@ impl Association {
 
     // An INIT, or with a cookie an INIT ACK, with an offer. An INIT ACK has what it reports before what it offers.
     fn init_of(&self, own: Offer, cookie: Option<Bytes>) -> Result<ChunkInit, Fault>
-        ensures { IfOk result (λ i. IsInitWith own cookie (init_of i)) }
+        ensures { IfOk result (λ i. init_of i ≡ init_with own cookie (unrecognized_in
+            (self.now.draft.limit - length self.now.draft.bytes - 132)
+            self.now.due.unknown_params)) }
     {
         let is_ack = cookie.is_some();
         let mut params = self.first_params(cookie)?;
@@ -274,7 +276,10 @@ impl Association {
 
     // The parameters before those that an offer has: with a cookie it goes first, and then what is reported.
     fn first_params(&self, cookie: Option<Bytes>) -> Result<Vec<ParamKind>, Fault>
-        ensures { IfOk result (λ params. HasFirst cookie (map parameter_of params.items)) }
+        ensures { IfOk result (λ params. map parameter_of params.items
+            ≡ answered cookie (unrecognized_in
+            (self.now.draft.limit - length self.now.draft.bytes - 132)
+            self.now.due.unknown_params)) }
     {
         let mut params = Vec::new(self.alloc);
         let Some(cookie) = cookie else {
