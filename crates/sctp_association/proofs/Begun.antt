@@ -1,18 +1,17 @@
 -- What begins by what is told, and what does not.
-use Rattle.std.proofs.Common.{◌≡◌, true, Option, Some, None, ap, refl, sym, subst, ◌∙◌}
-use Rattle.std.specs.Prelude.{◌≢◌}
+use Rattle.std.proofs.Common.{◌≡◌, true, Option, Some, None, ap, sym, subst}
 use Rattle.sctp_association.specs.Arrivals.{Does, Halves}
 use Rattle.sctp_association.specs.Beginnings.{Begins, BeginsBy, begins_by}
 use Rattle.sctp_association.specs.declared.config.Config.{Config}
-use Rattle.sctp_handshake.specs.Endings.{on_shutdown, on_shutdown_ack, on_shutdown_asked, on_shutdown_complete, shutdown_ack_row}
-use Rattle.sctp_handshake.specs.Endings.{shutdown_asked_row, shutdown_complete_row, shutdown_row}
+use Rattle.sctp_handshake.specs.Endings.{on_shutdown, on_shutdown_ack, on_shutdown_complete, shutdown_ack_row}
+use Rattle.sctp_handshake.specs.Endings.{shutdown_complete_row, shutdown_row}
 use Rattle.sctp_handshake.specs.Timeouts.{on_packet_arrived, packet_arrived_row}
 use Rattle.sctp_handshake.specs.declared.answer.Answer.{Answer}
 use Rattle.sctp_handshake.specs.declared.answer.Told.{Told}
 use Rattle.sctp_handshake.specs.declared.machine.Machine.{Machine}
 use Rattle.sctp_handshake.specs.declared.offer.Offer.{Offer}
 use Rattle.sctp_handshake.specs.declared.state.State.{State}
-use Rattle.sctp_handshake.specs.declared.state.State.TheVariants.{Closed, CookieWait, ShutdownSent}
+use Rattle.sctp_handshake.specs.declared.state.State.TheVariants.{Closed, ShutdownSent}
 
 -- ## What begins
 

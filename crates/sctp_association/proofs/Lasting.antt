@@ -7,7 +7,7 @@ use Rattle.sctp_association.specs.Kept.{IsUnmoved}
 use Rattle.sctp_association.specs.Lasting.{EachEnds, EachExpiryCounts, EachLaterCallLasts, EachQuietCallLasts, Expires, FewAreLeft, LastsNoLonger}
 use Rattle.sctp_association.specs.Lasting.{control_left, expires, expires_control, expiries_left, left_in, t3_left}
 use Rattle.sctp_association.specs.declared.association.Association.{Association}
-use Rattle.sctp_handshake.specs.Endings.{drained_row, on_drained, on_shutdown_asked, shutdown_asked_row}
+use Rattle.sctp_handshake.specs.Endings.{drained_row, on_drained}
 use Rattle.sctp_handshake.specs.Machines.{Takes, failed}
 use Rattle.sctp_handshake.specs.States.{timer}
 use Rattle.sctp_handshake.specs.Timeouts.{on_timed_out, sent_again, timed_out_row}

@@ -1,5 +1,5 @@
 -- Which INIT and INIT ACK a datagram of this side has.
-use Rattle.std.proofs.Common.{◌≡◌, ℕ, List, [], ◌++◌, Bool, Option, Some, None, sym, subst}
+use Rattle.std.proofs.Common.{◌≡◌, ℕ, List, [], ◌++◌, Bool, Option, Some, sym, subst}
 use Rattle.sctp_association.proofs.Known.{unmoved_then}
 use Rattle.sctp_association.proofs.Others.{alike_then}
 use Rattle.sctp_association.proofs.Putting.{adds_none, adds_then, all_append, all_put, all_so}

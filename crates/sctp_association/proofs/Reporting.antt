@@ -1,11 +1,11 @@
 -- Parameters that are told of, one by one.
-use Rattle.std.proofs.Common.{◌≡◌, ◌⊎◌, inl, inr, ℕ, zero, suc, ◌+◌, ◌-◌, ◌*◌, ◌/◌, ◌<◌, ◌≤◌, Bool, true, false, List, [], ◌∷◌, ◌++◌, length, drop, refl, ap}
-use Rattle.std.proofs.Common.{sym, subst, arith, ◌∙◌, map, take, length-append}
+use Rattle.std.proofs.Common.{◌≡◌, inl, inr, ℕ, zero, suc, ◌+◌, ◌-◌, ◌*◌, ◌/◌, ◌<◌, ◌≤◌, true, false, List, [], ◌∷◌, ◌++◌, length, drop, refl, ap}
+use Rattle.std.proofs.Common.{subst, arith, ◌∙◌, map, take, length-append}
 use Rattle.std.proofs.lemmas.Bool.{cases_Bool}
 use Rattle.std.proofs.lemmas.Bool.Decides.{nat_tests}
 use Rattle.std.proofs.lemmas.List.{length-drop, length-take, map-append}
 use Rattle.std.proofs.lemmas.Option.{none-some}
-use Rattle.std.specs.Prelude.{Option, Some, None, nat_lt, slice_range, not, ◌&&◌, nat_le}
+use Rattle.std.specs.Prelude.{Option, Some, None, nat_lt, slice_range}
 use Rattle.sctp_association.specs.Reports.{if_some, joined, padded, told_params, unrecognized, with_later}
 use Rattle.sctp_association.specs.Rows.{owed_by, owed_once}
 use Rattle.sctp_association.specs.Openings.{owed_to_init}

@@ -11,7 +11,7 @@ mod stats;
 mod timeouts;
 mod unknown;
 
-ghost use Rattle.std.specs.Prelude.{◌≡◌, ◌⊎◌, ℕ, IfSome, None, Some, ◌≢◌, ◌≤◌, ◌+◌, ◌*◌, option_map, true, false, IfErr, IfOk, IsOk, OnErr, OnOk};
+ghost use Rattle.std.specs.Prelude.{◌≡◌, ℕ, IfSome, None, Some, ◌≢◌, ◌≤◌, ◌+◌, ◌*◌, option_map, true, false, IfErr, IfOk, IsOk, OnErr, OnOk};
 ghost use Rattle.std.proofs.Props.{props};
 ghost use Rattle.sctp_association.specs.Entering.{usable_in};
 ghost use Rattle.sctp_association.specs.Events.{IsTold, KeepsOthers, NoneWaits};
