@@ -64,3 +64,8 @@ module _ (now : ℕ) (old : Association) (mid out : Outbound) (r : Bool) (same :
       → x ≡ failures_after now old
   failures_is x u is by = is ∙ (ap (λ (b : Bool). counted_where b out.failures) (by ∙ once)
       ∙ ap (λ (f : Failures). counted_where (counts_once now old) f) failures-behind)
+
+-- the RTO that doubles keeps its limits
+pub doubled_limits : (b : Bool) (t : Timeout) → (doubled_where b t).limits ≡ t.limits
+doubled_limits true t = refl
+doubled_limits false t = refl

@@ -1,18 +1,17 @@
 -- What begins by what is told, and what does not.
-use Rattle.std.proofs.Common.{◌≡◌, true, Option, Some, None, ap, refl, sym, subst, ◌∙◌}
-use Rattle.std.specs.Prelude.{◌≢◌}
+use Rattle.std.proofs.Common.{◌≡◌, true, Option, Some, None, ap, sym, subst}
 use Rattle.sctp_association.specs.Arrivals.{Does, Halves}
 use Rattle.sctp_association.specs.Beginnings.{Begins, BeginsBy, begins_by}
 use Rattle.sctp_association.specs.declared.config.Config.{Config}
-use Rattle.sctp_handshake.specs.Endings.{on_shutdown, on_shutdown_ack, on_shutdown_asked, on_shutdown_complete, shutdown_ack_row}
-use Rattle.sctp_handshake.specs.Endings.{shutdown_asked_row, shutdown_complete_row, shutdown_row}
+use Rattle.sctp_handshake.specs.Endings.{on_shutdown, on_shutdown_ack, on_shutdown_complete, shutdown_ack_row}
+use Rattle.sctp_handshake.specs.Endings.{shutdown_complete_row, shutdown_row}
 use Rattle.sctp_handshake.specs.Timeouts.{on_packet_arrived, packet_arrived_row}
 use Rattle.sctp_handshake.specs.declared.answer.Answer.{Answer}
 use Rattle.sctp_handshake.specs.declared.answer.Told.{Told}
 use Rattle.sctp_handshake.specs.declared.machine.Machine.{Machine}
 use Rattle.sctp_handshake.specs.declared.offer.Offer.{Offer}
 use Rattle.sctp_handshake.specs.declared.state.State.{State}
-use Rattle.sctp_handshake.specs.declared.state.State.TheVariants.{Closed, CookieWait, ShutdownSent}
+use Rattle.sctp_handshake.specs.declared.state.State.TheVariants.{Closed, ShutdownSent}
 
 -- ## What begins
 
@@ -62,11 +61,3 @@ module _ (m n : Machine) (c : Config) (x y : Halves) (a : Answer) (begun : Begin
 
   pub quiet_arrived : a ≡ (on_packet_arrived true m).answer → y ≡ x
   quiet_arrived e = arrived-quiet m.state m n c x y (told-as (on_packet_arrived true m).answer e)
-
-asked-told : (s : State) (m : Machine) → s ≢ CookieWait → (shutdown_asked_row s m).answer.told ≡ None
-asked-told CookieWait m other = absurd (other refl)
-asked-told _ m other = refl
-
--- nothing begins or ends by a shutdown that is asked for behind the handshake
-pub asked_told : (m : Machine) (a : Answer) → m.state ≢ CookieWait → a ≡ (on_shutdown_asked m).answer → a.told ≡ None
-asked_told m a other e = ap (λ (k : Answer). k.told) e ∙ asked-told m.state m other

@@ -15,7 +15,7 @@ use Rattle.sctp_association.specs.declared.outbound.Outbound.{Outbound}
 use Rattle.sctp_association.specs.Halves.{HalvesAlike, PutsOthers}
 use Rattle.sctp_association.specs.Idle.{in_flight}
 use Rattle.sctp_association.specs.Runs.{Sends}
-use Rattle.sctp_association.specs.Sending.{base_of, flight_of, is_later, is_none_of, lowered_times, may_drop}
+use Rattle.sctp_association.specs.Sending.{base_of, flight_of, is_later, is_none_of, lowered_times, marked_in, may_drop}
 use Rattle.sctp_data.specs.declared.chunk.chunk_payload_data.ChunkPayloadData.{ChunkPayloadData}
 use Rattle.sctp_outbound.specs.pending_queue.PendingQueue.{chunk_count}
 use Rattle.sctp_path.specs.Rto.{Timeout}
@@ -130,13 +130,21 @@ left_as now a t base e is = ap (λ (u : Transmission). let p : Path = record (pa
 
 -- where nothing may
 pub news_held : (now : ℕ) (rto : Timeout) (a b : Path) → b ≡ begun now rto false a → SendsNew now rto a b
-news_held now rto a b e = record { goes = false; waits = λ going. absurd (false≢true going); count = 0; held = λ _. refl; each = e }
+news_held now rto a b e = record {
+  goes = false;
+  waits = λ going. absurd (false≢true going);
+  clear = λ going. absurd (false≢true going);
+  count = 0;
+  held = λ _. refl;
+  each = e;
+}
 
-pub news_by : (now : ℕ) (rto : Timeout) (a b c : Path) → 0 < chunk_count a.sender.flight.queue.pending → b ≡ begun now rto true a → Each (LeavesNew now) b c
-    → SendsNew now rto a c
-news_by now rto a b c waits e (n, f) = record {
+pub news_by : (now : ℕ) (rto : Timeout) (a b c : Path) → 0 < chunk_count a.sender.flight.queue.pending → marked_in a.sender ≡ 0 → b ≡ begun now rto true a
+    → Each (LeavesNew now) b c → SendsNew now rto a c
+news_by now rto a b c waits clear e (n, f) = record {
   goes = true;
   waits = λ _. waits;
+  clear = λ _. clear;
   count = n;
   held = λ going. absurd (false≢true (sym going));
   each = subst (λ (p : Path). Repeats (LeavesNew now) n p c) e f;

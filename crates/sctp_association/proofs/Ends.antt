@@ -142,7 +142,7 @@ row-ends typ cause fresh m off e = elim (cases_eq typ 6) [
 module _ (c : ChunkPlace) (d : List ℕ) (a b : Association) where
   pub ends_row : (now : ℕ) → goes_on c.typ ≡ false → (s : Step) → (s ≡ Cut → ⊥) → RowOn c d now s a b → EndsOn c d s a b
   ends_row now off Next whole h = λ going over. row-ends c.typ (cause_in d c) (fresh_tag a.key now a.machine.own) a.machine off (
-      sym (ap (λ (x : Bool). over_by (row_at c.typ (cause_in d c) (fresh_tag a.key now a.machine.own) a.machine).answer.told x) going) ∙ sym h.answer.over
+      sym (ap (λ (x : Bool). over_by (row_at c.typ (cause_in d c) (fresh_tag a.key now a.machine.own) a.machine).answer.told x) going) ∙ sym h.1.answer.over
       ∙ over
       )
   ends_row now off Stop whole (inl e) = λ going over. inl (ap (λ n. ends_at n (cause_in d c)) e.0)

@@ -12,7 +12,7 @@ use Rattle.sctp_association.proofs.Making.{of-some, some-none, told-once}
 use Rattle.sctp_association.specs.declared.outbound.Outbound.{Outbound}
 use Rattle.sctp_association.specs.Idle.{IsMarkedBehind, SendsNoneAgain, SendsNoneNew, WaitsBehind, WaitsForSacks, in_flight}
 use Rattle.sctp_association.specs.Packets.{Adds, with_chunks}
-use Rattle.sctp_association.specs.Sending.{flight_of}
+use Rattle.sctp_association.specs.Sending.{flight_of, marked_in}
 use Rattle.sctp_chunks.proofs.Lengths.{length_data_value, length_sack_value}
 use Rattle.sctp_chunks.specs.Wire.{HasEncoding, HasForm, Wire, cookie_ack_chunk, data_chunk, sack_chunk, shutdown_ack_chunk, shutdown_chunk, value_of}
 use Rattle.sctp_data.specs.declared.chunk.chunk_payload_data.ChunkPayloadData.{ChunkPayloadData}
@@ -74,9 +74,9 @@ no-next q (Some s) e = by s.unordered
 pub none_waits : (q : Pending) → chunk_count q ≡ 0 → next_pending q ≡ None
 none_waits q e = no-next q q.selected e
 
-pub waits_not : (room : ℕ) (t : Transmission) (lost : Bool) → (lost ≡ true) ⊎ (chunk_count t.flight.queue.pending ≡ 0) → lost ≡ false → WaitsBehind room t
-waits_not room t lost (inl there) e = absurd (false≢true (sym e ∙ there))
-waits_not room t lost (inr none) e =
+pub waits_not : (room : ℕ) (t : Transmission) → (0 < marked_in t) ⊎ (chunk_count t.flight.queue.pending ≡ 0) → marked_in t ≡ 0 → WaitsBehind room t
+waits_not room t (inl there) e = absurd (omega (arith, there, e))
+waits_not room t (inr none) e =
     if_none (λ c. fits room c ≡ true → in_flight t ≢ []) (next_pending t.flight.queue.pending) (none_waits t.flight.queue.pending none)
 
 pub none_marked : (room : ℕ) (t : Transmission) → (outstanding_of (in_flight t)).marked ≡ 0 → IsMarkedBehind room t
@@ -276,7 +276,7 @@ pub both_wait : (limit room rest : ℕ) (a b c : Outbound) → SendsNoneAgain ro
     → WaitsForSacks limit c.sender
 both_wait limit room rest a b c f g e is = record {
   waiting = subst (λ (n : ℕ). WaitsBehind n c.sender) is (subst (λ (t : Transmission). WaitsBehind rest t) (sym g.sender)
-      (waits-so rest b.sender (λ none. g.waiting (f.clear (ap in_flight (sym f.sender) ∙ none)))));
+      (waits-so rest b.sender (λ none. g.waiting (ap (λ l. (outstanding_of l).marked) none))));
   marked = subst (λ (n : ℕ). IsMarkedBehind n c.sender) e
       (subst (λ (t : Transmission). IsMarkedBehind room t) (sym (g.sender ∙ f.sender)) f.marked);
 }

@@ -7,7 +7,7 @@ use Rattle.sctp_association.specs.Kept.{IsUnmoved}
 use Rattle.sctp_association.specs.Lasting.{EachEnds, EachExpiryCounts, EachLaterCallLasts, EachQuietCallLasts, Expires, FewAreLeft, LastsNoLonger}
 use Rattle.sctp_association.specs.Lasting.{control_left, expires, expires_control, expiries_left, left_in, t3_left}
 use Rattle.sctp_association.specs.declared.association.Association.{Association}
-use Rattle.sctp_handshake.specs.Endings.{drained_row, on_drained, on_shutdown_asked, shutdown_asked_row}
+use Rattle.sctp_handshake.specs.Endings.{drained_row, on_drained}
 use Rattle.sctp_handshake.specs.Machines.{Takes, failed}
 use Rattle.sctp_handshake.specs.States.{timer}
 use Rattle.sctp_handshake.specs.Timeouts.{on_timed_out, sent_again, timed_out_row}
@@ -35,14 +35,6 @@ drained-left _ m is = omega arith
 
 pub drained_left : (m n : Machine) (a : Answer) → Takes (on_drained m) n a → control_left n ≤ control_left m
 drained_left m n a t = subst (λ (k : Machine). control_left k ≤ control_left m) (sym t.machine) (drained-left m.state m refl)
-
-asked-left : (s : State) (m : Machine) → m.state ≡ s → s ≢ CookieWait → control_left (shutdown_asked_row s m).machine ≤ control_left m
-asked-left CookieWait m is other = absurd (other refl)
-asked-left Established m is other = omega (arith, in-state Established m is)
-asked-left _ m is other = omega arith
-
-pub asked_left : (m n : Machine) (a : Answer) → m.state ≢ CookieWait → Takes (on_shutdown_asked m) n a → control_left n ≤ control_left m
-asked_left m n a other t = subst (λ (k : Machine). control_left k ≤ control_left m) (sym t.machine) (asked-left m.state m refl other)
 
 -- the timer of the state ran out, and the association goes on
 again-fewer : (b : Bool) (most : ℕ) (r : Reply) (m : Machine) → nat_lt m.attempts most ≡ b

@@ -16,6 +16,7 @@ pub mod Running
 pub mod Putting
 pub mod Offering
 pub mod Replying
+pub mod Reporting
 pub mod Leaving
 pub mod Inits
 pub mod Readings

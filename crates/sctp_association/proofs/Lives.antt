@@ -153,8 +153,8 @@ unforged_came l a h own o (inr c) = inl (subst (CameInInit l) c.2 (h.sealed c.0 
 
 -- an INIT has the first TSN of this side
 kind-init : (key : List ℕ) (m : Machine) (k : AloneKind) (i : Init) → IsInitOf key m k i → ack_type i.is_ack ≡ ack_type false → i.initial_tsn ≡ m.own.first_tsn
-kind-init key m alone.Init i h e = h.tsn
-kind-init key m (alone.InitAck t) i h e = absurd (omega (arith, e, ap ack_type h.2.ack))
+kind-init key m alone.Init i h e = ap (λ (x : Init). x.initial_tsn) h.1
+kind-init key m (alone.InitAck t) i h e = absurd (omega (arith, e, ap (λ (x : Init). ack_type x.is_ack) h.2.1))
 kind-init key m _ i h e = absurd h
 
 due-init : (key : List ℕ) (m : Machine) (o : Option Alone) (i : Init) → IsInitDue key m o i → ack_type i.is_ack ≡ ack_type false
@@ -165,8 +165,8 @@ due-init key m (Some due) i h e = kind-init key m due.kind i h e
 -- an INIT ACK has that of the ticket
 kind-ack : (key : List ℕ) (m : Machine) (k : AloneKind) (i : Init) → IsInitOf key m k i → ack_type i.is_ack ≡ ack_type true
     → (t : Ticket) × (ticket_in_kind k ≡ Some t) × (i.initial_tsn ≡ t.own.first_tsn)
-kind-ack key m alone.Init i h e = absurd (omega (arith, e, ap ack_type h.ack))
-kind-ack key m (alone.InitAck t) i h e = (t, refl, h.2.tsn)
+kind-ack key m alone.Init i h e = absurd (omega (arith, e, ap (λ (x : Init). ack_type x.is_ack) h.1))
+kind-ack key m (alone.InitAck t) i h e = (t, refl, ap (λ (x : Init). x.initial_tsn) h.2.1)
 kind-ack key m _ i h e = absurd h
 
 due-ack : (key : List ℕ) (m : Machine) (o : Option Alone) (i : Init) → IsInitDue key m o i → ack_type i.is_ack ≡ ack_type true

@@ -1,6 +1,5 @@
 -- Which INIT and INIT ACK a datagram of this side has.
-use Rattle.std.proofs.Common.{◌≡◌, ℕ, List, [], ◌∷◌, ◌++◌, Bool, Option, Some, None, ap, map, sym, subst, ◌∙◌, append_assoc}
-use Rattle.std.proofs.lemmas.List.{append-nil}
+use Rattle.std.proofs.Common.{◌≡◌, ℕ, List, [], ◌++◌, Bool, Option, Some, sym, subst}
 use Rattle.sctp_association.proofs.Known.{unmoved_then}
 use Rattle.sctp_association.proofs.Others.{alike_then}
 use Rattle.sctp_association.proofs.Putting.{adds_none, adds_then, all_append, all_put, all_so}
@@ -9,16 +8,12 @@ use Rattle.sctp_association.specs.declared.due.Alone.{Alone}
 use Rattle.sctp_association.specs.declared.due.AloneKind.{AloneKind}
 use Rattle.sctp_association.specs.Halves.{HalvesAlike}
 use Rattle.sctp_association.specs.Kept.{IsUnmoved}
-use Rattle.sctp_association.specs.Offering.{HasFirst, IsInitDue, IsInitOf, IsInitWith, IsLonger, IsOffering, IsReplyOf, OffersAsDue, PutsReply}
+use Rattle.sctp_association.specs.Offering.{IsInitDue, IsInitOf, IsOffering, IsReplyOf, OffersAsDue, PutsReply}
 use Rattle.sctp_association.specs.Leaving.{IsDueOrData, owed_at}
 use Rattle.sctp_association.specs.Packets.{Adds, IsOf, IsPacketOf, put_where}
 use Rattle.sctp_chunks.specs.Init.{Init}
 use Rattle.sctp_chunks.specs.Wire.{Wire, init_chunk}
 use Rattle.sctp_handshake.specs.declared.machine.Machine.{Machine}
-use Rattle.sctp_handshake.specs.declared.offer.Offer.{Offer}
-use Rattle.sctp_params.specs.declared.param.param_kind.ParamKind.{ParamKind}
-use Rattle.sctp_params.specs.Param.{Parameter}
-use Rattle.sctp_params.specs.ParamKind.{parameter_of}
 
 -- ## Chunk by chunk
 
@@ -100,32 +95,3 @@ offers_reply a due bytes e p = packet_so (IsReplyOf a.key a.machine due.kind) (I
 
 pub offers_none : (now : ℕ) (a b c : Association) (bytes : List ℕ) → IsPacketOf (IsDueOrData (owed_at now b) (owed_at now c)) bytes → OffersAsDue a bytes
 offers_none now a b c bytes p = packet_so (IsDueOrData (owed_at now b) (owed_at now c)) (IsOffering a) (no-offering now a b c) bytes p
-
--- ## The parameters of an INIT
-
-pub longer_same : {A : Type 0} (xs : List A) → IsLonger xs xs
-longer_same xs = ([], sym (append-nil xs))
-
-pub longer_then : {A : Type 0} (xs ys zs : List A) → IsLonger xs ys → IsLonger ys zs → IsLonger xs zs
-longer_then xs ys zs f g = (f.0 ++ g.0, g.1 ∙ ap (λ l. l ++ g.0) f.1 ∙ append_assoc xs f.0 g.0)
-
--- others behind the first change nothing
-pub first_stays : (o : Option (List ℕ)) (ps qs : List Parameter) → HasFirst o ps → HasFirst o (ps ++ qs)
-first_stays None ps qs h = tt
-first_stays (Some cookie) [] qs h = absurd h
-first_stays (Some cookie) (p ∷ ps) qs h = h
-
-pub first_map : (o : Option (List ℕ)) (xs ys : List ParamKind) → HasFirst o (map parameter_of xs) → HasFirst o (map parameter_of (xs ++ ys))
-first_map None xs ys h = tt
-first_map (Some cookie) [] ys h = absurd h
-first_map (Some cookie) (x ∷ xs) ys h = h
-
-module _ (o : Offer) (cookie : Option (List ℕ)) where
-  -- parameters behind those that were there
-  pub init_behind : (a b : Init) (more : List Parameter) → IsInitWith o cookie a → b ≡ record a { params = a.params ++ more } → IsInitWith o cookie b
-  init_behind a b more h e = record {
-    ack = ap (λ (i : Init). i.is_ack) e ∙ h.ack;
-    tag = ap (λ (i : Init). i.initiate_tag) e ∙ h.tag;
-    tsn = ap (λ (i : Init). i.initial_tsn) e ∙ h.tsn;
-    first = subst (HasFirst cookie) (sym (ap (λ (i : Init). i.params) e)) (first_stays cookie a.params more h.first);
-  }

@@ -44,6 +44,9 @@ pub record IsBeside (a b : Association) : Type 0 where
   pub cookie : b.cookie ≡ a.cookie
   pub events : b.events ≡ a.events
   pub over : b.is_over ≡ a.is_over
+  pub wants : b.wants_shutdown ≡ a.wants_shutdown
+  pub control : b.control ≡ a.control
+  pub guard : b.guard ≡ a.guard
   pub heartbeat : b.heartbeat ≡ a.heartbeat
   pub draft : b.draft ≡ a.draft
   pub requests : b.requests ≡ a.requests
@@ -68,6 +71,9 @@ module _ (a m : Association) (i j : Inbound) (inbound : a.inbound ≡ Some i) (a
     cookie = same.cookie;
     events = same.events;
     over = same.over;
+    wants = same.wants;
+    control = same.control;
+    guard = same.guard;
     failures = ap (λ (o : Outbound). o.failures) same.outbound;
     rto = ap (λ (o : Outbound). o.rto) same.outbound;
     usable = λ s. ap (λ (x : Option Inbound). usable_in s x) after ∙ usable s ∙ sym (ap (λ (x : Option Inbound). usable_in s x) inbound);

@@ -1,18 +1,19 @@
 -- What follows from a step of the state machine.
-use Rattle.std.proofs.Common.{◌≡◌, ◌⊎◌, ℕ, Bool, true, false, List, Option, Some, None, refl, ap, sym, subst, ◌∙◌, inl, inr}
-use Rattle.std.proofs.lemmas.Bool.{ne_eqb}
-use Rattle.std.specs.Prelude.{Result, Ok, Err, IfOk, ◌==◌, ◌≢◌, if◌then◌else◌}
+use Rattle.std.proofs.Common.{◌≡◌, ◌⊎◌, ℕ, Bool, true, false, List, Option, Some, None, refl, ap, sym, subst, arith, ◌∙◌, inl, inr}
+use Rattle.std.proofs.lemmas.Bool.{false≢true, ne_eqb}
+use Rattle.std.proofs.lemmas.Option.{none-some}
+use Rattle.std.specs.Prelude.{Result, Ok, Err, IfOk, ◌==◌, ◌≢◌, if◌then◌else◌, is_some}
 use Rattle.sctp_association.proofs.Timers.{runs_from, runs_none, runs_told}
 use Rattle.sctp_association.specs.Causes.{cause_in}
 use Rattle.sctp_association.specs.Coming.{goes_on}
-use Rattle.sctp_association.specs.Ends.{IsAbortedBy}
+use Rattle.sctp_association.specs.Ends.{IsAbortedBy, IsAbortedByPeer}
 use Rattle.sctp_association.specs.Fresh.{fresh_tag}
 use Rattle.sctp_association.specs.Kept.{IsKept, RestStays}
 use Rattle.sctp_association.specs.Rows.{FollowsAnswer, FollowsStep, RowOn, Settles, StepsOn, asked_for, asked_in}
 use Rattle.sctp_association.specs.Rows.{drained_where, over_by, owed_by, owed_once, row_at, row_of, settled, still_wants, tag_of, tag_to}
 use Rattle.sctp_association.specs.Sending.{holds_nothing}
-use Rattle.sctp_association.specs.Telling.{IsPassedOn}
-use Rattle.sctp_association.specs.Timers.{KeepsTimers, RunsTimers, StartsTimers, StopsTimers, stops}
+use Rattle.sctp_association.specs.Telling.{IsPassedOn, ending_by}
+use Rattle.sctp_association.specs.Timers.{EntersTimers, KeepsTimers, RunsTimers, StartsTimers, StopsTimers, stops}
 use Rattle.sctp_association.specs.declared.association.Association.{Association}
 use Rattle.sctp_association.specs.declared.association.arrivals.Step as arrivals
 use Rattle.sctp_association.specs.declared.association.arrivals.Step.TheVariants.{Next, Stop, Cut, Refused}
@@ -21,7 +22,7 @@ use Rattle.sctp_association.specs.declared.fault.Fault.{Fault}
 use Rattle.sctp_association.specs.declared.outbound.Outbound.{Outbound}
 use Rattle.sctp_datagram.specs.declared.datagram.ChunkPlace.{ChunkPlace}
 use Rattle.sctp_handshake.specs.Answers.{silent}
-use Rattle.sctp_handshake.specs.Endings.{drained_row, on_abort, on_drained, on_shutdown_asked, shutdown_asked_row}
+use Rattle.sctp_handshake.specs.Endings.{drained_row, on_drained, on_shutdown_asked, shutdown_asked_row}
 use Rattle.sctp_handshake.specs.Machines.{Step, dropped}
 use Rattle.sctp_handshake.specs.declared.answer.Answer.{Answer}
 use Rattle.sctp_handshake.specs.declared.answer.Reply.{Reply}
@@ -30,7 +31,8 @@ use Rattle.sctp_handshake.specs.declared.answer.Told.{Told}
 use Rattle.sctp_handshake.specs.declared.answer.Told.TheVariants as told
 use Rattle.sctp_handshake.specs.declared.machine.Machine.{Machine}
 use Rattle.sctp_handshake.specs.declared.state.State.{State}
-use Rattle.sctp_handshake.specs.declared.state.State.TheVariants.{Closed, Established}
+use Rattle.sctp_handshake.specs.declared.state.State.TheVariants.{Closed, Established, ShutdownAckSent, ShutdownPending, ShutdownReceived, ShutdownSent}
+use Rattle.sctp_handshake.specs.States.{timer}
 
 -- ## An answer is followed
 
@@ -41,7 +43,7 @@ follows_none a tag before now x reply told state = record {
   due = sym (ap (λ o. by (owed_once a.told (owed_by o tag x.due))) reply ∙ ap (λ o. by (owed_once o x.due)) told);
   timers = runs_none a before now x x reply told state refl refl;
   over = sym (ap (λ o. over_by o x.is_over) told);
-  told = subst (λ o. IsPassedOn o x.events) (sym told) tt;
+  told = subst (λ o. IsPassedOn o (ending_by (is_some a.reply)) x.events) (sym told) tt;
   wants = refl;
 }
   where
@@ -117,7 +119,8 @@ module _ (a : Answer) (tag : ℕ) (before : State) (now : ℕ) (x y z e : Associ
 
   pub follows_told : ((y.machine.state ≢ before) ⊎ (a.reply ≡ Some reply.Shutdown) → StartsTimers now x y)
       → (y.machine.state ≡ before → a.reply ≢ Some reply.Shutdown → KeepsTimers x y) → (t : Told) → a.told ≡ Some t → e.due ≡ owed_once (Some t) z.due
-      → e.is_over ≡ over_by (Some t) z.is_over → IsPassedOn (Some t) e.events → e.wants_shutdown ≡ z.wants_shutdown → e.machine ≡ z.machine
+      → e.is_over ≡ over_by (Some t) z.is_over → IsPassedOn (Some t) (ending_by (is_some a.reply)) e.events → e.wants_shutdown ≡ z.wants_shutdown
+      → e.machine ≡ z.machine
       → e.config ≡ z.config → (stops (Some t) ≡ true → StopsTimers e) → (stops (Some t) ≡ false → KeepsTimers z e)
       → (stops (Some t) ≡ false → e.outbound.rto ≡ z.outbound.rto) → FollowsAnswer a tag before now x e
   follows_told start keep t is due over told wants machine config stop kept rto = record {
@@ -128,7 +131,7 @@ module _ (a : Answer) (tag : ℕ) (before : State) (now : ℕ) (x y z e : Associ
           guard = k.guard ∙ ap (λ (k : Association). k.guard) next;
         }) (λ s. rto (goes false s) ∙ ap (λ (k : Association). k.outbound.rto) next);
     over = over ∙ ap (λ (k : Association). over_by (Some t) k.is_over) ran ∙ ap (λ o. over_by o x.is_over) (sym is);
-    told = subst (λ o. IsPassedOn o e.events) (sym is) told;
+    told = subst (λ o. IsPassedOn o (ending_by (is_some a.reply)) e.events) (sym is) told;
     wants = wants ∙ ap (λ (k : Association). k.wants_shutdown) ran;
   }
     where
@@ -154,22 +157,23 @@ pub row_typ : (c : ChunkPlace) (d : List ℕ) (now : ℕ) (a : Association) (n :
 row_typ c d now a n typ = ap (λ k. row_at k (cause_in d c) (fresh_tag a.key now a.machine.own) a.machine) typ
 
 module _ (c : ChunkPlace) (d : List ℕ) (now : ℕ) (a b : Association) where
-  pub row_is : (t : Step) (n : ℕ) → row_of c d now a ≡ t → tag_to c.typ a.machine ≡ n → (s : arrivals.Step) → StepsOn t n now s a b → RowOn c d now s a b
-  row_is t n row tag Next h =
-      subst (λ k. FollowsStep (row_of c d now a) k now a b) (sym tag) (subst (λ (k : Step). FollowsStep k n now a b) (sym row) h)
-  row_is t n row tag Stop h = absurd h
-  row_is t n row tag Cut h = absurd h
-  row_is t n row tag (Refused r) h = tt
+  pub row_is : (t : Step) (n : ℕ) → c.typ ≢ 6 → row_of c d now a ≡ t → tag_to c.typ a.machine ≡ n → (s : arrivals.Step) → StepsOn t n now s a b
+      → RowOn c d now s a b
+  row_is t n other row tag Next h =
+      (other, subst (λ k. FollowsStep (row_of c d now a) k now a b) (sym tag) (subst (λ (k : Step). FollowsStep k n now a b) (sym row) h))
+  row_is t n other row tag Stop h = absurd h
+  row_is t n other row tag Cut h = absurd h
+  row_is t n other row tag (Refused r) h = tt
 
-  pub row_steps : (t : Step) (n : ℕ) → row_of c d now a ≡ t → tag_to c.typ a.machine ≡ n → (r : Result arrivals.Step Fault)
+  pub row_steps : (t : Step) (n : ℕ) → c.typ ≢ 6 → row_of c d now a ≡ t → tag_to c.typ a.machine ≡ n → (r : Result arrivals.Step Fault)
       → IfOk r (λ s. StepsOn t n now s a b) → IfOk r (λ s. RowOn c d now s a b)
-  row_steps t n row tag (Ok s) h = row_is t n row tag s h
-  row_steps t n row tag (Err e) h = tt
+  row_steps t n other row tag (Ok s) h = row_is t n other row tag s h
+  row_steps t n other row tag (Err e) h = tt
 
   -- a chunk behind which the datagram goes on may end the association
   pub row_goes : (t : Step) (n : ℕ) → row_of c d now a ≡ t → tag_to c.typ a.machine ≡ n → goes_on c.typ ≡ true → (s : arrivals.Step)
       → (s ≡ Next → FollowsStep t n now a b) → (s ≡ Stop → IsAbortedBy c d a.machine.peer b) → RowOn c d now s a b
-  row_goes t n row tag goes Next next stop = row_is t n row tag Next (next refl)
+  row_goes t n row tag goes Next next stop = row_is t n (λ is. false≢true (sym (ap goes_on is) ∙ goes)) row tag Next (next refl)
   row_goes t n row tag goes Stop next stop = inr (goes, stop refl)
   row_goes t n row tag goes Cut next stop = tt
   row_goes t n row tag goes (Refused r) next stop = tt
@@ -183,7 +187,8 @@ module _ (c : ChunkPlace) (d : List ℕ) (now : ℕ) (a b : Association) where
           (rest.due ∙ ap (λ (k : Due). record a.due { heartbeat = k.heartbeat; report = k.report }) (sym rest.due)) rest.over rest.wants rest.control rest.guard
 
       on : (s : arrivals.Step) → r ≡ Ok s → RowOn c d now s a b
-      on Next is = row_is (dropped a.machine) 0 (row_typ c d now a 130 typ) (ap (λ n. tag_to n a.machine) typ) Next still
+      on Next is =
+          row_is (dropped a.machine) 0 (λ e. omega (arith, e, typ)) (row_typ c d now a 130 typ) (ap (λ n. tag_to n a.machine) typ) Next still
       on Stop is = absurd (stop is)
       on Cut is = tt
       on (Refused why) is = tt
@@ -192,7 +197,7 @@ module _ (c : ChunkPlace) (d : List ℕ) (now : ℕ) (a b : Association) where
       by (Ok s) is = on s is
       by (Err e) is = tt
 
-  pub row_abort : (s : arrivals.Step) → c.typ ≡ 6 → (s ≡ Next → ⊥) → (s ≡ Stop → FollowsStep (on_abort a.machine) 0 now a b) → RowOn c d now s a b
+  pub row_abort : (s : arrivals.Step) → c.typ ≡ 6 → (s ≡ Next → ⊥) → (s ≡ Stop → IsAbortedByPeer a b) → RowOn c d now s a b
   row_abort Next typ next stop = absurd (next refl)
   row_abort Stop typ next stop = inl (typ, stop refl)
   row_abort Cut typ next stop = tt
@@ -294,8 +299,94 @@ settles_by now x y e is waits drained due over outbound wants timers = record {
     machine-of true b = drained b ∙ sym (ap (λ (k : Bool). (drained_where k y.machine).machine) b)
     machine-of false b = ap (λ (k : Association). k.machine) (waits b) ∙ sym (ap (λ (k : Bool). (drained_where k y.machine).machine) b)
 
+-- what came before left all that this looks at
+pub settles_from : (now : ℕ) (x y e : Association) → y.machine ≡ x.machine → y.due ≡ x.due → y.is_over ≡ x.is_over → y.outbound ≡ x.outbound
+    → y.wants_shutdown ≡ x.wants_shutdown → y.control ≡ x.control → y.guard ≡ x.guard → Settles now y e → Settles now x e
+settles_from now x y e machine due over outbound wants control guard h = record {
+  machine = h.machine ∙ ap (λ (s : Step). s.machine) step;
+  due = h.due ∙ ap (λ (s : Step). owed_by s.answer.reply 0 y.due) step ∙ ap (λ (d : Due). owed_by (settled x).answer.reply 0 d) due;
+  over = h.over ∙ over;
+  outbound = h.outbound ∙ outbound;
+  wants = h.wants ∙ ap (λ (m : Machine). still_wants m.state y.wants_shutdown) machine ∙ ap (λ (w : Bool). still_wants x.machine.state w) wants;
+  timers = subst (λ (s : Step). RunsTimers s.answer (asked_for x.wants_shutdown x.machine).state now x e) step (
+      subst (λ (m : Machine). RunsTimers (settled y).answer m.state now x e) asked (runs_from _ _ now x y e control guard h.timers)
+      );
+}
+  where
+    asked : asked_for y.wants_shutdown y.machine ≡ asked_for x.wants_shutdown x.machine
+    asked = ap (λ (m : Machine). asked_for y.wants_shutdown m) machine ∙ ap (λ (w : Bool). asked_for w x.machine) wants
+
+    step : settled y ≡ settled x
+    step = ap (λ (m : Machine). drained_where (holds_nothing y.outbound.sender) m) asked
+        ∙ ap (λ (o : Outbound). drained_where (holds_nothing o.sender) (asked_for x.wants_shutdown x.machine)) outbound
+
 -- where it is closed no shutdown goes on
 pub settled_closed : (x : Association) → x.machine.state ≡ Closed → settled x ≡ dropped x.machine
 settled_closed x is =
     ap (λ m. drained_where (holds_nothing x.outbound.sender) m) (asked_closed x.wants_shutdown x.machine is)
     ∙ drained-closed (holds_nothing x.outbound.sender) x.machine is
+
+-- ## A shutdown goes on
+
+-- another state is entered that has a timer, and nothing is told
+record Moves (m : Machine) (s : Step) : Type 0 where
+  other : s.machine.state ≢ m.state
+  timed : is_some (timer s.machine.state) ≡ true
+  silent : s.answer.told ≡ None
+
+drained-moves : (s : State) (m : Machine) → m.state ≡ s → (drained_row s m ≡ dropped m) ⊎ Moves m (drained_row s m)
+drained-moves ShutdownPending m is = inr (record { other = λ same. state-differs (same ∙ is); timed = refl; silent = refl })
+  where
+    state-differs : ShutdownSent ≡ ShutdownPending → ⊥
+    state-differs e = cc
+drained-moves ShutdownReceived m is = inr (record { other = λ same. state-differs (same ∙ is); timed = refl; silent = refl })
+  where
+    state-differs : ShutdownAckSent ≡ ShutdownReceived → ⊥
+    state-differs e = cc
+drained-moves _ m is = inl refl
+
+goes-or-stays : (drained : Bool) (m : Machine) → (drained_where drained m ≡ dropped m) ⊎ Moves m (drained_where drained m)
+goes-or-stays true m = drained-moves m.state m refl
+goes-or-stays false m = inl refl
+
+-- the state once the shutdown is asked for
+asked-state : (s : State) (wants : Bool) (m : Machine) → m.state ≡ s
+    → ((if wants then asked_in s m else m).state ≡ m.state) ⊎ ((s ≡ Established) × ((if wants then asked_in s m else m).state ≡ ShutdownPending))
+asked-state Established true m is = inr (refl, refl)
+asked-state _ true m is = inl refl
+asked-state _ false m is = inl refl
+
+pub settles_enters : (now : ℕ) (x e : Association) → Settles now x e → EntersTimers now x e
+settles_enters now x e h = by (goes-or-stays (holds_nothing x.outbound.sender) n)
+  where
+    n : Machine
+    n = asked_for x.wants_shutdown x.machine
+
+    state : e.machine.state ≡ (settled x).machine.state
+    state = ap (λ (m : Machine). m.state) h.machine
+
+    asked : (n.state ≡ x.machine.state) ⊎ ((x.machine.state ≡ Established) × (n.state ≡ ShutdownPending))
+    asked = asked-state x.machine.state x.wants_shutdown x.machine refl
+
+    never : Moves n (settled x) → (e.machine.state ≡ x.machine.state) ⊎ (timer e.machine.state ≡ None) → ⊥
+    never m (inl same) = elim asked [
+      | inl is ↦ m.other (sym state ∙ same ∙ sym is)
+      | inr p ↦ false≢true (sym (ap (λ s. is_some (timer s)) (sym state ∙ same ∙ p.0)) ∙ m.timed)
+    ]
+    never m (inr none) = false≢true (sym (ap is_some none) ∙ ap (λ s. is_some (timer s)) state ∙ m.timed)
+
+    by : (settled x ≡ dropped n) ⊎ Moves n (settled x) → EntersTimers now x e
+    by (inl stays) =
+        let same : e.machine.state ≡ n.state = state ∙ ap (λ (s : Step). s.machine.state) stays in
+        record {
+          start = λ other has. elim asked [
+            | inl is ↦ absurd (other (same ∙ is))
+            | inr p ↦ absurd (false≢true (sym (ap (λ s. is_some (timer s)) (same ∙ p.1)) ∙ has))
+          ];
+          keep = λ why. h.timers.keep (ap (λ (s : Step). stops s.answer.told) stays) same (λ is.
+              none-some reply.Shutdown (sym (ap (λ (s : Step). s.answer.reply) stays) ∙ is));
+        }
+    by (inr m) = record {
+      start = λ other has. h.timers.start (ap stops m.silent) (inl (λ is. m.other (sym state ∙ is)));
+      keep = λ why. absurd (never m why);
+    }

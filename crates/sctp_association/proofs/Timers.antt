@@ -2,8 +2,8 @@
 use Rattle.std.proofs.Common.{◌≡◌, ◌⊎◌, ℕ, true, false, Option, Some, None, ap, sym, ◌∙◌, inl, inr}
 use Rattle.std.proofs.lemmas.Bool.{false≢true}
 use Rattle.std.proofs.lemmas.Option.{none-some}
-use Rattle.std.specs.Prelude.{◌≢◌}
-use Rattle.sctp_association.specs.Timers.{KeepsTimers, RunsTimers, StartsTimers, StopsTimers, expiry, guard_in, stops}
+use Rattle.std.specs.Prelude.{◌≢◌, is_some}
+use Rattle.sctp_association.specs.Timers.{EntersTimers, KeepsTimers, RunsTimers, StartsTimers, StopsTimers, expiry, guard_in, stops}
 use Rattle.sctp_association.specs.declared.association.Association.{Association}
 use Rattle.sctp_association.specs.declared.config.Config.{Config}
 use Rattle.sctp_handshake.specs.States.{timer}
@@ -68,3 +68,47 @@ runs_told r before now x y e start keep machine config stop kept rto = record {
     moved : (e.machine.state ≢ before) ⊎ (r.reply ≡ Some Shutdown) → (y.machine.state ≢ before) ⊎ (r.reply ≡ Some Shutdown)
     moved (inl other) = inl (λ same. other (ap (λ (m : Machine). m.state) machine ∙ same))
     moved (inr is) = inr is
+
+-- the state stays, and so do they
+pub enters_same : (now : ℕ) (x y : Association) → y.machine.state ≡ x.machine.state → y.control ≡ x.control → y.guard ≡ x.guard → EntersTimers now x y
+enters_same now x y state control guard = record {
+  start = λ other has. absurd (other state);
+  keep = λ why. record { control = control; guard = guard };
+}
+
+-- and behind a call that leaves them
+pub enters_then : (now : ℕ) (x y e : Association) → EntersTimers now x y → e.machine ≡ y.machine → e.config ≡ y.config
+    → e.outbound.rto ≡ y.outbound.rto → e.control ≡ y.control → e.guard ≡ y.guard → EntersTimers now x e
+enters_then now x y e h machine config rto control guard = record {
+  start = λ other has.
+      let first = h.start (λ same. other (state ∙ same)) (sym (ap (λ s. is_some (timer s)) state) ∙ has) in
+      record {
+        control = ap (λ (t : Timer). t.at) control ∙ first.control ∙ sym (ap (λ s. expiry (timer s) now y.outbound.rto.rto) state)
+            ∙ sym (ap (λ (o : Rto). expiry (timer e.machine.state) now o.rto) rto);
+        guard = ap (λ (t : Timer). t.at) guard ∙ first.guard ∙ sym (ap (λ s. guard_in s now y.config.shutdown_guard x.guard.at) state)
+            ∙ sym (ap (λ (k : Config). guard_in e.machine.state now k.shutdown_guard x.guard.at) config);
+      };
+  keep = λ why. let first = h.keep (before why) in record { control = control ∙ first.control; guard = guard ∙ first.guard };
+}
+  where
+    state : e.machine.state ≡ y.machine.state
+    state = ap (λ (m : Machine). m.state) machine
+
+    before : (e.machine.state ≡ x.machine.state) ⊎ (timer e.machine.state ≡ None) → (y.machine.state ≡ x.machine.state) ⊎ (timer y.machine.state ≡ None)
+    before (inl same) = inl (sym state ∙ same)
+    before (inr none) = inr (sym (ap timer state) ∙ none)
+
+-- what came before left the state, and them
+pub enters_from : (now : ℕ) (x y e : Association) → y.machine.state ≡ x.machine.state → y.control ≡ x.control → y.guard ≡ x.guard → EntersTimers now y e
+    → EntersTimers now x e
+enters_from now x y e state control guard h = record {
+  start = λ other has. let first = h.start (λ same. other (same ∙ state)) has in record {
+    control = first.control;
+    guard = first.guard ∙ ap (λ (t : Timer). guard_in e.machine.state now e.config.shutdown_guard t.at) guard;
+  };
+  keep = λ why. let first = h.keep (before why) in record { control = first.control ∙ control; guard = first.guard ∙ guard };
+}
+  where
+    before : (e.machine.state ≡ x.machine.state) ⊎ (timer e.machine.state ≡ None) → (e.machine.state ≡ y.machine.state) ⊎ (timer e.machine.state ≡ None)
+    before (inl same) = inl (same ∙ sym state)
+    before (inr none) = inr none

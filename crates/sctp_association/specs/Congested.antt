@@ -6,8 +6,8 @@ use Rattle.sctp_association.specs.declared.fault.Fault.{Fault}
 use Rattle.sctp_association.specs.declared.outbound.Outbound.{Outbound}
 use Rattle.sctp_association.specs.Idle.{in_flight}
 use Rattle.sctp_association.specs.Runs.{Sends}
-use Rattle.sctp_association.specs.Sending.{base_of, flight_of, idle_times, is_early, is_later, is_none_of, lowered_times, may_drop, may_send_again}
-use Rattle.sctp_association.specs.Sending.{may_send_next, sent_at}
+use Rattle.sctp_association.specs.Sending.{base_of, flight_of, idle_times, is_early, is_later, is_none_of, lowered_times, marked_in}
+use Rattle.sctp_association.specs.Sending.{may_drop, may_send_again, may_send_next, sent_at}
 use Rattle.sctp_data.specs.declared.chunk.chunk_payload_data.ChunkPayloadData.{ChunkPayloadData}
 use Rattle.sctp_outbound.specs.pending_queue.PendingQueue.{chunk_count, next_pending}
 use Rattle.sctp_path.specs.Congestion.{Control, after_resending, after_timeout}
@@ -146,10 +146,11 @@ abbrev pub begun : (now : ℕ) → Timeout → Bool → Path → Path
 begun now rto true p = idled now rto (with_burst now p)
 begun now rto false p = with_burst now p
 
--- so many chunks leave that wait
+-- So many chunks leave that wait: none while a chunk in flight is marked to be sent again (6.1 C).
 pub record SendsNew (now : ℕ) (rto : Timeout) (old new : Path) : Type 0 where
   pub goes : Bool
   pub waits : goes ≡ true → 0 < chunk_count old.sender.flight.queue.pending
+  pub clear : goes ≡ true → marked_in old.sender ≡ 0
   pub count : ℕ
   pub held : goes ≡ false → count ≡ 0
   pub each : Repeats (LeavesNew now) count (begun now rto goes old) new

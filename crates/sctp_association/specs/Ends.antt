@@ -10,7 +10,7 @@ use Rattle.sctp_association.specs.declared.association.arrivals.Step.{Step}
 use Rattle.sctp_association.specs.declared.association.arrivals.Step.TheVariants.{Next, Stop, Cut, Refused}
 use Rattle.sctp_association.specs.declared.due.AloneKind.{AloneKind}
 use Rattle.sctp_association.specs.declared.due.AloneKind.TheVariants as alone
-use Rattle.sctp_association.specs.declared.event.Ending.TheVariants.{Aborted}
+use Rattle.sctp_association.specs.declared.event.Ending.TheVariants.{Aborted, AbortedByPeer, Unanswered}
 use Rattle.sctp_association.specs.declared.inbound.Followed.{Followed}
 use Rattle.sctp_association.specs.declared.inbound.Followed.TheVariants.{Abort, Done, NoUserData, Wanting}
 use Rattle.sctp_association.specs.declared.outbound.Outbound.{Outbound}
@@ -22,6 +22,7 @@ use Rattle.sctp_data.specs.SelectiveAck.{Sack}
 use Rattle.sctp_datagram.specs.Carried.{IsChunkOf}
 use Rattle.sctp_datagram.specs.Framing.{StartsWith}
 use Rattle.sctp_datagram.specs.declared.datagram.ChunkPlace.{ChunkPlace}
+use Rattle.sctp_handshake.specs.Endings.{on_abort}
 use Rattle.sctp_handshake.specs.declared.offer.Offer.{Offer}
 use Rattle.sctp_handshake.specs.declared.state.State.TheVariants.{Closed}
 use Rattle.sctp_receiver.specs.Advice.{advice_for, skip_advice_for}
@@ -93,6 +94,26 @@ pub record IsAborted (kind : AloneKind) (peer : Option Offer) (new : Association
   pub timers : StopsTimers new
   pub alone : new.due.alone ≡ farewell_to kind peer
   pub farewell : is_some peer ≡ true → new.due.farewell ≡ farewell_to kind peer
+
+-- The peer has ended it by an ABORT: that waits to be told, and the timers of the state are stopped. What is due stays, and all else (9.1).
+pub record IsAbortedByPeer (old new : Association) : Type 0 where
+  pub over : new.is_over ≡ true
+  pub machine : new.machine ≡ (on_abort old.machine).machine
+  pub told : new.events ≡ record old.events { closed = Some AbortedByPeer }
+  pub timers : StopsTimers new
+  pub rest : new ≡ record old {
+    machine = new.machine;
+    is_over = new.is_over;
+    control = new.control;
+    guard = new.guard;
+    events = new.events;
+  }
+
+-- The peer did not answer, and it is over: that waits to be told, and the timers of the state are stopped (4, 8.1).
+pub record IsUnanswered (new : Association) : Type 0 where
+  pub state : new.machine.state ≡ Closed
+  pub told : new.events.closed ≡ Some Unanswered
+  pub timers : StopsTimers new
 
 -- DATA without user data: the cause is 9, with its TSN (6.2, 3.3.10.9). DATA or a FORWARD-TSN that is refused for good: the advised cause. A SACK
 -- of what was not sent: Protocol Violation.

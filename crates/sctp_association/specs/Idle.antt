@@ -3,7 +3,7 @@ use Rattle.std.specs.Prelude.{◌≡◌, ◌≢◌, ◌⊎◌, ℕ, ◌-◌, ◌
 use Rattle.std.specs.Option.{option_map}
 use Rattle.sctp_association.specs.declared.association.Association.{Association}
 use Rattle.sctp_association.specs.declared.outbound.Outbound.{Outbound}
-use Rattle.sctp_association.specs.Sending.{IsTimed, flight_of}
+use Rattle.sctp_association.specs.Sending.{IsTimed, flight_of, marked_in}
 use Rattle.sctp_data.specs.declared.chunk.chunk_payload_data.ChunkPayloadData.{ChunkPayloadData}
 use Rattle.sctp_handshake.specs.declared.state.State.{State}
 use Rattle.sctp_handshake.specs.declared.state.State.TheVariants.{Closed, CookieWait, CookieEchoed, Established}
@@ -40,16 +40,15 @@ IsMarkedBehind room t =
     IfSome (find is_to_resend (in_flight t))
     (λ c. fits room c ≡ true → 0 < flight_of (in_flight t))
 
--- nothing was sent again. Where nothing is in flight, what waits may go
+-- nothing was sent again
 pub record SendsNoneAgain (room : ℕ) (old new : Outbound) : Type 0 where
   pub sender : new.sender ≡ old.sender
   pub marked : IsMarkedBehind room old.sender
-  pub clear : in_flight old.sender ≡ [] → new.has_lost ≡ false
 
 -- nothing was sent that waits
 pub record SendsNoneNew (room : ℕ) (old new : Outbound) : Type 0 where
   pub sender : new.sender ≡ old.sender
-  pub waiting : old.has_lost ≡ false → WaitsBehind room old.sender
+  pub waiting : marked_in old.sender ≡ 0 → WaitsBehind room old.sender
 
 -- ## An association
 

@@ -68,8 +68,9 @@ pub record OwesLess (old new : Due) : Type 0 where
   pub heartbeat : (info : List ℕ) → new.heartbeat ≡ Some info → old.heartbeat ≡ Some info
   pub report : (r : Report) → new.report ≡ Some r → old.report ≡ Some r
 
--- and the same reply is due, and the same cookie is kept. No SACK waits, and no stream is to be told of, that was not before. What waits to be told
--- stays, the association is over if it was, no failure is counted or forgotten, and the RTO stays. The peer may use the same streams
+-- And the same reply is due, and the same cookie is kept. No SACK waits, and no stream is to be told of, that was not before. What waits to be told
+-- stays, the association is over if it was, no failure is counted or forgotten, and the RTO stays. So do the timers of the state, and whether a
+-- shutdown is asked for. The peer may use the same streams.
 pub record IsUnmoved (old new : Association) : Type 0 where
   pub config : new.config ≡ old.config
   pub key : new.key ≡ old.key
@@ -78,6 +79,9 @@ pub record IsUnmoved (old new : Association) : Type 0 where
   pub cookie : new.cookie ≡ old.cookie
   pub events : new.events ≡ old.events
   pub over : new.is_over ≡ old.is_over
+  pub wants : new.wants_shutdown ≡ old.wants_shutdown
+  pub control : new.control ≡ old.control
+  pub guard : new.guard ≡ old.guard
   pub failures : new.outbound.failures ≡ old.outbound.failures
   pub rto : new.outbound.rto ≡ old.outbound.rto
   pub usable : (s : ℕ) → usable_in s new.inbound ≡ usable_in s old.inbound

@@ -1,5 +1,5 @@
 -- Which INIT and INIT ACK this side writes: with its first TSN, and with a cookie that it sealed over the ticket that is due (RFC 9260 5.1).
-use Rattle.std.specs.Prelude.{◌≡◌, ⊤, ℕ, List, [], ◌∷◌, ◌++◌, Option, Some, None, is_some}
+use Rattle.std.specs.Prelude.{◌≡◌, ⊤, ℕ, Bool, if◌then◌else◌, List, [], ◌∷◌, ◌++◌, Option, Some, None, is_some}
 use Rattle.std.specs.List.{AllByRecursion}
 use Rattle.sctp_association.specs.Halves.{HalvesAlike}
 use Rattle.sctp_association.specs.Kept.{IsUnmoved}
@@ -16,30 +16,37 @@ use Rattle.sctp_handshake.specs.Tickets.{ticket_bytes}
 use Rattle.sctp_handshake.specs.declared.machine.Machine.{Machine}
 use Rattle.sctp_handshake.specs.declared.offer.Offer.{Offer}
 use Rattle.sctp_handshake.specs.declared.ticket.Ticket.{Ticket}
-use Rattle.sctp_params.specs.Param.{Parameter, state_cookie}
+use Rattle.sctp_params.specs.Param.{Parameter, forward_tsn_supported, state_cookie, supported_extensions, unknown_param}
 
 -- ## One chunk
 
--- others stand behind those that were there
-abbrev pub IsLonger : {A : Type 0} → List A → List A → Type 0
-IsLonger {A = A} old new = (more : List A) × (new ≡ old ++ more)
+-- Forward-TSN-Supported (RFC 3758 3.1), Supported Extensions with RE-CONFIG and FORWARD-TSN (RFC 5061 4.2.7), and for DTLS Zero Checksum Acceptable
+-- (RFC 9653 4.1)
+abbrev pub offered : (zero_checksum : Bool) → List Parameter
+offered zero_checksum = forward_tsn_supported
+    ∷ supported_extensions (record { 0 = 130 } ∷ record { 0 = 192 } ∷ [])
+    ∷ (if zero_checksum then unknown_param 0x8001 (0 ∷ 0 ∷ 0 ∷ 1 ∷ []) ∷ [] else [])
 
--- the first parameter is this State Cookie
-abbrev pub BeginsWith : List ℕ → List Parameter → Type 0
-BeginsWith cookie [] = ⊥
-BeginsWith cookie (p ∷ ps) = p ≡ state_cookie cookie
+-- with a cookie that goes first, and then what is told of the INIT
+abbrev pub answered : Option (List ℕ) → (told : List Parameter) → List Parameter
+answered None told = []
+answered (Some cookie) told = state_cookie cookie ∷ told
 
--- where there is a cookie
-abbrev pub HasFirst : Option (List ℕ) → List Parameter → Type 0
-HasFirst None ps = ⊤
-HasFirst (Some cookie) ps = BeginsWith cookie ps
+-- an INIT, or with a cookie an INIT ACK: it says what the offer does
+abbrev pub init_with : Offer → (cookie : Option (List ℕ)) → (told : List Parameter) → Init
+init_with offer cookie told = record {
+  is_ack = is_some cookie;
+  initiate_tag = offer.tag;
+  advertised_receiver_window_credit = offer.window;
+  num_outbound_streams = offer.outbound_streams;
+  num_inbound_streams = offer.inbound_streams;
+  initial_tsn = offer.first_tsn;
+  params = answered cookie told ++ offered offer.zero_checksum;
+}
 
--- an INIT, or with a cookie an INIT ACK: it has the tag and the first TSN of the offer
-pub record IsInitWith (offer : Offer) (cookie : Option (List ℕ)) (i : Init) : Type 0 where
-  pub ack : i.is_ack ≡ is_some cookie
-  pub tag : i.initiate_tag ≡ offer.tag
-  pub tsn : i.initial_tsn ≡ offer.first_tsn
-  pub first : HasFirst cookie i.params
+-- whatever that is told
+abbrev pub IsInitWith : Offer → (cookie : Option (List ℕ)) → Init → Type 0
+IsInitWith offer cookie i = (told : List Parameter) × (i ≡ init_with offer cookie told)
 
 -- this side sealed the cookie over the ticket
 abbrev pub IsCookieOf : (key : List ℕ) → Ticket → List ℕ → Type 0

@@ -2,7 +2,7 @@
 use Rattle.std.specs.Prelude.{◌≡◌, ◌⊎◌, ⊤, ℕ, ◌+◌, ◌-◌, Bool, true, false, nat_lt, List, slice_range, Option, Some, None, Ok, Err, is_some}
 use Rattle.sctp_association.specs.Cookies.{IsSealedAt}
 use Rattle.sctp_association.specs.Fresh.{fresh_tag}
-use Rattle.sctp_association.specs.Reports.{EndsBegun, to_tag, value_in}
+use Rattle.sctp_association.specs.Reports.{EndsBegun, params_told, report_with, to_tag, value_in}
 use Rattle.sctp_association.specs.Rows.{FollowsStep, owed_by}
 use Rattle.sctp_association.specs.declared.association.Association.{Association}
 use Rattle.sctp_association.specs.declared.association.arrivals.Step as arrivals
@@ -62,7 +62,7 @@ EchoesOn tag cookie now (chunk.Refused r) old new = ⊤
 
 -- ## An INIT ACK
 
--- It makes this offer: the machine takes the step, and the cookie is kept, to be echoed (5.1 C).
+-- It makes this offer: the machine takes the step, and the cookie is kept, to be echoed (5.1 C). Its sender is told of parameters (3.2.2).
 pub record TakesInitAck (c : ChunkPlace) (datagram : List ℕ) (now : ℕ) (old new : Association)
     : Type 0 where
   pub offer : Offer
@@ -71,6 +71,8 @@ pub record TakesInitAck (c : ChunkPlace) (datagram : List ℕ) (now : ℕ) (old 
   pub follows : FollowsStep (on_init_ack offer old.machine) offer.tag now old new
   pub cookie : (on_init_ack offer old.machine).answer.told ≡ None
       → new.cookie ≡ Some (slice_range (value_in datagram c) place.at (place.at + place.length))
+  pub told : new.due.report
+      ≡ report_with (params_told old.config.mtu (value_in datagram c)) old.due.report
 
 -- it has no cookie, or a Host Name Address: by an ABORT with its tag what was begun ends (5.1, 5.1.2)
 pub record EndsAsked (c : ChunkPlace) (datagram : List ℕ) (old new : Association) : Type 0 where
@@ -97,13 +99,14 @@ owed_to_init (Some (reply.InitAck ticket)) tag d =
 owed_to_init r tag d = owed_by r tag d
 
 -- It says this, and the reply of the row is due: an INIT ACK, or an ABORT to an offer that cannot stand, or a SHUTDOWN-ACK (5.1 B, 5.2.1, 5.2.2, 9.2).
+-- Of which parameters an INIT ACK tells is kept (3.2.2).
 pub record AnswersOffer (value : List ℕ) (now : ℕ) (old new : Association) : Type 0 where
   pub said : Said
   pub reads : init_in value ≡ Ok said
   pub due : new.due ≡ record (
       owed_to_init (init_reply said.offer (fresh_tag old.key now said.offer) old.machine)
       said.offer.tag old.due
-      ) { unknown_params = new.due.unknown_params }
+      ) { unknown_params = params_told old.config.mtu value }
 
 -- one without a Host Name Address (5.1.2)
 abbrev pub OffersTo : (value : List ℕ) → (now : ℕ) → (old new : Association) → Type 0

@@ -164,14 +164,12 @@ pub record IsMissed (now : ℕ) (since : Option ℕ) (count : ℕ) (old new : Ou
       then measured_again (is_some old.congestion.exit) now since (trips_of old)
       else trips_of old)
   pub fast : new.is_fast ≡ (is_lost count old.sender.flight || old.is_fast)
-  pub lost : new.has_lost ≡ (is_lost count old.sender.flight || old.has_lost)
   pub rest : new ≡ record old {
     sender = new.sender;
     congestion = new.congestion;
     rto = new.rto;
     measured = new.measured;
     is_fast = new.is_fast;
-    has_lost = new.has_lost;
   }
 
 -- so it is of those before a TSN, if there is one

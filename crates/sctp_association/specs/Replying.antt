@@ -5,14 +5,14 @@ use Rattle.sctp_association.specs.declared.config.Config.{Config}
 use Rattle.sctp_association.specs.declared.due.Alone.{Alone}
 use Rattle.sctp_association.specs.declared.due.AloneKind.{AloneKind}
 use Rattle.sctp_association.specs.declared.due.AloneKind.TheVariants as alone
-use Rattle.sctp_association.specs.Offering.{IsInitOf}
+use Rattle.sctp_association.specs.Offering.{IsCookieOf, init_with}
 use Rattle.sctp_association.specs.Packets.{Adds, put_where, sum_of, with_chunks}
-use Rattle.sctp_association.specs.Reports.{one_cause}
+use Rattle.sctp_association.specs.Reports.{one_cause, unrecognized_in}
 use Rattle.sctp_chunks.specs.declared.chunk.error_cause.ErrorCause.{ErrorCause}
-use Rattle.sctp_chunks.specs.Init.{Init}
 use Rattle.sctp_chunks.specs.Wire.{HasEncoding, Wire}
 use Rattle.sctp_chunks.specs.Wire.{abort_chunk, error_chunk, init_chunk, shutdown_ack_chunk, shutdown_complete_chunk}
 use Rattle.sctp_handshake.specs.declared.machine.Machine.{Machine}
+use Rattle.sctp_handshake.specs.declared.ticket.Ticket.{Ticket}
 use Rattle.sctp_packets.specs.Draft.{Draft, headed}
 use Rattle.sctp_packets.specs.Packet.{FitsParts, HavePacketEncoding, packet_encoding, padded_encoding}
 use Rattle.sctp_packets.specs.declared.packet.CommonHeader.{CommonHeader}
@@ -41,10 +41,12 @@ pub record IsOneWithin (limit : ℕ) (w : Wire) (ws : List Wire) : Type 0 where
   pub chunks : ws ≡ put_where is_put w
   pub fits : HasEncoding w → 12 + length (padded_encoding w) ≤ limit → is_put ≡ true
 
--- an INIT, or an INIT ACK
-abbrev pub AreInit : (limit : ℕ) (key : List ℕ) → Machine → AloneKind → List Wire → Type 0
-AreInit limit key m kind ws =
-    (i : Init) × IsInitOf key m kind i × IsOneWithin limit (init_chunk i) ws
+-- an INIT ACK with this ticket: behind its cookie it tells of parameters of the INIT, as many as have room beside the rest of it (3.2.2, 3.3.3)
+abbrev pub AreInitAck : (limit : ℕ) (key : List ℕ) → Option (List ℕ) → Ticket → List Wire
+    → Type 0
+AreInitAck limit key raw ticket ws = (cookie : List ℕ) × IsCookieOf key ticket cookie
+    × IsOneWithin limit (init_chunk (init_with ticket.own (Some cookie)
+    (unrecognized_in (limit - 12 - 132) raw))) ws
 
 -- what is told of a Host Name Address: cause 5 with the parameter, where it is kept, and so many bytes have room for it (3.3.10.5, 5.1.2)
 abbrev pub host_name_causes : (room : ℕ) → Option (List ℕ) → List ErrorCause
@@ -55,8 +57,9 @@ host_name_causes room (Some raw) =
 -- exactly these chunks: those of each kind
 abbrev pub AreReply : (limit : ℕ) (key : List ℕ) → Machine → Option (List ℕ) → AloneKind
     → List Wire → Type 0
-AreReply limit key m raw alone.Init ws = AreInit limit key m alone.Init ws
-AreReply limit key m raw (alone.InitAck ticket) ws = AreInit limit key m (alone.InitAck ticket) ws
+AreReply limit key m raw alone.Init ws =
+    IsOneWithin limit (init_chunk (init_with m.own None [])) ws
+AreReply limit key m raw (alone.InitAck ticket) ws = AreInitAck limit key raw ticket ws
 AreReply limit key m raw (alone.StaleCookie by) ws = ws ≡ error_chunk (one_cause 3 (be32 by)) ∷ []
 AreReply limit key m raw alone.ShuttingDown ws =
     ws ≡ shutdown_ack_chunk ∷ error_chunk (one_cause 10 []) ∷ []

@@ -1,13 +1,14 @@
 -- What the state machine makes of a chunk that comes (RFC 9260 4, 5, 9), and what follows from its answer. Moments are nanoseconds.
-use Rattle.std.specs.Prelude.{◌≡◌, ◌⊎◌, ⊤, ℕ, ◌==◌, ◌||◌, Bool, true, false, not, if◌then◌else◌, List, Option, Some, None}
+use Rattle.std.specs.Prelude.{◌≡◌, ◌⊎◌, ⊤, ℕ, ◌≢◌, ◌==◌, ◌||◌, Bool, true, false, not, if◌then◌else◌, List, [], Option, Some, None, is_some}
 use Rattle.sctp_association.specs.Causes.{cause_in}
 use Rattle.sctp_association.specs.Coming.{goes_on}
-use Rattle.sctp_association.specs.Ends.{IsAbortedBy}
+use Rattle.sctp_association.specs.Ends.{IsAbortedBy, IsAbortedByPeer}
 use Rattle.sctp_association.specs.Fresh.{fresh_tag}
 use Rattle.sctp_association.specs.Reports.{to_tag}
+use Rattle.sctp_association.specs.Runs.{Sends}
 use Rattle.sctp_association.specs.Sending.{holds_nothing}
-use Rattle.sctp_association.specs.Telling.{IsPassedOn}
-use Rattle.sctp_association.specs.Timers.{RunsTimers}
+use Rattle.sctp_association.specs.Telling.{IsPassedOn, ending_by}
+use Rattle.sctp_association.specs.Timers.{EntersTimers, RunsTimers}
 use Rattle.sctp_association.specs.declared.association.Association.{Association}
 use Rattle.sctp_association.specs.declared.association.arrivals.Step.TheVariants as chunk
 use Rattle.sctp_association.specs.declared.association.arrivals.Step as arrivals
@@ -30,6 +31,7 @@ use Rattle.sctp_handshake.specs.declared.offer.Offer.{Offer}
 use Rattle.sctp_handshake.specs.declared.state.State.{State}
 use Rattle.sctp_handshake.specs.declared.state.State.TheVariants.{Closed, CookieWait, CookieEchoed, Established}
 use Rattle.sctp_handshake.specs.declared.state.State.TheVariants.{ShutdownPending, ShutdownSent, ShutdownReceived, ShutdownAckSent}
+use Rattle.sctp_sender.specs.Sender.{Transmission}
 
 -- ## What follows from an answer of the state machine
 
@@ -87,7 +89,7 @@ pub record FollowsAnswer (a : Answer) (tag : ℕ) (before : State) (now : ℕ)
   }
   pub timers : RunsTimers a before now old new
   pub over : new.is_over ≡ over_by a.told old.is_over
-  pub told : IsPassedOn a.told new.events
+  pub told : IsPassedOn a.told (ending_by (is_some a.reply)) new.events
   pub wants : new.wants_shutdown ≡ old.wants_shutdown
 
 -- the machine takes the step, and what it answers is followed
@@ -142,6 +144,27 @@ pub record Settles (now : ℕ) (old new : Association) : Type 0 where
   pub timers : RunsTimers (settled old).answer
       (asked_for old.wants_shutdown old.machine).state now old new
 
+-- So it is of a call that sends, by what waits or is in flight once messages past their lifetime are dropped. The timers begin as another state is
+-- entered.
+pub record SettlesToSend (now : ℕ) (old new : Association) : Type 0 where
+  pub kept : Transmission
+  pub dropped : Sends [] old.outbound.sender kept
+  pub machine : new.machine ≡ (drained_where (holds_nothing kept)
+      (asked_for old.wants_shutdown old.machine)).machine
+  pub over : new.is_over ≡ old.is_over
+  pub wants : new.wants_shutdown ≡ still_wants old.machine.state old.wants_shutdown
+  pub timers : EntersTimers now old new
+
+-- `shutdown` asks for one, where none has begun
+abbrev pub wants_at : State → Bool → Bool
+wants_at CookieWait wants = true
+wants_at CookieEchoed wants = true
+wants_at Established wants = true
+wants_at _ wants = wants
+
+abbrev pub asking : Association → Association
+asking a = record a { wants_shutdown = wants_at a.machine.state a.wants_shutdown }
+
 -- ## The row of a chunk
 
 -- cause 3: the cookie is stale, and the next INIT has a fresh tag (5.2.6); another one changes nothing
@@ -177,13 +200,12 @@ tag_of (Some peer) = peer.tag
 abbrev pub tag_to : (typ : ℕ) → Machine → ℕ
 tag_to typ m = if typ == 8 then tag_of m.peer else 0
 
--- it is taken so; the datagram ends with an ABORT, and with DATA, a SACK or a FORWARD-TSN by which this side ends the association
+-- It is taken so. With an ABORT the datagram ends, and the association; with DATA, a SACK or a FORWARD-TSN where this side ends it by them.
 abbrev pub RowOn : ChunkPlace → List ℕ → (now : ℕ) → arrivals.Step → (old new : Association)
     → Type 0
-RowOn c datagram now chunk.Next old new =
-    FollowsStep (row_of c datagram now old) (tag_to c.typ old.machine) now old new
-RowOn c datagram now chunk.Stop old new =
-    ((c.typ ≡ 6) × FollowsStep (on_abort old.machine) 0 now old new)
+RowOn c datagram now chunk.Next old new = (c.typ ≢ 6)
+    × FollowsStep (row_of c datagram now old) (tag_to c.typ old.machine) now old new
+RowOn c datagram now chunk.Stop old new = ((c.typ ≡ 6) × IsAbortedByPeer old new)
     ⊎ ((goes_on c.typ ≡ true) × IsAbortedBy c datagram old.machine.peer new)
 RowOn c datagram now chunk.Cut old new = ⊤
 RowOn c datagram now (chunk.Refused r) old new = ⊤

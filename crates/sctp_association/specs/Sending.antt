@@ -27,6 +27,10 @@ may_send_data bytes user_data peer_window flight base c =
     flight == 0 || (nat_le (user_data + bytes) peer_window
     && (may_send flight c && nat_lt flight (burst_limit base c)))
 
+-- how many chunks in flight are marked to be sent again (6.1 C, 6.3.3 E3, 7.2.4)
+abbrev pub marked_in : Transmission → ℕ
+marked_in t = (outstanding_of t.flight.queue.inflight.chunks).marked
+
 -- the bytes that were outstanding when the burst began that is under way
 abbrev pub base_of : ℕ → Option ℕ → ℕ
 base_of flight None = flight
@@ -76,8 +80,7 @@ is_front_late now (Some c) =
 -- the last chunk of a message goes, of which some left in time (11.1.5)
 abbrev pub may_drop : ℕ → Transmission → Bool
 may_drop now t =
-    nat_lt 0 (outstanding_of t.flight.queue.inflight.chunks).marked
-    || is_front_late now (next_pending t.flight.queue.pending)
+    nat_lt 0 (marked_in t) || is_front_late now (next_pending t.flight.queue.pending)
 
 -- ## Idle paths (7.2.1)
 

@@ -5,7 +5,7 @@ use Rattle.sctp_association.specs.Reads.{message_in}
 use Rattle.sctp_association.specs.StreamSet.{is_in}
 use Rattle.sctp_association.specs.declared.association.Association.{Association}
 use Rattle.sctp_association.specs.declared.event.Ending.{Ending}
-use Rattle.sctp_association.specs.declared.event.Ending.TheVariants.{Shutdown, AbortedByPeer, Aborted, Unanswered}
+use Rattle.sctp_association.specs.declared.event.Ending.TheVariants.{Shutdown, Aborted, Unanswered}
 use Rattle.sctp_association.specs.declared.event.Events.{Events}
 use Rattle.sctp_association.specs.declared.inbound.Inbound.{Inbound}
 use Rattle.sctp_handshake.specs.declared.answer.Told.{Told}
@@ -82,24 +82,22 @@ pub record Tells (old new : Association) : Type 0 where
 
 -- ## What the state machine tells
 
--- the association ended otherwise than by SHUTDOWN (9.1, 8.1)
-abbrev pub is_failure : Option Ending → Bool
-is_failure None = false
-is_failure (Some Shutdown) = false
-is_failure (Some AbortedByPeer) = true
-is_failure (Some Aborted) = true
-is_failure (Some Unanswered) = true
+-- How an association ended that failed: where the machine replies that is an ABORT of this side; else the peer did not answer (3.3.3, 8.1). By the
+-- peer's ABORT it ends otherwise: `IsAbortedByPeer`.
+abbrev pub ending_by : (replies : Bool) → Ending
+ending_by true = Aborted
+ending_by false = Unanswered
 
--- It is passed on: it waits to be told. One that is closed ended by SHUTDOWN, and one that failed did not.
-abbrev pub IsPassedOn : Option Told → Events → Type 0
-IsPassedOn None e = ⊤
-IsPassedOn (Some told.Connected) e = e.connected ≡ true
-IsPassedOn (Some told.Restarted) e = e.restarted ≡ true
-IsPassedOn (Some told.ShutdownBegun) e = e.shutdown ≡ true
-IsPassedOn (Some told.Closed) e = e.closed ≡ Some Shutdown
-IsPassedOn (Some told.Failed) e = is_failure e.closed ≡ true
+-- It is passed on: it waits to be told. One that is closed ended by SHUTDOWN, and one that failed ended so.
+abbrev pub IsPassedOn : Option Told → Ending → Events → Type 0
+IsPassedOn None how e = ⊤
+IsPassedOn (Some told.Connected) how e = e.connected ≡ true
+IsPassedOn (Some told.Restarted) how e = e.restarted ≡ true
+IsPassedOn (Some told.ShutdownBegun) how e = e.shutdown ≡ true
+IsPassedOn (Some told.Closed) how e = e.closed ≡ Some Shutdown
+IsPassedOn (Some told.Failed) how e = e.closed ≡ Some how
 
 -- behind an input of the machine what it told is passed on, and what waited is kept
-pub record PassesOn (t : Option Told) (old new : Association) : Type 0 where
+pub record PassesOn (t : Option Told) (how : Ending) (old new : Association) : Type 0 where
   pub end : TellsEnd old new
-  pub told : IsPassedOn t new.events
+  pub told : IsPassedOn t how new.events

@@ -1,5 +1,5 @@
 -- The timers of the state: T1-init, T1-cookie or T2-shutdown, and T5-shutdown-guard (RFC 9260 4, 5.1, 9.2). Moments are nanoseconds.
-use Rattle.std.specs.Prelude.{◌≡◌, ◌≢◌, ◌⊎◌, ℕ, Bool, true, false, Option, Some, None}
+use Rattle.std.specs.Prelude.{◌≡◌, ◌≢◌, ◌⊎◌, ℕ, Bool, true, false, Option, Some, None, is_some}
 use Rattle.sctp_association.specs.declared.association.Association.{Association}
 use Rattle.sctp_handshake.specs.States.{timer}
 use Rattle.sctp_handshake.specs.declared.answer.Answer.{Answer}
@@ -34,6 +34,13 @@ pub record KeepsTimers (old new : Association) : Type 0 where
 pub record StopsTimers (new : Association) : Type 0 where
   pub control : new.control.at ≡ None
   pub guard : new.guard.at ≡ None
+
+-- where another state is entered that has a timer they begin anew, and else they are left
+pub record EntersTimers (now : ℕ) (old new : Association) : Type 0 where
+  pub start : new.machine.state ≢ old.machine.state
+      → is_some (timer new.machine.state) ≡ true → StartsTimers now old new
+  pub keep : (new.machine.state ≡ old.machine.state) ⊎ (timer new.machine.state ≡ None)
+      → KeepsTimers old new
 
 -- the association ends, or begins anew
 abbrev pub stops : Option Told → Bool

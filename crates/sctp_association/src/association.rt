@@ -11,7 +11,7 @@ mod stats;
 mod timeouts;
 mod unknown;
 
-ghost use Rattle.std.specs.Prelude.{◌≡◌, ◌⊎◌, ℕ, IfSome, None, Some, ◌≢◌, ◌≤◌, ◌+◌, ◌*◌, option_map, true, false, IfErr, IfOk, IsOk, OnErr, OnOk};
+ghost use Rattle.std.specs.Prelude.{◌≡◌, ℕ, IfSome, None, Some, ◌≢◌, ◌≤◌, ◌+◌, ◌*◌, option_map, true, false, IfErr, IfOk, IsOk, OnErr, OnOk};
 ghost use Rattle.std.proofs.Props.{props};
 ghost use Rattle.sctp_association.specs.Entering.{usable_in};
 ghost use Rattle.sctp_association.specs.Events.{IsTold, KeepsOthers, NoneWaits};
@@ -19,7 +19,6 @@ ghost use Rattle.sctp_association.specs.declared.fault.Fault.TheVariants.{BadCon
 ghost use Rattle.sctp_association.specs.Reached.{limits_of, most_user_data};
 ghost use Rattle.sctp_association.specs.Waiting.{amount_on};
 ghost use Rattle.sctp_handshake.specs.declared.state.State.TheVariants.{Closed};
-ghost use Rattle.sctp_handshake.specs.States.{accepts_writes};
 ghost use Rattle.sctp_path.specs.Rto.{smoothed_of};
 ghost use Rattle.sctp_reassembly.specs.reassembly_queue.ReassemblyQueue.{at_start};
 ghost use Rattle.sctp_receiver.specs.Limits.{chunk_cost};
@@ -138,10 +137,11 @@ fn outbound_config(config: &Config, first_tsn: u32) -> OutboundConfig
 impl Association {
     ghost use Rattle.sctp_association.specs.Beginnings.{BeginsToAsk, HasAsked, IsMadeOf, IsUnbegun, KeepsPeer};
     ghost use Rattle.sctp_association.specs.Halves.{HalvesAlike, first_halves, halves_of};
-    ghost use Rattle.sctp_association.specs.Failing.{farewell_to};
+    ghost use Rattle.sctp_association.specs.Ends.{IsAborted};
     ghost use Rattle.sctp_association.specs.Held.{HoldsFewChunks, OfReceiver, OpensFewStreams, held_by};
     ghost use Rattle.sctp_association.specs.Reads.{AreReadOff, IsSameBeside, length_of, message_in};
     ghost use Rattle.sctp_association.specs.Lasting.{BeginsWithin, LastsNoLonger};
+    ghost use Rattle.sctp_association.specs.Rows.{Settles, asking, wants_at};
     ghost use Rattle.sctp_association.specs.Telling.{HasPlaces, Tells};
     ghost use Rattle.sctp_association.specs.Timers.{StartsTimers, StopsTimers};
     ghost use Rattle.sctp_association.specs.declared.due.AloneKind.TheVariants.{Abort};
@@ -307,9 +307,9 @@ impl Association {
         ensures tells { Tells self.old self.new }
         ensures accepted { IsOk result → self.old.machine.state ≢ Closed }
         ensures stands { self.old.machine.state ≢ Closed → IsOk result }
-        // No message is taken any more; or that begins once the association stands.
-        ensures asked { OnOk result ((self.new.wants_shutdown ≡ true)
-            ⊎ (accepts_writes self.new.machine.state ≡ false)) }
+        // It begins, or does once the association stands; and it goes on where nothing waits or is in flight: a SHUTDOWN or SHUTDOWN-ACK is due,
+        // and T2-shutdown begins, and with a SHUTDOWN T5-shutdown-guard.
+        ensures settles { OnOk result (Settles now (asking self.old) self.new) }
         ensures left { LastsNoLonger self.old self.new }
         ensures refused { IfErr result (λ e. e ≡ WrongState) }
         // The receiving half stays: so the peer may use the same streams.
@@ -318,20 +318,22 @@ impl Association {
         ensures peer { KeepsPeer self.old self.new }
         ensures err { OnErr result (self.new ≡ self.old) }
     {
-        let before = self.machine.state();
-        match before {
-            State::Closed => return Err(Fault::WrongState),
-            // It begins once the association stands.
-            State::CookieWait | State::CookieEchoed => {
-                self.wants_shutdown = true;
-                return Ok(());
-            }
-            _ => {}
+        if self.machine.state() == State::Closed {
+            return Err(Fault::WrongState);
         }
-        let answer = self.machine.shutdown_asked();
-        self.follow(before, answer, 0, now);
+        self.wants_shutdown = self.is_asked();
         self.settle(now);
         Ok(())
+    }
+
+    // Whether a shutdown is asked for once `shutdown` is called, and has not begun.
+    fn is_asked(&self) -> bool
+        ensures { result ≡ wants_at self.now.machine.state self.now.wants_shutdown }
+    {
+        match self.machine.state() {
+            State::CookieWait | State::CookieEchoed | State::Established => true,
+            _ => self.wants_shutdown,
+        }
     }
 
     /// Ends the association at once: an ABORT with the cause 12 is due (RFC 9260 9.1). Refuses with `WrongState`, where there is none.
@@ -339,11 +341,8 @@ impl Association {
         ensures tells { Tells self.old self.new }
         ensures accepted { IsOk result → self.old.is_over ≡ false }
         ensures going { self.old.is_over ≡ false → IsOk result }
-        ensures over { OnOk result (self.new.is_over ≡ true) }
-        // Where the peer is known the ABORT is due.
-        ensures owed { OnOk result (self.new.due.alone
-            ≡ farewell_to (Abort 12) self.old.machine.peer) }
-        ensures timers { OnOk result (StopsTimers self.new) }
+        // Where the peer is known the ABORT is due, and that it ended so waits to be told.
+        ensures aborts { OnOk result (IsAborted (Abort 12) self.old.machine.peer self.new) }
         ensures left { LastsNoLonger self.old self.new }
         ensures refused { IfErr result (λ e. e ≡ WrongState) }
         // The receiving half stays: so the peer may use the same streams.

@@ -1,6 +1,6 @@
 //! What is sent, and when (RFC 9260 6.1, 6.3, 7.2; RFC 3758 3.5; RFC 7496 3.1).
 
-ghost use Rattle.std.specs.Prelude.{◌≡◌, ◌⊎◌, ◌-◌, ◌<◌, ◌≤◌, ◌==◌, ◌||◌, [], max, min, not, true, false, None, Some, OnOk, OnErr, IfOk, IfErr, IsOk, length};
+ghost use Rattle.std.specs.Prelude.{◌≡◌, ◌⊎◌, ◌-◌, ◌<◌, ◌≤◌, ◌==◌, ◌||◌, [], max, min, nat_lt, not, true, false, None, Some, OnOk, OnErr, IfOk, IfErr, IsOk, length};
 ghost use Rattle.sctp_association.specs.declared.fault.Fault.TheVariants.{OutOfMemory};
 ghost use Rattle.sctp_association.specs.Arrivals.{new_sender};
 ghost use Rattle.sctp_association.specs.Asked.{AsksOn};
@@ -14,7 +14,7 @@ ghost use Rattle.sctp_association.specs.Waiting.{IsRefusal, closed_where, fault_
 ghost use Rattle.sctp_sender.specs.Settings.{IsKeptWithin, with_fragment_size, with_low_on};
 ghost use Rattle.sctp_stream.specs.Stats.{count_up};
 ghost use Rattle.sctp_stream.specs.declared.outbound_stream.OutboundStream.{OutboundStream};
-ghost use Rattle.sctp_association.specs.Sending.{EndsWithin, IsTimed, flight_of, holds_nothing, is_front_late, is_none_of, may_drop, t3_after, t3_time};
+ghost use Rattle.sctp_association.specs.Sending.{EndsWithin, IsTimed, flight_of, holds_nothing, is_front_late, is_none_of, marked_in, may_drop, t3_after, t3_time};
 ghost use Rattle.sctp_delivery.specs.SenderCalls.{sets_low, sets_mode, writes};
 ghost use Rattle.sctp_outbound.specs.pending_queue.PendingQueue.{chunk_count, next_pending};
 ghost use Rattle.sctp_path.specs.Congestion.{after_timeout, first as first_control};
@@ -89,8 +89,6 @@ pub(crate) struct Outbound {
     is_skip_due: bool,
     // Whether chunks were just reported missing three times: one packet of them ignores the window.
     is_fast: bool,
-    // Whether some chunk may be marked to be sent again: then nothing new is sent (RFC 9260 6.1 C).
-    has_lost: bool,
 }
 
 // How many bytes of user data a chunk of at most so many bytes has.
@@ -150,7 +148,6 @@ impl Outbound {
             is_partial: false,
             is_skip_due: false,
             is_fast: false,
-            has_lost: false,
         }
     }
 
@@ -330,9 +327,16 @@ impl Outbound {
         !self.is_in_flight() && !self.is_waiting()
     }
 
+    // Whether a chunk in flight is marked to be sent again: then nothing new is sent (RFC 9260 6.1 C).
+    fn has_marked(&self) -> bool
+        ensures { result ≡ nat_lt 0 (marked_in self.now.sender) }
+    {
+        self.sender.outstanding().marked > 0
+    }
+
     /// Whether something waits, or is to be sent again.
     pub(crate) fn has_data(&self) -> bool {
-        self.has_lost || self.is_waiting()
+        self.has_marked() || self.is_waiting()
     }
 
     /// A HEARTBEAT was answered after this time (RFC 9260 8.3).
@@ -401,7 +405,6 @@ impl Outbound {
         self.rto.backed_off();
         self.congestion.timed_out();
         self.sender.retransmit_all();
-        self.has_lost = true;
         self.is_skip_due = true;
         self.burst = None;
         self.run_timer(now);

@@ -1,6 +1,6 @@
 //! What the state machine is answered and tells.
 
-ghost use Rattle.std.specs.Prelude.{◌≡◌, ◌≢◌, ◌⊎◌, if◌then◌else◌, true, false, None, Some, is_some};
+ghost use Rattle.std.specs.Prelude.{◌≡◌, ◌≢◌, ◌⊎◌, true, false, None, Some, is_some};
 ghost use Rattle.sctp_association.specs.Beginnings.{Begins, BeginsBy, KeepsPeer, OwesInit};
 ghost use Rattle.sctp_association.specs.Kept.{IsKept, OwesNoMore, ticket_due, ticket_in_kind};
 ghost use Rattle.sctp_association.specs.Ends.{IsAborted};
@@ -12,11 +12,10 @@ ghost use Rattle.sctp_association.specs.Leaving.{AsksNoMore, OwesNothingNew, Sta
 ghost use Rattle.sctp_association.specs.Rows.{FollowsAnswer, Settles, cause_code, drained_where, over_by, owed_by, owed_once};
 ghost use Rattle.sctp_association.specs.Most.{shutdowns_left};
 ghost use Rattle.sctp_association.specs.Sending.{holds_nothing};
-ghost use Rattle.sctp_association.specs.Telling.{PassesOn, TellsEnd};
+ghost use Rattle.sctp_association.specs.Telling.{PassesOn, TellsEnd, ending_by};
 ghost use Rattle.sctp_association.specs.Timers.{KeepsTimers, RunsTimers, StartsTimers, StopsTimers, guard_in, stops};
-ghost use Rattle.sctp_association.specs.declared.event.Ending.TheVariants.{Aborted, Unanswered};
 ghost use Rattle.sctp_handshake.specs.declared.answer.Reply.TheVariants.{Init, Shutdown};
-ghost use Rattle.sctp_handshake.specs.declared.answer.Told.TheVariants.{Failed, ShutdownBegun};
+ghost use Rattle.sctp_handshake.specs.declared.answer.Told.TheVariants.{ShutdownBegun};
 ghost use Rattle.sctp_handshake.specs.Endings.{on_drained};
 ghost use Rattle.sctp_handshake.specs.States.{accepts_writes};
 
@@ -44,7 +43,7 @@ fn code_of(cause: AbortCause) -> u16
 
 // How an association ended that failed, with an ABORT or without.
 fn failure(is_told: bool) -> Ending
-    ensures { result ≡ (if is_told then Aborted else Unanswered) }
+    ensures { result ≡ ending_by is_told }
 {
     if is_told {
         Ending::Aborted
@@ -57,7 +56,8 @@ impl Association {
     /// What follows from an input to the machine, which was in the state `before`: its timer, a reply to `tag`, and what is told.
     #[inline(always)]
     pub(super) fn follow(&mut self, before: State, answer: Answer, tag: u32, now: u64)
-        ensures tells { PassesOn answer.told self.old self.new }
+        ensures tells { PassesOn answer.told (ending_by (is_some answer.reply))
+            self.old self.new }
         ensures kept { IsKept self.old self.new }
         ensures quiet { answer.told ≡ None → HalvesAlike self.old self.new }
         ensures sending { answer.told ≡ None → self.new.outbound ≡ self.old.outbound }
@@ -71,6 +71,7 @@ impl Association {
             (halves_of self.old) (halves_of self.new) }
         ensures init { answer.reply ≡ Some Init → answer.told ≡ None → OwesInit self.new }
         ensures answer { FollowsAnswer answer tag before now self.old self.new }
+        ensures report { self.new.due.report ≡ self.old.due.report }
         ensures over { answer.told ≡ None → self.new.is_over ≡ self.old.is_over }
         ensures stays { answer.told ≡ None → StaysDue self.old self.new }
         ensures due { answer.told ≡ None
@@ -87,7 +88,8 @@ impl Association {
     // The same, where something follows: seldom, and so apart.
     #[inline(never)]
     fn follow_answer(&mut self, before: State, answer: Answer, tag: u32, now: u64)
-        ensures tells { PassesOn answer.told self.old self.new }
+        ensures tells { PassesOn answer.told (ending_by (is_some answer.reply))
+            self.old self.new }
         ensures kept { IsKept self.old self.new }
         ensures quiet { answer.told ≡ None → HalvesAlike self.old self.new }
         ensures sending { answer.told ≡ None → self.new.outbound ≡ self.old.outbound }
@@ -101,6 +103,7 @@ impl Association {
             (halves_of self.old) (halves_of self.new) }
         ensures init { answer.reply ≡ Some Init → answer.told ≡ None → OwesInit self.new }
         ensures answer { FollowsAnswer answer tag before now self.old self.new }
+        ensures report { self.new.due.report ≡ self.old.due.report }
         ensures over { answer.told ≡ None → self.new.is_over ≡ self.old.is_over }
         ensures stays { answer.told ≡ None → StaysDue self.old self.new }
         ensures due { answer.told ≡ None
@@ -221,9 +224,7 @@ impl Association {
 
     // What the application is told; where the peer is replied to as well, the reply to what fails is an ABORT (RFC 9260 3.3.3).
     fn tell(&mut self, told: Told, has_reply: bool, now: u64)
-        ensures failed { told ≡ Failed → self.new.events.closed
-            ≡ Some (if has_reply then Aborted else Unanswered) }
-        ensures tells { PassesOn (Some told) self.old self.new }
+        ensures tells { PassesOn (Some told) (ending_by has_reply) self.old self.new }
         ensures kept { IsKept self.old self.new }
         ensures begun { BeginsBy (Some told) self.old.machine self.old.config
             (halves_of self.old) (halves_of self.new) }

@@ -6,13 +6,14 @@ ghost use Rattle.sctp_association.specs.Arrivals.{CallsArrive};
 ghost use Rattle.sctp_association.specs.Beats.{AnswersOn, BeatsOn, IsBeaten, nonce_in};
 ghost use Rattle.sctp_association.specs.Beginnings.{ArrivesAsOffered, BeginsBy, KeepsPeer, KeepsPeerButTag};
 ghost use Rattle.sctp_association.specs.Causes.{cause_after, cause_in};
+ghost use Rattle.sctp_association.specs.Ends.{IsAbortedByPeer};
 ghost use Rattle.sctp_association.specs.Kept.{IsKept};
 ghost use Rattle.sctp_association.specs.Halves.{HalvesAlike, halves_of};
 ghost use Rattle.sctp_association.specs.Expected.{AsExpected, expects, is_received, speaks};
 ghost use Rattle.sctp_association.specs.Fresh.{fresh_tag};
-ghost use Rattle.sctp_association.specs.Rows.{FollowsAnswer, FollowsStep, StepsOn, error_row, tag_of};
+ghost use Rattle.sctp_association.specs.Rows.{FollowsAnswer, StepsOn, error_row, tag_of};
 ghost use Rattle.sctp_association.specs.Shutting.{ShutsOn};
-ghost use Rattle.sctp_association.specs.Telling.{PassesOn, Tells, TellsEnd};
+ghost use Rattle.sctp_association.specs.Telling.{PassesOn, Tells, TellsEnd, ending_by};
 ghost use Rattle.sctp_association.specs.declared.association.Reason.{Reason};
 ghost use Rattle.sctp_association.specs.declared.association.Reason.TheVariants.{Unexpected};
 ghost use Rattle.sctp_association.specs.declared.association.arrivals.Step.TheVariants as step;
@@ -136,7 +137,8 @@ impl Association {
 
     // Follows what the machine answered a chunk; where that is nothing the chunk is not expected.
     pub(super) fn take_answer(&mut self, before: State, answer: Answer, tag: u32, now: u64) -> Step
-        ensures tells { PassesOn answer.told self.old self.new }
+        ensures tells { PassesOn answer.told (ending_by (is_some answer.reply))
+            self.old self.new }
         ensures refused { (r : Reason) → result ≡ step.Refused r
             → (answer ≡ silent) × (self.new ≡ self.old) }
         ensures expected { AsExpected (speaks answer) result }
@@ -163,8 +165,7 @@ impl Association {
         ensures peer { KeepsPeer self.old self.new }
         ensures whole { result ≡ step.Cut → ⊥ }
         ensures next { result ≡ step.Next → ⊥ }
-        ensures row { result ≡ step.Stop → (now : ℕ)
-            → FollowsStep (on_abort self.old.machine) 0 now self.old self.new }
+        ensures row { result ≡ step.Stop → IsAbortedByPeer self.old self.new }
         ensures expected { AsExpected (speaks (on_abort self.old.machine).answer) result }
     {
         let answer = self.machine.abort();

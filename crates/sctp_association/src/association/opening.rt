@@ -8,7 +8,7 @@ ghost use Rattle.sctp_association.specs.Cookies.{IsAlive, IsSealed, cookie_in};
 ghost use Rattle.sctp_association.specs.Halves.{HalvesAlike, halves_of};
 ghost use Rattle.sctp_association.specs.Expected.{AsExpected, BringsCookie, IsEchoExpected, IsInitAckExpected, IsInitExpected, may_begin, speaks};
 ghost use Rattle.sctp_association.specs.Openings.{EchoesOn, InitAckOn, owed_to_init};
-ghost use Rattle.sctp_association.specs.Reports.{AnswersHostName, EndsBegun, EndsByHostName, value_in};
+ghost use Rattle.sctp_association.specs.Reports.{AnswersHostName, EndsBegun, EndsByHostName, report_with, value_in};
 ghost use Rattle.sctp_association.specs.Rows.{StepsOn};
 ghost use Rattle.sctp_association.specs.Steps.{is_taken};
 ghost use Rattle.sctp_association.specs.Telling.{Tells, TellsEnd};
@@ -159,7 +159,9 @@ impl Association {
     fn note_params(&mut self, reported: Option<Bytes>)
         ensures rest { self.new ≡ record self.old { due = self.new.due } }
         ensures owes { OwesNoMore self.old self.new }
-        ensures due { self.new.due ≡ record self.old.due { report = self.new.due.report } }
+        ensures due { self.new.due ≡ record self.old.due {
+          report = report_with reported self.old.due.report;
+        } }
     {
         if let Some(raw) = reported {
             self.due.report = Some(Report { code: 8, raw });

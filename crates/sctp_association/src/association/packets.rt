@@ -11,13 +11,15 @@ ghost use Rattle.sctp_association.specs.Kept.{IsUnmoved};
 ghost use Rattle.sctp_association.specs.Lasting.{LastsNoLonger};
 ghost use Rattle.sctp_association.specs.Leaving.{AsksNoMore, IsDueOrData, LeavesBy, LeavesInto, OwesNothingNew, beats, owed_at, owed_before, owed_of, replies_of};
 ghost use Rattle.sctp_association.specs.Most.{FewerWherePut, most_data, most_packets};
-ghost use Rattle.sctp_association.specs.Offering.{HasFirst, IsInitWith, IsReplyOf, OffersAsDue, PutsReply};
+ghost use Rattle.sctp_association.specs.Offering.{IsReplyOf, OffersAsDue, PutsReply, answered, init_with};
 ghost use Rattle.sctp_association.specs.declared.due.AloneKind.{AloneKind};
 ghost use Rattle.sctp_association.specs.Replying.{AddsReply, IsReply, LeavesAlone, PutsOne, header_to, host_name_causes};
-ghost use Rattle.sctp_association.specs.Reports.{one_cause};
+ghost use Rattle.sctp_association.specs.Reports.{one_cause, unrecognized_in};
+ghost use Rattle.sctp_association.specs.Rows.{SettlesToSend};
 ghost use Rattle.sctp_association.specs.Sending.{IsTimed};
 ghost use Rattle.sctp_association.specs.Still.{IsLater, heartbeat_time};
 ghost use Rattle.sctp_association.specs.Telling.{Tells};
+ghost use Rattle.sctp_association.specs.Timers.{EntersTimers};
 ghost use Rattle.sctp_association.specs.Packets.{IsPacketOf, IsWritten, Transmits};
 ghost use Rattle.sctp_chunks.specs.Init.{init_of};
 ghost use Rattle.sctp_chunks.specs.Wire.{abort_chunk, error_chunk};
@@ -82,6 +84,11 @@ impl Association {
         // The peer may use the same streams.
         ensures usable { (s : ℕ) → usable_in s self.new.inbound ≡ usable_in s self.old.inbound }
         ensures left { LastsNoLonger self.old self.new }
+        // The shutdown that was asked for begins, and goes on where nothing waits or is in flight (RFC 9260 9.2).
+        ensures settles { self.old.due.alone ≡ None → self.old.is_over ≡ false
+            → OnOk result (SettlesToSend now self.old self.new) }
+        // T2-shutdown, and T5-shutdown-guard, begin as its state is entered, whatever is answered.
+        ensures timers { EntersTimers now self.old self.new }
         // The one reply that is due leaves first, in a packet of its own, with exactly its chunks.
         ensures reply { IfSome self.old.due.alone (λ alone. IfOk result
             (λ sent. (sent ≡ true) × LeavesAlone alone self.old self.new)) }
@@ -237,7 +244,9 @@ impl Association {
 
     // An INIT, or with a cookie an INIT ACK, with an offer. An INIT ACK has what it reports before what it offers.
     fn init_of(&self, own: Offer, cookie: Option<Bytes>) -> Result<ChunkInit, Fault>
-        ensures { IfOk result (λ i. IsInitWith own cookie (init_of i)) }
+        ensures { IfOk result (λ i. init_of i ≡ init_with own cookie (unrecognized_in
+            (self.now.draft.limit - length self.now.draft.bytes - 132)
+            self.now.due.unknown_params)) }
     {
         let is_ack = cookie.is_some();
         let mut params = self.first_params(cookie)?;
@@ -267,7 +276,10 @@ impl Association {
 
     // The parameters before those that an offer has: with a cookie it goes first, and then what is reported.
     fn first_params(&self, cookie: Option<Bytes>) -> Result<Vec<ParamKind>, Fault>
-        ensures { IfOk result (λ params. HasFirst cookie (map parameter_of params.items)) }
+        ensures { IfOk result (λ params. map parameter_of params.items
+            ≡ answered cookie (unrecognized_in
+            (self.now.draft.limit - length self.now.draft.bytes - 132)
+            self.now.due.unknown_params)) }
     {
         let mut params = Vec::new(self.alloc);
         let Some(cookie) = cookie else {

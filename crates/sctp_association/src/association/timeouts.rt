@@ -43,7 +43,10 @@ fn owe_again(due: &mut Due, reply: Option<Reply>)
 
 impl Association {
     ghost use Rattle.sctp_association.specs.Still.{IsBy, IsStill, heartbeat_time, is_behind};
+    ghost use Rattle.sctp_association.specs.Ends.{IsAborted, IsUnanswered};
     ghost use Rattle.sctp_association.specs.Failing.{IsCounted, IsGuarded, IsTimedOut};
+    ghost use Rattle.sctp_association.specs.declared.due.AloneKind.TheVariants.{Abort};
+    ghost use Rattle.sctp_handshake.specs.declared.state.State.TheVariants.{Closed};
 
     /// The earliest moment at which `handle_timeout` and `poll_transmit` have something to do, though nothing comes; 0 where they have it now.
     /// None only where nothing waits, nothing is in flight, and no handshake, shutdown or reset is under way.
@@ -120,8 +123,12 @@ impl Association {
         ensures untold { is_due now self.old.outbound.timer.at ≡ false
             → self.new.outbound.timeouts ≡ self.old.outbound.timeouts }
         ensures resent { self.new.outbound.resent ≡ self.old.outbound.resent }
-        // A shutdown ends: it lasts until T5-shutdown-guard expires at most.
-        ensures guard { is_due now self.old.guard.at ≡ true → self.new.is_over ≡ true }
+        // A shutdown ends: it lasts until T5-shutdown-guard expires at most. By it this side ends the association with an ABORT.
+        ensures guard { self.old.is_over ≡ false → is_due now self.old.guard.at ≡ true
+            → IsAborted (Abort 12) self.old.machine.peer self.new }
+        // Else it is over only since the peer did not answer (8.1).
+        ensures unanswered { self.old.is_over ≡ false → is_due now self.old.guard.at ≡ false
+            → self.new.is_over ≡ true → IsUnanswered self.new }
         ensures guarded { (self.new.is_over ≡ true) ⊎ IsGuarded self.new }
         // With each expiry fewer are left until it is over, while nothing of the peer comes.
         ensures left { Expires (expires now self.old) self.old self.new }
@@ -164,6 +171,8 @@ impl Association {
             ≡ record self.old.outbound { rto = self.new.outbound.rto } }
         ensures inbound { self.new.inbound ≡ self.old.inbound }
         ensures guarded { (self.new.is_over ≡ true) ⊎ IsGuarded self.new }
+        ensures unanswered { self.old.is_over ≡ false → self.new.is_over ≡ true
+            → IsUnanswered self.new }
         ensures left { self.old.is_over ≡ false
             → Expires (expires_control now self.old) self.old self.new }
         ensures peer { KeepsPeer self.old self.new }
@@ -188,6 +197,8 @@ impl Association {
         ensures outbound { self.new.outbound
             ≡ record self.old.outbound { rto = self.new.outbound.rto } }
         ensures inbound { self.new.inbound ≡ self.old.inbound }
+        ensures unanswered { self.old.is_over ≡ false → self.new.is_over ≡ true
+            → IsUnanswered self.new }
         ensures left { self.old.is_over ≡ false
             → Expires (is_some (timer self.old.machine.state)) self.old self.new }
         ensures peer { KeepsPeer self.old self.new }
@@ -207,7 +218,8 @@ impl Association {
 
     // The timer of the state runs, where it has one.
     fn start_control(&mut self, now: u64)
-        ensures { self.new ≡ record self.old { control = self.new.control } }
+        ensures closed { self.old.machine.state ≡ Closed → self.new.control.at ≡ None }
+        ensures rest { self.new ≡ record self.old { control = self.new.control } }
     {
         match self.machine.state().timer() {
             Some(_) => self.control.start(now, self.outbound.rto.get()),
@@ -270,6 +282,7 @@ impl Association {
     fn fail(&mut self)
         ensures tells { TellsEnd self.old self.new }
         ensures over { self.new.is_over ≡ true }
+        ensures unanswered { IsUnanswered self.new }
         ensures outbound { self.new.outbound ≡ self.old.outbound }
         ensures inbound { self.new.inbound ≡ self.old.inbound }
         ensures peer { KeepsPeer self.old self.new }

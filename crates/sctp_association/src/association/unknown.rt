@@ -1,15 +1,16 @@
 //! What the peer sent and this side does not know (RFC 9260 3.2, 3.2.1, 3.2.2).
 
-ghost use Rattle.std.specs.Prelude.{◌≡◌, ◌⊎◌, ◌+◌, ◌<◌, ◌≤◌, ℕ, None, Ok, IfOk, IfSome, OnOk, OnErr, length};
+ghost use Rattle.std.specs.Prelude.{◌≡◌, ◌⊎◌, ◌+◌, ◌-◌, ◌<◌, ◌≤◌, ◌++◌, ℕ, if◌then◌else◌, None, Some, Ok, IfOk, IfSome, OnOk, OnErr, length, map};
 ghost use Rattle.sctp_association.specs.Halves.{PutsOthers};
 ghost use Rattle.sctp_association.specs.Kept.{OwesNoMore};
 ghost use Rattle.sctp_association.specs.Leaving.{replies_of};
-ghost use Rattle.sctp_association.specs.Offering.{IsLonger};
-ghost use Rattle.sctp_association.specs.Reports.{host_name_told, most_reported, reported_after};
+ghost use Rattle.sctp_association.specs.Reports.{host_name_told, most_reported, params_told, reported_after, unrecognized_in};
 ghost use Rattle.sctp_association.specs.Rows.{StepsOn};
 ghost use Rattle.sctp_association.specs.declared.association.Reason.{Reason};
 ghost use Rattle.sctp_association.specs.declared.association.arrivals.Step.TheVariants as step;
+ghost use Rattle.sctp_handshake.specs.InitValues.{is_param, place};
 ghost use Rattle.sctp_handshake.specs.Machines.{dropped};
+ghost use Rattle.sctp_params.specs.ParamKind.{parameter_of};
 
 use super::arrivals::{Step, bytes_of};
 use super::{Association, Reason};
@@ -35,6 +36,18 @@ const BEFORE_CAUSE: usize = 12 + 4 + 4;
 
 // The most bytes of an INIT ACK of this side beside what it reports: header, numbers, cookie, and what it offers.
 const MOST_INIT_ACK: usize = 4 + 16 + 92 + 4 + 8 + 8;
+
+// Where the parameter lies that begins at a place.
+fn told_at(raw: &[u8], at: usize) -> Option<ParamPlace>
+    ensures place { result
+        ≡ (if is_param raw.now at then Some (place raw.now at) else None) }
+    ensures within { IfSome result (λ p. at + (4 + p.length) ≤ length raw.now) }
+{
+    match param_at(raw, at) {
+        Ok(place) => Some(place),
+        Err(_) => None,
+    }
+}
 
 impl Association {
     // How many bytes an ERROR with one cause tells at most, so that it fits into a packet.
@@ -80,7 +93,7 @@ impl Association {
     /// The parameters in the value of an INIT or an INIT ACK that their sender is told of, with padding between them, as many as fit into a
     /// packet (RFC 9260 3.2.2). Where there is none it takes no memory.
     pub(super) fn reported_in(&self, value: &[u8]) -> Result<Option<Bytes>, Fault>
-        ensures { IfOk result (λ o. IfSome o (λ raw. length raw ≤ self.now.config.mtu)) }
+        ensures { IfOk result (λ o. o ≡ params_told self.now.config.mtu value.now) }
     {
         let most = self.most_reported();
         let mut raw = BytesMut::new(self.alloc);
@@ -89,7 +102,7 @@ impl Association {
             let Some(one) = Reported::first_from(value, from) else {
                 break;
             };
-            let param = value.get(one.from..one.to).unwrap_or(&[]);
+            let param = &value[one.from..one.to];
             let padding = get_padding_size(raw.len());
             if param.len() + padding > most - raw.len() {
                 break;
@@ -123,7 +136,9 @@ impl Association {
 
     /// Adds an Unrecognized Parameter to an INIT ACK for each parameter that is reported of the INIT, as many as fit (RFC 9260 3.2.2).
     pub(super) fn push_reported(&self, params: &mut Vec<ParamKind>) -> Result<(), Fault>
-        ensures { IsLonger params.old.items params.new.items }
+        ensures { OnOk result (map parameter_of params.new.items ≡ map parameter_of params.old.items
+            ++ unrecognized_in (self.now.draft.limit - length self.now.draft.bytes - 132)
+            self.now.due.unknown_params) }
     {
         let Some(raw) = &self.due.unknown_params else {
             return Ok(());
@@ -131,17 +146,16 @@ impl Association {
         let mut left = self.draft.room().saturating_sub(MOST_INIT_ACK);
         let mut at = 0;
         for _seen in 0..raw.len() {
-            let Ok(place) = param_at(raw.as_slice(), at) else {
+            let Some(place) = told_at(raw.as_slice(), at) else {
                 break;
             };
             // With its header and its padding.
-            let takes = (place.next - at).saturating_add(4 + 3) & !3;
-            let to = place.at.saturating_add(place.length);
-            if takes > left || to > raw.len() || at > to {
+            let length = 4 + place.length;
+            if length > left.saturating_sub(4) / 4 * 4 {
                 break;
             }
-            left -= takes;
-            let value = raw.slice(at..to)?;
+            left -= 4 + length + get_padding_size(length);
+            let value = raw.slice(at..at + length)?;
             params.push(ParamKind::Unknown(ParamUnknown {
                 typ: UNRECOGNIZED_PARAMETER,
                 value,

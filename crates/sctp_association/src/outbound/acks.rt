@@ -322,7 +322,6 @@ impl Outbound {
           rto = self.new.rto;
           measured = self.new.measured;
           is_fast = self.new.is_fast;
-          has_lost = self.new.has_lost;
         } }
         ensures limits { self.new.rto.limits ≡ self.old.rto.limits }
     {
@@ -335,7 +334,6 @@ impl Outbound {
             self.congestion
                 .lost(acked, self.sender.next_tsn().wrapping_sub(1));
             self.is_fast = true;
-            self.has_lost = true;
         }
     }
 }

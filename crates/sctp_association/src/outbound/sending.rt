@@ -7,7 +7,7 @@ ghost use Rattle.sctp_association.specs.Filled.{IfNonePut};
 ghost use Rattle.sctp_association.specs.Idle.{SendsNoneAgain, SendsNoneNew, WaitsBehind, WaitsForSacks, in_flight};
 ghost use Rattle.sctp_association.specs.Most.{FewerWherePut, most_data};
 ghost use Rattle.sctp_association.specs.Packets.{PutsOut, PutsSkip};
-ghost use Rattle.sctp_association.specs.Sending.{EndsWithin, IsTimed, flight_of, idle_times, is_early, is_front_late, is_later, lowered_times, lowered, may_send_again, may_send_next, sent_at};
+ghost use Rattle.sctp_association.specs.Sending.{EndsWithin, IsTimed, flight_of, idle_times, is_early, is_front_late, is_later, lowered_times, lowered, marked_in, may_send_again, may_send_next, sent_at};
 ghost use Rattle.sctp_outbound.specs.pending_queue.PendingQueue.{chunk_count, next_pending};
 ghost use Rattle.sctp_path.specs.Rto.{smoothed_of};
 ghost use Rattle.sctp_sender.specs.Resending.{is_to_resend, next_within};
@@ -191,7 +191,6 @@ impl Outbound {
         }
         // Where none is marked, what waits may go.
         if self.sender.outstanding().marked == 0 {
-            self.has_lost = false;
             return Ok(false);
         }
         self.put_first(packet, now)
@@ -302,15 +301,15 @@ impl Outbound {
     fn begin_new(&mut self, now: u64) -> bool
         ensures sender { self.new.sender ≡ self.old.sender }
         ensures counts { CountsNone self.old self.new }
-        ensures lost { self.new.has_lost ≡ self.old.has_lost }
         ensures skip { self.new.is_skip_due ≡ self.old.is_skip_due }
         ensures begins { path_of self.new ≡ begun now self.old.rto result (path_of self.old) }
         ensures waits { result ≡ true → 0 < chunk_count self.old.sender.flight.queue.pending }
-        ensures none { result ≡ false → (self.old.has_lost ≡ true)
+        ensures clear { result ≡ true → marked_in self.old.sender ≡ 0 }
+        ensures none { result ≡ false → (0 < marked_in self.old.sender)
             ⊎ (chunk_count self.old.sender.flight.queue.pending ≡ 0) }
     {
         self.begin_burst(now);
-        if self.has_lost || self.sender.outbound().pending_len() == 0 {
+        if self.has_marked() || self.sender.outbound().pending_len() == 0 {
             return false;
         }
         if self.sender.outbound().inflight_len() == 0 {

@@ -1,11 +1,11 @@
 use Rattle.std.proofs.Common.{Some, inl, inr, ap, refl, subst, sym, ◌≡◌, ◌⊎◌, ◌∙◌}
-use Rattle.std.specs.Prelude.{◌≢◌}
+use Rattle.std.specs.Prelude.{◌≢◌, is_some}
 use Rattle.sctp_association.proofs.Rows.{follows_told}
 use Rattle.sctp_association.proofs.Telling.{end_same, end_then, tells_due}
 use Rattle.sctp_association.proofs.association.Association.follow_answer.Goals as goal
 use Rattle.sctp_association.proofs.association.Association.follow_answer.Goals.{else-begins_timer, in-Some, in_default, then-begins_timer}
 use Rattle.sctp_association.specs.Rows.{owed_by}
-use Rattle.sctp_association.specs.Telling.{PassesOn, TellsEnd}
+use Rattle.sctp_association.specs.Telling.{IsPassedOn, PassesOn, TellsEnd, ending_by}
 use Rattle.sctp_association.specs.Timers.{KeepsTimers, StartsTimers}
 use Rattle.sctp_association.specs.declared.association.Association.{Association}
 use Rattle.sctp_association.specs.declared.due.Due.{Due}
@@ -26,7 +26,11 @@ returns-in-Some-told-clause-tells c =
       | in_default w ↦ end_same _ _ w.self-is
     ] in
     let told = c.tell.ensures.tells in
-    subst (λ t. PassesOn t c.args.self.now c.tell.new.self) (sym c.in-Some-told.is) (record { end = end_then (end_then first next) told.end; told = told.told })
+    let how : ending_by c.is_some.result ≡ ending_by (is_some c.args.answer.reply) = ap ending_by c.is_some.ensures in
+    subst (λ t. PassesOn t (ending_by (is_some c.args.answer.reply)) c.args.self.now c.tell.new.self) (sym c.in-Some-told.is) (record {
+      end = end_then (end_then first next) told.end;
+      told = subst (λ h. IsPassedOn (Some c.in-Some-told.told) h c.tell.new.self.events) how told.told;
+    })
 
 pub returns-in-Some-told-clause-answer : goal.returns-in-Some-told-clause-answer
 returns-in-Some-told-clause-answer c =
@@ -59,4 +63,5 @@ returns-in-Some-told-clause-answer c =
     ] in
     let tell = c.tell.ensures in
     follows_told c.args.answer c.args.tag c.args.before c.args.now old c.if-begins_timer.self c.match-answer.self c.tell.new.self first next start keep
-    c.in-Some-told.told c.in-Some-told.is tell.due tell.over tell.tells.told tell.wants tell.kept.machine tell.kept.config tell.stop tell.keep tell.rto
+    c.in-Some-told.told c.in-Some-told.is tell.due tell.over
+    (subst (λ h. IsPassedOn (Some c.in-Some-told.told) h c.tell.new.self.events) (ap ending_by c.is_some.ensures) tell.tells.told) tell.wants tell.kept.machine tell.kept.config tell.stop tell.keep tell.rto

@@ -1,17 +1,25 @@
 use Rattle.sctp_association.proofs.association.Association.handle_timeout.Goals.{then-time_out-via-then-time_out}
 use Rattle.sctp_association.proofs.association.Association.handle_timeout.Goals.{then-time_out-via-else-time_out+then-has_failed}
 use Rattle.sctp_association.specs.Telling.{TellsEnd}
-use Rattle.std.proofs.Common.{Bool, ap, false, sym, ◌≡◌, ◌∙◌}
+use Rattle.std.proofs.Common.{Bool, ap, false, refl, sym, ◌≡◌, ◌∙◌}
 use Rattle.std.specs.Prelude.{◌&&◌, not}
-use Rattle.sctp_association.proofs.BackOff.{failures_is, rto_is, unanswered_same}
+use Rattle.sctp_association.proofs.BackOff.{doubled_limits, failures_is, rto_is, unanswered_same}
+use Rattle.sctp_association.specs.Beginnings.{KeepsPeer}
+use Rattle.sctp_path.specs.Rto.{Timeout}
 use Rattle.sctp_association.specs.BackOff.{is_unanswered}
 use Rattle.sctp_association.specs.declared.association.Association.{Association}
-use Rattle.sctp_association.proofs.Known.{knows_same}
+use Rattle.sctp_association.proofs.Known.{keeps_by, keeps_then, knows_same, owes_same, within_by}
 use Rattle.sctp_association.proofs.Lasting.{counted_most, expires_over, t3_most, timed_lasts}
 use Rattle.sctp_association.specs.declared.outbound.Outbound.{Outbound}
 use Rattle.sctp_path.specs.Timers.{is_due}
 use Rattle.sctp_association.proofs.Telling.{end_same, tells_kept, tells_peer, tells_then}
 use Rattle.sctp_association.proofs.association.Association.handle_timeout.Goals as goal
+
+-- the machine, what is due, and the limits of what is sent stay
+still_timed : (a b : Association) → b.config ≡ a.config → b.key ≡ a.key → b.machine ≡ a.machine → b.due ≡ a.due
+    → b.outbound.failures.most ≡ a.outbound.failures.most → b.outbound.rto.limits ≡ a.outbound.rto.limits → KeepsPeer a b
+still_timed a b config key machine due most limits =
+    keeps_by a b a.machine (knows_same a.machine a.machine refl) config key machine (owes_same a b due) (within_by a b config most limits)
 
 pub returns-then-time_out-clause-tells : goal.returns-then-time_out-clause-tells
 returns-then-time_out-clause-tells c =
@@ -121,3 +129,34 @@ returns-then-time_out-clause-inbound c =
       | then-time_out-via-else-time_out+then-has_failed w ↦ ap (λ (x : Association). x.inbound) (w.self-is ∙ w.has_failed.ensures.rest)
     ] in
     c.fail.ensures.inbound ∙ same ∙ c.time_out_control.ensures.inbound
+
+-- ## What stays
+
+pub returns-then-time_out-clause-peer : goal.returns-then-time_out-clause-peer
+returns-then-time_out-clause-peer c =
+    let ran = c.time_out_control.new.self in
+    let end = c.then-time_out.self in
+    let limits = c.time_out.ensures.limits in
+    let still : KeepsPeer ran end = elim c.then-time_out.branch [
+      | then-time_out-via-then-time_out w ↦ still_timed ran end (ap (λ (x : Association). x.config) w.self-is) (ap (λ (x : Association). x.key) w.self-is)
+          (ap (λ (x : Association). x.machine) w.self-is) (ap (λ (x : Association). x.due) w.self-is)
+          (ap (λ (x : Association). x.outbound.failures.most) w.self-is ∙ limits.0) (ap (λ (x : Association). x.outbound.rto.limits) w.self-is ∙ limits.1)
+      | then-time_out-via-else-time_out+then-has_failed w ↦
+          let rest = w.self-is ∙ w.has_failed.ensures.rest in
+          still_timed ran end (ap (λ (x : Association). x.config) rest) (ap (λ (x : Association). x.key) rest) (ap (λ (x : Association). x.machine) rest)
+          (ap (λ (x : Association). x.due) rest)
+          (ap (λ (x : Association). x.outbound.failures.most) w.self-is ∙ counted_most _ _ w.has_failed.ensures.counted ∙ limits.0)
+          (ap (λ (x : Association). x.outbound.rto.limits) w.self-is ∙ ap (λ (t : Timeout). t.limits) w.has_failed.ensures.backs_off
+          ∙ doubled_limits _ _ ∙ limits.1)
+    ] in
+    keeps_then _ end _ (keeps_then _ ran end c.time_out_control.ensures.peer still) c.fail.ensures.peer
+
+pub returns-else-has_failed-clause-peer : goal.returns-else-has_failed-clause-peer
+returns-else-has_failed-clause-peer c =
+    let ran = c.time_out_control.new.self in
+    let limits = c.time_out.ensures.limits in
+    let rest = c.has_failed.ensures.rest in
+    keeps_then _ ran _ c.time_out_control.ensures.peer (still_timed ran c.has_failed.new.self (ap (λ (x : Association). x.config) rest)
+    (ap (λ (x : Association). x.key) rest) (ap (λ (x : Association). x.machine) rest) (ap (λ (x : Association). x.due) rest)
+    (counted_most _ _ c.has_failed.ensures.counted ∙ limits.0)
+    (ap (λ (t : Timeout). t.limits) c.has_failed.ensures.backs_off ∙ doubled_limits _ _ ∙ limits.1))

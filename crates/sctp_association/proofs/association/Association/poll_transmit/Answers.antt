@@ -12,6 +12,9 @@ use Rattle.sctp_association.proofs.Leaving.{leaves_later, leaves_same, new_then,
 use Rattle.sctp_association.proofs.Lasting.{lasts_same, lasts_then, lasts_unmoved}
 use Rattle.sctp_association.proofs.Offering.{offers_none, offers_reply}
 use Rattle.sctp_association.proofs.Owing.{rto_asks}
+use Rattle.sctp_association.proofs.Idle.{on_ok}
+use Rattle.sctp_association.proofs.Rows.{settles_enters}
+use Rattle.sctp_association.proofs.Timers.{enters_from, enters_same, enters_then}
 use Rattle.sctp_association.proofs.Others.{alike_same, at_then, beats_same, before_then, none_sent_so, sent_alone, unsent, unsent_alike, unsent_err}
 use Rattle.sctp_association.proofs.association.Association.poll_transmit.Goals as goal
 use Rattle.sctp_association.specs.Congested.{PausesWithin}
@@ -318,3 +321,62 @@ returns-clause-fewer c sent =
     (subst (λ (o : Outbound). most_data o ≤ most_data c.args.self.now.outbound) (sym c.settle.ensures.sending) c.abandon.ensures.fewer) in
     let less = c.put_packet.ensures.fewer sent in
     omega (arith, settled, less)
+
+-- ## A shutdown goes on
+
+pub returns-in-Some-clause-settles : goal.returns-in-Some-clause-settles
+returns-in-Some-clause-settles c none = absurd (none-some c.in-Some.alone (sym none ∙ c.in-Some.is))
+
+pub returns-in_default-peer-clause-settles : goal.returns-in_default-peer-clause-settles
+returns-in_default-peer-clause-settles c none going =
+    let settles = c.settle.ensures.settles in
+    record {
+      kept = c.abandon.new.self.sender;
+      dropped = c.abandon.ensures.dropped;
+      machine = settles.machine;
+      over = settles.over;
+      wants = settles.wants;
+      timers = enters_from c.args.now c.args.self.now _ _ refl refl refl (settles_enters c.args.now _ _ settles);
+    }
+
+pub returns-clause-settles : goal.returns-clause-settles
+returns-clause-settles c none going =
+    let settles = c.settle.ensures.settles in
+    let kept = c.put_packet.ensures.kept in
+    on_ok c.put_packet.result (record {
+      kept = c.abandon.new.self.sender;
+      dropped = c.abandon.ensures.dropped;
+      machine = kept.machine ∙ settles.machine;
+      over = kept.over ∙ settles.over;
+      wants = kept.wants ∙ settles.wants;
+      timers = enters_then c.args.now c.args.self.now c.settle.new.self c.put_packet.new.self
+          (enters_from c.args.now c.args.self.now _ _ refl refl refl (settles_enters c.args.now _ _ settles)) kept.machine kept.config kept.rto kept.control
+          kept.guard;
+    })
+
+pub returns-in_err-put_alone-clause-timers : goal.returns-in_err-put_alone-clause-timers
+returns-in_err-put_alone-clause-timers c =
+    let kept = c.put_alone.ensures.kept in
+    enters_same c.args.now c.args.self.now c.put_alone.new.self (ap (λ (m : Machine). m.state) kept.machine) kept.control kept.guard
+
+pub returns-in-Some-clause-timers : goal.returns-in-Some-clause-timers
+returns-in-Some-clause-timers c =
+    let kept = c.put_alone.ensures.kept in
+    enters_same c.args.now c.args.self.now _ (ap (λ (m : Machine). m.state) kept.machine) kept.control kept.guard
+
+pub returns-then-self-clause-timers : goal.returns-then-self-clause-timers
+returns-then-self-clause-timers c = enters_same c.args.now c.args.self.now _ refl refl refl
+
+pub returns-in_err-abandon-clause-timers : goal.returns-in_err-abandon-clause-timers
+returns-in_err-abandon-clause-timers c = enters_same c.args.now c.args.self.now _ refl refl refl
+
+pub returns-in_default-peer-clause-timers : goal.returns-in_default-peer-clause-timers
+returns-in_default-peer-clause-timers c =
+    enters_from c.args.now c.args.self.now _ _ refl refl refl (settles_enters c.args.now _ _ c.settle.ensures.settles)
+
+pub returns-clause-timers : goal.returns-clause-timers
+returns-clause-timers c =
+    let kept = c.put_packet.ensures.kept in
+    enters_then c.args.now c.args.self.now c.settle.new.self c.put_packet.new.self
+    (enters_from c.args.now c.args.self.now _ _ refl refl refl (settles_enters c.args.now _ _ c.settle.ensures.settles)) kept.machine kept.config kept.rto
+    kept.control kept.guard

@@ -96,7 +96,7 @@ returns-in-4-clause-alone c other tag =
     (λ is. absurd (omega (arith, is, typ))) (λ is. absurd (omega (arith, is, typ))) (λ is. c.take_heartbeat.ensures.answers)
     (λ is. absurd (omega (arith, is, typ))) (λ is. absurd (omega (arith, is, typ))) (λ is. absurd (omega (arith, is, typ)))
     (λ is. absurd (omega (arith, is, typ)))
-    (λ e. row_steps c.args.chunk d c.args.now c.args.self.now c.take_heartbeat.new.self (dropped c.args.self.now.machine) 0
+    (λ e. row_steps c.args.chunk d c.args.now c.args.self.now c.take_heartbeat.new.self (dropped c.args.self.now.machine) 0 (λ is. omega (arith, is, typ))
     (row_typ c.args.chunk d c.args.now c.args.self.now _ typ) (ap (λ n. tag_to n c.args.self.now.machine) typ)
     c.take_heartbeat.result (c.take_heartbeat.ensures.row c.args.now))
 
@@ -108,7 +108,7 @@ returns-in-5-clause-alone c other tag =
     (λ is. absurd (omega (arith, is, typ))) (λ is. absurd (omega (arith, is, typ))) (λ is. absurd (omega (arith, is, typ)))
     (λ is. c.take_heartbeat_ack.ensures.beats) (λ is. absurd (omega (arith, is, typ))) (λ is. absurd (omega (arith, is, typ)))
     (λ is. absurd (omega (arith, is, typ)))
-    (λ e. row_steps c.args.chunk d c.args.now c.args.self.now c.take_heartbeat_ack.new.self (dropped c.args.self.now.machine) 0
+    (λ e. row_steps c.args.chunk d c.args.now c.args.self.now c.take_heartbeat_ack.new.self (dropped c.args.self.now.machine) 0 (λ is. omega (arith, is, typ))
     (row_typ c.args.chunk d c.args.now c.args.self.now _ typ) (ap (λ n. tag_to n c.args.self.now.machine) typ)
     c.take_heartbeat_ack.result c.take_heartbeat_ack.ensures.row)
 
@@ -117,7 +117,7 @@ returns-in-6-clause-alone c other tag =
     let typ : c.args.chunk.typ ≡ 6 = search rules in
     alone_plain c.args.chunk tag c.args.datagram.now c.args.now c.args.self.now c.take_abort.new.self (Ok c.take_abort.result) 6 typ refl
     (row_abort c.args.chunk c.args.datagram.now c.args.now c.args.self.now c.take_abort.new.self c.take_abort.result typ
-    c.take_abort.ensures.next (λ is. c.take_abort.ensures.row is c.args.now))
+    c.take_abort.ensures.next c.take_abort.ensures.row)
 
 pub returns-in-7-clause-alone : goal.returns-in-7-clause-alone
 returns-in-7-clause-alone c other tag =
@@ -127,7 +127,7 @@ returns-in-7-clause-alone c other tag =
     (λ is. absurd (omega (arith, is, typ))) (λ is. absurd (omega (arith, is, typ))) (λ is. absurd (omega (arith, is, typ)))
     (λ is. absurd (omega (arith, is, typ))) (λ is. c.take_shutdown.ensures.shuts) (λ is. absurd (omega (arith, is, typ)))
     (λ is. absurd (omega (arith, is, typ)))
-    (λ e. row_steps c.args.chunk d c.args.now c.args.self.now c.take_shutdown.new.self (on_shutdown c.args.self.now.machine) 0
+    (λ e. row_steps c.args.chunk d c.args.now c.args.self.now c.take_shutdown.new.self (on_shutdown c.args.self.now.machine) 0 (λ is. omega (arith, is, typ))
     (row_typ c.args.chunk d c.args.now c.args.self.now _ typ) (ap (λ n. tag_to n c.args.self.now.machine) typ)
     c.take_shutdown.result c.take_shutdown.ensures.row)
 
@@ -142,7 +142,7 @@ returns-in-8-clause-alone c other tag =
     follows_from _ _ c.args.self.now.machine.state _ _ c.args.self.now _ _ (c.take_answer.ensures.answer is) c.state-before.ensures refl refl refl refl refl
     ) in
     alone_plain c.args.chunk tag d c.args.now c.args.self.now c.take_answer.new.self (Ok c.take_answer.result) 8 typ refl
-    (row_steps c.args.chunk d c.args.now c.args.self.now c.take_answer.new.self (on_shutdown_ack c.args.self.now.machine) c.peer_tag-tag.result
+    (row_steps c.args.chunk d c.args.now c.args.self.now c.take_answer.new.self (on_shutdown_ack c.args.self.now.machine) c.peer_tag-tag.result (λ is. omega (arith, is, typ))
     (row_typ c.args.chunk d c.args.now c.args.self.now _ typ) (ap (λ n. tag_to n c.args.self.now.machine) typ ∙ sym c.peer_tag-tag.ensures)
     (Ok c.take_answer.result) (steps_on _ _ _ _ _ c.take_answer.result steps c.take_answer.ensures.next c.take_answer.ensures.whole))
 
@@ -156,7 +156,7 @@ returns-in-9-clause-alone c other tag =
     (λ is. cause_on c.args.chunk d c.take_error.result c.args.self.now c.take_error.new.self c.take_error.ensures.next c.take_error.ensures.whole
     c.take_error.ensures.cause) (λ is. absurd (omega (arith, is, typ)))
     (λ e. row_steps c.args.chunk d c.args.now c.args.self.now c.take_error.new.self (error_row (cause_in d c.args.chunk)
-    (fresh_tag c.args.self.now.key c.args.now c.args.self.now.machine.own) c.args.self.now.machine) 0
+    (fresh_tag c.args.self.now.key c.args.now c.args.self.now.machine.own) c.args.self.now.machine) 0 (λ is. omega (arith, is, typ))
     (row_typ c.args.chunk d c.args.now c.args.self.now _ typ) (ap (λ n. tag_to n c.args.self.now.machine) typ)
     (Ok c.take_error.result) c.take_error.ensures.row)
 
@@ -165,7 +165,7 @@ returns-in-11-clause-alone c other tag =
     let typ : c.args.chunk.typ ≡ 11 = search rules in
     let d = c.args.datagram.now in
     alone_plain c.args.chunk tag d c.args.now c.args.self.now c.take_cookie_ack.new.self (Ok c.take_cookie_ack.result) 11 typ refl
-    (row_steps c.args.chunk d c.args.now c.args.self.now c.take_cookie_ack.new.self (on_cookie_ack c.args.self.now.machine) 0
+    (row_steps c.args.chunk d c.args.now c.args.self.now c.take_cookie_ack.new.self (on_cookie_ack c.args.self.now.machine) 0 (λ is. omega (arith, is, typ))
     (row_typ c.args.chunk d c.args.now c.args.self.now _ typ) (ap (λ n. tag_to n c.args.self.now.machine) typ)
     (Ok c.take_cookie_ack.result) c.take_cookie_ack.ensures.row)
 
@@ -181,7 +181,7 @@ returns-in-14-clause-alone c other tag =
     refl refl refl refl refl
     ) in
     alone_plain c.args.chunk tag d c.args.now c.args.self.now c.take_answer-in-14.new.self (Ok c.take_answer-in-14.result) 14 typ refl
-    (row_steps c.args.chunk d c.args.now c.args.self.now c.take_answer-in-14.new.self (on_shutdown_complete c.args.self.now.machine) 0
+    (row_steps c.args.chunk d c.args.now c.args.self.now c.take_answer-in-14.new.self (on_shutdown_complete c.args.self.now.machine) 0 (λ is. omega (arith, is, typ))
     (row_typ c.args.chunk d c.args.now c.args.self.now _ typ) (ap (λ n. tag_to n c.args.self.now.machine) typ)
     (Ok c.take_answer-in-14.result) (steps_on _ _ _ _ _ c.take_answer-in-14.result steps c.take_answer-in-14.ensures.next c.take_answer-in-14.ensures.whole))
 
@@ -192,7 +192,7 @@ returns-in_default-clause-alone c other tag =
     let plain : is_plain c.args.chunk.typ ≡ true = plain_other c.args.chunk.typ other.1 other.2 (search rules) (search rules) (search rules)
     (search rules) other.3 in
     alone_plain c.args.chunk tag d c.args.now c.args.self.now c.note_unknown.new.self c.note_unknown.result c.args.chunk.typ refl plain
-    (row_steps c.args.chunk d c.args.now c.args.self.now c.note_unknown.new.self (dropped c.args.self.now.machine) 0
+    (row_steps c.args.chunk d c.args.now c.args.self.now c.note_unknown.new.self (dropped c.args.self.now.machine) 0 (search rules)
     (row_other c.args.chunk.typ (cause_in d c.args.chunk) _ c.args.self.now.machine other.0 (search rules) (search rules) (search rules)
     (search rules) (search rules) (search rules)) (tag_other c.args.chunk.typ c.args.self.now.machine (search rules))
     c.note_unknown.result (c.note_unknown.ensures.row c.args.now))

@@ -153,15 +153,15 @@ returns-then-is_none-2-clause-tells c =
 
 pub returns-in-Some-StaleCookie-clause-tells : goal.returns-in-Some-StaleCookie-clause-tells
 returns-in-Some-StaleCookie-clause-tells c =
-    tells_cookie _ _ _ _ c.follow.ensures.kept.machine c.follow.ensures.tells.end c.follow.ensures.tells.told _ _ c.cookie_echo-answer.ensures.takes
+    tells_cookie _ _ _ _ _ _ c.follow.ensures.kept.machine c.follow.ensures.tells.end c.follow.ensures.tells _ _ c.cookie_echo-answer.ensures.takes
 
 pub returns-in_default-reply-clause-tells : goal.returns-in_default-reply-clause-tells
 returns-in_default-reply-clause-tells c =
-    tells_cookie _ _ _ _ c.follow.ensures.kept.machine c.follow.ensures.tells.end c.follow.ensures.tells.told _ _ c.cookie_echo-answer.ensures.takes
+    tells_cookie _ _ _ _ _ _ c.follow.ensures.kept.machine c.follow.ensures.tells.end c.follow.ensures.tells _ _ c.cookie_echo-answer.ensures.takes
 
 pub returns-in_default-reply-2-clause-tells : goal.returns-in_default-reply-2-clause-tells
 returns-in_default-reply-2-clause-tells c =
-    tells_cookie _ _ _ _ c.follow.ensures.kept.machine c.follow.ensures.tells.end c.follow.ensures.tells.told _ _ c.cookie_echo-answer.ensures.takes
+    tells_cookie _ _ _ _ _ _ c.follow.ensures.kept.machine c.follow.ensures.tells.end c.follow.ensures.tells _ _ c.cookie_echo-answer.ensures.takes
 
 -- ## The row of its ticket
 

@@ -19,4 +19,4 @@ returns-then-not-may_begin-clause-tells c = tells_same _ _ refl
 pub returns-clause-tells : goal.returns-clause-tells
 returns-clause-tells c =
     let told = c.take_answer.ensures.tells in
-    tells_cookie_ack _ _ _ _ c.take_answer.ensures.kept.machine told.end told.told c.cookie_ack-answer.ensures.takes
+    tells_cookie_ack _ _ _ _ _ _ c.take_answer.ensures.kept.machine told.end told c.cookie_ack-answer.ensures.takes

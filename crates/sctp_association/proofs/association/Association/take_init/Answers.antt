@@ -6,6 +6,9 @@ use Rattle.std.proofs.Common.{Ok, Option, Some, ap, drop, inl, rules, subst, sym
 use Rattle.sctp_association.specs.Openings.{owed_to_init}
 use Rattle.sctp_handshake.specs.declared.answer.Reply.{Reply}
 use Rattle.sctp_association.proofs.Fresh.{fresh_some}
+use Rattle.sctp_association.proofs.Reporting.{told_to_init}
+use Rattle.sctp_association.specs.Reports.{params_told}
+use Rattle.sctp_association.specs.declared.due.Due.{Due}
 use Rattle.sctp_association.proofs.Offers.{init_answered}
 use Rattle.sctp_association.proofs.association.Association.take_init.Goals as goal
 use Rattle.sctp_chunks.specs.Framing.{value_at}
@@ -28,12 +31,19 @@ returns-in_ok-self-in-Some-2-clause-offers c none =
     let due : c.owe_answer.new.self.due ≡ record (
     owed_to_init (Some c.in-Some.reply) c.in-Ok-read_init.said.offer.tag c.args.self.now.due
     ) { unknown_params = c.owe_answer.new.self.due.unknown_params } = search rules in
+    let params : c.in_ok-self-in-Some-2.field-0 ≡ params_told c.args.self.now.config.mtu (value_at (drop c.args.chunk.at c.args.datagram.now)) =
+    search rules in
+    let told : c.owe_answer.new.self.due.unknown_params ≡ params_told c.args.self.now.config.mtu (value_at (drop c.args.chunk.at c.args.datagram.now)) =
+    ap (λ (d : Due). d.unknown_params) c.owe_answer.ensures.due
+    ∙ told_to_init (Some c.in-Some.reply) c.in-Ok-read_init.said.offer.tag (record c.args.self.now.due { unknown_params = c.in_ok-self-in-Some-2.field-0 })
+    ∙ params in
     record {
       said = c.in-Ok-read_init.said;
       reads = reads;
-      due = due ∙ ap (λ (r : Option Reply). record (owed_to_init r c.in-Ok-read_init.said.offer.tag c.args.self.now.due) {
-        unknown_params = c.owe_answer.new.self.due.unknown_params;
-      }) (answer ∙ ap (λ n. init_reply c.in-Ok-read_init.said.offer n c.args.self.now.machine) c.fresh_tag-tag.ensures);
+      due = due ∙ ap (λ u. record (owed_to_init (Some c.in-Some.reply) c.in-Ok-read_init.said.offer.tag c.args.self.now.due) { unknown_params = u }) told
+          ∙ ap (λ (r : Option Reply). record (owed_to_init r c.in-Ok-read_init.said.offer.tag c.args.self.now.due) {
+            unknown_params = params_told c.args.self.now.config.mtu (value_at (drop c.args.chunk.at c.args.datagram.now));
+          }) (answer ∙ ap (λ n. init_reply c.in-Ok-read_init.said.offer n c.args.self.now.machine) c.fresh_tag-tag.ensures);
     }
 
 -- ## What is expected is not refused

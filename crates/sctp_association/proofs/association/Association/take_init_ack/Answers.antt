@@ -4,9 +4,10 @@ use Rattle.sctp_association.proofs.Expected.{init_ack_answered, said_of, value_f
 use Rattle.sctp_association.proofs.Rows.{follows_noted, follows_step}
 use Rattle.sctp_association.proofs.Known.{knows_same, within_same, within_then}
 use Rattle.sctp_association.proofs.Telling.{end_same, end_then, tells_init_ack, tells_kept, to_same}
-use Rattle.std.proofs.Common.{None, Some, ap, inr, refl, rules, subst, ◌+◌, ◌≡◌, ◌∙◌}
+use Rattle.std.proofs.Common.{None, Some, ap, inr, refl, rules, subst, sym, ◌+◌, ◌≡◌, ◌∙◌}
 use Rattle.std.specs.Prelude.{slice_range}
-use Rattle.sctp_association.specs.Reports.{value_in}
+use Rattle.sctp_association.specs.Reports.{params_told, report_with, value_in}
+use Rattle.sctp_association.specs.declared.due.Due.{Due}
 use Rattle.sctp_association.proofs.Arrived.{came_same}
 use Rattle.sctp_association.proofs.Kept.{same_machine}
 use Rattle.sctp_association.proofs.Offered.{offered_alike, offered_kept, offered_same}
@@ -60,7 +61,7 @@ pub returns-clause-tells : goal.returns-clause-tells
 returns-clause-tells c =
     let rest = c.note_params.ensures.rest in
     let told = c.follow.ensures.tells in
-    tells_init_ack _ _ _ _ (c.follow.ensures.kept.machine ∙ ap (λ (x : Association). x.machine) rest) (end_then (end_same _ _ rest) told.end) told.told _
+    tells_init_ack _ _ _ _ _ _ (c.follow.ensures.kept.machine ∙ ap (λ (x : Association). x.machine) rest) (end_then (end_same _ _ rest) told.end) told _
     c.init_ack-answer.ensures.takes
 
 -- ## The row of its offer
@@ -72,19 +73,23 @@ returns-clause-row c =
     let rest = c.note_params.ensures.rest in
     let h = subst (λ (s : State). FollowsAnswer c.init_ack-answer.result c.in-Ok-read_init_ack.read.0.tag s c.args.now c.note_params.new.self c.follow.new.self)
     c.state-before.ensures c.follow.ensures.answer in
+    let noted : c.note_params.new.self.due ≡ record old.due { report = c.note_params.new.self.due.report } = c.note_params.ensures.due
+    ∙ ap (λ r. record old.due { report = r }) (sym (ap (λ (d : Due). d.report) c.note_params.ensures.due)) in
+    let params : c.in_ok-reported.reported ≡ params_told old.config.mtu (value_in c.args.datagram.now c.args.chunk) = search rules in
     record {
       offer = c.in-Ok-read_init_ack.read.0;
       place = c.in-Ok-read_init_ack.read.1;
       reads = search rules;
       follows = follows_step _ _ c.args.now old c.follow.new.self _ _ takes.machine takes.answer
           (c.follow.ensures.kept.machine ∙ ap (λ (x : Association). x.machine) rest)
-          (follows_noted _ _ _ c.args.now old c.note_params.new.self c.follow.new.self c.note_params.ensures.due (ap (λ (x : Association). x.is_over) rest)
+          (follows_noted _ _ _ c.args.now old c.note_params.new.self c.follow.new.self noted (ap (λ (x : Association). x.is_over) rest)
           (ap (λ (x : Association). x.wants_shutdown) rest) (ap (λ (x : Association). x.control) rest) (ap (λ (x : Association). x.guard) rest) h);
       cookie = λ none.
           let kept : c.note_params.new.self.cookie
           ≡ Some (slice_range (value_in c.args.datagram.now c.args.chunk) c.in-Ok-read_init_ack.read.1.at
           (c.in-Ok-read_init_ack.read.1.at + c.in-Ok-read_init_ack.read.1.length)) = search rules in
           (c.follow.ensures.stays (ap (λ a. a.told) takes.answer ∙ none)).cookie ∙ kept;
+      told = c.follow.ensures.report ∙ ap (λ (d : Due). d.report) c.note_params.ensures.due ∙ ap (λ o. report_with o old.due.report) params;
     }
 
 -- ## What is expected is not refused

@@ -101,7 +101,7 @@ returns-in-Taken-clause-path c = (
 pub returns-in-Taken-clause-row : goal.returns-in-Taken-clause-row
 returns-in-Taken-clause-row c =
     let old = c.args.self.now in
-    row_is c.args.chunk c.args.datagram.now c.args.now old _ (dropped old.machine) 0
+    row_is c.args.chunk c.args.datagram.now c.args.now old _ (dropped old.machine) 0 (λ is. omega (arith, is, c.requires.typ))
     (row_typ c.args.chunk c.args.datagram.now c.args.now old _ c.requires.typ) (ap (λ n. tag_to n old.machine) c.requires.typ)
     Next (follows_still 0 c.args.now old _ refl refl refl refl refl refl)
 

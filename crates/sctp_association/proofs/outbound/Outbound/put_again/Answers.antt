@@ -1,11 +1,9 @@
 use Rattle.sctp_association.proofs.Fewer.{fewer_same}
-use Rattle.std.proofs.Common.{ap, refl, sym, ℕ, ◌∙◌}
-use Rattle.std.specs.List.{count_by}
+use Rattle.std.proofs.Common.{ap, refl, sym, ◌∙◌}
 use Rattle.sctp_association.proofs.Congested.{again_where}
 use Rattle.sctp_association.proofs.Idle.{both_so, none_marked, unfit}
 use Rattle.sctp_association.proofs.Putting.{nothing}
 use Rattle.sctp_outbound.specs.declared.payload_queue.outstanding.Outstanding.{Outstanding}
-use Rattle.sctp_sender.specs.Resending.{is_to_resend}
 use Rattle.sctp_association.proofs.outbound.Outbound.put_again.Goals as goal
 
 pub returns-then-not-may_send_again-clause-made : goal.returns-then-not-may_send_again-clause-made
@@ -18,15 +16,12 @@ pub returns-then-outstanding-eq0-clause-none : goal.returns-then-outstanding-eq0
 returns-then-outstanding-eq0-clause-none c _ _ = record {
   sender = refl;
   marked = none_marked _ c.args.self.now.sender (sym (ap (λ (o : Outstanding). o.marked) c.outstanding.ensures) ∙ c.if-outstanding-eq0.true);
-  clear = λ _. refl;
 }
 
 pub returns-clause-none : goal.returns-clause-none
 returns-clause-none c = both_so _ _ _ c.put_first.result (λ s none held is _. record {
   sender = (held is).0;
   marked = unfit _ _ _ (none is);
-  clear = λ e. absurd (c.if-outstanding-eq0.false
-      (ap (λ (o : Outstanding). o.marked) c.outstanding.ensures ∙ ap {B = ℕ} (count_by is_to_resend) e));
 }) c.put_first.ensures.none c.put_first.ensures.held
 
 pub returns-clause-again : goal.returns-clause-again

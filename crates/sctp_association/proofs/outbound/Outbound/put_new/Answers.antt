@@ -16,7 +16,7 @@ returns-then-not-begin_new-clause-made c = kept _ _ _ _ c.begin_new.ensures.send
 pub returns-then-not-begin_new-clause-idle : goal.returns-then-not-begin_new-clause-idle
 returns-then-not-begin_new-clause-idle c head short = record {
   sender = c.begin_new.ensures.sender;
-  waiting = waits_not _ c.args.self.now.sender c.args.self.now.has_lost (c.begin_new.ensures.none c.if-not-begin_new.true);
+  waiting = waits_not _ c.args.self.now.sender (c.begin_new.ensures.none c.if-not-begin_new.true);
 }
 
 pub returns-in_err-put_next-clause-made : goal.returns-in_err-put_next-clause-made
@@ -89,28 +89,33 @@ returns-then-not-begin_new-clause-within c = news_held c.args.now _ _ _ (
     )
 
 pub returns-in_err-put_next-clause-within : goal.returns-in_err-put_next-clause-within
-returns-in_err-put_next-clause-within c = news_by c.args.now _ _ (path_of c.begin_new.new.self) _ (c.begin_new.ensures.waits c.if-not-begin_new.false) (
+returns-in_err-put_next-clause-within c = news_by c.args.now _ _ (path_of c.begin_new.new.self) _ (c.begin_new.ensures.waits c.if-not-begin_new.false)
+    (c.begin_new.ensures.clear c.if-not-begin_new.false) (
     c.begin_new.ensures.begins ∙ ap (λ (b : Bool). begun c.args.now c.args.self.now.rto b (path_of c.args.self.now)) c.if-not-begin_new.false
     ) (each_new c.args.now _ _ c.put_next.ensures.within)
 
 pub returns-then-not-branch-clause-within : goal.returns-then-not-branch-clause-within
-returns-then-not-branch-clause-within c = news_by c.args.now _ _ (path_of c.begin_new.new.self) _ (c.begin_new.ensures.waits c.if-not-begin_new.false) (
+returns-then-not-branch-clause-within c = news_by c.args.now _ _ (path_of c.begin_new.new.self) _ (c.begin_new.ensures.waits c.if-not-begin_new.false)
+    (c.begin_new.ensures.clear c.if-not-begin_new.false) (
     c.begin_new.ensures.begins ∙ ap (λ (b : Bool). begun c.args.now c.args.self.now.rto b (path_of c.args.self.now)) c.if-not-begin_new.false
     ) (each_new c.args.now _ _ c.put_next.ensures.within)
 
 pub returns-in_err-put_timely-clause-within : goal.returns-in_err-put_timely-clause-within
-returns-in_err-put_timely-clause-within c = news_by c.args.now _ _ (path_of c.begin_new.new.self) _ (c.begin_new.ensures.waits c.if-not-begin_new.false) (
+returns-in_err-put_timely-clause-within c = news_by c.args.now _ _ (path_of c.begin_new.new.self) _ (c.begin_new.ensures.waits c.if-not-begin_new.false)
+    (c.begin_new.ensures.clear c.if-not-begin_new.false) (
     c.begin_new.ensures.begins ∙ ap (λ (b : Bool). begun c.args.now c.args.self.now.rto b (path_of c.args.self.now)) c.if-not-begin_new.false
     ) (each_then _ _ (path_of c.put_next.new.self) _ (each_new c.args.now _ _ c.put_next.ensures.within)
     (each_then _ _ (path_of c.loop.self) _ c.loop.invariant.4 (each_new c.args.now _ _ c.put_timely.ensures.within)))
 
 pub returns-after-loop-clause-within : goal.returns-after-loop-clause-within
-returns-after-loop-clause-within c = news_by c.args.now _ _ (path_of c.begin_new.new.self) _ (c.begin_new.ensures.waits c.if-not-begin_new.false) (
+returns-after-loop-clause-within c = news_by c.args.now _ _ (path_of c.begin_new.new.self) _ (c.begin_new.ensures.waits c.if-not-begin_new.false)
+    (c.begin_new.ensures.clear c.if-not-begin_new.false) (
     c.begin_new.ensures.begins ∙ ap (λ (b : Bool). begun c.args.now c.args.self.now.rto b (path_of c.args.self.now)) c.if-not-begin_new.false
     ) (each_then _ _ (path_of c.put_next.new.self) _ (each_new c.args.now _ _ c.put_next.ensures.within) c.loop.invariant.4)
 
 pub returns-then-not-branch-2-clause-within : goal.returns-then-not-branch-2-clause-within
-returns-then-not-branch-2-clause-within c = news_by c.args.now _ _ (path_of c.begin_new.new.self) _ (c.begin_new.ensures.waits c.if-not-begin_new.false) (
+returns-then-not-branch-2-clause-within c = news_by c.args.now _ _ (path_of c.begin_new.new.self) _ (c.begin_new.ensures.waits c.if-not-begin_new.false)
+    (c.begin_new.ensures.clear c.if-not-begin_new.false) (
     c.begin_new.ensures.begins ∙ ap (λ (b : Bool). begun c.args.now c.args.self.now.rto b (path_of c.args.self.now)) c.if-not-begin_new.false
     ) (each_then _ _ (path_of c.put_next.new.self) _ (each_new c.args.now _ _ c.put_next.ensures.within)
     (each_then _ _ (path_of c.loop.self) _ c.loop.invariant.4 (each_new c.args.now _ _ c.put_timely.ensures.within)))
