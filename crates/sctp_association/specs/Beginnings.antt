@@ -181,11 +181,10 @@ pub record IsOwedFor (datagram : List ℕ) (a : Association) (ticket : Ticket) :
   pub tsn : ticket.own.first_tsn ≡ own.first_tsn
   pub tag : (ticket.own.tag ≡ own.tag) ⊎ (0 < ticket.own.tag)
 
--- What the datagram brings, where each half that is new begins so. The peer is the one that was known, or one by whose offer the association may
--- begin. This side asks no peer that it did not ask before, and offers what it offered, or what a ticket says that is echoed, but for a fresh tag (5.2.6). An
--- INIT ACK that is
--- due was due before, or its ticket has the offer of an INIT of the datagram, and the first TSN of this side. That the peer has begun again stays noted.
--- The limits of the machine stay, and those of what is sent, also where the sender begins anew.
+-- What the datagram brings, where each half that is new begins so. The peer is the one that was known, or one by whose offer the association may begin.
+-- This side asks no peer that it did not ask before. It offers what it offered, or what a ticket says that is echoed; a fresh tag may take the place of
+-- its tag (5.2.6). An INIT ACK that is due was due before, or its ticket has the offer of an INIT of the datagram, and the first TSN of this side. That
+-- the peer has begun again stays noted. The limits of the machine stay, and those of what is sent, also where the sender begins anew.
 pub record ArrivesAsOffered (datagram : List ℕ) (old new : Association) : Type 0 where
   pub arrives : ArrivesAs (IsBegunBy datagram old new) datagram (halves_of old) (halves_of new)
   pub restarted : old.machine.has_restarted ≡ true → new.machine.has_restarted ≡ true
