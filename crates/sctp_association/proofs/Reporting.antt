@@ -7,15 +7,12 @@ use Rattle.std.proofs.lemmas.List.{length-drop, length-take, map-append}
 use Rattle.std.proofs.lemmas.Option.{none-some}
 use Rattle.std.specs.Prelude.{Option, Some, None, nat_lt, slice_range}
 use Rattle.sctp_association.specs.Reports.{if_some, joined, padded, told_params, unrecognized, with_later}
-use Rattle.sctp_association.specs.Rows.{owed_by, owed_once}
 use Rattle.sctp_association.specs.Openings.{owed_to_init}
 use Rattle.sctp_association.specs.declared.due.Due.{Due}
 use Rattle.sctp_handshake.specs.InitValues.{is_param, place, report, told_from}
 use Rattle.sctp_handshake.specs.ParamTypes.{ends_at, is_told}
 use Rattle.sctp_handshake.specs.declared.answer.Reply.{Reply}
 use Rattle.sctp_handshake.specs.declared.answer.Reply.TheVariants as reply
-use Rattle.sctp_handshake.specs.declared.answer.Told.{Told}
-use Rattle.sctp_handshake.specs.declared.answer.Told.TheVariants as told
 use Rattle.sctp_handshake.specs.declared.init_value.Reported.{Reported}
 use Rattle.sctp_params.specs.Param.{Parameter, unknown_param}
 use Rattle.sctp_params.specs.ParamFraming.{param_declared_length}
@@ -111,9 +108,6 @@ module _ (room : ℕ) (raw : List ℕ) (at : ℕ) where
       let fits : nat_lt ((room - 4) / 4 * 4) (4 + (place raw at).length) ≡ false = grind (arith, nat_tests) in
       ap (λ n. unrecognized n room raw at) e ∙ rw (is, fits) refl
 
-pub unrecognized_none : (room : ℕ) (raw : List ℕ) (at n : ℕ) → n ≡ 0 → unrecognized n room raw at ≡ []
-unrecognized_none room raw at n e = rw e refl
-
 -- one parameter more
 pub one_behind : (xs : List ParamKind) (x : ParamKind) (ps : List Parameter) → map parameter_of xs ≡ ps
     → map parameter_of (xs ++ x ∷ []) ≡ ps ++ parameter_of x ∷ []
@@ -127,19 +121,3 @@ told_to_init None tag d = refl
 told_to_init (Some (reply.ShutdownComplete true)) tag d = refl
 told_to_init (Some (reply.ShutdownComplete false)) tag d = refl
 told_to_init (Some _) tag d = refl
-
--- and the report
-pub report_owed : (t : Option Told) (r : Option Reply) (tag : ℕ) (d : Due) → (owed_once t (owed_by r tag d)).report ≡ d.report
-report_owed t r tag d = once t (owed_by r tag d) ∙ by r
-  where
-    once : (t : Option Told) (d : Due) → (owed_once t d).report ≡ d.report
-    once None d = refl
-    once (Some told.Connected) d = refl
-    once (Some told.Restarted) d = refl
-    once (Some _) d = refl
-
-    by : (r : Option Reply) → (owed_by r tag d).report ≡ d.report
-    by None = refl
-    by (Some (reply.ShutdownComplete true)) = refl
-    by (Some (reply.ShutdownComplete false)) = refl
-    by (Some _) = refl
