@@ -27,6 +27,8 @@ WINDOW, STREAMS, IN_FLIGHT = 1 << 20, 1024, 4096
 # what a chunk of one byte counts for in the window
 CHUNK = 401
 INCOMPLETE = WINDOW // CHUNK - 8
+# messages of a packet each by which cwnd grows
+GROWING = 300
 BEGIN = [
     "new tag=10 tsn=1000",
     "connect 0",
@@ -60,10 +62,17 @@ def incomplete(count, streams):
     return [data(5001 + 2 * k, k % streams, k // streams, "B") for k in range(count)]
 
 
+def grown():
+    """Lines by which cwnd grows in slow start, so that all in flight have room: SACKs come while as much waits as can leave."""
+    long = "00" * 1160
+    sacks = [f"in {201_000 + k} tag=10 SACK cum={1001 + 2 * k} rwnd=100000000" for k in range(GROWING // 2)]
+    return [f"write 200000 0 53 {long}" for _ in range(GROWING)] + sacks
+
+
 def sack(blocks=()):
     """A SACK of the chunks in flight whose first one is missing."""
     gaps = ",".join(f"{low}-{high}" for low, high in blocks)
-    return "tag=10 SACK cum=999 rwnd=100000000" + (f" gaps={gaps}" if gaps else "")
+    return f"tag=10 SACK cum={999 + GROWING} rwnd=100000000" + (f" gaps={gaps}" if gaps else "")
 
 
 def rows():
@@ -84,10 +93,9 @@ def rows():
         [data(5102 + 2 * k, 1, 0, "") for k in range(80)])
     yield "DATA, each on a stream of its own", [], packed([data(5000 + k, k) for k in range(80)])
     yield "DATA that came before", bundled([data(5000 + k) for k in range(100)]), packed([data(5000 + k) for k in range(80)])
-    # one byte each, so that the first congestion window has room for all
-    flight = [f"write {200_000 + k} 0 53 00" for k in range(IN_FLIGHT)]
+    flight = grown() + [f"write {202_000 + k} 0 53 00" for k in range(IN_FLIGHT)] + ["stats"]
     apart = [(2 * k, 2 * k) for k in range(1, 341)]
-    yield "a SACK of all in flight", flight, f"tag=10 SACK cum={999 + IN_FLIGHT} rwnd=100000000"
+    yield "a SACK of all in flight", flight, f"tag=10 SACK cum={999 + GROWING + IN_FLIGHT} rwnd=100000000"
     yield "a SACK of one block: all but the first", flight, sack([(2, IN_FLIGHT)])
     yield "a SACK of none, which takes that back", [*flight, f"in 400000 {sack([(2, IN_FLIGHT)])}"], sack()
     yield "a SACK of 340 blocks of one TSN", flight, sack(apart)
@@ -127,6 +135,8 @@ def main():
             spoilt, _ = count(args.ours, [*before, told(f"in 900000 sum=bad {packet}")], folder)
             last = [it for it in answers.split("\n") if it.split(" ")[0] in ("accepted", "dropped")][-1]
             good = last.startswith("accepted") and taken - spoilt <= args.most
+            # what a SACK is to report is in flight
+            good = good and ("stats" not in lines or f"waiting 0 outstanding {IN_FLIGHT} " in answers)
             passed, failed = passed + good, failed + (not good)
             print(f"{name}: {taken - spoilt:,} instructions, {last}{'' if good else ', FAILED'}", flush=True)
     print(f"worst_packets: {passed} passed, {failed} failed")
