@@ -8,6 +8,7 @@ pub mod Behind
 pub mod Calls
 pub mod Causes
 pub mod Coming
+pub mod Configs
 pub mod Congested
 pub mod Cookies
 pub mod Counts
@@ -31,6 +32,7 @@ pub mod Leaving
 pub mod Limited
 pub mod Links
 pub mod Lives
+pub mod Made
 pub mod Most
 pub mod Offering
 pub mod Once

@@ -14,7 +14,8 @@ mod unknown;
 ghost use Rattle.std.specs.Prelude.{◌≡◌, ℕ, IfSome, None, Some, ◌≢◌, ◌≤◌, ◌+◌, ◌*◌, option_map, true, false, IfErr, IfOk, IsOk, OnErr, OnOk};
 ghost use Rattle.std.proofs.Props.{props};
 ghost use Rattle.sctp_association.specs.Entering.{usable_in};
-ghost use Rattle.sctp_association.specs.Events.{IsTold, KeepsOthers, NoneWaits};
+ghost use Rattle.sctp_association.specs.Events.{AddsNone, IsTold, KeepsOthers, NoneWaits};
+ghost use Rattle.sctp_association.specs.Configs.{can_be_made, offer_by};
 ghost use Rattle.sctp_association.specs.declared.fault.Fault.TheVariants.{BadConfig, WrongState};
 ghost use Rattle.sctp_association.specs.Reached.{limits_of, most_user_data};
 ghost use Rattle.sctp_association.specs.Waiting.{amount_on};
@@ -101,7 +102,7 @@ pub struct Association {
 
 // What this side offers.
 fn offer_of(config: &Config, secrets: &Secrets) -> Offer
-    ensures { result.first_tsn ≡ secrets.now.first_tsn }
+    ensures { result ≡ offer_by config.now secrets.now }
 {
     Offer {
         tag: secrets.tag,
@@ -141,6 +142,7 @@ impl Association {
     ghost use Rattle.sctp_association.specs.Held.{HoldsFewChunks, OfReceiver, OpensFewStreams, held_by};
     ghost use Rattle.sctp_association.specs.Reads.{AreReadOff, IsSameBeside, length_of, message_in};
     ghost use Rattle.sctp_association.specs.Lasting.{BeginsWithin, LastsNoLonger};
+    ghost use Rattle.sctp_association.specs.Made.{IsNew};
     ghost use Rattle.sctp_association.specs.Rows.{Settles, asking, wants_at};
     ghost use Rattle.sctp_association.specs.Telling.{HasPlaces, Tells};
     ghost use Rattle.sctp_association.specs.Timers.{StartsTimers, StopsTimers};
@@ -154,6 +156,10 @@ impl Association {
         ensures unbegun { IfOk result IsUnbegun }
         ensures made { IfOk result (IsMadeOf config secrets.cookie_key secrets.first_tsn) }
         ensures limits { IfOk result (BeginsWithin config) }
+        // This side offers what the `Config` and the `Secrets` say. Nothing is due, no event waits, and no timer runs.
+        ensures new { IfOk result (IsNew config secrets) }
+        ensures accepted { IsOk result → can_be_made config secrets ≡ true }
+        ensures usable { can_be_made config secrets ≡ true → IsOk result }
         ensures refused { IfErr result (λ e. e ≡ BadConfig) }
     {
         if secrets.tag == 0 || !config.is_usable() {
@@ -237,8 +243,9 @@ impl Association {
         // Each stream that is open keeps its place among those with a message to read.
         ensures places { HasPlaces self.old.inbound self.old.events
             → HasPlaces self.new.inbound self.new.events }
-        // Each other event that waited waits still.
+        // Each other event that waited waits still, and no other comes to wait.
         ensures others { KeepsOthers self.old.events self.new.events result }
+        ensures adds { AddsNone self.old.events self.new.events }
         // None waits where it answers None.
         ensures all { result ≡ None → NoneWaits self.old.events }
         ensures told { IfSome result (IsTold self.old.events self.new.events) }

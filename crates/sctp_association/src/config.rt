@@ -1,6 +1,7 @@
 //! What an association is told by its user.
 
 ghost use Rattle.std.specs.Prelude.{◌≡◌, ◌≤◌, true};
+ghost use Rattle.sctp_association.specs.Configs.{is_config};
 
 use sctp_path::RtoLimits;
 
@@ -87,7 +88,8 @@ impl Config {
     /// Whether an association can have these numbers: a packet takes any control chunk, and the window tells at least what an INIT may (RFC
     /// 9260 3.3.2).
     pub(crate) fn is_usable(&self) -> bool
-        ensures { result ≡ true → (512 ≤ self.now.mtu) × (self.now.mtu ≤ 65535) }
+        ensures value { result ≡ is_config self.now }
+        ensures mtu { result ≡ true → (512 ≤ self.now.mtu) × (self.now.mtu ≤ 65535) }
     {
         self.mtu >= 512
             && self.mtu <= 65_535

@@ -2,6 +2,7 @@
 
 ghost use Rattle.std.specs.Prelude.{◌≡◌, true, false, None};
 ghost use Rattle.sctp_association.specs.Kept.{ticket_in_kind};
+ghost use Rattle.sctp_association.specs.Made.{owes_nothing};
 ghost use Rattle.sctp_association.specs.Tags.{is_ending};
 
 use bytes::Bytes;
@@ -84,7 +85,7 @@ pub(crate) struct Due {
 impl Due {
     /// Nothing.
     pub(crate) fn new() -> Due
-        ensures { result.alone ≡ None }
+        ensures { result ≡ owes_nothing }
     {
         Due {
             alone: None,

@@ -1,3 +1,4 @@
+pub mod Following
 pub mod Freeing
 pub mod Gaining
 pub mod Handing

@@ -4,7 +4,10 @@ use Rattle.sctp_association.specs.Waiting.{opened}
 use Rattle.sctp_association.specs.declared.association.Association.{Association}
 use Rattle.sctp_data.specs.declared.chunk.chunk_payload_data.PayloadProtocolIdentifier.{PayloadProtocolIdentifier}
 use Rattle.sctp_data.specs.declared.chunk.chunk_payload_data.PayloadProtocolIdentifier.TheVariants.{Dcep, String, Binary, StringEmpty, BinaryEmpty, Unknown}
-use Rattle.sctp_sender.specs.Sender.{stream_of, written_to}
+use Rattle.sctp_dcep.specs.Message.{encoding}
+use Rattle.sctp_dcep.specs.declared.message.Message.TheVariants as message
+use Rattle.sctp_dcep.specs.declared.message.Open as request
+use Rattle.sctp_sender.specs.Sender.{stream_of, with_mode_on, written_to}
 use Rattle.sctp_stream.specs.declared.outbound_stream.OutboundStream.{OutboundStream}
 
 -- ## What is written
@@ -50,3 +53,13 @@ is_empty_kind Unknown = false
 -- an empty message has no bytes, though one came
 abbrev pub bytes_in : PayloadProtocolIdentifier → List ℕ → List ℕ
 bytes_in ppi bytes = if is_empty_kind ppi then [] else bytes
+
+-- ## What opens a channel
+
+-- the mode of the stream is set as the request says, but in order, and DATA_CHANNEL_OPEN is written on it (RFC 8832 5.1, 6)
+pub record IsOpened (stream : ℕ) (o : request.Open) (old new : Association) : Type 0 where
+  pub mid : Association
+  pub mode : mid.outbound ≡ record old.outbound {
+    sender = with_mode_on stream false o.reliability o.value (opened stream old.outbound.sender);
+  }
+  pub written : IsHanded stream Dcep (encoding (message.Open o)) mid new

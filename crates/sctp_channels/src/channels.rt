@@ -3,7 +3,8 @@
 ghost use Rattle.std.specs.Prelude.{◌≡◌, ◌<◌, ◌++◌, ◌∷◌, ◌⊎◌, [], true, false, None, Some, Err, IfErr, IfOk, IfSome, OnErr, OnOk, length, option_copied, position, vec_capacity, vec_len};
 ghost use Rattle.sctp_channels.specs.Channels.{Gains, IsFull, IsNextFree, asked, asked_for, channel_on, has_channel, is_on, is_once, note_on, takes_messages};
 ghost use Rattle.sctp_channels.specs.Events.{TellsMaybe};
-ghost use Rattle.sctp_channels.specs.Messages.{IsHanded, kind_of, sent_of};
+ghost use Rattle.sctp_channels.specs.Messages.{IsHanded, IsOpened, kind_of, sent_of};
+ghost use Rattle.sctp_channels.specs.Reading.{ReadsNext, TakesControl, TakesControlOf};
 ghost use Rattle.sctp_channels.specs.Refusals.{AgreedRefused, OpenRefused, WriteRefused, refusal_of, refusal_of_name};
 ghost use Rattle.sctp_channels.specs.declared.channel.Stage.TheVariants as stage;
 ghost use Rattle.sctp_channels.specs.declared.channels.Refusal.TheVariants.{InUse, NoChannel, NoStream, OutOfMemory};
@@ -175,6 +176,8 @@ impl Channels {
         ensures ok { IfOk result (λ s. self.new.channels.items
             ≡ self.old.channels.items ++ asked_for s stage.Opening request ∷ []) }
         ensures full { IsFull self.old.side self.old.channels.items → result ≡ Err NoStream }
+        // DATA_CHANNEL_OPEN with the request is written on the stream, in order (RFC 8832 5.1, 6).
+        ensures written { IfOk result (λ s. IsOpened s request association.old association.new) }
         ensures refused { IfErr result
             (OpenRefused self.old.side self.old.channels.items request) }
         ensures err { OnErr result (self.new.channels.items ≡ self.old.channels.items) }
@@ -295,7 +298,7 @@ impl Channels {
     }
 
     /// Reads the next message of a channel, None where there is none. Messages of RFC 8832 that stand before it are followed: also where it refuses,
-    /// some may be, and each channel stays, but those that the peer opened are new.
+    /// some may be, and each channel stays, but those that the peer opened are new. No other message is lost then.
     #[tactic(auto, using(crate::proofs::Gaining::gains_same))]
     pub fn read(
         &mut self,
@@ -305,8 +308,15 @@ impl Channels {
     ) -> Result<Option<Received>, Refusal>
         ensures gains { Gains self.old.side self.old.channels.items self.new.channels.items }
         ensures side { self.new.side ≡ self.old.side }
+        // It is the next one of the association's stream that is none of RFC 8832.
+        ensures message { IfOk result (ReadsNext now stream association.old association.new) }
+        ensures err { OnErr result (TakesControlOf now stream association.old association.new) }
     {
         self.follow_control(association, stream, now)?;
+        match association.next_len(stream) {
+            None | Some((_, PayloadProtocolIdentifier::Dcep)) => return Ok(None),
+            Some(_) => {}
+        }
         match association.read(stream, now)? {
             Some(chunks) => Ok(Some(Received::new(chunks))),
             None => Ok(None),
@@ -326,6 +336,8 @@ impl Channels {
         ensures err { OnErr result
             (Gains self.old.side self.old.channels.items self.new.channels.items) }
         ensures side { self.new.side ≡ self.old.side }
+        // No message of the application is taken out.
+        ensures control { TakesControl now association.old association.new }
     {
         for _ in 0..MOST {
             self.settle(association, now)?;

@@ -5,6 +5,7 @@ ghost use Rattle.sctp_channels.specs.Channels.{asked, channel_on, note_on};
 ghost use Rattle.sctp_channels.specs.Refusals.{CloseRefused};
 ghost use Rattle.sctp_channels.specs.declared.channel.News.TheVariants as news;
 ghost use Rattle.sctp_channels.specs.declared.channels.Refusal.TheVariants.{NoChannel};
+ghost use Rattle.sctp_reset.specs.Own.{after_ask};
 
 use crate::channel::{News, Stage};
 use crate::channels::{Channels, Refusal};
@@ -17,10 +18,14 @@ impl Channels {
     pub fn close(&mut self, association: &mut Association, stream: u16) -> Result<(), Refusal>
         ensures ok { OnOk result (self.new.channels.items
             ≡ note_on stream news.Closing self.old.channels.items) }
+        // Our direction of the stream is to be reset (RFC 6525 5.1.2).
+        ensures asked { OnOk result (association.new.requests
+            ≡ after_ask stream association.old.requests) }
         ensures none { channel_on stream self.old.channels.items ≡ None
             → result ≡ Err NoChannel }
         ensures refused { IfErr result (CloseRefused stream self.old.channels.items) }
-        ensures err { OnErr result (self.new ≡ self.old) }
+        ensures err { OnErr result ((self.new ≡ self.old)
+            × (association.new ≡ association.old)) }
     {
         if self.find(stream).is_none() {
             return Err(Refusal::NoChannel);
@@ -49,6 +54,7 @@ impl Channels {
     pub(crate) fn ask_reset(&mut self, association: &mut Association) -> Result<(), Refusal>
         ensures same { asked self.new.channels.items ≡ asked self.old.channels.items }
         ensures side { self.new.side ≡ self.old.side }
+        ensures inbound { association.new.inbound ≡ association.old.inbound }
     {
         if let Some(stream) = self.owed {
             match association.reset_stream(stream) {

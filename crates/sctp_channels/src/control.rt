@@ -1,7 +1,9 @@
 //! The messages of RFC 8832 that come on channels' streams.
 
-ghost use Rattle.std.specs.Prelude.{◌≡◌};
+ghost use Rattle.std.specs.Prelude.{◌≡◌, OnErr, OnOk};
+ghost use Rattle.sctp_association.specs.Reads.{AreReadOff};
 ghost use Rattle.sctp_channels.specs.Channels.{Gains, asked};
+ghost use Rattle.sctp_channels.specs.Reading.{TakesControl, TakesControlOf};
 
 use crate::channel::{Channel, News, Stage};
 use crate::channels::{Channels, Held, MOST, Refusal};
@@ -18,6 +20,7 @@ impl Channels {
     pub(crate) fn settle(&mut self, association: &mut Association, now: u64) -> Result<(), Refusal>
         ensures gains { Gains self.old.side self.old.channels.items self.new.channels.items }
         ensures side { self.new.side ≡ self.old.side }
+        ensures control { TakesControl now association.old association.new }
     {
         self.ask_reset(association)?;
         self.follow_held(association)?;
@@ -41,6 +44,7 @@ impl Channels {
     ) -> Result<(), Refusal>
         ensures gains { Gains self.old.side self.old.channels.items self.new.channels.items }
         ensures side { self.new.side ≡ self.old.side }
+        ensures control { TakesControlOf now stream association.old association.new }
     {
         self.follow_held(association)?;
         for _ in 0..MOST {
@@ -66,6 +70,9 @@ impl Channels {
     ) -> Result<(), Refusal>
         ensures same { self.new.channels ≡ self.old.channels }
         ensures side { self.new.side ≡ self.old.side }
+        ensures read { OnOk result (AreReadOff now stream
+            association.old.inbound association.new.inbound) }
+        ensures err { OnErr result (association.new.inbound ≡ association.old.inbound) }
     {
         let most = self.most_name.saturating_add(OPEN_HEADER);
         let mut raw = Vec::new(self.alloc);
@@ -82,6 +89,7 @@ impl Channels {
     fn follow_held(&mut self, association: &mut Association) -> Result<(), Refusal>
         ensures gains { Gains self.old.side self.old.channels.items self.new.channels.items }
         ensures side { self.new.side ≡ self.old.side }
+        ensures inbound { association.new.inbound ≡ association.old.inbound }
     {
         let Some(held) = &self.held else {
             return Ok(());
@@ -102,6 +110,7 @@ impl Channels {
     fn knows(&mut self, association: &mut Association, stream: u16) -> Result<(), Refusal>
         ensures same { asked self.new.channels.items ≡ asked self.old.channels.items }
         ensures side { self.new.side ≡ self.old.side }
+        ensures inbound { association.new.inbound ≡ association.old.inbound }
     {
         let Some(channel) = self.find(stream) else {
             return Ok(());
@@ -129,6 +138,7 @@ impl Channels {
     ) -> Result<(), Refusal>
         ensures gains { Gains self.old.side self.old.channels.items self.new.channels.items }
         ensures side { self.new.side ≡ self.old.side }
+        ensures inbound { association.new.inbound ≡ association.old.inbound }
     {
         if self.side.is_ours(stream) || self.has(stream) {
             return self.refuse(association, stream);
@@ -158,6 +168,7 @@ impl Channels {
     fn refuse(&mut self, association: &mut Association, stream: u16) -> Result<(), Refusal>
         ensures same { asked self.new.channels.items ≡ asked self.old.channels.items }
         ensures side { self.new.side ≡ self.old.side }
+        ensures inbound { association.new.inbound ≡ association.old.inbound }
     {
         match association.reset_stream(stream) {
             Ok(()) => self.note(stream, News::Closing),

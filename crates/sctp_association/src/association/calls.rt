@@ -6,6 +6,7 @@ ghost use Rattle.sctp_association.specs.Asked.{AsksOn};
 ghost use Rattle.sctp_association.specs.Beginnings.{IsKeptButMtu};
 ghost use Rattle.sctp_association.specs.Halves.{SetsFragmentSize};
 ghost use Rattle.sctp_association.specs.Lasting.{LastsNoLonger};
+ghost use Rattle.sctp_association.specs.Made.{mtu_fault};
 ghost use Rattle.sctp_association.specs.Sized.{HoldsNothing};
 ghost use Rattle.sctp_association.specs.Telling.{Tells};
 ghost use Rattle.sctp_association.specs.Waiting.{IsRefusal, opened};
@@ -177,6 +178,8 @@ impl Association {
         ensures lower { OnOk result (mtu < self.old.config.mtu
             → HoldsNothing self.old.outbound.sender) }
         ensures kept { IsKeptButMtu self.old self.new }
+        ensures accepted { IsOk result → mtu_fault mtu self.old ≡ None }
+        ensures refused { IfErr result (λ e. mtu_fault mtu self.old ≡ Some e) }
         ensures inbound { self.new.inbound ≡ self.old.inbound }
         ensures left { LastsNoLonger self.old self.new }
         ensures err { OnErr result (self.new ≡ self.old) }
