@@ -35,8 +35,8 @@ module _ (now : ℕ) (old : Association) (mid out : Outbound) (r : Bool) (same :
   at-same : mid.timer.at ≡ old.outbound.timer.at
   at-same = ap (λ (o : Outbound). o.timer.at) same
 
-  rto-behind : out.rto ≡ rto_behind now old
-  rto-behind = chosen (is_due now mid.timer.at) (λ t. doubled_where t mid.rto) out.rto (λ is. ap (λ (o : Outbound). o.rto) (waits is).1) backed
+  pub behind_rto : out.rto ≡ rto_behind now old
+  behind_rto = chosen (is_due now mid.timer.at) (λ t. doubled_where t mid.rto) out.rto (λ is. ap (λ (o : Outbound). o.rto) (waits is).1) backed
       ∙ (ap (λ (at : Option ℕ). doubled_where (is_due now at) mid.rto) at-same
       ∙ ap (λ (t : Timeout). doubled_where (is_due now old.outbound.timer.at) t) rto)
 
@@ -54,11 +54,11 @@ module _ (now : ℕ) (old : Association) (mid out : Outbound) (r : Bool) (same :
 
   once : not r && is_unanswered now out.rto.rto old ≡ counts_once now old
   once = ap (λ (b : Bool). not b && is_unanswered now out.rto.rto old) fails-behind
-      ∙ ap (λ (t : Timeout). not (t3_fails now old) && is_unanswered now t.rto old) rto-behind
+      ∙ ap (λ (t : Timeout). not (t3_fails now old) && is_unanswered now t.rto old) behind_rto
 
   pub rto_is : (x : Timeout) (u : Bool) → x ≡ doubled_where u out.rto → u ≡ not r && is_unanswered now out.rto.rto old → x ≡ rto_after now old
   rto_is x u is by = is ∙ (ap (λ (b : Bool). doubled_where b out.rto) (by ∙ once)
-      ∙ ap (λ (t : Timeout). doubled_where (counts_once now old) t) rto-behind)
+      ∙ ap (λ (t : Timeout). doubled_where (counts_once now old) t) behind_rto)
 
   pub failures_is : (x : Failures) (u : Bool) → x ≡ counted_where u out.failures → u ≡ not r && is_unanswered now out.rto.rto old
       → x ≡ failures_after now old

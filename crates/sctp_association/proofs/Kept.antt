@@ -3,6 +3,11 @@ use Rattle.std.proofs.Common.{◌≡◌, ◌≤◌, Some, ap, sym, subst, ◌∙
 use Rattle.std.proofs.Props.{props}
 use Rattle.std.specs.Prelude.{IfSome, Option}
 use Rattle.sctp_association.specs.declared.association.Association.{Association}
+use Rattle.sctp_association.specs.declared.due.Due.{Due}
+use Rattle.sctp_association.specs.declared.outbound.Outbound.{Outbound}
+use Rattle.sctp_path.specs.declared.heartbeat.Heartbeat.{Heartbeat}
+use Rattle.sctp_path.specs.declared.timer.Timer.{Timer}
+use Rattle.sctp_reset.specs.Requests.{Requests}
 use Rattle.sctp_association.specs.declared.event.Events.{Events}
 use Rattle.sctp_association.specs.declared.inbound.Inbound.{Inbound}
 use Rattle.sctp_association.specs.Reached.{limits_of}
@@ -28,3 +33,13 @@ same_inbound a o e p same told =
 
 pub same_due : (a b : Association) (p : IsWithin a) → b ≡ record a { due = b.due; limited = p } → b ≡ record a { due = b.due }
 same_due a b p e = e ∙ ap (λ l. record a { due = b.due; limited = l }) (one_proof a p a.limited)
+
+-- the timer of the state ran out
+pub same_run_out : (a : Association) (m : Machine) (d : Due) (k : Timer) (o : Outbound) (p : IsWithin a)
+    → record a { machine = m; due = d; control = k; outbound = o; limited = p } ≡ record a { machine = m; due = d; control = k; outbound = o }
+same_run_out a m d k o p = ap (λ l. record a { machine = m; due = d; control = k; outbound = o; limited = l }) (one_proof a p a.limited)
+
+-- what is looked at behind it changed
+pub same_later : (a : Association) (o : Outbound) (q : Requests) (h : Option Heartbeat) (p : IsWithin a)
+    → record a { outbound = o; requests = q; heartbeat = h; limited = p } ≡ record a { outbound = o; requests = q; heartbeat = h }
+same_later a o q h p = ap (λ l. record a { outbound = o; requests = q; heartbeat = h; limited = l }) (one_proof a p a.limited)

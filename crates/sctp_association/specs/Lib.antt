@@ -1,4 +1,5 @@
 pub mod Acks
+pub mod Again
 pub mod Arrivals
 pub mod Asked
 pub mod BackOff

@@ -1,16 +1,18 @@
 //! When something is to be done though nothing came (RFC 9260 6.3.3, 8.1, 8.3, 9.2).
 
 ghost use Rattle.std.specs.Prelude.{◌≡◌, ◌⊎◌, ◌≤◌, None, Some, true, false, is_some, option_map};
+ghost use Rattle.sctp_association.specs.Again.{IsAgain, IsRunOut, IsSentAgain, RunsAgain, missed_where, run_in};
 ghost use Rattle.sctp_association.specs.BackOff.{IsAsIdle, counted_where, doubled_where, failures_after, is_missed, is_unanswered, reduced_where, rto_after};
 ghost use Rattle.sctp_association.specs.Beginnings.{KeepsPeer};
 ghost use Rattle.sctp_association.specs.Congested.{expired_at, path_of};
 ghost use Rattle.sctp_association.specs.Kept.{ticket_due};
 ghost use Rattle.sctp_association.specs.Halves.{MarksByT3};
 ghost use Rattle.sctp_association.specs.Lasting.{Expires, expires, expires_control};
+ghost use Rattle.sctp_association.specs.Rows.{owed_by};
 ghost use Rattle.sctp_association.specs.Sending.{IsTimed, t3_time};
 ghost use Rattle.sctp_association.specs.Telling.{Tells, TellsEnd};
-ghost use Rattle.sctp_handshake.specs.declared.ticket.Ticket.{Ticket};
 ghost use Rattle.sctp_handshake.specs.States.{timer};
+ghost use Rattle.sctp_handshake.specs.declared.ticket.Ticket.{Ticket};
 ghost use Rattle.sctp_path.specs.Rto.{after_back_off};
 ghost use Rattle.sctp_path.specs.Timers.{is_due, is_passed, one_more};
 ghost use Rattle.sctp_reset.specs.Own.{after_failed, has_failed, time_of};
@@ -24,8 +26,9 @@ use sctp_path::earliest;
 
 // What is sent again is due, to the peer, or with tag 0 where that is an INIT (RFC 9260 8.5.1).
 fn owe_again(due: &mut Due, reply: Option<Reply>)
-    ensures { (ticket : Ticket) → ticket_due due.new.alone ≡ Some ticket
+    ensures kept { (ticket : Ticket) → ticket_due due.new.alone ≡ Some ticket
         → ticket_due due.old.alone ≡ Some ticket }
+    ensures due { IsSentAgain reply → due.new ≡ owed_by reply 0 due.old }
 {
     match reply {
         Some(Reply::Init) => {
@@ -148,6 +151,9 @@ impl Association {
         ensures path { self.old.is_over ≡ false → is_due now self.old.guard.at ≡ false
             → path_of self.new.outbound ≡ expired_at now
             (is_due now self.old.outbound.timer.at) (path_of self.old.outbound) }
+        // Where the timer of the state expires its INIT, COOKIE-ECHO, SHUTDOWN or SHUTDOWN-ACK is due again, and it runs on (RFC 9260 5.1, 9.2).
+        ensures again { self.old.is_over ≡ false → is_due now self.old.guard.at ≡ false
+            → (self.new.is_over ≡ true) ⊎ IsAgain now self.old self.new }
     {
         if self.is_over {
             return;
@@ -181,6 +187,7 @@ impl Association {
         ensures requests { self.new.requests ≡ self.old.requests }
         ensures heartbeat { self.new.heartbeat ≡ self.old.heartbeat }
         ensures state { IsAsIdle self.old.machine.state self.new.machine.state }
+        ensures again { (self.new.is_over ≡ true) ⊎ RunsAgain now self.old self.new }
     {
         if self.control.is_due(now) {
             self.run_out();
@@ -206,6 +213,7 @@ impl Association {
         ensures requests { self.new.requests ≡ self.old.requests }
         ensures heartbeat { self.new.heartbeat ≡ self.old.heartbeat }
         ensures state { IsAsIdle self.old.machine.state self.new.machine.state }
+        ensures again { (self.new.is_over ≡ true) ⊎ IsRunOut self.old self.new }
     {
         self.outbound.rto.backed_off();
         let answer = self.machine.timed_out();
@@ -219,6 +227,8 @@ impl Association {
     // The timer of the state runs, where it has one.
     fn start_control(&mut self, now: u64)
         ensures closed { self.old.machine.state ≡ Closed → self.new.control.at ≡ None }
+        ensures runs { self.new.control.at ≡ run_in (timer self.old.machine.state) now
+            self.old.outbound.rto.rto self.old.control.at }
         ensures rest { self.new ≡ record self.old { control = self.new.control } }
     {
         match self.machine.state().timer() {
@@ -249,6 +259,9 @@ impl Association {
             (is_unanswered now self.old.outbound.rto.rto self.old) self.old.outbound.rto }
         ensures fails { self.new.outbound.failures ≡ counted_where
             (is_unanswered now self.old.outbound.rto.rto self.old) self.old.outbound.failures }
+        ensures heartbeat { self.new.heartbeat ≡ missed_where (is_missed now
+            self.old.machine.state self.old.outbound.rto.rto self.old.heartbeat)
+            self.old.heartbeat }
     {
         let is_asked = self.requests.failed(now);
         let is_missed = self.has_missed(now);
@@ -263,6 +276,7 @@ impl Association {
         ensures rest { self.new ≡ record self.old { heartbeat = self.new.heartbeat } }
         ensures value { result ≡ is_missed now self.old.machine.state
             self.old.outbound.rto.rto self.old.heartbeat }
+        ensures heartbeat { self.new.heartbeat ≡ missed_where result self.old.heartbeat }
     {
         let is_late = match self.next_heartbeat() {
             Some(at) => at <= now,

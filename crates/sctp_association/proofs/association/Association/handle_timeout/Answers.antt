@@ -1,13 +1,15 @@
 use Rattle.sctp_association.proofs.association.Association.handle_timeout.Goals.{then-time_out-via-then-time_out}
 use Rattle.sctp_association.proofs.association.Association.handle_timeout.Goals.{then-time_out-via-else-time_out+then-has_failed}
 use Rattle.sctp_association.specs.Telling.{TellsEnd}
-use Rattle.std.proofs.Common.{Bool, ap, false, refl, sym, ◌≡◌, ◌∙◌}
+use Rattle.std.proofs.Common.{Bool, ap, false, inl, inr, refl, sym, ◌≡◌, ◌∙◌}
 use Rattle.std.specs.Prelude.{◌&&◌, not}
-use Rattle.sctp_association.proofs.BackOff.{doubled_limits, failures_is, rto_is, unanswered_same}
+use Rattle.sctp_association.proofs.Again.{is_again}
+use Rattle.sctp_association.proofs.BackOff.{behind_rto, doubled_limits, failures_is, rto_is, unanswered_same}
 use Rattle.sctp_association.specs.Beginnings.{KeepsPeer}
 use Rattle.sctp_path.specs.Rto.{Timeout}
 use Rattle.sctp_association.specs.BackOff.{is_unanswered}
 use Rattle.sctp_association.specs.declared.association.Association.{Association}
+use Rattle.sctp_association.proofs.Kept.{same_later}
 use Rattle.sctp_association.proofs.Known.{keeps_by, keeps_then, knows_same, owes_same, within_by}
 use Rattle.sctp_association.proofs.Lasting.{counted_most, expires_over, t3_most, timed_lasts}
 use Rattle.sctp_association.specs.declared.outbound.Outbound.{Outbound}
@@ -160,3 +162,27 @@ returns-else-has_failed-clause-peer c =
     (ap (λ (x : Association). x.key) rest) (ap (λ (x : Association). x.machine) rest) (ap (λ (x : Association). x.due) rest)
     (counted_most _ _ c.has_failed.ensures.counted ∙ limits.0)
     (ap (λ (t : Timeout). t.limits) c.has_failed.ensures.backs_off ∙ doubled_limits _ _ ∙ limits.1))
+
+-- ## What is due again
+
+pub returns-then-time_out-clause-again : goal.returns-then-time_out-clause-again
+returns-then-time_out-clause-again c _ _ = inl c.fail.ensures.over
+
+pub returns-else-has_failed-clause-again : goal.returns-else-has_failed-clause-again
+returns-else-has_failed-clause-again c _ _ =
+    let ran = c.time_out_control.ensures in
+    let old = c.args.self.now in
+    let out = c.time_out.new.self in
+    let rto = behind_rto c.args.now old c.time_out_control.new.self.outbound out c.time_out.result ran.outbound ran.rto c.time_out.ensures.waits
+    c.time_out.ensures.counted (λ is. (c.time_out.ensures.backed_off is).0) in
+    let rest = c.has_failed.ensures.rest in
+    elim ran.again [
+      | inl over ↦ inl (ap (λ (x : Association). x.is_over) rest ∙ over)
+      | inr runs ↦ inr (is_again c.args.now old c.time_out_control.new.self c.has_failed.new.self out runs
+          (rest ∙ same_later c.time_out_control.new.self _ _ _ _ ∙ ap (λ (o : Outbound). record c.time_out_control.new.self {
+            outbound = o;
+            requests = c.has_failed.new.self.requests;
+            heartbeat = c.has_failed.new.self.heartbeat;
+          }) (sym (ap (λ (x : Association). x.outbound) rest)))
+          ran.requests ran.heartbeat ran.state rto c.has_failed.ensures.requests c.has_failed.ensures.heartbeat)
+    ]
