@@ -358,7 +358,7 @@ unmoved_then a b c f g = record {
 -- ## Beside both halves, the requests and the events
 
 pub rest_same : (a : Association) → RestStays a a
-rest_same a = record { due = refl; control = refl; guard = refl; over = refl; wants = refl }
+rest_same a = record { due = refl; control = refl; guard = refl; over = refl; wants = refl; acks = refl }
 
 pub rest_then : (a b c : Association) → RestStays a b → RestStays b c → RestStays a c
 rest_then a b c f g = record {
@@ -367,4 +367,5 @@ rest_then a b c f g = record {
   guard = g.guard ∙ f.guard;
   over = g.over ∙ f.over;
   wants = g.wants ∙ f.wants;
+  acks = g.acks ∙ f.acks;
 }

@@ -61,6 +61,7 @@ pub mod Walks
 pub mod Ends
 pub mod Expected
 pub mod Openings
+pub mod AcksOn
 pub mod Single
 pub mod Rules
 pub mod PlainHosts

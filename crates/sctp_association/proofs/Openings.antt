@@ -2,7 +2,9 @@
 use Rattle.std.proofs.Common.{◌≡◌, ℕ, Bool, true, false, List, None, refl, ap, sym, inl, inr, ◌∙◌}
 use Rattle.std.proofs.lemmas.Bool.{cases_Bool, false≢true, lt-ltb, ltb-true}
 use Rattle.std.specs.Prelude.{◌↔◌, ◌<◌, ◌-◌, ◌||◌, IsTrue, Ok, Err, Result, is_some, nat_lt}
+use Rattle.sctp_association.proofs.AcksOn.{told_as}
 use Rattle.sctp_association.proofs.Rows.{follows_step}
+use Rattle.sctp_association.specs.AcksDue.{AcksTold, acks_of}
 use Rattle.sctp_association.specs.Cookies.{IsSealedAt}
 use Rattle.sctp_association.specs.Openings.{Echoes, echo_step}
 use Rattle.sctp_association.specs.Expected.{speaks}
@@ -24,12 +26,14 @@ old-is false x y e = elim (cases_Bool (nat_lt x y)) [
 -- the machine took the step of the ticket, and its answer was followed
 pub echoes_by : (tag : ℕ) (cookie : List ℕ) (now : ℕ) (a b : Association) (moment : ℕ) (made : IsSealedAt moment a.key tag cookie) (stale : Bool)
     → IsTrue stale ↔ (a.config.cookie_life < now - moment) → (n : Machine) (r : Answer) → Takes (on_cookie_echo made.ticket stale a.machine) n r
-    → b.machine ≡ n → FollowsAnswer r made.ticket.peer.tag a.machine.state now a b → Echoes tag cookie now (on_cookie_echo made.ticket stale a.machine) a b
-echoes_by tag cookie now a b moment made stale old n r takes kept h = record {
+    → b.machine ≡ n → FollowsAnswer r made.ticket.peer.tag a.machine.state now a b
+    → AcksTold r.told a.config.sack_delay (acks_of a.inbound) (acks_of b.inbound) → Echoes tag cookie now (on_cookie_echo made.ticket stale a.machine) a b
+echoes_by tag cookie now a b moment made stale old n r takes kept h acks = record {
   moment = moment;
   made = made;
   is = ap (λ (s : Bool). on_cookie_echo made.ticket s a.machine) (old-is stale a.config.cookie_life (now - moment) old);
   follows = follows_step (on_cookie_echo made.ticket stale a.machine) made.ticket.peer.tag now a b n r takes.machine takes.answer kept h;
+  acks = told_as a.config.sack_delay (acks_of a.inbound) (acks_of b.inbound) r _ takes.answer acks;
 }
 
 -- ## What is expected is not refused

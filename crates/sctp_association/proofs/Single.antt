@@ -2,6 +2,7 @@
 use Rattle.std.proofs.Common.{◌≡◌, ℕ, Bool, true, false, List, refl, ap, sym, subst, ◌∙◌}
 use Rattle.std.proofs.lemmas.Bool.{false≢true, ne_eqb}
 use Rattle.std.specs.Prelude.{Result, Ok, Err, IfOk, ◌==◌, ◌||◌, not}
+use Rattle.sctp_association.specs.AcksOn.{AcksOn}
 use Rattle.sctp_association.specs.Single.{AloneOn, CauseOn, OffersOn}
 use Rattle.sctp_association.specs.Beats.{AnswersOn, BeatsOn}
 use Rattle.sctp_association.specs.Causes.{cause_after, cause_in}
@@ -33,15 +34,17 @@ module _ (c : ChunkPlace) (tag : ℕ) (d : List ℕ) (now : ℕ) (a b : Associat
     error = λ is. tt;
     cookie_echo = λ is. tt;
     row = λ is. tt;
+    acks = λ is. tt;
   }
 
   module _ (r : Result Step Fault) where
-    pub alone_by : (c.typ ≡ 1 → IfOk r (λ s. OffersOn c d now s a b)) → (c.typ ≡ 2 → IfOk r (λ s. InitAckOn c d now s a b))
+    pub alone_by : (has_row c.typ ≡ true → IfOk r (λ s. AcksOn c d now s a b))
+        → (c.typ ≡ 1 → IfOk r (λ s. OffersOn c d now s a b)) → (c.typ ≡ 2 → IfOk r (λ s. InitAckOn c d now s a b))
         → (c.typ ≡ 4 → IfOk r (λ s. AnswersOn c.at d s a b)) → (c.typ ≡ 5 → IfOk r (λ s. BeatsOn c.at d now s a b))
         → (c.typ ≡ 7 → IfOk r (λ s. ShutsOn c.at d now s a.outbound b.outbound)) → (c.typ ≡ 9 → IfOk r (λ s. CauseOn c d s a b))
         → (c.typ ≡ 10 → IfOk r (λ s. EchoesOn tag (cookie_in d c) now s a b))
         → (has_row c.typ ≡ true → IfOk r (λ s. RowOn c d now s a b)) → IfOk r (λ s. AloneOn c tag d now s a b)
-    alone_by init init_ack heartbeat heartbeat_ack shutdown error cookie_echo row = by r refl
+    alone_by acks init init_ack heartbeat heartbeat_ack shutdown error cookie_echo row = by r refl
       where
         by : (q : Result Step Fault) → r ≡ q → IfOk q (λ s. AloneOn c tag d now s a b)
         by (Ok s) is = record {
@@ -53,6 +56,7 @@ module _ (c : ChunkPlace) (tag : ℕ) (d : List ℕ) (now : ℕ) (a b : Associat
           error = λ e. subst (λ (x : Result Step Fault). IfOk x (λ s. CauseOn c d s a b)) is (error e);
           cookie_echo = λ e. subst (λ (x : Result Step Fault). IfOk x (λ s. EchoesOn tag (cookie_in d c) now s a b)) is (cookie_echo e);
           row = λ e. subst (λ (x : Result Step Fault). IfOk x (λ s. RowOn c d now s a b)) is (row e);
+          acks = λ e. subst (λ (x : Result Step Fault). IfOk x (λ s. AcksOn c d now s a b)) is (acks e);
         }
         by (Err e) is = tt
 
@@ -60,8 +64,10 @@ module _ (c : ChunkPlace) (tag : ℕ) (d : List ℕ) (now : ℕ) (a b : Associat
     none : (n k : ℕ) → c.typ ≡ n → is_plain n ≡ true → is_plain k ≡ false → c.typ ≡ k → ⊥
     none n k typ plain other is = false≢true (sym other ∙ sym (ap is_plain is) ∙ ap is_plain typ ∙ plain)
 
-    pub alone_plain : (n : ℕ) → c.typ ≡ n → is_plain n ≡ true → IfOk r (λ s. RowOn c d now s a b) → IfOk r (λ s. AloneOn c tag d now s a b)
-    alone_plain n typ plain row = alone_by (λ is. absurd (none n 1 typ plain refl is)) (λ is. absurd (none n 2 typ plain refl is))
+    pub alone_plain : (n : ℕ) → c.typ ≡ n → is_plain n ≡ true → IfOk r (λ s. AcksOn c d now s a b)
+        → IfOk r (λ s. RowOn c d now s a b) → IfOk r (λ s. AloneOn c tag d now s a b)
+    alone_plain n typ plain acks row = alone_by (λ e. acks)
+        (λ is. absurd (none n 1 typ plain refl is)) (λ is. absurd (none n 2 typ plain refl is))
         (λ is. absurd (none n 4 typ plain refl is)) (λ is. absurd (none n 5 typ plain refl is)) (λ is. absurd (none n 7 typ plain refl is))
         (λ is. absurd (none n 9 typ plain refl is)) (λ is. absurd (none n 10 typ plain refl is)) (λ e. row)
 

@@ -1,5 +1,6 @@
 -- What of an association stays: what it begins by, and the INIT ACK that is due (RFC 9260 5.1).
 use Rattle.std.specs.Prelude.{◌≡◌, ℕ, Bool, false, List, Option, Some, None, is_some}
+use Rattle.sctp_association.specs.AcksDue.{acks_of}
 use Rattle.sctp_association.specs.declared.association.Association.{Association}
 use Rattle.sctp_association.specs.declared.due.Alone.{Alone}
 use Rattle.sctp_association.specs.declared.due.AloneKind.{AloneKind}
@@ -40,14 +41,15 @@ pub record IsKept (old new : Association) : Type 0 where
   pub owes : OwesNoMore old new
   pub sending : StaysWithin old new
 
--- Beside both halves, the requests of both sides and the events: what is due, the timers of the state, whether it is over, and whether a shutdown is
--- asked for
+-- Beside both halves, the requests of both sides and the events: what is due, when a SACK is, the timers of the state, whether it is over, and whether
+-- a shutdown is asked for
 pub record RestStays (old new : Association) : Type 0 where
   pub due : new.due ≡ old.due
   pub control : new.control ≡ old.control
   pub guard : new.guard ≡ old.guard
   pub over : new.is_over ≡ old.is_over
   pub wants : new.wants_shutdown ≡ old.wants_shutdown
+  pub acks : acks_of new.inbound ≡ acks_of old.inbound
 
 -- DATA came that no SACK told of: one waits, or is due at once (6.2)
 abbrev pub sack_waits : Option Inbound → Bool

@@ -1,4 +1,6 @@
 pub mod Acks
+pub mod AcksDue
+pub mod AcksOn
 pub mod Again
 pub mod Arrivals
 pub mod Asked

@@ -1,5 +1,6 @@
 -- What an INIT, an INIT ACK and a COOKIE-ECHO make of an association (RFC 9260 5.1, 5.2). Moments are nanoseconds.
 use Rattle.std.specs.Prelude.{◌≡◌, ◌⊎◌, ⊤, ℕ, ◌+◌, ◌-◌, Bool, true, false, nat_lt, List, slice_range, Option, Some, None, Ok, Err, is_some}
+use Rattle.sctp_association.specs.AcksDue.{AcksTold, acks_of}
 use Rattle.sctp_association.specs.Cookies.{IsSealedAt}
 use Rattle.sctp_association.specs.Fresh.{fresh_tag}
 use Rattle.sctp_association.specs.Reports.{EndsBegun, params_told, report_with, to_tag, value_in}
@@ -36,13 +37,16 @@ abbrev pub echo_step : (now moment : ℕ) → Ticket → Association → Step
 echo_step now moment ticket a =
     on_cookie_echo ticket (is_old now a.config.cookie_life moment) a.machine
 
--- this side has sealed the cookie under the key, with the tag of the packet, and the machine takes the step
+-- This side has sealed the cookie under the key, with the tag of the packet, and the machine takes the step. When a SACK is due stays, unless the
+-- association begins.
 pub record Echoes (tag : ℕ) (cookie : List ℕ) (now : ℕ) (step : Step) (old new : Association)
     : Type 0 where
   pub moment : ℕ
   pub made : IsSealedAt moment old.key tag cookie
   pub is : step ≡ echo_step now moment made.ticket old
   pub follows : FollowsStep step made.ticket.peer.tag now old new
+  pub acks : AcksTold step.answer.told old.config.sack_delay
+      (acks_of old.inbound) (acks_of new.inbound)
 
 -- the answer is that the cookie is stale: nothing more of the packet is looked at (5.1.5)
 abbrev pub is_stale_reply : Option Reply → Bool
@@ -62,13 +66,16 @@ EchoesOn tag cookie now (chunk.Refused r) old new = ⊤
 
 -- ## An INIT ACK
 
--- It makes this offer: the machine takes the step, and the cookie is kept, to be echoed (5.1 C). Its sender is told of parameters (3.2.2).
+-- It makes this offer: the machine takes the step, and the cookie is kept, to be echoed (5.1 C). Its sender is told of parameters (3.2.2). When a SACK is
+-- due stays.
 pub record TakesInitAck (c : ChunkPlace) (datagram : List ℕ) (now : ℕ) (old new : Association)
     : Type 0 where
   pub offer : Offer
   pub place : ParamPlace
   pub reads : values.cookie_in (init_in (value_in datagram c)) ≡ Ok (offer, place)
   pub follows : FollowsStep (on_init_ack offer old.machine) offer.tag now old new
+  pub acks : AcksTold (on_init_ack offer old.machine).answer.told old.config.sack_delay
+      (acks_of old.inbound) (acks_of new.inbound)
   pub cookie : (on_init_ack offer old.machine).answer.told ≡ None
       → new.cookie ≡ Some (slice_range (value_in datagram c) place.at (place.at + place.length))
   pub told : new.due.report

@@ -1,5 +1,6 @@
 -- What becomes of a chunk by itself. Moments are nanoseconds.
 use Rattle.std.specs.Prelude.{◌≡◌, ⊤, ℕ, true, List}
+use Rattle.sctp_association.specs.AcksOn.{AcksOn}
 use Rattle.sctp_association.specs.Beats.{AnswersOn, BeatsOn}
 use Rattle.sctp_association.specs.Causes.{cause_after, cause_in}
 use Rattle.sctp_association.specs.Cookies.{cookie_in}
@@ -50,7 +51,11 @@ pub record AloneOn (c : ChunkPlace) (tag : ℕ) (datagram : List ℕ) (now : ℕ
   -- Of each other chunk but a RE-CONFIG the machine makes what the row of its state says. Its reply is due, and no other; what it tells waits to be
   -- told; and the association is over where the row ends it. By DATA, a SACK or a FORWARD-TSN this side may end it (4, 5, 9).
   pub row : has_row c.typ ≡ true → RowOn c datagram now s old new
+  -- DATA is noted, and is acknowledged at once where it is a repeat, has the I bit, or there is a gap. By DATA that is refused, and by a FORWARD-TSN, a SACK
+  -- is due now. Other chunks leave when one is (6.2, 6.7; RFC 7053; RFC 3758 3.6).
+  pub acks : has_row c.typ ≡ true → AcksOn c datagram now s old new
 
--- it is none of DATA, INIT, INIT ACK and COOKIE-ECHO
+-- it is none of DATA, INIT, INIT ACK, COOKIE-ECHO and FORWARD-TSN
 abbrev pub IsOther : ℕ → Type 0
-IsOther typ = (typ ≡ 0 → ⊥) × (typ ≡ 1 → ⊥) × (typ ≡ 2 → ⊥) × (typ ≡ 10 → ⊥)
+IsOther typ =
+    (typ ≡ 0 → ⊥) × (typ ≡ 1 → ⊥) × (typ ≡ 2 → ⊥) × (typ ≡ 10 → ⊥) × (typ ≡ 192 → ⊥)

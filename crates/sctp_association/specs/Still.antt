@@ -1,8 +1,10 @@
 -- When something is to be done though nothing comes (RFC 9260 5.1, 6.3.2, 9.2; RFC 6525 5.1.1).
 use Rattle.std.specs.Prelude.{◌≡◌, ℕ, ◌-◌, ◌^◌, ◌==◌, ◌<◌, ◌≤◌, ◌⊎◌, max, Bool, true, false, not, ◌&&◌, ◌||◌, if◌then◌else◌, [], Option, Some, None, is_some}
 use Rattle.std.specs.Prelude.{is_none}
+use Rattle.std.specs.Option.{option_map}
 use Rattle.sctp_association.specs.declared.association.Association.{Association}
-use Rattle.sctp_association.specs.Sending.{is_none_of}
+use Rattle.sctp_association.specs.Sending.{is_none_of, t3_time}
+use Rattle.sctp_association.specs.declared.inbound.Inbound.{Inbound}
 use Rattle.sctp_handshake.specs.declared.state.State.{State}
 use Rattle.sctp_handshake.specs.declared.state.State.TheVariants.{Closed, CookieWait, CookieEchoed, Established}
 use Rattle.sctp_handshake.specs.declared.state.State.TheVariants.{ShutdownPending, ShutdownSent, ShutdownReceived, ShutdownAckSent}
@@ -10,7 +12,8 @@ use Rattle.sctp_handshake.specs.States.{timer}
 use Rattle.sctp_outbound.specs.pending_queue.PendingQueue.{chunk_count}
 use Rattle.sctp_path.specs.declared.heartbeat.Heartbeat.{Heartbeat}
 use Rattle.sctp_path.specs.Heartbeats.{next_at}
-use Rattle.sctp_reset.specs.Own.{is_idle}
+use Rattle.sctp_path.specs.Timers.{earliest}
+use Rattle.sctp_reset.specs.Own.{is_idle, time_of}
 use Rattle.sctp_reset.specs.Requests.{Request}
 
 -- a moment is answered, and none past that one, where that is one
@@ -84,3 +87,25 @@ request_by (Some r) = comes r.at
 -- when the request to reset streams that is under way is due (RFC 6525 5.1.1)
 abbrev pub request_time : Association → Option ℕ
 request_time a = request_by a.requests.under_way
+
+-- ## The next moment
+
+-- when a SACK is due, where a packet with DATA waits for one (6.2)
+abbrev pub sack_time : Option Inbound → Option ℕ
+sack_time None = None
+sack_time (Some i) = i.delay.due
+
+-- when T3-rtx expires; 0 where it is to be started (6.3.2)
+abbrev pub t3_of : Association → Option ℕ
+t3_of a = t3_time a.outbound.sender.flight.queue.inflight.chunks a.outbound.timer.at
+
+-- the first at which T1-init, T1-cookie, T2-shutdown, T3-rtx or T5-shutdown-guard expires, or a request to reset, a SACK or a HEARTBEAT is due
+abbrev pub first_moment : Association → Option ℕ
+first_moment a = earliest (earliest (earliest (earliest (earliest a.control.at (t3_of a))
+    a.guard.at) (option_map time_of a.requests.under_way)) (sack_time a.inbound))
+    (heartbeat_time a)
+
+-- when something is to be done, though nothing comes: 0 where it is to be done now, and never once the association is over
+abbrev pub timeout_of : Association → Option ℕ
+timeout_of a =
+    if a.is_over then None else (if is_behind a then Some 0 else first_moment a)

@@ -1,5 +1,7 @@
 -- What the chunks of a datagram make, one after the other (RFC 9260 4, 5, 6, 8.5, 9). Moments are nanoseconds.
 use Rattle.std.specs.Prelude.{◌≡◌, ◌⊎◌, ⊤, ℕ, ◌<◌, ◌==◌, ◌&&◌, Bool, true, false, not, List, [], ◌∷◌, length}
+use Rattle.std.specs.Option.{option_map}
+use Rattle.sctp_association.specs.AcksDue.{acks_of, ended}
 use Rattle.sctp_association.specs.Coming.{goes_on}
 use Rattle.sctp_association.specs.Expected.{BringsCookie, IsExpected, is_expected}
 use Rattle.sctp_association.specs.Halves.{receiver_of}
@@ -89,12 +91,14 @@ FirstOn c tag count datagram now Stop old new = TakesChunk c tag count datagram 
 FirstOn c tag count datagram now Cut old new = ⊤
 FirstOn c tag count datagram now (Refused r) old new = ⊤
 
--- The datagram ends: what follows from its chunks (9.2). What is told, the receiver, and the HEARTBEAT that waits for its answer stay.
+-- The datagram ends: what follows from its chunks (9.2). Where DATA came in it, a SACK is due: now where it is to be at once, or one more packet waits for
+-- one, and else within SACK.Delay (6.2). What is told, the receiver, and the HEARTBEAT that waits for its answer stay.
 pub record EndsDatagram (now : ℕ) (old new : Association) : Type 0 where
   pub settles : Settles now old new
   pub events : new.events ≡ old.events
   pub receiver : receiver_of new.inbound ≡ receiver_of old.inbound
   pub heartbeat : new.heartbeat ≡ old.heartbeat
+  pub acks : acks_of new.inbound ≡ option_map (ended now) (acks_of old.inbound)
 
 -- the first chunk leads on, then the others do, and the datagram ends
 pub record WalksOn (c : ChunkPlace) (cs : List ChunkPlace) (datagram : List ℕ) (now : ℕ)

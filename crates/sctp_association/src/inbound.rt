@@ -1,6 +1,6 @@
 //! What comes of the peer's messages, and when it is acknowledged (RFC 9260 6.2, 6.5; RFC 3758 3.6).
 
-ghost use Rattle.std.specs.Prelude.{◌≡◌, ◌==◌, ◌<◌, ◌≤◌, ℕ, Ok, IfOk, IsOk, OnErr, OnOk, Some, length, option_map, is_some, true, false};
+ghost use Rattle.std.specs.Prelude.{◌≡◌, ◌==◌, ◌<◌, ◌≤◌, ℕ, Ok, IfOk, IsOk, OnErr, OnOk, Some, ◌||◌, length, option_map, is_some, true, false};
 ghost use Rattle.sctp_association.specs.Arrivals.{AsksFor, IsOpening, IsOpeningNamed, IsReset, Received};
 ghost use Rattle.sctp_association.specs.Filled.{IfNonePut};
 ghost use Rattle.sctp_association.specs.Packets.{IsSackOnce, PutsIn};
@@ -74,6 +74,7 @@ pub(crate) struct Inbound {
 }
 
 impl Inbound {
+    ghost use Rattle.sctp_association.specs.AcksDue.{AcksData, acks_by, acks_in, ended, is_at_once, no_acks, with_due};
     ghost use Rattle.sctp_association.specs.Coming.{HasComeOrIsDropped};
     ghost use Rattle.sctp_association.specs.Ends.{EndsData, EndsSkip};
     ghost use Rattle.sctp_association.specs.Entering.{Handles, HandlesOpen, HandlesRefused};
@@ -89,6 +90,7 @@ impl Inbound {
             × (result.streams ≡ config.now.streams) }
         ensures receiver { result.receiver ≡ at_first
             config.now.first_tsn config.now.max_message_size (Some config.now.limits) }
+        ensures acks { acks_in result ≡ no_acks config.now.sack_delay }
     {
         let _window = config.limits.window;
         Inbound {
@@ -128,6 +130,8 @@ impl Inbound {
         ensures takes { result ≡ Ok Done → HasComeOrIsDropped chunk.now (Some self.new.receiver) }
         // Where the peer may use its stream its user data entered, or its message is too long, or it is dropped.
         ensures handles { result ≡ Ok Done → Handles chunk.now self.old self.new }
+        // It is noted for the SACK of this datagram; or it is refused, and a SACK is due now.
+        ensures acks { result ≡ Ok Done → AcksData chunk.now now self.old self.new }
         // It ends the association only without user data, or where it is refused for good.
         ensures ends { IfOk result (λ f. EndsData chunk.now f self.new.receiver) }
         ensures err { OnErr result ((self.new ≡ self.old) × (events.new ≡ events.old)) }
@@ -161,6 +165,8 @@ impl Inbound {
         ensures takes { result ≡ Ok Done → HasComeOrIsDropped chunk.now (Some self.new.receiver) }
         ensures handles { is_to_open chunk.now.stream_identifier self.old ≡ true
             → result ≡ Ok Done → Handles chunk.now self.old self.new }
+        ensures acks { is_to_open chunk.now.stream_identifier self.old ≡ true
+            → result ≡ Ok Done → AcksData chunk.now now self.old self.new }
         ensures ends { IfOk result (λ f. EndsData chunk.now f self.new.receiver) }
     {
         self.open_agreed(chunk.stream_identifier, events)?;
@@ -184,6 +190,9 @@ impl Inbound {
         ensures whole { result ≡ Ok Wanting → ⊥ }
         ensures takes { result ≡ Ok Done → HasComeOrIsDropped chunk.now (Some self.new.receiver) }
         ensures handles { result ≡ Ok Done → HandlesOpen chunk.now self.old self.new }
+        ensures acks { result ≡ Ok Done → acks_in self.new
+            ≡ acks_by (arrival_refusal chunk.now self.old.receiver) chunk.now now
+            self.old.receiver self.new.receiver (acks_in self.old) }
         ensures ends { IfOk result (λ f. EndsData chunk.now f self.new.receiver) }
         ensures err { OnErr result ((self.new ≡ self.old) × (events.new ≡ events.old)) }
     {
@@ -215,7 +224,9 @@ impl Inbound {
 
     // DATA came in this datagram.
     fn note_data(&mut self, at_once: bool)
-        ensures { self.new ≡ record self.old { came = self.new.came } }
+        ensures { self.new ≡ record self.old {
+          came = Some (at_once || is_at_once self.old.came);
+        } }
     {
         self.came = Some(at_once || self.came == Some(true));
     }
@@ -226,6 +237,7 @@ impl Inbound {
         ensures limits { (self.new.receiver.limits ≡ self.old.receiver.limits)
             × (self.new.streams ≡ self.old.streams) }
         ensures usable { (n : ℕ) → is_usable n self.new ≡ is_usable n self.old }
+        ensures acks { acks_in self.new ≡ ended now (acks_in self.old) }
     {
         if let Some(at_once) = self.came {
             self.delay.packet_came(now, at_once);
@@ -255,6 +267,7 @@ impl Inbound {
         ensures still { (n : ℕ) → is_open n self.old.receiver ≡ true
             → is_open n self.new.receiver ≡ true }
         ensures place { self.new.receiver.cumulative_tsn ≡ self.old.receiver.cumulative_tsn }
+        ensures acks { acks_in self.new ≡ acks_in self.old }
     {
         if self.receiver.stats(stream).is_some() {
             return Ok(());
@@ -278,6 +291,7 @@ impl Inbound {
         ensures still { (n : ℕ) → is_open n self.old.receiver ≡ true
             → is_open n self.new.receiver ≡ true }
         ensures place { self.new.receiver.cumulative_tsn ≡ self.old.receiver.cumulative_tsn }
+        ensures acks { acks_in self.new ≡ acks_in self.old }
     {
         if stream >= self.streams || self.discarded.contains(stream) {
             return Ok(());
@@ -317,6 +331,7 @@ impl Inbound {
             → result ≡ Ok Done → HasComeOrIsDropped chunk.now (Some self.new.receiver) }
         ensures handles { arrival_refusal chunk.now self.old.receiver ≡ Some refusal
             → result ≡ Ok Done → HandlesRefused refusal chunk.now self.old self.new }
+        ensures acks { result ≡ Ok Done → acks_in self.new ≡ with_due now (acks_in self.old) }
         ensures ends { arrival_refusal chunk.now self.old.receiver ≡ Some refusal
             → IfOk result (λ f. EndsData chunk.now f self.new.receiver) }
         ensures err { OnErr result ((self.new ≡ self.old) × (events.new ≡ events.old)) }
@@ -351,6 +366,7 @@ impl Inbound {
         ensures limits { (self.new.receiver.limits ≡ self.old.receiver.limits)
             × (self.new.streams ≡ self.old.streams) }
         ensures place { self.new.receiver.cumulative_tsn ≡ self.old.receiver.cumulative_tsn }
+        ensures acks { acks_in self.new ≡ acks_in self.old }
         ensures same { (n : ℕ) → is_in n self.new.discarded ≡ is_in n self.old.discarded }
         ensures served { IsOk result
             → comes_before self.old.receiver.cumulative_tsn skip.now.new_cumulative_tsn ≡ true
@@ -385,6 +401,9 @@ impl Inbound {
         ensures limits { (self.new.receiver.limits ≡ self.old.receiver.limits)
             × (self.new.streams ≡ self.old.streams) }
         ensures same { (n : ℕ) → is_in n self.new.discarded ≡ is_in n self.old.discarded }
+        ensures whole { result ≡ Ok Wanting → ⊥ }
+        // A SACK is due now (RFC 3758 3.6).
+        ensures acks { result ≡ Ok Done → acks_in self.new ≡ with_due now (acks_in self.old) }
         // It ends the association only where it is refused for good.
         ensures ends { IfOk result
             (λ f. EndsSkip (forward_tsn_of skip.now) f self.new.receiver) }
@@ -489,6 +508,7 @@ impl Inbound {
             → comes_before self.old.receiver.cumulative_tsn last_tsn ≡ false }
         ensures others { (n : ℕ) → (n == stream) ≡ false
             → is_in n self.new.discarded ≡ is_in n self.old.discarded }
+        ensures acks { acks_in self.new ≡ acks_in self.old }
     {
         if stream >= self.streams {
             return Ok(ReconfigResult::ErrorWrongSsn);

@@ -1,8 +1,10 @@
 //! What comes in a datagram (RFC 9260 5, 6, 8.5, 9).
 
-ghost use Rattle.std.specs.Prelude.{◌≡◌, ◌⊎◌, ◌<◌, ◌≤◌, ℕ, List, [], ◌∷◌, None, Some, Ok, IfOk, IfSome, OnErr, OnOk, true, false, drop, length};
+ghost use Rattle.std.specs.Prelude.{◌≡◌, ◌⊎◌, ◌<◌, ◌≤◌, ℕ, List, [], ◌∷◌, None, Some, Ok, IfOk, IfSome, OnErr, OnOk, true, false, drop, length, option_map};
 ghost use Rattle.std.specs.List.{AllByRecursion};
 ghost use Rattle.sctp_association.specs.Single.{AloneOn};
+ghost use Rattle.sctp_association.specs.AcksDue.{acks_of, ended};
+ghost use Rattle.sctp_association.specs.AcksOn.{AcksOn};
 ghost use Rattle.sctp_association.specs.Arrivals.{Arrives, CallsArrive};
 ghost use Rattle.sctp_association.specs.Behind.{StillOn};
 ghost use Rattle.sctp_association.specs.Beginnings.{ArrivesAsOffered, BeginsByDatagram, BeginsByTicket, KeepsPeer};
@@ -338,6 +340,8 @@ impl Association {
         ensures heartbeat { self.new.heartbeat ≡ self.old.heartbeat }
         ensures events { self.new.events ≡ self.old.events }
         ensures settles { Settles now self.old self.new }
+        ensures acks { acks_of self.new.inbound
+            ≡ option_map (ended now) (acks_of self.old.inbound) }
     {
         self.datagram_ended(now);
         self.settle(now);
@@ -356,6 +360,8 @@ impl Association {
         ensures events { self.new.events ≡ self.old.events }
         ensures wants { self.new.wants_shutdown ≡ self.old.wants_shutdown }
         ensures timers { KeepsTimers self.old self.new }
+        ensures acks { acks_of self.new.inbound
+            ≡ option_map (ended now) (acks_of self.old.inbound) }
     {
         if let Some(inbound) = &mut self.inbound {
             inbound.datagram_ended(now);
@@ -610,6 +616,7 @@ impl Association {
         ensures sending { self.new.outbound ≡ self.old.outbound }
         ensures still { IfOk result (λ s. StillOn chunk datagram.now s self.old self.new) }
         ensures row { IfOk result (λ s. RowOn chunk datagram.now now s self.old self.new) }
+        ensures acks { IfOk result (λ s. AcksOn chunk datagram.now now s self.old self.new) }
     {
         if !self.machine.state().takes_data() {
             return Ok(Step::Refused(Reason::Unexpected));
@@ -647,6 +654,7 @@ impl Association {
         ensures sending { self.new.outbound ≡ self.old.outbound }
         ensures still { IfOk result (λ s. StillOn chunk datagram.now s self.old self.new) }
         ensures row { IfOk result (λ s. RowOn chunk datagram.now now s self.old self.new) }
+        ensures acks { IfOk result (λ s. AcksOn chunk datagram.now now s self.old self.new) }
     {
         if !self.machine.state().takes_data() {
             return Ok(Step::Refused(Reason::Unexpected));
@@ -706,6 +714,7 @@ impl Association {
             (λ s. MovesOn chunk datagram.now now s self.old.outbound self.new.outbound) }
         ensures still { IfOk result (λ s. StillOn chunk datagram.now s self.old self.new) }
         ensures row { IfOk result (λ s. RowOn chunk datagram.now now s self.old self.new) }
+        ensures acks { IfOk result (λ s. AcksOn chunk datagram.now now s self.old self.new) }
     {
         if !self.machine.state().takes_sacks() {
             return Ok(Step::Refused(Reason::Unexpected));

@@ -1,6 +1,7 @@
 //! What the state machine is answered and tells.
 
 ghost use Rattle.std.specs.Prelude.{◌≡◌, ◌≢◌, ◌⊎◌, true, false, None, Some, is_some};
+ghost use Rattle.sctp_association.specs.AcksDue.{AcksTold, acks_of, no_acks};
 ghost use Rattle.sctp_association.specs.Beginnings.{Begins, BeginsBy, KeepsPeer, OwesInit};
 ghost use Rattle.sctp_association.specs.Kept.{IsKept, OwesNoMore, ticket_due, ticket_in_kind};
 ghost use Rattle.sctp_association.specs.Ends.{IsAborted};
@@ -78,6 +79,8 @@ impl Association {
             → self.new.due ≡ owed_by answer.reply tag self.old.due }
         ensures shutdown { answer.told ≡ Some ShutdownBegun
             → self.new.outbound ≡ self.old.outbound }
+        ensures acks { AcksTold answer.told self.old.config.sack_delay
+            (acks_of self.old.inbound) (acks_of self.new.inbound) }
     {
         let is_silent = answer.reply.is_none() && answer.told.is_none();
         if !is_silent || self.machine.state() != before {
@@ -110,6 +113,8 @@ impl Association {
             → self.new.due ≡ owed_by answer.reply tag self.old.due }
         ensures shutdown { answer.told ≡ Some ShutdownBegun
             → self.new.outbound ≡ self.old.outbound }
+        ensures acks { AcksTold answer.told self.old.config.sack_delay
+            (acks_of self.old.inbound) (acks_of self.new.inbound) }
     {
         if self.begins_timer(before, answer.reply) {
             self.run_control(now);
@@ -235,6 +240,8 @@ impl Association {
         ensures stop { stops (Some told) ≡ true → StopsTimers self.new }
         ensures keep { stops (Some told) ≡ false → KeepsTimers self.old self.new }
         ensures rto { stops (Some told) ≡ false → self.new.outbound.rto ≡ self.old.outbound.rto }
+        ensures acks { AcksTold (Some told) self.old.config.sack_delay
+            (acks_of self.old.inbound) (acks_of self.new.inbound) }
     {
         match told {
             Told::Connected => {
@@ -270,6 +277,8 @@ impl Association {
         ensures due { self.new.due ≡ record self.old.due { cookie_echo = false } }
         ensures timers { KeepsTimers self.old self.new }
         ensures rto { self.new.outbound.rto ≡ self.old.outbound.rto }
+        ensures acks { acks_of self.new.inbound ≡ Some (no_acks self.old.config.sack_delay)
+            ⊎ (self.new.inbound ≡ self.old.inbound) }
     {
         self.due.cookie_echo = false;
         let (Some(peer), Some(agreed)) = (self.machine.peer(), self.machine.agreed()) else {

@@ -1,6 +1,7 @@
 //! Control chunks that come: HEARTBEAT, ABORT, SHUTDOWN, ERROR and the like (RFC 9260 3.3.5 to 3.3.13, 8.3, 9).
 
 ghost use Rattle.std.specs.Prelude.{◌≡◌, ◌||◌, ℕ, List, [], ◌∷◌, drop, is_some, map, None, Some, Ok, IfOk, IfSome, OnErr};
+ghost use Rattle.sctp_association.specs.AcksDue.{AcksTold, acks_of};
 ghost use Rattle.sctp_association.specs.Single.{AloneOn, IsOther};
 ghost use Rattle.sctp_association.specs.Arrivals.{CallsArrive};
 ghost use Rattle.sctp_association.specs.Beats.{AnswersOn, BeatsOn, IsBeaten, nonce_in};
@@ -149,6 +150,8 @@ impl Association {
         ensures answer { result ≡ step.Next
             → FollowsAnswer answer tag before now self.old self.new }
         ensures next { result ≡ step.Stop → ⊥ }
+        ensures acks { result ≡ step.Next → AcksTold answer.told self.old.config.sack_delay
+            (acks_of self.old.inbound) (acks_of self.new.inbound) }
     {
         if answer.reply.is_none() && answer.told.is_none() {
             return Step::Refused(Reason::Unexpected);
@@ -198,6 +201,9 @@ impl Association {
         ensures expected { chunk.typ ≡ 7 → IfOk result (λ s. AsExpected
             (speaks (on_shutdown self.old.machine).answer
             || is_received self.old.machine.state) s) }
+        ensures acks { result ≡ Ok step.Next
+            → AcksTold (on_shutdown self.old.machine).answer.told self.old.config.sack_delay
+            (acks_of self.old.inbound) (acks_of self.new.inbound) }
     {
         let Some(shutdown) = self.read_chunk::<ChunkShutdown>(datagram, chunk)? else {
             return Ok(Step::Refused(Reason::NoPacket));
@@ -235,6 +241,7 @@ impl Association {
             (λ s. StepsOn (dropped self.old.machine) 0 now s self.old self.new) }
         ensures expected { chunk.typ ≡ 4
             → IfOk result (λ s. AsExpected (is_some self.old.machine.peer) s) }
+        ensures inbound { self.new.inbound ≡ self.old.inbound }
     {
         // Who asks answers from COOKIE-ECHOED on, who is asked once the association stands (RFC 9260 8.3).
         if self.machine.peer().is_none() {
@@ -269,6 +276,7 @@ impl Association {
             (λ s. StepsOn (dropped self.old.machine) 0 now s self.old self.new) }
         ensures expected { chunk.typ ≡ 5
             → IfOk result (λ s. AsExpected (is_some self.old.heartbeat) s) }
+        ensures inbound { self.new.inbound ≡ self.old.inbound }
     {
         let Some(ack) = self.read_chunk::<ChunkHeartbeatAck>(datagram, chunk)? else {
             return Ok(Step::Refused(Reason::NoPacket));
@@ -315,6 +323,9 @@ impl Association {
             ≡ cause_after (cause_in datagram.now chunk) self.old.events.peer_error }
         ensures next { result ≡ step.Stop → ⊥ }
         ensures never { (r : Reason) → result ≡ step.Refused r → ⊥ }
+        ensures acks { AcksTold (error_row (cause_in datagram.now chunk)
+            (fresh_tag self.old.key now self.old.machine.own) self.old.machine).answer.told
+            self.old.config.sack_delay (acks_of self.old.inbound) (acks_of self.new.inbound) }
     {
         let Some(code) = cause_of(datagram, chunk) else {
             return Step::Next;

@@ -1,6 +1,7 @@
 //! INIT, INIT ACK and the cookie (RFC 9260 5).
 
 ghost use Rattle.std.specs.Prelude.{◌≡◌, ◌≢◌, ◌⊎◌, ◌≤◌, ◌&&◌, Ok, IfOk, OnErr, None, Some, length, true, false};
+ghost use Rattle.sctp_association.specs.AcksDue.{AcksTold, acks_of};
 ghost use Rattle.sctp_association.specs.Single.{OffersOn};
 ghost use Rattle.sctp_association.specs.Beginnings.{ArrivesAsOffered, BeginsByTicket, IsOwedFor, KeepsPeer, is_standing};
 ghost use Rattle.sctp_association.specs.Kept.{OwesNoMore, OwesTicket, ticket_in_kind};
@@ -272,6 +273,9 @@ impl Association {
         ensures row { StepsOn (on_cookie_ack self.old.machine) 0 now result self.old self.new }
         ensures expected { AsExpected
             (speaks (on_cookie_ack self.old.machine).answer && may_begin self.old) result }
+        ensures acks { result ≡ step.Next
+            → AcksTold (on_cookie_ack self.old.machine).answer.told self.old.config.sack_delay
+            (acks_of self.old.inbound) (acks_of self.new.inbound) }
     {
         if !self.may_begin() {
             return Step::Refused(Reason::Unexpected);

@@ -45,7 +45,7 @@ fn owe_again(due: &mut Due, reply: Option<Reply>)
 }
 
 impl Association {
-    ghost use Rattle.sctp_association.specs.Still.{IsBy, IsStill, heartbeat_time, is_behind};
+    ghost use Rattle.sctp_association.specs.Still.{IsBy, IsStill, heartbeat_time, is_behind, timeout_of};
     ghost use Rattle.sctp_association.specs.Ends.{IsAborted, IsUnanswered};
     ghost use Rattle.sctp_association.specs.Failing.{IsCounted, IsGuarded, IsTimedOut};
     ghost use Rattle.sctp_association.specs.declared.due.AloneKind.TheVariants.{Abort};
@@ -54,6 +54,8 @@ impl Association {
     /// The earliest moment at which `handle_timeout` and `poll_transmit` have something to do, though nothing comes; 0 where they have it now.
     /// None only where nothing waits, nothing is in flight, and no handshake, shutdown or reset is under way.
     pub fn poll_timeout(&self) -> Option<u64>
+        // It is exactly the first of those moments: so the association is called no sooner than needed, and a SACK that waits leaves in time (6.2).
+        ensures exact { result ≡ timeout_of self.now }
         ensures still { result ≡ None → IsStill self.now }
         ensures control { self.now.is_over ≡ false → IsBy self.now.control.at result }
         ensures t3 { self.now.is_over ≡ false → IsBy (t3_time

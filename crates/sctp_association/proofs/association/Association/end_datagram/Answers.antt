@@ -1,4 +1,5 @@
 use Rattle.std.proofs.Common.{Option, ap, ◌∙◌}
+use Rattle.sctp_association.specs.AcksDue.{acks_of}
 use Rattle.sctp_association.specs.Entering.{usable_in}
 use Rattle.sctp_association.specs.declared.inbound.Inbound.{Inbound}
 use Rattle.sctp_association.proofs.Telling.{end_then}
@@ -13,3 +14,6 @@ returns-clause-tells c = end_then c.datagram_ended.ensures.tells c.settle.ensure
 
 pub returns-clause-usable : goal.returns-clause-usable
 returns-clause-usable c s = ap (λ (x : Option Inbound). usable_in s x) c.settle.ensures.inbound ∙ c.datagram_ended.ensures.usable s
+
+pub returns-clause-acks : goal.returns-clause-acks
+returns-clause-acks c = ap (λ (x : Option Inbound). acks_of x) c.settle.ensures.inbound ∙ c.datagram_ended.ensures.acks

@@ -1,6 +1,7 @@
 use Rattle.sctp_association.proofs.Telling.{passes_none, to_same}
 use Rattle.std.proofs.Common.{refl, rules, ◌≡◌}
 use Rattle.std.specs.Prelude.{None}
+use Rattle.sctp_association.proofs.AcksOn.{told_none}
 use Rattle.sctp_association.proofs.Begun.{begun_none}
 use Rattle.sctp_association.proofs.association.Association.follow.Goals as goal
 
@@ -16,3 +17,8 @@ pub returns-else-ne-clause-tells : goal.returns-else-ne-clause-tells
 returns-else-ne-clause-tells c =
     let none : c.args.answer.told ≡ None = search rules in
     passes_none _ _ _ _ none to_same
+
+pub returns-else-ne-clause-acks : goal.returns-else-ne-clause-acks
+returns-else-ne-clause-acks c =
+    let none : c.args.answer.told ≡ None = search rules in
+    told_none _ _ _ _ none refl

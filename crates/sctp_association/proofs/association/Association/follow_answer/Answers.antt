@@ -1,6 +1,7 @@
 use Rattle.std.proofs.Common.{Some, inl, inr, ap, refl, subst, sym, ◌≡◌, ◌⊎◌, ◌∙◌}
 use Rattle.std.specs.Prelude.{◌≢◌, is_some}
 use Rattle.sctp_association.proofs.Rows.{follows_told}
+use Rattle.sctp_association.specs.AcksDue.{AcksTold, acks_of}
 use Rattle.sctp_association.proofs.Telling.{end_same, end_then, tells_due}
 use Rattle.sctp_association.proofs.association.Association.follow_answer.Goals as goal
 use Rattle.sctp_association.proofs.association.Association.follow_answer.Goals.{else-begins_timer, in-Some, in_default, then-begins_timer}
@@ -65,3 +66,18 @@ returns-in-Some-told-clause-answer c =
     follows_told c.args.answer c.args.tag c.args.before c.args.now old c.if-begins_timer.self c.match-answer.self c.tell.new.self first next start keep
     c.in-Some-told.told c.in-Some-told.is tell.due tell.over
     (subst (λ h. IsPassedOn (Some c.in-Some-told.told) h c.tell.new.self.events) (ap ending_by c.is_some.ensures) tell.tells.told) tell.wants tell.kept.machine tell.kept.config tell.stop tell.keep tell.rto
+
+pub returns-in-Some-told-clause-acks : goal.returns-in-Some-told-clause-acks
+returns-in-Some-told-clause-acks c =
+    let Tells : Association → Type 0 =
+    λ x. AcksTold (Some c.in-Some-told.told) x.config.sack_delay (acks_of x.inbound) (acks_of c.tell.new.self.inbound) in
+    let next : Tells c.if-begins_timer.self = elim c.match-answer.branch [
+      | in-Some w ↦ subst Tells (w.self-is ∙ w.owe.ensures.rest) c.tell.ensures.acks
+      | in_default w ↦ subst Tells w.self-is c.tell.ensures.acks
+    ] in
+    let first : Tells c.args.self.now = elim c.if-begins_timer.branch [
+      | then-begins_timer w ↦ subst Tells (w.self-is ∙ w.run_control.ensures.rest) next
+      | else-begins_timer w ↦ subst Tells w.self-is next
+    ] in
+    subst (λ t. AcksTold t c.args.self.now.config.sack_delay (acks_of c.args.self.now.inbound) (acks_of c.tell.new.self.inbound))
+    (sym c.in-Some-told.is) first

@@ -43,6 +43,9 @@ returns-clause-events c = c.follow.ensures.events (drained_told _ _ c.drained-an
 
 -- ## What may still come to be due
 
+pub returns-clause-stays : goal.returns-clause-stays
+returns-clause-stays c = c.follow.ensures.stays (drained_told _ _ c.drained-answer.ensures.answer)
+
 pub returns-clause-alone : goal.returns-clause-alone
 returns-clause-alone c =
     drained_alone c.args.self.now.machine _ _ c.args.self.now.due c.follow.new.self.due c.drained-answer.ensures

@@ -1,4 +1,6 @@
-use Rattle.sctp_association.proofs.Rows.{row_reset}
+use Rattle.sctp_association.proofs.AcksOn.{acks_rows}
+use Rattle.sctp_association.proofs.Rows.{row_reset, row_typ}
+use Rattle.sctp_handshake.specs.Machines.{dropped}
 use Rattle.std.proofs.Common.{Ok}
 use Rattle.sctp_association.proofs.Behind.{still_ends}
 use Rattle.sctp_association.proofs.Ends.{ends_echo, ends_init_ack, ends_row, ends_same_of, if_then, off_other, row_has}
@@ -84,12 +86,14 @@ pub returns-in-0-clause-alone : goal.returns-in-0-clause-alone
 returns-in-0-clause-alone c =
     let typ : c.args.chunk.typ ≡ 0 = search rules in
     alone_plain c.args.chunk c.args.tag c.args.datagram.now c.args.now c.args.self.now c.take_data.new.self c.take_data.result 0 typ refl
+    c.take_data.ensures.acks
     c.take_data.ensures.row
 
 pub returns-in-1-clause-alone : goal.returns-in-1-clause-alone
 returns-in-1-clause-alone c =
     let typ : c.args.chunk.typ ≡ 1 = search rules in
     alone_by c.args.chunk c.args.tag c.args.datagram.now c.args.now c.args.self.now c.take_init.new.self c.take_init.result
+    (λ row. absurd (false≢true (sym (ap has_row typ) ∙ row)))
     (λ is. c.take_init.ensures.offers) (λ is. absurd (omega (arith, is, typ))) (λ is. absurd (omega (arith, is, typ)))
     (λ is. absurd (omega (arith, is, typ))) (λ is. absurd (omega (arith, is, typ))) (λ is. absurd (omega (arith, is, typ)))
     (λ is. absurd (omega (arith, is, typ))) (λ row. absurd (false≢true (sym (ap has_row typ) ∙ row)))
@@ -98,6 +102,7 @@ pub returns-in-2-clause-alone : goal.returns-in-2-clause-alone
 returns-in-2-clause-alone c =
     let typ : c.args.chunk.typ ≡ 2 = search rules in
     alone_by c.args.chunk c.args.tag c.args.datagram.now c.args.now c.args.self.now c.take_init_ack.new.self c.take_init_ack.result
+    (λ row. absurd (false≢true (sym (ap has_row typ) ∙ row)))
     (λ is. absurd (omega (arith, is, typ))) (λ is. c.take_init_ack.ensures.row) (λ is. absurd (omega (arith, is, typ)))
     (λ is. absurd (omega (arith, is, typ))) (λ is. absurd (omega (arith, is, typ))) (λ is. absurd (omega (arith, is, typ)))
     (λ is. absurd (omega (arith, is, typ))) (λ row. absurd (false≢true (sym (ap has_row typ) ∙ row)))
@@ -106,12 +111,14 @@ pub returns-in-3-clause-alone : goal.returns-in-3-clause-alone
 returns-in-3-clause-alone c =
     let typ : c.args.chunk.typ ≡ 3 = search rules in
     alone_plain c.args.chunk c.args.tag c.args.datagram.now c.args.now c.args.self.now c.take_sack.new.self c.take_sack.result 3 typ refl
+    c.take_sack.ensures.acks
     c.take_sack.ensures.row
 
 pub returns-in-10-clause-alone : goal.returns-in-10-clause-alone
 returns-in-10-clause-alone c =
     let typ : c.args.chunk.typ ≡ 10 = search rules in
     alone_by c.args.chunk c.args.tag c.args.datagram.now c.args.now c.args.self.now c.take_cookie.new.self c.take_cookie.result
+    (λ row. absurd (false≢true (sym (ap has_row typ) ∙ row)))
     (λ is. absurd (omega (arith, is, typ))) (λ is. absurd (omega (arith, is, typ))) (λ is. absurd (omega (arith, is, typ)))
     (λ is. absurd (omega (arith, is, typ))) (λ is. absurd (omega (arith, is, typ))) (λ is. absurd (omega (arith, is, typ))) (λ is. c.take_cookie.ensures.row)
     (λ row. absurd (false≢true (sym (ap has_row typ) ∙ row)))
@@ -119,7 +126,10 @@ returns-in-10-clause-alone c =
 pub returns-in-130-clause-alone : goal.returns-in-130-clause-alone
 returns-in-130-clause-alone c =
     let typ : c.args.chunk.typ ≡ 130 = search rules in
-    alone_plain c.args.chunk c.args.tag c.args.datagram.now c.args.now c.args.self.now c.take_reconfig.new.self c.take_reconfig.result 130 typ refl (
+    alone_plain c.args.chunk c.args.tag c.args.datagram.now c.args.now c.args.self.now c.take_reconfig.new.self c.take_reconfig.result 130 typ refl
+    (acks_rows c.args.chunk c.args.datagram.now c.args.now c.args.self.now c.take_reconfig.new.self (dropped c.args.self.now.machine)
+    (row_typ c.args.chunk c.args.datagram.now c.args.now c.args.self.now 130 typ) c.take_reconfig.result (λ _. c.take_reconfig.ensures.rest.acks)
+    (λ is. omega (arith, is, typ)) (λ is. omega (arith, is, typ))) (
     row_reset c.args.chunk c.args.datagram.now c.args.now c.args.self.now c.take_reconfig.new.self typ c.take_reconfig.ensures.kept
     c.take_reconfig.ensures.rest c.take_reconfig.result c.take_reconfig.ensures.goes_on
     )
@@ -128,10 +138,11 @@ pub returns-in-192-clause-alone : goal.returns-in-192-clause-alone
 returns-in-192-clause-alone c =
     let typ : c.args.chunk.typ ≡ 192 = search rules in
     alone_plain c.args.chunk c.args.tag c.args.datagram.now c.args.now c.args.self.now c.take_skip.new.self c.take_skip.result 192 typ refl
+    c.take_skip.ensures.acks
     c.take_skip.ensures.row
 
 pub returns-in_default-clause-alone : goal.returns-in_default-clause-alone
-returns-in_default-clause-alone c = c.take_control.ensures.alone (search rules, search rules, search rules, search rules) c.args.tag
+returns-in_default-clause-alone c = c.take_control.ensures.alone (search rules, search rules, search rules, search rules, search rules) c.args.tag
 
 -- ## What is expected is not refused
 
@@ -188,7 +199,7 @@ returns-in_default-clause-due c admitted expected r =
     let at = expected_at c.args.chunk c.args.tag c.args.datagram.now c.args.now c.args.self.now expected c.args.chunk.typ refl (search rules) (search rules)
     (search rules) in
     never_refused (expects c.args.chunk.typ c.args.self.now) c.take_control.result
-    (c.take_control.ensures.expected (search rules, search rules, search rules, search rules) (search rules)) r
+    (c.take_control.ensures.expected (search rules, search rules, search rules, search rules, search rules) (search rules)) r
     (expected_control c.args.self.now c.args.chunk.typ (search rules) (search rules) (search rules) at).1
 
 -- ## Where a chunk is taken
@@ -241,7 +252,8 @@ pub returns-in_default-clause-expected : goal.returns-in_default-clause-expected
 returns-in_default-clause-expected c admitted row =
     let begun : c.args.self.now.machine.state ≡ Closed → ⊥ = search rules in
     as_same (expects c.args.chunk.typ c.args.self.now) c.take_control.result
-    (c.take_control.ensures.expected (search rules, search rules, search rules, search rules) (search rules)) (is_expected c.args.chunk.typ c.args.self.now)
+    (c.take_control.ensures.expected (search rules, search rules, search rules, search rules, search rules) (search rules))
+    (is_expected c.args.chunk.typ c.args.self.now)
     (control_expected c.args.self.now c.args.chunk.typ (search rules) (search rules) (search rules) begun)
 
 -- ## What ends the association
@@ -294,7 +306,7 @@ returns-in_default-clause-over c =
     let n192 : c.args.chunk.typ ≡ 192 → ⊥ = search rules in
     if_then c.take_control.result (λ s is h. ends_row c.args.chunk c.args.datagram.now c.args.self.now c.take_control.new.self
     c.args.now (off_other c.args.chunk.typ n0 n3 n192) s (λ cut. c.take_control.ensures.whole (is ∙ ap Ok cut)) (h.row (row_has c.args.chunk.typ n1 n2 n10)))
-    (c.take_control.ensures.alone (n0, n1, n2, n10) c.args.tag)
+    (c.take_control.ensures.alone (n0, n1, n2, n10, n192) c.args.tag)
 
 -- ## What a chunk leaves behind which the datagram goes on
 

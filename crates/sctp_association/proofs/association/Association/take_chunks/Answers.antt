@@ -365,5 +365,5 @@ returns-clause-walks c is =
           (search rules) c.take_first.ensures.walks);
       last = c.take_others-is_whole.new.self;
       others = c.take_others-is_whole.ensures.walks c.if-not-is_whole.false;
-      ends = record { settles = ended.settles; events = ended.events; receiver = ended.halves.receiver; heartbeat = ended.heartbeat };
+      ends = record { settles = ended.settles; events = ended.events; receiver = ended.halves.receiver; heartbeat = ended.heartbeat; acks = ended.acks };
     }))

@@ -3,8 +3,12 @@ use Rattle.sctp_association.proofs.Expected.{as_same, as_taken, unknown_expected
 use Rattle.sctp_association.specs.Expected.{AsExpected, expects, is_received, may_begin, speaks}
 use Rattle.sctp_association.specs.declared.association.arrivals.Step.{Step}
 use Rattle.sctp_association.proofs.Telling.{tells_due, tells_peer, tells_still}
-use Rattle.std.proofs.Common.{Ok, ap, arith, refl, rules, subst, sym, ◌≡◌, ◌∙◌}
+use Rattle.std.proofs.Common.{Ok, Option, ap, arith, refl, rules, subst, sym, ◌≡◌, ◌∙◌}
 use Rattle.std.specs.Prelude.{◌&&◌, ◌||◌, is_some, true}
+use Rattle.sctp_association.proofs.AcksOn.{acks_row, acks_rows, told_as}
+use Rattle.sctp_association.specs.AcksDue.{acks_of}
+use Rattle.sctp_association.specs.declared.association.Association.{Association}
+use Rattle.sctp_association.specs.declared.inbound.Inbound.{Inbound}
 use Rattle.sctp_association.proofs.Single.{alone_by, alone_plain, cause_on, is_plain, plain_other}
 use Rattle.sctp_association.proofs.Rows.{follows_from, follows_step, row_abort, row_other, row_steps, row_typ, steps_on, tag_other}
 use Rattle.sctp_association.specs.Fresh.{fresh_tag}
@@ -93,6 +97,9 @@ returns-in-4-clause-alone c other tag =
     let typ : c.args.chunk.typ ≡ 4 = search rules in
     let d = c.args.datagram.now in
     alone_by c.args.chunk tag d c.args.now c.args.self.now c.take_heartbeat.new.self c.take_heartbeat.result
+    (λ e. acks_rows c.args.chunk d c.args.now c.args.self.now c.take_heartbeat.new.self (dropped c.args.self.now.machine)
+    (row_typ c.args.chunk d c.args.now c.args.self.now _ typ) c.take_heartbeat.result (λ _. ap (λ (o : Option Inbound). acks_of o) c.take_heartbeat.ensures.inbound)
+    (λ is. omega (arith, is, typ)) (λ is. omega (arith, is, typ)))
     (λ is. absurd (omega (arith, is, typ))) (λ is. absurd (omega (arith, is, typ))) (λ is. c.take_heartbeat.ensures.answers)
     (λ is. absurd (omega (arith, is, typ))) (λ is. absurd (omega (arith, is, typ))) (λ is. absurd (omega (arith, is, typ)))
     (λ is. absurd (omega (arith, is, typ)))
@@ -105,6 +112,9 @@ returns-in-5-clause-alone c other tag =
     let typ : c.args.chunk.typ ≡ 5 = search rules in
     let d = c.args.datagram.now in
     alone_by c.args.chunk tag d c.args.now c.args.self.now c.take_heartbeat_ack.new.self c.take_heartbeat_ack.result
+    (λ e. acks_rows c.args.chunk d c.args.now c.args.self.now c.take_heartbeat_ack.new.self (dropped c.args.self.now.machine)
+    (row_typ c.args.chunk d c.args.now c.args.self.now _ typ) c.take_heartbeat_ack.result (λ _. ap (λ (o : Option Inbound). acks_of o) c.take_heartbeat_ack.ensures.inbound)
+    (λ is. omega (arith, is, typ)) (λ is. omega (arith, is, typ)))
     (λ is. absurd (omega (arith, is, typ))) (λ is. absurd (omega (arith, is, typ))) (λ is. absurd (omega (arith, is, typ)))
     (λ is. c.take_heartbeat_ack.ensures.beats) (λ is. absurd (omega (arith, is, typ))) (λ is. absurd (omega (arith, is, typ)))
     (λ is. absurd (omega (arith, is, typ)))
@@ -116,6 +126,9 @@ pub returns-in-6-clause-alone : goal.returns-in-6-clause-alone
 returns-in-6-clause-alone c other tag =
     let typ : c.args.chunk.typ ≡ 6 = search rules in
     alone_plain c.args.chunk tag c.args.datagram.now c.args.now c.args.self.now c.take_abort.new.self (Ok c.take_abort.result) 6 typ refl
+    (acks_row c.args.chunk c.args.datagram.now c.args.now c.args.self.now c.take_abort.new.self (on_abort c.args.self.now.machine)
+    (row_typ c.args.chunk c.args.datagram.now c.args.now c.args.self.now _ typ) c.take_abort.result (λ next. absurd (c.take_abort.ensures.next next))
+    (λ is. omega (arith, is, typ)) (λ is. omega (arith, is, typ)))
     (row_abort c.args.chunk c.args.datagram.now c.args.now c.args.self.now c.take_abort.new.self c.take_abort.result typ
     c.take_abort.ensures.next c.take_abort.ensures.row)
 
@@ -124,6 +137,9 @@ returns-in-7-clause-alone c other tag =
     let typ : c.args.chunk.typ ≡ 7 = search rules in
     let d = c.args.datagram.now in
     alone_by c.args.chunk tag d c.args.now c.args.self.now c.take_shutdown.new.self c.take_shutdown.result
+    (λ e. acks_rows c.args.chunk d c.args.now c.args.self.now c.take_shutdown.new.self (on_shutdown c.args.self.now.machine)
+    (row_typ c.args.chunk d c.args.now c.args.self.now _ typ) c.take_shutdown.result c.take_shutdown.ensures.acks
+    (λ is. omega (arith, is, typ)) (λ is. omega (arith, is, typ)))
     (λ is. absurd (omega (arith, is, typ))) (λ is. absurd (omega (arith, is, typ))) (λ is. absurd (omega (arith, is, typ)))
     (λ is. absurd (omega (arith, is, typ))) (λ is. c.take_shutdown.ensures.shuts) (λ is. absurd (omega (arith, is, typ)))
     (λ is. absurd (omega (arith, is, typ)))
@@ -142,6 +158,9 @@ returns-in-8-clause-alone c other tag =
     follows_from _ _ c.args.self.now.machine.state _ _ c.args.self.now _ _ (c.take_answer.ensures.answer is) c.state-before.ensures refl refl refl refl refl
     ) in
     alone_plain c.args.chunk tag d c.args.now c.args.self.now c.take_answer.new.self (Ok c.take_answer.result) 8 typ refl
+    (acks_row c.args.chunk d c.args.now c.args.self.now c.take_answer.new.self (on_shutdown_ack c.args.self.now.machine)
+    (row_typ c.args.chunk d c.args.now c.args.self.now _ typ) c.take_answer.result (λ next. told_as _ _ _ _ _ took.answer (c.take_answer.ensures.acks next))
+    (λ is. omega (arith, is, typ)) (λ is. omega (arith, is, typ)))
     (row_steps c.args.chunk d c.args.now c.args.self.now c.take_answer.new.self (on_shutdown_ack c.args.self.now.machine) c.peer_tag-tag.result (λ is. omega (arith, is, typ))
     (row_typ c.args.chunk d c.args.now c.args.self.now _ typ) (ap (λ n. tag_to n c.args.self.now.machine) typ ∙ sym c.peer_tag-tag.ensures)
     (Ok c.take_answer.result) (steps_on _ _ _ _ _ c.take_answer.result steps c.take_answer.ensures.next c.take_answer.ensures.whole))
@@ -151,6 +170,9 @@ returns-in-9-clause-alone c other tag =
     let typ : c.args.chunk.typ ≡ 9 = search rules in
     let d = c.args.datagram.now in
     alone_by c.args.chunk tag d c.args.now c.args.self.now c.take_error.new.self (Ok c.take_error.result)
+    (λ e. acks_rows c.args.chunk d c.args.now c.args.self.now c.take_error.new.self (error_row (cause_in d c.args.chunk) (fresh_tag c.args.self.now.key c.args.now c.args.self.now.machine.own) c.args.self.now.machine)
+    (row_typ c.args.chunk d c.args.now c.args.self.now _ typ) (Ok c.take_error.result) (λ _. c.take_error.ensures.acks)
+    (λ is. omega (arith, is, typ)) (λ is. omega (arith, is, typ)))
     (λ is. absurd (omega (arith, is, typ))) (λ is. absurd (omega (arith, is, typ))) (λ is. absurd (omega (arith, is, typ)))
     (λ is. absurd (omega (arith, is, typ))) (λ is. absurd (omega (arith, is, typ)))
     (λ is. cause_on c.args.chunk d c.take_error.result c.args.self.now c.take_error.new.self c.take_error.ensures.next c.take_error.ensures.whole
@@ -165,6 +187,9 @@ returns-in-11-clause-alone c other tag =
     let typ : c.args.chunk.typ ≡ 11 = search rules in
     let d = c.args.datagram.now in
     alone_plain c.args.chunk tag d c.args.now c.args.self.now c.take_cookie_ack.new.self (Ok c.take_cookie_ack.result) 11 typ refl
+    (acks_row c.args.chunk d c.args.now c.args.self.now c.take_cookie_ack.new.self (on_cookie_ack c.args.self.now.machine)
+    (row_typ c.args.chunk d c.args.now c.args.self.now _ typ) c.take_cookie_ack.result c.take_cookie_ack.ensures.acks
+    (λ is. omega (arith, is, typ)) (λ is. omega (arith, is, typ)))
     (row_steps c.args.chunk d c.args.now c.args.self.now c.take_cookie_ack.new.self (on_cookie_ack c.args.self.now.machine) 0 (λ is. omega (arith, is, typ))
     (row_typ c.args.chunk d c.args.now c.args.self.now _ typ) (ap (λ n. tag_to n c.args.self.now.machine) typ)
     (Ok c.take_cookie_ack.result) c.take_cookie_ack.ensures.row)
@@ -181,6 +206,9 @@ returns-in-14-clause-alone c other tag =
     refl refl refl refl refl
     ) in
     alone_plain c.args.chunk tag d c.args.now c.args.self.now c.take_answer-in-14.new.self (Ok c.take_answer-in-14.result) 14 typ refl
+    (acks_row c.args.chunk d c.args.now c.args.self.now c.take_answer-in-14.new.self (on_shutdown_complete c.args.self.now.machine)
+    (row_typ c.args.chunk d c.args.now c.args.self.now _ typ) c.take_answer-in-14.result (λ next. told_as _ _ _ _ _ took.answer (c.take_answer-in-14.ensures.acks next))
+    (λ is. omega (arith, is, typ)) (λ is. omega (arith, is, typ)))
     (row_steps c.args.chunk d c.args.now c.args.self.now c.take_answer-in-14.new.self (on_shutdown_complete c.args.self.now.machine) 0 (λ is. omega (arith, is, typ))
     (row_typ c.args.chunk d c.args.now c.args.self.now _ typ) (ap (λ n. tag_to n c.args.self.now.machine) typ)
     (Ok c.take_answer-in-14.result) (steps_on _ _ _ _ _ c.take_answer-in-14.result steps c.take_answer-in-14.ensures.next c.take_answer-in-14.ensures.whole))
@@ -192,6 +220,10 @@ returns-in_default-clause-alone c other tag =
     let plain : is_plain c.args.chunk.typ ≡ true = plain_other c.args.chunk.typ other.1 other.2 (search rules) (search rules) (search rules)
     (search rules) other.3 in
     alone_plain c.args.chunk tag d c.args.now c.args.self.now c.note_unknown.new.self c.note_unknown.result c.args.chunk.typ refl plain
+    (acks_rows c.args.chunk d c.args.now c.args.self.now c.note_unknown.new.self (dropped c.args.self.now.machine)
+    (row_other c.args.chunk.typ (cause_in d c.args.chunk) _ c.args.self.now.machine other.0 (search rules) (search rules) (search rules)
+    (search rules) (search rules) (search rules)) c.note_unknown.result
+    (λ _. ap (λ (x : Association). acks_of x.inbound) c.note_unknown.ensures.rest) other.0 other.4)
     (row_steps c.args.chunk d c.args.now c.args.self.now c.note_unknown.new.self (dropped c.args.self.now.machine) 0 (search rules)
     (row_other c.args.chunk.typ (cause_in d c.args.chunk) _ c.args.self.now.machine other.0 (search rules) (search rules) (search rules)
     (search rules) (search rules) (search rules)) (tag_other c.args.chunk.typ c.args.self.now.machine (search rules))

@@ -182,7 +182,7 @@ returns-in-Some-StaleCookie-clause-row c =
       echoes_by c.args.tag _ c.args.now c.args.self.now c.follow.new.self c.in-Some.moment made c.is_stale-is_old.result c.is_stale-is_old.ensures _ _ takes
           c.follow.ensures.kept.machine (
           follows_from _ _ c.args.self.now.machine.state _ _ c.args.self.now _ _ h c.state-before.ensures refl refl refl refl refl
-          ),
+          ) c.follow.ensures.acks,
     )
 
 pub returns-in_default-reply-clause-row : goal.returns-in_default-reply-clause-row
@@ -202,7 +202,7 @@ returns-in_default-reply-clause-row c =
       echoes_by c.args.tag _ c.args.now c.args.self.now c.follow.new.self c.in-Some.moment made c.is_stale-is_old.result c.is_stale-is_old.ensures _ _ takes
           c.follow.ensures.kept.machine (
           follows_from _ _ c.args.self.now.machine.state _ _ c.args.self.now _ _ h c.state-before.ensures refl refl refl refl refl
-          ),
+          ) c.follow.ensures.acks,
     )
 
 pub returns-in_default-reply-2-clause-row : goal.returns-in_default-reply-2-clause-row
@@ -222,7 +222,7 @@ returns-in_default-reply-2-clause-row c =
       echoes_by c.args.tag _ c.args.now c.args.self.now c.follow.new.self c.in-Some.moment made c.is_stale-is_old.result c.is_stale-is_old.ensures _ _ takes
           c.follow.ensures.kept.machine (
           follows_from _ _ c.args.self.now.machine.state _ _ c.args.self.now _ _ h c.state-before.ensures refl refl refl refl refl
-          ),
+          ) c.follow.ensures.acks,
     )
 
 -- ## What is expected is not refused

@@ -1,5 +1,6 @@
 use Rattle.sctp_association.proofs.Telling.{tells_cookie_ack, tells_same}
 use Rattle.std.proofs.Common.{rules, refl}
+use Rattle.sctp_association.proofs.AcksOn.{told_as}
 use Rattle.sctp_association.proofs.Offered.{offered_same}
 use Rattle.sctp_association.proofs.Offers.{ack_offered}
 use Rattle.sctp_association.proofs.association.Association.take_cookie_ack.Goals as goal
@@ -20,3 +21,6 @@ pub returns-clause-tells : goal.returns-clause-tells
 returns-clause-tells c =
     let told = c.take_answer.ensures.tells in
     tells_cookie_ack _ _ _ _ _ _ c.take_answer.ensures.kept.machine told.end told c.cookie_ack-answer.ensures.takes
+
+pub returns-clause-acks : goal.returns-clause-acks
+returns-clause-acks c next = told_as _ _ _ _ _ c.cookie_ack-answer.ensures.takes.answer (c.take_answer.ensures.acks next)

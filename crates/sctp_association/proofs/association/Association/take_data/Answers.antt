@@ -1,3 +1,4 @@
+use Rattle.sctp_association.proofs.AcksOn.{acks_data, acks_data_in}
 use Rattle.sctp_association.proofs.Behind.{arrived_peer, still_arrived, still_by, still_stop}
 use Rattle.sctp_association.specs.Behind.{StillAs}
 use Rattle.sctp_association.specs.Rows.{owed_by}
@@ -220,3 +221,18 @@ returns-clause-due c =
     as_taken (is_due 0 c.args.self.now) c.end_by.result (
     and_from (takes_data c.args.self.now.machine.state) (is_some c.args.self.now.inbound) on (ap (λ (o : Option Inbound). is_some o) c.in-Some.is)
     ) c.end_by.ensures.never
+
+-- ## When a SACK is due
+
+pub returns-clause-acks : goal.returns-clause-acks
+returns-clause-acks c =
+    let old = c.args.self.now in
+    let quiet = arrived_told old.machine _ _ c.packet_arrived-answer.ensures in
+    acks_data c.args.chunk c.args.datagram.now c.args.now old c.end_by.new.self c.requires.typ c.end_by.result (λ next.
+    let done : c.take_data.result ≡ Ok Done =
+    c.in_ok-followed.was ∙ ap Ok (done_unless _ _ (c.end_by.ensures.next next) c.in_default-followed.not-Wanting (λ e. e)) in
+    let there : c.end_by.new.self.inbound ≡ Some c.take_data.new.self =
+    ap (λ (a : Association). a.inbound) (c.end_by.ensures.on next) ∙ c.follow.ensures.inbound quiet in
+    acks_data_in c.args.chunk.at c.args.datagram.now c.args.now _ c.take_data.new.self old.inbound _ c.in-Some.is there (
+    record { chunk = c.in_ok-data.data; reads = c.in_ok-data.ensures.found; acks = c.take_data.ensures.acks done }
+    ))

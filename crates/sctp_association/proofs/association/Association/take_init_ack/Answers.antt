@@ -1,7 +1,9 @@
 use Rattle.sctp_association.specs.Rows.{FollowsAnswer}
 use Rattle.sctp_handshake.specs.declared.state.State.{State}
 use Rattle.sctp_association.proofs.Expected.{init_ack_answered, said_of, value_found}
+use Rattle.sctp_association.proofs.AcksOn.{told_as}
 use Rattle.sctp_association.proofs.Rows.{follows_noted, follows_step}
+use Rattle.sctp_association.specs.AcksDue.{AcksTold, acks_of}
 use Rattle.sctp_association.proofs.Known.{knows_same, within_same, within_then}
 use Rattle.sctp_association.proofs.Telling.{end_same, end_then, tells_init_ack, tells_kept, to_same}
 use Rattle.std.proofs.Common.{None, Some, ap, inr, refl, rules, subst, sym, ◌+◌, ◌≡◌, ◌∙◌}
@@ -84,6 +86,8 @@ returns-clause-row c =
           (c.follow.ensures.kept.machine ∙ ap (λ (x : Association). x.machine) rest)
           (follows_noted _ _ _ c.args.now old c.note_params.new.self c.follow.new.self noted (ap (λ (x : Association). x.is_over) rest)
           (ap (λ (x : Association). x.wants_shutdown) rest) (ap (λ (x : Association). x.control) rest) (ap (λ (x : Association). x.guard) rest) h);
+      acks = told_as _ _ _ _ _ takes.answer (subst (λ (x : Association). AcksTold c.init_ack-answer.result.told x.config.sack_delay (acks_of x.inbound)
+          (acks_of c.follow.new.self.inbound)) rest c.follow.ensures.acks);
       cookie = λ none.
           let kept : c.note_params.new.self.cookie
           ≡ Some (slice_range (value_in c.args.datagram.now c.args.chunk) c.in-Ok-read_init_ack.read.1.at

@@ -32,6 +32,7 @@ loop-stream-preserved c = (
     guard = c.loop-stream.invariant.4.guard;
     over = c.loop-stream.invariant.4.over;
     wants = c.loop-stream.invariant.4.wants;
+    acks = c.loop-stream.invariant.4.acks;
   },
 )
 
@@ -54,6 +55,7 @@ returns-in-Err c = record {
     guard = c.loop-stream.invariant.4.guard;
     over = c.loop-stream.invariant.4.over;
     wants = c.loop-stream.invariant.4.wants;
+    acks = c.loop-stream.invariant.4.acks;
   };
 }
 

@@ -1,3 +1,4 @@
+use Rattle.sctp_association.proofs.AcksOn.{acks_row}
 use Rattle.std.proofs.Common.{Ok, ◌≡◌}
 use Rattle.sctp_association.proofs.Ends.{forged_still, sack_there}
 use Rattle.sctp_association.specs.Ends.{by_sack}
@@ -121,3 +122,11 @@ returns-clause-row c = inr (ap goes_on c.requires.typ, returns-clause-still c)
 pub returns-in-Err-clause-due : goal.returns-in-Err-clause-due
 returns-in-Err-clause-due c = absurd (
     sack_read _ _ c.requires.place c.requires.typ _ c.bytes_of.ensures _ c.in_ok-unless_memory-in-Err.ensures c.in-Err.ensures.fault)
+
+-- ## When a SACK is due stays
+
+pub returns-in-Taken-clause-acks : goal.returns-in-Taken-clause-acks
+returns-in-Taken-clause-acks c =
+    let old = c.args.self.now in
+    acks_row c.args.chunk c.args.datagram.now c.args.now old _ (dropped old.machine) (row_typ c.args.chunk c.args.datagram.now c.args.now old _ c.requires.typ)
+    Next (λ _. refl) (λ is. omega (arith, is, c.requires.typ)) (λ is. omega (arith, is, c.requires.typ))

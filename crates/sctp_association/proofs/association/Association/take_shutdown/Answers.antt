@@ -4,8 +4,10 @@ use Rattle.std.proofs.Common.{drop, refl, rules, ◌∙◌}
 use Rattle.sctp_chunks.specs.Wire.{shutdown_chunk}
 use Rattle.sctp_datagram.specs.Framing.{StartsWith}
 use Rattle.sctp_association.proofs.Arrived.{came_same, came_then, sender_came}
+use Rattle.sctp_association.proofs.AcksOn.{told_as}
 use Rattle.sctp_association.proofs.Begun.{quiet_shutdown}
 use Rattle.std.proofs.Common.{◌≡◌}
+use Rattle.sctp_association.proofs.Rows.{follows_from, follows_step}
 use Rattle.sctp_association.proofs.Shutting.{shutdown_still, shuts_still}
 use Rattle.sctp_association.specs.Shutting.{ShutsBy}
 use Rattle.sctp_association.proofs.Known.{keeps_by, knows_shutdown}
@@ -58,3 +60,14 @@ pub returns-in_default-clause-expected : goal.returns-in_default-clause-expected
 returns-in_default-clause-expected c typ =
     let read = shutdown_read _ _ c.requires.place typ in
     absurd (c.in_ok-shutdown.ensures.some read.0 read.1.0 read.1.1 (ap Ok c.in_default.is))
+
+pub returns-clause-acks : goal.returns-clause-acks
+returns-clause-acks c next = told_as _ _ _ _ _ c.shutdown-answer.ensures.takes.answer c.follow.ensures.acks
+
+pub returns-clause-row : goal.returns-clause-row
+returns-clause-row c =
+    let old = c.args.self.now in
+    let takes = c.shutdown-answer.ensures.takes in
+    follows_step _ 0 c.args.now old c.follow.new.self _ _ takes.machine takes.answer c.follow.ensures.kept.machine (
+    follows_from _ 0 old.machine.state _ c.args.now old _ c.follow.new.self c.follow.ensures.answer c.state-before.ensures refl refl refl refl refl
+    )

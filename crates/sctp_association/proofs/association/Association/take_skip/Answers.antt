@@ -1,6 +1,10 @@
+use Rattle.std.specs.Option.{option_map}
+use Rattle.sctp_association.proofs.AcksOn.{acks_skip}
+use Rattle.sctp_association.specs.AcksDue.{Acks, acks_of, with_due}
+use Rattle.sctp_association.specs.declared.inbound.Followed.TheVariants.{Done}
 use Rattle.sctp_association.proofs.Behind.{still_by, still_stop}
 use Rattle.sctp_association.specs.Behind.{StillAs}
-use Rattle.sctp_association.proofs.Coming.{if_ok}
+use Rattle.sctp_association.proofs.Coming.{done_unless, if_ok}
 use Rattle.sctp_association.proofs.Ends.{skip_aborts}
 use Rattle.std.specs.Prelude.{false, ◌==◌}
 use Rattle.sctp_association.proofs.Rows.{follows_still, row_goes, row_typ}
@@ -156,3 +160,13 @@ returns-clause-due c =
     as_taken (is_due 192 c.args.self.now) c.end_by.result (
     and_from (takes_data c.args.self.now.machine.state) (is_some c.args.self.now.inbound) on (ap (λ (o : Option Inbound). is_some o) c.in-Some-inbound.is)
     ) c.end_by.ensures.never
+
+-- ## A SACK is due
+
+pub returns-clause-acks : goal.returns-clause-acks
+returns-clause-acks c =
+    acks_skip c.args.chunk c.args.datagram.now c.args.now c.args.self.now c.end_by.new.self c.requires.typ c.end_by.result (λ next.
+    let done : c.take_skip.result ≡ Ok Done = c.in-Ok.is
+    ∙ ap Ok (done_unless _ _ (c.end_by.ensures.next next) (λ wanting. c.take_skip.ensures.whole (c.in-Ok.is ∙ ap Ok wanting)) (λ e. e)) in
+    ap (λ (a : Association). acks_of a.inbound) (c.end_by.ensures.on next) ∙ ap (λ (a : Acks). Some a) (c.take_skip.ensures.acks done)
+    ∙ sym (ap (λ (o : Option Inbound). option_map (with_due c.args.now) (acks_of o)) c.in-Some-inbound.is))

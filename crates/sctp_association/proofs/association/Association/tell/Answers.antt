@@ -2,6 +2,7 @@ use Rattle.sctp_association.specs.declared.event.Events.{Events}
 use Rattle.sctp_association.specs.declared.association.Association.{Association}
 use Rattle.sctp_association.proofs.Telling.{end_then, passes_as, streams_in, to_connected, to_none, to_over, to_restarted, to_shutdown}
 use Rattle.std.proofs.Common.{None, Some, ap, refl, rules, ◌≡◌, ◌∙◌}
+use Rattle.sctp_association.proofs.AcksOn.{told_begun, told_by}
 use Rattle.sctp_association.proofs.Begun.{begun_by}
 use Rattle.sctp_association.specs.Arrivals.{halves, new_sender}
 use Rattle.sctp_association.specs.Halves.{fragment_size, halves_of}
@@ -73,3 +74,28 @@ returns-in-Failed-clause-tells c =
       end = to_over _ _ _ _ _ _ _ (ap (λ (x : Association). streams_in x.inbound) rest) c.end-in-Failed.ensures.told c.end-in-Failed.ensures.over;
       told = ap (λ (e : Events). e.closed) c.end-in-Failed.ensures.told ∙ ap (λ e. Some e) c.failure.ensures;
     })
+
+pub returns-in-Connected-clause-acks : goal.returns-in-Connected-clause-acks
+returns-in-Connected-clause-acks c =
+    let is : c.args.told ≡ told.Connected = search rules in
+    told_by _ _ _ _ _ is (told_begun _ _ _ c.begin.ensures.acks)
+
+pub returns-in-Restarted-clause-acks : goal.returns-in-Restarted-clause-acks
+returns-in-Restarted-clause-acks c =
+    let is : c.args.told ≡ told.Restarted = search rules in
+    told_by _ _ _ _ _ is (told_begun _ _ _ c.begin-in-Restarted.ensures.acks)
+
+pub returns-in-ShutdownBegun-clause-acks : goal.returns-in-ShutdownBegun-clause-acks
+returns-in-ShutdownBegun-clause-acks c =
+    let is : c.args.told ≡ told.ShutdownBegun = search rules in
+    told_by _ _ _ _ _ is refl
+
+pub returns-in-Closed-clause-acks : goal.returns-in-Closed-clause-acks
+returns-in-Closed-clause-acks c =
+    let is : c.args.told ≡ told.Closed = search rules in
+    told_by _ _ _ _ _ is tt
+
+pub returns-in-Failed-clause-acks : goal.returns-in-Failed-clause-acks
+returns-in-Failed-clause-acks c =
+    let is : c.args.told ≡ told.Failed = search rules in
+    told_by _ _ _ _ _ is tt

@@ -1,4 +1,5 @@
 use Rattle.std.proofs.Common.{refl, subst, sym, ℕ, ◌<◌, ◌∙◌}
+use Rattle.sctp_association.proofs.AcksOn.{acks_opened}
 use Rattle.sctp_association.proofs.Entering.{handles_opened, to_use, usable_parts}
 use Rattle.sctp_association.proofs.Noting.{tells_after}
 use Rattle.sctp_data.specs.declared.chunk.chunk_payload_data.ChunkPayloadData.{ChunkPayloadData}
@@ -22,3 +23,10 @@ returns-clause-handles c to is =
     handles_opened chunk c.args.self.now c.open_agreed.new.self _ to (opened.opens refl)
     (opened.served refl (subst (λ (n : ℕ). chunk.stream_identifier < n) (sym opened.limits.1) parts.0) (opened.same chunk.stream_identifier ∙ parts.1))
     opened.limits.1 opened.same (c.take_on.ensures.handles is)
+
+pub returns-clause-acks : goal.returns-clause-acks
+returns-clause-acks c to is =
+    let stream = c.args.chunk.now.stream_identifier in
+    let opened = c.in_ok-open_agreed.ensures in
+    acks_opened c.args.chunk.now c.args.now c.args.self.now c.open_agreed.new.self c.take_on.new.self to
+    (opened.opens refl (to_use stream c.args.self.now to)) opened.acks (c.take_on.ensures.acks is)

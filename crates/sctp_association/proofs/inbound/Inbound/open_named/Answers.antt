@@ -14,7 +14,7 @@ returns-then-not-sna32lt-clause-received c = received_same _ _ _ refl
 
 pub loop-named-init : goal.loop-named-init
 loop-named-init c =
-    record { tells = tells_same _ _; received = received_same _ _ _ refl; limits = refl; streams = refl; same = λ n. refl; place = refl; served = All-nil _ }
+    record { tells = tells_same _ _; received = received_same _ _ _ refl; limits = refl; streams = refl; same = λ n. refl; place = refl; acks = refl; served = All-nil _ }
 
 pub returns-in_err-open-clause-received : goal.returns-in_err-open-clause-received
 returns-in_err-open-clause-received c =
@@ -52,6 +52,7 @@ loop-named-preserved c =
       streams = e.limits.1 ∙ i.streams;
       same = λ n. e.same n ∙ i.same n;
       place = e.place ∙ i.place;
+      acks = e.acks ∙ i.acks;
       served = All-more (λ n. IsServed n.identifier c.open.new.self) xs at _ lt
           (All-weaker (λ n. IsServed n.identifier c.loop-named.self) (λ n. IsServed n.identifier c.open.new.self)
           (λ n. served_still c.loop-named.self c.open.new.self e.limits.1 e.same e.still n.identifier) (take at xs) i.served)
@@ -66,6 +67,12 @@ returns-clause-limits c = (c.loop-named.invariant.limits, c.loop-named.invariant
 
 pub returns-clause-place : goal.returns-clause-place
 returns-clause-place c = c.loop-named.invariant.place
+
+pub returns-in_err-open-clause-acks : goal.returns-in_err-open-clause-acks
+returns-in_err-open-clause-acks c = c.in_err-open.ensures.acks ∙ c.loop-named.invariant.acks
+
+pub returns-clause-acks : goal.returns-clause-acks
+returns-clause-acks c = c.loop-named.invariant.acks
 
 pub returns-clause-same : goal.returns-clause-same
 returns-clause-same c = c.loop-named.invariant.same

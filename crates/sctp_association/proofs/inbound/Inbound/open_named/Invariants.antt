@@ -1,5 +1,6 @@
 use Rattle.std.proofs.Common.{◌≡◌, ℕ, take}
 use Rattle.std.specs.Prelude.{All, Some}
+use Rattle.sctp_association.specs.AcksDue.{acks_in}
 use Rattle.sctp_association.specs.Telling.{TellsIn}
 use Rattle.sctp_association.specs.Arrivals.{IsOpeningNamed, Received}
 use Rattle.sctp_association.specs.Served.{IsServed}
@@ -16,5 +17,6 @@ invariant-loop-named l = record {
   streams : l.self.streams ≡ l.initial.self.streams;
   same : (n : ℕ) → is_in n l.self.discarded ≡ is_in n l.initial.self.discarded;
   place : l.self.receiver.cumulative_tsn ≡ l.initial.self.receiver.cumulative_tsn;
+  acks : acks_in l.self ≡ acks_in l.initial.self;
   served : All (λ n. IsServed n.identifier l.self) (take l.named-index l.named-items);
 }

@@ -1,3 +1,4 @@
+use Rattle.sctp_association.proofs.AcksOn.{acks_unopened}
 use Rattle.sctp_association.proofs.Noting.{tells_same}
 use Rattle.std.proofs.Common.{refl, rules, false, ◌≡◌}
 use Rattle.sctp_association.proofs.Entering.{handles_open}
@@ -15,3 +16,8 @@ pub returns-then-not-is_to_open-clause-handles : goal.returns-then-not-is_to_ope
 returns-then-not-is_to_open-clause-handles c is =
     let shut : is_to_open c.args.chunk.now.stream_identifier c.args.self.now ≡ false = search rules in
     handles_open c.args.chunk.now c.args.self.now c.take_on.new.self shut (c.take_on.ensures.handles is)
+
+pub returns-then-not-is_to_open-clause-acks : goal.returns-then-not-is_to_open-clause-acks
+returns-then-not-is_to_open-clause-acks c is =
+    let shut : is_to_open c.args.chunk.now.stream_identifier c.args.self.now ≡ false = search rules in
+    acks_unopened c.args.chunk.now c.args.now c.args.self.now c.take_on.new.self shut (c.take_on.ensures.acks is)

@@ -1,5 +1,6 @@
 use Rattle.sctp_association.proofs.Noting.{all_kept, tells_after, tells_in, tells_skip}
-use Rattle.std.proofs.Common.{refl, rules, ◌<◌, ◌^◌}
+use Rattle.std.proofs.Common.{ap, refl, rules, ◌<◌, ◌^◌}
+use Rattle.sctp_association.specs.AcksDue.{with_due}
 use Rattle.sctp_association.proofs.Arriving.{received_skip, received_then}
 use Rattle.sctp_association.proofs.inbound.Inbound.take_skip.Goals as goal
 use Rattle.sctp_association.proofs.inbound.Inbound.take_skip.Goals.{in-Err+in_default, in-Ok-Skipped, in-Ok-Stale}
@@ -29,6 +30,8 @@ returns-in-Abort c =
       named = λ ahead. skipped_served _ c.open_named.new.self _ _ _ _ c.forward_tsn.ensures refl refl (c.in_ok-open_named.ensures.served refl ahead);
       limits = search rules;
       same = c.in_ok-open_named.ensures.same;
+      acks = λ is. cc (is);
+      whole = λ is. cc (is);
       ends = record { refusal = c.in-Err.refusal; refused = search rules; advised = search rules };
     }
 
@@ -74,3 +77,12 @@ returns-clause-tells c =
       | in-Err+in_default w ↦ rw (w.self-is, w.events-is)
           (tells_skip _ _ _ _ _ _ _ c.forward_tsn.ensures refl (all_kept _) refl (λ n h. h) (λ is s m lt. cc (is, w.in-Err.is)))
     ]))
+
+pub returns-clause-acks : goal.returns-clause-acks
+returns-clause-acks c is =
+    let due = ap (with_due c.args.now) c.in_ok-open_named.ensures.acks in
+    rw c.packet_came.ensures.after (elim c.match-forward_tsn.branch [
+      | in-Ok-Skipped w ↦ rw w.self-is due
+      | in-Ok-Stale w ↦ rw w.self-is due
+      | in-Err+in_default w ↦ rw w.self-is due
+    ])
