@@ -14,7 +14,8 @@ use Rattle.sctp_association.specs.Idle.{IsMarkedBehind, SendsNoneAgain, SendsNon
 use Rattle.sctp_association.specs.Packets.{Adds, with_chunks}
 use Rattle.sctp_association.specs.Sending.{flight_of, marked_in}
 use Rattle.sctp_chunks.proofs.Lengths.{length_data_value, length_sack_value}
-use Rattle.sctp_chunks.specs.Wire.{HasEncoding, HasForm, Wire, cookie_ack_chunk, data_chunk, sack_chunk, shutdown_ack_chunk, shutdown_chunk, value_of}
+use Rattle.sctp_chunks.specs.Params.{padded_param, params_encoding}
+use Rattle.sctp_chunks.specs.Wire.{HasEncoding, HasForm, Wire, cookie_ack_chunk, data_chunk, heartbeat_chunk, sack_chunk, shutdown_ack_chunk, shutdown_chunk, value_of}
 use Rattle.sctp_data.specs.declared.chunk.chunk_payload_data.ChunkPayloadData.{ChunkPayloadData}
 use Rattle.sctp_data.specs.PayloadData.{data_of}
 use Rattle.sctp_data.specs.SelectiveAck.{Sack}
@@ -26,6 +27,8 @@ use Rattle.sctp_packets.proofs.Written.{length_padded_encoding}
 use Rattle.sctp_packets.specs.Draft.{IsDraft}
 use Rattle.sctp_packets.specs.Packet.{Parts, body_of, head_of, padded_encoding}
 use Rattle.sctp_delivery.specs.SenderCalls.{next_chunk}
+use Rattle.sctp_params.proofs.ParamLengths.{length_param_encoding}
+use Rattle.sctp_params.specs.Param.{Parameter, heartbeat_info}
 use Rattle.sctp_path.specs.Timers.{Delay}
 use Rattle.sctp_sender.proofs.Sent.{as-noted}
 use Rattle.sctp_sender.specs.Flight.{Flight}
@@ -120,16 +123,22 @@ sack_fits s old limit fit few head least =
     ((tt, omega (arith, few, value)), omega (arith, fit, head, least, four, zeros, length_padded_encoding w))
 
 -- so can a chunk of so few bytes, without padding
-small-fits : (k : ℕ) (w : Wire) (old limit : ℕ) → HasForm w → 4 + length (value_of w) ≡ k → padding_of k ≡ 0 → k ≤ 8 → old ≤ 12 → 28 ≤ limit
+small-fits : (k : ℕ) (w : Wire) (old limit : ℕ) → HasForm w → 4 + length (value_of w) ≡ k → padding_of k ≡ 0 → k ≤ 16 → old ≤ 12 → 28 ≤ limit
     → HasEncoding w × (old + length (padded_encoding w) ≤ limit)
 small-fits k w old limit form size none few head least =
     let zeros : padding_of (4 + length (value_of w)) ≡ 0 = ap padding_of size ∙ none in
     ((form, omega (arith, size, few)), omega (arith, size, few, head, least, zeros, length_padded_encoding w))
 
--- COOKIE-ACK, SHUTDOWN-ACK and SHUTDOWN are put where there is no other chunk
+-- a HEARTBEAT with eight bytes
+length-info : (ps : List Parameter) (info : List ℕ) → ps ≡ heartbeat_info info ∷ [] → length info ≡ 8 → 4 + length (params_encoding true ps) ≡ 16
+unfolding params_encoding padded_param
+length-info ps info is eight =
+    ap (λ (qs : List Parameter). 4 + length (params_encoding true qs)) is ∙ omega (arith, length_param_encoding (heartbeat_info info), eight)
+
+-- COOKIE-ACK, SHUTDOWN-ACK, SHUTDOWN and HEARTBEAT are put where there is no other chunk
 module _ (old new : List ℕ) (limit : ℕ) (put : Bool) (grown : length old ≤ length new) (head : 12 ≤ length old) (short : length new ≤ 12)
     (least : 28 ≤ limit) (not : put ≡ false) where
-  small-put : (k : ℕ) (w : Wire) → HasForm w → 4 + length (value_of w) ≡ k → padding_of k ≡ 0 → k ≤ 8
+  small-put : (k : ℕ) (w : Wire) → HasForm w → 4 + length (value_of w) ≡ k → padding_of k ≡ 0 → k ≤ 16
       → (HasEncoding w → 12 ≤ length old → length old + length (padded_encoding w) ≤ limit → put ≡ true) → ⊥
   small-put k w form size none few fits =
       let h = small-fits k w (length old) limit form size none few (omega (arith, grown, short)) least in
@@ -145,6 +154,15 @@ module _ (old new : List ℕ) (limit : ℕ) (put : Bool) (grown : length old ≤
   pub shutdown_put : (n : ℕ)
       → (HasEncoding (shutdown_chunk n) → 12 ≤ length old → length old + length (padded_encoding (shutdown_chunk n)) ≤ limit → put ≡ true) → ⊥
   shutdown_put n fits = small-put 8 (shutdown_chunk n) tt (omega (arith, length_be32 n)) refl (omega arith) fits
+
+  pub heartbeat_put : (ps : List Parameter) (info : List ℕ) → ps ≡ heartbeat_info info ∷ [] → length info ≡ 8
+      → (HasEncoding (heartbeat_chunk ps) → 12 ≤ length old → length old + length (padded_encoding (heartbeat_chunk ps)) ≤ limit → put ≡ true) → ⊥
+  heartbeat_put ps info is eight fits = small-put 16 (heartbeat_chunk ps) tt (length-info ps info is eight) refl (omega arith) fits
+
+-- a report is due no more, where the packet has no chunk
+pub none_or : (P Q : Type 0) (n : ℕ) → P ⊎ (Q × (12 < n)) → n ≤ 12 → P
+none_or P Q n (inl p) short = p
+none_or P Q n (inr w) short = absurd (omega (arith, w.1, short))
 
 -- what was not due is not where it stays so
 pub no_shutdown : (x y : Bool) (d e : Option Delay) → (x ≡ false → y ≡ false) → e ≡ d → (x ≡ false) ⊎ (d ≡ None) → (y ≡ false) ⊎ (e ≡ None)
@@ -261,6 +279,10 @@ on_ok (Err e) h = tt
 pub on_ok_so : {X E P Q : Type 0} (r : Result X E) → (Q → P) → OnOk r Q → OnOk r P
 on_ok_so (Ok x) f h = f h
 on_ok_so (Err e) f h = tt
+
+pub on_ok_both : {X E P Q R : Type 0} (r : Result X E) → (Q → R → P) → OnOk r Q → OnOk r R → OnOk r P
+on_ok_both (Ok x) f h k = f h k
+on_ok_both (Err e) f h k = tt
 
 -- what waits does so behind what is in flight, where it does while nothing is in flight
 waits-so : (room : ℕ) (t : Transmission) → (in_flight t ≡ [] → WaitsBehind room t) → WaitsBehind room t

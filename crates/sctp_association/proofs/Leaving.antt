@@ -1,6 +1,6 @@
 -- What is due stays due, or leaves.
 use Rattle.std.proofs.Common.{◌≡◌, ◌⊎◌, inl, inr, ℕ, ◌+◌, ◌≤◌, ◌<◌, Bool, true, false, List, [], ◌∷◌, ◌++◌, None, Option, Some, refl, ap, sym, subst, ◌∙◌}
-use Rattle.std.proofs.Common.{IfSome, append_assoc, arith, length}
+use Rattle.std.proofs.Common.{IfSome, append_assoc, arith, is_some, length}
 use Rattle.std.proofs.lemmas.Bool.{false≢true}
 use Rattle.std.proofs.lemmas.List.Elements.{Contains-append_right}
 use Rattle.sctp_association.proofs.Idle.{added_longer, longer_by_chunk}
@@ -10,11 +10,13 @@ use Rattle.sctp_association.proofs.Others.{at_most_same, params_before}
 use Rattle.sctp_association.proofs.Putting.{adds_none, adds_then}
 use Rattle.sctp_association.specs.declared.association.Association.{Association}
 use Rattle.sctp_association.specs.declared.due.Due.{Due}
+use Rattle.sctp_association.specs.declared.due.Report.{Report}
 use Rattle.sctp_association.specs.Kept.{IsUnmoved}
 use Rattle.sctp_association.specs.Kept.{sack_waits, unknown_in}
+use Rattle.sctp_association.specs.Leaving.{acked_of, error_about, stream_error}
 use Rattle.sctp_association.specs.Leaving.{AsksNoMore, IsParamOnce, IsReplyOnce, IsSentIn, IsTooLong, IsTooLongIn, Leaves, LeavesInto, Owed, OwesNothingNew}
-use Rattle.sctp_association.specs.Leaving.{Reaches, Replies, Stands, beats, owed_at, owed_before, owed_of, replies_of, requests_due, responses_due, IsDueOrData}
-use Rattle.sctp_association.specs.Packets.{Adds, IsPacketOf, put_where, sum_of, with_chunks}
+use Rattle.sctp_association.specs.Leaving.{Reaches, Replies, beats, owed_at, owed_before, owed_of, replies_of, requests_due, responses_due, IsDueOrData}
+use Rattle.sctp_association.specs.Packets.{Adds, IsPacketOf, Stands, put_where, sum_of, with_chunks}
 use Rattle.sctp_chunks.specs.Wire.{HasEncoding, Wire}
 use Rattle.sctp_association.specs.Rows.{owed_by}
 use Rattle.sctp_association.specs.Still.{heartbeat_in}
@@ -22,6 +24,7 @@ use Rattle.sctp_association.specs.declared.inbound.Inbound.{Inbound}
 use Rattle.sctp_association.specs.declared.outbound.Outbound.{Outbound}
 use Rattle.sctp_chunks.specs.Wire.{cookie_ack_chunk, cookie_echo_chunk, error_chunk, forward_tsn_chunk, heartbeat_ack_chunk, heartbeat_chunk, data_chunk}
 use Rattle.sctp_chunks.specs.Wire.{reconfig_chunk, sack_chunk, shutdown_ack_chunk, shutdown_chunk}
+use Rattle.sctp_data.specs.SelectiveAck.{Sack}
 use Rattle.sctp_handshake.specs.Endings.{drained_row, on_drained, on_shutdown_asked, shutdown_asked_row}
 use Rattle.sctp_handshake.specs.Machines.{Takes}
 use Rattle.sctp_handshake.specs.declared.answer.Answer.{Answer}
@@ -90,6 +93,9 @@ leaves_so S T L M a b f g h = record {
   shutdown = λ e. or-so (λ s. (s.0, s.1, f _ s.2)) (h.shutdown e);
   shutdown_ack = λ e. or-so (f _) (h.shutdown_ack e);
   heartbeat = λ info e. or-so (both-so (f _) (g _)) (h.heartbeat info e);
+  sack = λ e. or-so (λ s. (s.0, s.1, f _ s.2)) (h.sack e);
+  report = λ r e. or-so (both-so (f _) (g _)) (h.report r e);
+  unknown = λ s e. or-so (both-so (f _) (g _)) (h.unknown s e);
   cookie = h.cookie;
   acked = h.acked;
   limit = h.limit;
@@ -103,6 +109,9 @@ module _ (T M : Wire → Type 0) where
     shutdown = λ e. inl e;
     shutdown_ack = λ e. inl e;
     heartbeat = λ info e. inl e;
+    sack = λ e. inl e;
+    report = λ r e. inl e;
+    unknown = λ s e. inl e;
     cookie = refl;
     acked = refl;
     limit = refl;
@@ -115,6 +124,9 @@ module _ (T M : Wire → Type 0) where
     shutdown = λ e. or-then (λ m. or-so (λ s. (s.0, sym h.acked ∙ s.1, s.2)) (k.shutdown m)) (h.shutdown e);
     shutdown_ack = λ e. or-then k.shutdown_ack (h.shutdown_ack e);
     heartbeat = λ info e. or-then (k.heartbeat info) (h.heartbeat info e);
+    sack = λ e. or-then (λ m. or-so (λ s. (s.0, sym h.acked ∙ s.1, s.2)) (k.sack m)) (h.sack e);
+    report = λ r e. or-then (k.report r) (h.report r e);
+    unknown = λ s e. or-then (k.unknown s) (h.unknown s e);
     cookie = k.cookie ∙ h.cookie;
     acked = k.acked ∙ h.acked;
     limit = k.limit ∙ h.limit;
@@ -151,6 +163,53 @@ module _ (a b c : Association) (ws vs : List Wire) where
 pub into_same : (a b : Association) → replies_of b ≡ replies_of a → LeavesInto a b
 into_same a b is = leaves_same (Stands a.draft.bytes b.draft.bytes) (IsTooLongIn a.draft.limit a.draft.bytes) (replies_of a) (replies_of b) is
 
+-- a SACK is put, or waits on
+pub sack_left : (o : Option Inbound) (i : Inbound) (n : Bool) (S : Sack → Type 0) → o ≡ Some i
+    → (is_some i.delay.due ≡ true → (n ≡ true) ⊎ ((s : Sack) × (s.cumulative_tsn_ack ≡ i.receiver.cumulative_tsn) × S s))
+    → sack_waits o ≡ true → (n ≡ true) ⊎ ((s : Sack) × (acked_of o ≡ Some s.cumulative_tsn_ack) × S s)
+sack_left o i n S is sack e = or-so (λ s. (s.0, ap acked_of is ∙ ap Some (sym s.1), s.2)) (sack (sym (ap sack_waits is) ∙ e))
+
+-- beside the receiving half what is due is the same
+pub leaves_beside : (a b : Association) (i j : Inbound) → a.inbound ≡ Some i → b.inbound ≡ Some j → b.due ≡ a.due → b.cookie ≡ a.cookie
+    → b.draft.limit ≡ a.draft.limit → j.receiver.cumulative_tsn ≡ i.receiver.cumulative_tsn
+    → (is_some i.delay.due ≡ true → (is_some j.delay.due ≡ true)
+    ⊎ ((s : Sack) × (s.cumulative_tsn_ack ≡ i.receiver.cumulative_tsn) × Stands a.draft.bytes b.draft.bytes (sack_chunk s)))
+    → ((s : ℕ) → i.unknown_stream ≡ Some s → (j.unknown_stream ≡ Some s)
+    ⊎ (Stands a.draft.bytes b.draft.bytes (stream_error s) ⊎ IsTooLongIn a.draft.limit a.draft.bytes (stream_error s)))
+    → LeavesInto a b
+leaves_beside a b i j is after due cookie limit cumulative sack unknown = record {
+  cookie_echo = λ e. inl (ap (λ (d : Due). d.cookie_echo) due ∙ e);
+  cookie_ack = λ e. inl (ap (λ (d : Due). d.cookie_ack) due ∙ e);
+  shutdown = λ e. inl (ap (λ (d : Due). d.shutdown) due ∙ e);
+  shutdown_ack = λ e. inl (ap (λ (d : Due). d.shutdown_ack) due ∙ e);
+  heartbeat = λ info e. inl (ap (λ (d : Due). d.heartbeat) due ∙ e);
+  sack = λ e. both-so (λ w. ap sack_waits after ∙ w) (λ s. (s.0, ap acked_of is ∙ ap Some (sym s.1), s.2)) (sack (sym (ap sack_waits is) ∙ e));
+  report = λ r e. inl (ap (λ (d : Due). d.report) due ∙ e);
+  unknown = λ s e. both-so (λ w. ap unknown_in after ∙ w) (λ t. t) (unknown s (sym (ap unknown_in is) ∙ e));
+  cookie = cookie;
+  acked = ap acked_of after ∙ ap Some cumulative ∙ sym (ap acked_of is);
+  limit = limit;
+}
+
+-- the ERROR that reports is put, or is too long
+pub report_leaves : (a : Association) (e : Due) (d : Draft) → e ≡ record a.due { report = e.report } → d.limit ≡ a.draft.limit
+    → ((r : Report) → a.due.report ≡ Some r
+    → Stands a.draft.bytes d.bytes (error_about r) ⊎ IsTooLongIn a.draft.limit a.draft.bytes (error_about r))
+    → LeavesInto a (record a { due = e; draft = d })
+report_leaves a e d is limit left = subst (λ (x : Due). LeavesInto a (record a { due = x; draft = d })) (sym is) (record {
+  cookie_echo = λ e. inl e;
+  cookie_ack = λ e. inl e;
+  shutdown = λ e. inl e;
+  shutdown_ack = λ e. inl e;
+  heartbeat = λ info e. inl e;
+  sack = λ e. inl e;
+  report = λ r e. inr (left r e);
+  unknown = λ s e. inl e;
+  cookie = refl;
+  acked = refl;
+  limit = limit;
+})
+
 -- but for the limit of the packet
 pub with_limit : (r : Replies) (l : ℕ) → l ≡ r.limit → record r { limit = l } ≡ r
 with_limit r l e = ap (λ l. record r { limit = l }) e
@@ -165,6 +224,22 @@ pub leaves_later : (T : Wire → Type 0) (a b c : Replies) → Leaves (λ _. ⊥
     → Leaves T (IsTooLong a.limit) a c
 leaves_later T a b c h k = leaves_then T (IsTooLong a.limit) a b c (stays_leave T (IsTooLong a.limit) a b h)
     (leaves_so T T (IsTooLong b.limit) (IsTooLong a.limit) b c (λ w s. s) (λ w m. subst (λ l. IsTooLong l w) h.limit m) k)
+
+-- a chunk that was put is in the datagram
+pub stands_sealed : (h : CommonHeader) (x y z : List ℕ) (w : Wire) → IsDraft (headed h) x → Stands x y w → (zero : Bool)
+    → ((p : Parts) → IsDraft p y → z ≡ packet_encoding (sum_of zero) p) → IsSentIn true z w
+stands_sealed h x y z w begun s zero encoded =
+    let full = s.added.draft (headed h) begun in (
+      refl,
+      record {
+        packet = with_chunks (s.before ++ w ∷ s.behind) (headed h);
+        is_zero = zero;
+        encoded = encoded _ full;
+        encodings = full.encodings;
+        fits = full.fits;
+        own = Contains-append_right s.before (w ∷ s.behind) w (0, omega arith, refl);
+      },
+    )
 
 module _ (h : CommonHeader) (a b c d : Replies) (x y z : List ℕ) (begun : IsDraft (headed h) x) (same : b ≡ a)
     (fill : Leaves (Stands x y) (IsTooLongIn b.limit x) b c) (rest : d ≡ c) where
@@ -181,18 +256,7 @@ module _ (h : CommonHeader) (a b c d : Replies) (x y z : List ℕ) (begun : IsDr
   by_none sent short = after (IsSentIn sent z) (λ w s. absurd (omega (arith, short, stands_longer (headed h) x y w begun s)))
 
   pub by_sealed : (zero : Bool) → ((p : Parts) → IsDraft p y → z ≡ packet_encoding (sum_of zero) p) → Leaves (IsSentIn true z) (IsTooLong a.limit) a d
-  by_sealed zero encoded = after (IsSentIn true z) (λ w s.
-      let full = s.added.draft (headed h) begun in (
-        refl,
-        record {
-          packet = with_chunks (s.before ++ w ∷ s.behind) (headed h);
-          is_zero = zero;
-          encoded = encoded _ full;
-          encodings = full.encodings;
-          fits = full.fits;
-          own = Contains-append_right s.before (w ∷ s.behind) w (0, omega arith, refl);
-        },
-      ))
+  by_sealed zero encoded = after (IsSentIn true z) (λ w s. stands_sealed h x y z w begun s zero encoded)
 
 -- ## What is due once
 

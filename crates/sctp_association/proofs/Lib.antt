@@ -19,6 +19,7 @@ pub mod Offering
 pub mod Replying
 pub mod Reporting
 pub mod Leaving
+pub mod Skips
 pub mod Inits
 pub mod Readings
 pub mod Others

@@ -1,11 +1,11 @@
 -- An ERROR about a stream that there is not, and a HEARTBEAT: each leaves once.
-use Rattle.std.proofs.Common.{◌≡◌, ℕ, ◌≤◌, ◌<◌, ◌+◌, List, [], ◌∷◌, ◌++◌, Bool, true, false, Option, Some, None, Result, Ok, Err, arith, get_or}
+use Rattle.std.proofs.Common.{◌≡◌, ℕ, ◌≤◌, ◌<◌, ◌+◌, List, [], ◌∷◌, ◌++◌, Bool, true, false, Option, Some, None, arith, get_or}
 use Rattle.std.proofs.Common.{refl, ap, inr, sym, subst, ◌∙◌}
 use Rattle.std.specs.Int.{to_be_bytes, w16}
-use Rattle.std.specs.Prelude.{OnErr, OnOk, is_some, max, ◌==◌, ◌-◌, ◌^◌, if◌then◌else◌}
+use Rattle.std.specs.Prelude.{IfSome, is_some, max, ◌==◌, ◌-◌, ◌^◌, if◌then◌else◌}
 use Rattle.sctp_association.specs.Congested.{path_of}
 use Rattle.sctp_association.proofs.Known.{owes_alike}
-use Rattle.sctp_association.proofs.Others.{others_none, others_one}
+use Rattle.sctp_association.proofs.Others.{others_one}
 use Rattle.sctp_association.specs.Entering.{usable_in}
 use Rattle.sctp_association.specs.Served.{is_usable}
 use Rattle.sctp_association.specs.declared.association.Association.{Association}
@@ -14,11 +14,12 @@ use Rattle.sctp_association.specs.declared.outbound.Outbound.{Outbound}
 use Rattle.sctp_association.specs.Halves.{HalvesAlike, IsAsTimed, PutsOthers, receiver_of}
 use Rattle.sctp_association.specs.declared.due.Due.{Due}
 use Rattle.sctp_association.specs.Kept.{IsUnmoved, OwesLess, sack_waits, unknown_in}
-use Rattle.sctp_association.specs.Leaving.{AsksNoMore}
-use Rattle.sctp_association.specs.Replying.{PutsOne}
+use Rattle.sctp_association.specs.Leaving.{AsksNoMore, IsStreamTold}
+use Rattle.sctp_association.specs.Packets.{Adds, put_where}
 use Rattle.sctp_association.specs.Reports.{one_cause}
-use Rattle.sctp_association.specs.Still.{IsLater, heartbeat_in}
+use Rattle.sctp_association.specs.Still.{IsLater, heartbeat_by, heartbeat_in}
 use Rattle.sctp_chunks.specs.Wire.{error_chunk}
+use Rattle.sctp_chunks.specs.declared.chunk.error_cause.ErrorCause.{ErrorCause}
 use Rattle.sctp_handshake.specs.declared.machine.Machine.{Machine}
 use Rattle.sctp_handshake.specs.declared.state.State.{State}
 use Rattle.sctp_handshake.specs.declared.state.State.TheVariants.{Established}
@@ -29,10 +30,6 @@ use Rattle.sctp_path.specs.Timers.{Delay, is_due, later}
 use Rattle.sctp_util.specs.Field.{be16}
 
 -- ## An ERROR about a stream
-
-pub on_err_so : {X E P Q : Type 0} (r : Result X E) → (Q → P) → OnErr r Q → OnErr r P
-on_err_so (Ok x) f h = tt
-on_err_so (Err e) f h = f h
 
 -- nothing changes but a receiver and the packet
 pub record IsBeside (a b : Association) : Type 0 where
@@ -48,7 +45,6 @@ pub record IsBeside (a b : Association) : Type 0 where
   pub control : b.control ≡ a.control
   pub guard : b.guard ≡ a.guard
   pub heartbeat : b.heartbeat ≡ a.heartbeat
-  pub draft : b.draft ≡ a.draft
   pub requests : b.requests ≡ a.requests
   pub peer : b.peer_requests ≡ a.peer_requests
 
@@ -91,23 +87,19 @@ module _ (a m : Association) (i j : Inbound) (inbound : a.inbound ≡ Some i) (a
     peer = same.peer;
   }
 
-  pub told_none : PutsOthers a m
-  told_none = others_none a m (told-alike m.draft) (told-unmoved m.draft) (told-timed m.draft) (ap (λ (d : Draft). d.bytes) same.draft)
+  pub stream_put : (k : Bool) (stream : ℕ) (cs : List ErrorCause) (d : Draft) → i.unknown_stream ≡ Some stream → j.unknown_stream ≡ None
+      → cs ≡ one_cause 1 (be16 stream ++ 0 ∷ 0 ∷ []) → Adds (put_where k (error_chunk cs)) a.draft.bytes d.bytes → PutsOthers a (record m { draft = d })
+  stream_put k stream cs d noted gone tells added = others_one k (error_chunk cs) a (record m { draft = d }) added tt
+      (inr (stream, ap unknown_in inbound ∙ noted, tells, ap unknown_in after ∙ gone)) (told-alike d) (told-unmoved d) (told-timed d)
 
-  stream-put : (stream : ℕ) (info : List ℕ) (d : Draft) → i.unknown_stream ≡ Some stream → j.unknown_stream ≡ None
-      → info ≡ be16 stream ++ 0 ∷ 0 ∷ [] → PutsOne (error_chunk (one_cause 1 info)) a.draft d
-      → PutsOthers a (record m { draft = d })
-  stream-put stream info d noted gone tells p = others_one p.is_put (error_chunk (one_cause 1 info)) a (record m { draft = d }) p.added tt
-      (inr (stream, ap unknown_in inbound ∙ noted, ap (one_cause 1) tells, ap unknown_in after ∙ gone)) (told-alike d) (told-unmoved d) (told-timed d)
+-- what is said where there is a receiving half
+pub told_of : (o p : Option Inbound) (i j : Inbound) → o ≡ Some i → p ≡ Some j → IsStreamTold i j
+    → IfSome o (λ i. (j : Inbound) × (p ≡ Some j) × IsStreamTold i j)
+told_of o p i j is after told = subst (λ (o : Option Inbound). IfSome o (λ i. (j : Inbound) × (p ≡ Some j) × IsStreamTold i j)) (sym is) (j, after, told)
 
-  pub stream_told : {X E : Type 0} (r : Result X E) (b : Association) (stream : ℕ) (info : List ℕ) → i.unknown_stream ≡ Some stream
-      → j.unknown_stream ≡ None → info ≡ be16 stream ++ 0 ∷ 0 ∷ [] → b ≡ record m { draft = b.draft }
-      → OnOk r (PutsOne (error_chunk (one_cause 1 info)) a.draft b.draft)
-      → OnErr r (b.draft ≡ a.draft) → PutsOthers a b
-  stream_told (Ok x) b stream info noted gone tells rest put kept =
-      subst (PutsOthers a) (sym rest) (stream-put stream info b.draft noted gone tells put)
-  stream_told (Err e) b stream info noted gone tells rest put kept = subst (PutsOthers a) (sym rest)
-      (others_none a (record m { draft = b.draft }) (told-alike b.draft) (told-unmoved b.draft) (told-timed b.draft) (ap (λ (d : Draft). d.bytes) kept))
+pub told_in : (o p : Option Inbound) (i : Inbound) → o ≡ Some i → IfSome o (λ i. (j : Inbound) × (p ≡ Some j) × IsStreamTold i j)
+    → (j : Inbound) × (p ≡ Some j) × IsStreamTold i j
+told_in o p i is h = subst (λ (o : Option Inbound). IfSome o (λ i. (j : Inbound) × (p ≡ Some j) × IsStreamTold i j)) is h
 
 -- the two bytes of a number, and two bytes 0
 pub as_stream : (n : ℕ) (bytes : List ℕ) → bytes ≡ to_be_bytes w16 n
@@ -127,6 +119,11 @@ comes-by now at false e h = let k = h refl in grind arith
 
 past : (now used k : ℕ) → used ≡ now → 1 ≤ k → (later used k == 2 ^ 64 - 1) ≡ false → now < later used k
 past now used k same h e = grind arith
+
+-- where there is none no HEARTBEAT is due
+pub none_beats : (now : ℕ) (s : State) (rto : ℕ) (h : Option Heartbeat) → h ≡ None → is_due now (heartbeat_in s rto h) ≡ false
+none_beats now Established rto h e = ap (λ (o : Option Heartbeat). is_due now (heartbeat_by rto o)) e
+none_beats now _ rto h e = refl
 
 -- where the path was used just now the next one is later
 pub used_later : (now : ℕ) (s : State) (rto : ℕ) (h : Heartbeat) → h.used ≡ now → is_due now (heartbeat_in s rto (Some h)) ≡ false

@@ -3,6 +3,8 @@ use Rattle.std.specs.Prelude.{◌≡◌, ◌≢◌, ◌⊎◌, ℕ, ◌-◌, ◌
 use Rattle.std.specs.Option.{option_map}
 use Rattle.sctp_association.specs.declared.association.Association.{Association}
 use Rattle.sctp_association.specs.declared.outbound.Outbound.{Outbound}
+use Rattle.sctp_association.specs.Kept.{unknown_in}
+use Rattle.sctp_association.specs.Leaving.{beats}
 use Rattle.sctp_association.specs.Sending.{IsTimed, flight_of, marked_in}
 use Rattle.sctp_data.specs.declared.chunk.chunk_payload_data.ChunkPayloadData.{ChunkPayloadData}
 use Rattle.sctp_handshake.specs.declared.state.State.{State}
@@ -79,21 +81,27 @@ pub record MayReply (a : Association) : Type 0 where
   pub known : is_some a.machine.peer ≡ true
   pub state : a.machine.state ≢ CookieEchoed
 
--- no SHUTDOWN is due, where there is a receiver whose TSN it acknowledges, no SHUTDOWN-ACK, and no answer to a HEARTBEAT (8.3, 9.2)
-pub record OwesNoControl (a : Association) : Type 0 where
+-- no SHUTDOWN is due, where there is a receiver whose TSN it acknowledges, no SHUTDOWN-ACK, and neither a HEARTBEAT nor the answer to one (8.3, 9.2);
+-- and no ERROR, that reports or tells of a stream (3.2, 6.5)
+pub record OwesNoControl (now : ℕ) (a : Association) : Type 0 where
   pub shutdown : (a.due.shutdown ≡ false) ⊎ (sack_delay a ≡ None)
   pub shutdown_ack : a.due.shutdown_ack ≡ false
   pub heartbeat : a.due.heartbeat ≡ None
+  pub beat : beats now a ≡ false
+  pub report : a.due.report ≡ None
+  pub unknown : unknown_in a.inbound ≡ None
 
 -- and no COOKIE-ACK (5.1 D)
-pub record OwesNone (a : Association) : Type 0 where
+pub record OwesNone (now : ℕ) (a : Association) : Type 0 where
   pub cookie_ack : a.due.cookie_ack ≡ false
-  pub control : OwesNoControl a
+  pub control : OwesNoControl now a
 
 -- ## Where nothing leaves
 
--- no SACK is due. What waits, or is to be sent again, waits for a SACK, and T3-rtx runs where something is in flight
+-- Neither a SACK nor a FORWARD-TSN is due (RFC 3758 3.5). What waits, or is to be sent again, waits for a SACK, and T3-rtx runs where something is in
+-- flight.
 pub record IsIdle (now : ℕ) (a : Association) : Type 0 where
   pub acked : HasNoSackDue now a
   pub sent : WaitsForSacks a.draft.limit a.outbound.sender
   pub timed : IsTimed (in_flight a.outbound.sender) a.outbound.timer.at
+  pub skip : a.outbound.is_skip_due ≡ false

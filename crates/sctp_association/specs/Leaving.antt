@@ -7,9 +7,10 @@ use Rattle.sctp_association.specs.declared.due.Due.{Due}
 use Rattle.sctp_association.specs.declared.due.Report.{Report}
 use Rattle.sctp_association.specs.declared.inbound.Inbound.{Inbound}
 use Rattle.sctp_association.specs.Kept.{sack_waits, unknown_in}
-use Rattle.sctp_association.specs.Packets.{Adds, put_where, sum_of}
+use Rattle.sctp_association.specs.Packets.{Adds, Stands, put_where, sum_of}
 use Rattle.sctp_association.specs.Reports.{one_cause}
 use Rattle.sctp_association.specs.Sending.{may_drop}
+use Rattle.sctp_association.specs.Served.{is_usable}
 use Rattle.sctp_association.specs.Still.{comes, heartbeat_time}
 use Rattle.sctp_chunks.specs.Reconfig.{Reconfig}
 use Rattle.sctp_chunks.specs.Wire.{HasEncoding, Wire}
@@ -17,6 +18,7 @@ use Rattle.sctp_chunks.specs.Wire.{cookie_ack_chunk, cookie_echo_chunk, data_chu
 use Rattle.sctp_chunks.specs.Wire.{reconfig_chunk}
 use Rattle.sctp_chunks.specs.Wire.{sack_chunk, shutdown_ack_chunk, shutdown_chunk}
 use Rattle.sctp_chunks.specs.declared.chunk.error_cause.ErrorCause.{ErrorCause}
+use Rattle.sctp_data.specs.SelectiveAck.{Sack}
 use Rattle.sctp_handshake.specs.declared.state.State.{State}
 use Rattle.sctp_handshake.specs.declared.state.State.TheVariants.{ShutdownAckSent, ShutdownSent}
 use Rattle.sctp_packets.specs.Draft.{Draft, IsDraft}
@@ -30,7 +32,8 @@ use Rattle.sctp_reset.specs.declared.peer_requests.PeerRequests.{PeerRequests}
 
 -- ## What is due
 
--- which replies are due beside a packet of one reply, what they say, and how many bytes a packet may have
+-- Which replies are due beside a packet of one reply, what they say, and how many bytes a packet may have. And whether a SACK waits, what an ERROR is to
+-- report, and of which stream one is to tell.
 pub record Replies : Type 0 where
   pub cookie_echo : Bool
   pub cookie_ack : Bool
@@ -40,6 +43,9 @@ pub record Replies : Type 0 where
   pub cookie : Option (List ℕ)
   pub acked : Option ℕ
   pub limit : ℕ
+  pub sack : Bool
+  pub report : Option Report
+  pub unknown : Option ℕ
 
 -- the cumulative TSN, where there is a receiver
 abbrev pub acked_of : Option Inbound → Option ℕ
@@ -55,11 +61,22 @@ replies_of a = record {
   cookie = a.cookie;
   acked = acked_of a.inbound;
   limit = a.draft.limit;
+  sack = sack_waits a.inbound;
+  report = a.due.report;
+  unknown = unknown_in a.inbound;
 }
 
 -- the answer to a HEARTBEAT: its information comes back (8.3)
 abbrev pub heartbeat_ack_of : List ℕ → Wire
 heartbeat_ack_of info = heartbeat_ack_chunk (heartbeat_info info ∷ [])
+
+-- the ERROR that reports: its cause and what is said of it (3.2, 3.3.10)
+abbrev pub error_about : Report → Wire
+error_about r = error_chunk (one_cause r.code r.raw)
+
+-- the ERROR about a stream that there is not: cause 1 tells its number, and two bytes 0 behind it (6.5, 3.3.10.1)
+abbrev pub stream_error : ℕ → Wire
+stream_error stream = error_chunk (one_cause 1 (be16 stream ++ 0 ∷ 0 ∷ []))
 
 -- ## What leaves
 
@@ -67,8 +84,8 @@ heartbeat_ack_of info = heartbeat_ack_chunk (heartbeat_info info ∷ [])
 abbrev pub IsTooLong : (limit : ℕ) → Wire → Type 0
 IsTooLong limit w = HasEncoding w → 12 + length (padded_encoding w) ≤ limit → ⊥
 
--- Each stays due, or its chunk is among these: a COOKIE-ECHO has the cookie, a SHUTDOWN the cumulative TSN, and a HEARTBEAT-ACK what the
--- HEARTBEAT had. One that is too long for a whole packet is dropped, since no control chunk is cut (6.10).
+-- Each stays due, or its chunk is among these: a COOKIE-ECHO has the cookie, a SHUTDOWN and a SACK the cumulative TSN, and a HEARTBEAT-ACK what the
+-- HEARTBEAT had. An ERROR has what is reported, or the stream. One that is too long for a whole packet is dropped, since no control chunk is cut (6.10).
 pub record Leaves (In TooLong : Wire → Type 0) (old new : Replies) : Type 0 where
   pub cookie_echo : old.cookie_echo ≡ true → (new.cookie_echo ≡ true)
       ⊎ ((cookie : List ℕ) × (old.cookie ≡ Some cookie) × In (cookie_echo_chunk cookie))
@@ -78,6 +95,12 @@ pub record Leaves (In TooLong : Wire → Type 0) (old new : Replies) : Type 0 wh
   pub shutdown_ack : old.shutdown_ack ≡ true → (new.shutdown_ack ≡ true) ⊎ In shutdown_ack_chunk
   pub heartbeat : (info : List ℕ) → old.heartbeat ≡ Some info → (new.heartbeat ≡ Some info)
       ⊎ (In (heartbeat_ack_of info) ⊎ TooLong (heartbeat_ack_of info))
+  pub sack : old.sack ≡ true → (new.sack ≡ true)
+      ⊎ ((s : Sack) × (old.acked ≡ Some s.cumulative_tsn_ack) × In (sack_chunk s))
+  pub report : (r : Report) → old.report ≡ Some r → (new.report ≡ Some r)
+      ⊎ (In (error_about r) ⊎ TooLong (error_about r))
+  pub unknown : (s : ℕ) → old.unknown ≡ Some s → (new.unknown ≡ Some s)
+      ⊎ (In (stream_error s) ⊎ TooLong (stream_error s))
   pub cookie : new.cookie ≡ old.cookie
   pub acked : new.acked ≡ old.acked
   pub limit : new.limit ≡ old.limit
@@ -240,13 +263,14 @@ pub record OwesNothingNew (old new : Owed) : Type 0 where
   pub unknown : (s : ℕ) → new.unknown ≡ Some s → old.unknown ≡ Some s
   pub cookie : new.cookie ≡ old.cookie
 
--- ## Into a packet that is being written
+-- the peer is told of the stream that there is not: beside that the receiving half stays
+pub record IsStreamTold (old new : Inbound) : Type 0 where
+  pub unknown : new.unknown_stream ≡ None
+  pub receiver : new.receiver ≡ old.receiver
+  pub delay : new.delay ≡ old.delay
+  pub usable : (s : ℕ) → is_usable s new ≡ is_usable s old
 
--- the chunk is one of those that were put
-pub record Stands (old new : List ℕ) (w : Wire) : Type 0 where
-  pub before : List Wire
-  pub behind : List Wire
-  pub added : Adds (before ++ w ∷ behind) old new
+-- ## Into a packet that is being written
 
 -- the packet was begun
 abbrev pub IsTooLongIn : (limit : ℕ) → List ℕ → Wire → Type 0

@@ -60,6 +60,7 @@ pub mod Shutting
 pub mod Silence
 pub mod Single
 pub mod Sized
+pub mod Skips
 pub mod Steps
 pub mod Still
 pub mod StreamSet

@@ -26,6 +26,12 @@ abbrev pub put_where : Bool → Wire → List Wire
 put_where true w = w ∷ []
 put_where false w = []
 
+-- the chunk is one of those that were put
+pub record Stands (old new : List ℕ) (w : Wire) : Type 0 where
+  pub before : List Wire
+  pub behind : List Wire
+  pub added : Adds (before ++ w ∷ behind) old new
+
 -- the checksum that a packet is sealed with, or 0 in its place (RFC 9653 5.2)
 abbrev pub sum_of : Bool → List ℕ → ℕ
 sum_of true bytes = 0

@@ -1,15 +1,16 @@
 //! What comes of the peer's messages, and when it is acknowledged (RFC 9260 6.2, 6.5; RFC 3758 3.6).
 
-ghost use Rattle.std.specs.Prelude.{◌≡◌, ◌==◌, ◌<◌, ◌≤◌, ℕ, Ok, IfOk, IsOk, OnErr, OnOk, Some, ◌||◌, length, option_map, is_some, true, false};
+ghost use Rattle.std.specs.Prelude.{◌≡◌, ◌==◌, ◌<◌, ◌≤◌, ℕ, Ok, IfOk, IsOk, OnErr, OnOk, Some, ◌||◌, length, option_map, is_some, true, false, ◌⊎◌};
 ghost use Rattle.sctp_association.specs.Arrivals.{AsksFor, IsOpening, IsOpeningNamed, IsReset, Received};
 ghost use Rattle.sctp_association.specs.Filled.{IfNonePut};
-ghost use Rattle.sctp_association.specs.Packets.{IsSackOnce, PutsIn};
+ghost use Rattle.sctp_association.specs.Packets.{IsSackOnce, PutsIn, Stands};
 ghost use Rattle.sctp_association.specs.Reached.{IsLimited, most_user_data};
 ghost use Rattle.sctp_association.specs.StreamSet.{is_in};
 ghost use Rattle.sctp_association.specs.declared.inbound.Followed.TheVariants.{Done, Wanting};
-ghost use Rattle.sctp_chunks.specs.Wire.{data_chunk, forward_tsn_chunk};
+ghost use Rattle.sctp_chunks.specs.Wire.{data_chunk, forward_tsn_chunk, sack_chunk};
 ghost use Rattle.sctp_data.specs.ForwardTsn.{forward_tsn_of};
 ghost use Rattle.sctp_data.specs.PayloadData.{data_of};
+ghost use Rattle.sctp_data.specs.SelectiveAck.{Sack};
 ghost use Rattle.sctp_path.specs.Timers.{is_due};
 ghost use Rattle.sctp_params.specs.declared.param.param_reconfig_response.ReconfigResult.TheVariants.{SuccessPerformed};
 ghost use Rattle.sctp_reassembly.specs.reassembly_queue.ReassemblyQueue.{at_start};
@@ -551,6 +552,10 @@ impl Inbound {
             → is_some self.new.delay.due ≡ false }
         ensures unknown { self.new.unknown_stream ≡ self.old.unknown_stream }
         ensures grows { length packet.old.bytes ≤ length packet.new.bytes }
+        // One that waits does so on, or is put.
+        ensures leaves { is_some self.old.delay.due ≡ true → (is_some self.new.delay.due ≡ true)
+            ⊎ ((s : Sack) × (s.cumulative_tsn_ack ≡ self.old.receiver.cumulative_tsn)
+            × Stands packet.old.bytes packet.new.bytes (sack_chunk s)) }
         // Where nothing was put, none is due.
         ensures idle { OnOk result (IfNonePut packet.old.bytes packet.new.bytes
             (is_due now self.new.delay.due ≡ false)) }

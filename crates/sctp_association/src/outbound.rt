@@ -438,6 +438,7 @@ impl Outbound {
           is_skip_due = self.new.is_skip_due;
         } }
         ensures fewer { most_data self.new ≤ most_data self.old }
+        ensures skip { self.old.is_skip_due ≡ true → self.new.is_skip_due ≡ true }
     {
         if !self.is_partial || self.is_drained() {
             return Ok(());

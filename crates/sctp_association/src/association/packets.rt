@@ -7,20 +7,23 @@ ghost use Rattle.sctp_association.specs.Halves.{HalvesAlike, IsAsTimed, PutsDue,
 ghost use Rattle.sctp_association.specs.Entering.{usable_in};
 ghost use Rattle.sctp_association.specs.Filled.{IfNoneAdded, IfNonePut};
 ghost use Rattle.sctp_association.specs.Idle.{HasNoSackDue, IsIdle, MayReply, MaySend, OwesNoControl, OwesNone, WaitsForSacks, in_flight, sack_delay, sends};
-ghost use Rattle.sctp_association.specs.Kept.{IsUnmoved};
+ghost use Rattle.sctp_association.specs.Kept.{IsUnmoved, unknown_in};
 ghost use Rattle.sctp_association.specs.Lasting.{LastsNoLonger};
-ghost use Rattle.sctp_association.specs.Leaving.{AsksNoMore, IsDueOrData, LeavesBy, LeavesInto, OwesNothingNew, beats, owed_at, owed_before, owed_of, replies_of};
+ghost use Rattle.sctp_association.specs.Leaving.{AsksNoMore, IsDueOrData, IsSentIn, IsStreamTold, LeavesBy, LeavesInto, OwesNothingNew, beats, owed_at, owed_before, owed_of, replies_of};
 ghost use Rattle.sctp_association.specs.Most.{FewerWherePut, most_data, most_packets};
 ghost use Rattle.sctp_association.specs.Offering.{IsReplyOf, OffersAsDue, PutsReply, answered, init_with};
 ghost use Rattle.sctp_association.specs.declared.due.AloneKind.{AloneKind};
+ghost use Rattle.sctp_association.specs.declared.inbound.Inbound.{Inbound};
+ghost use Rattle.sctp_association.specs.Reads.{IsSameBeside};
 ghost use Rattle.sctp_association.specs.Replying.{AddsReply, IsReply, LeavesAlone, PutsOne, header_to, host_name_causes};
 ghost use Rattle.sctp_association.specs.Reports.{one_cause, unrecognized_in};
 ghost use Rattle.sctp_association.specs.Rows.{SettlesToSend};
 ghost use Rattle.sctp_association.specs.Sending.{IsTimed};
+ghost use Rattle.sctp_association.specs.Skips.{LeavesSkip, LeavesSkipBy};
 ghost use Rattle.sctp_association.specs.Still.{IsLater, heartbeat_time};
 ghost use Rattle.sctp_association.specs.Telling.{Tells};
 ghost use Rattle.sctp_association.specs.Timers.{EntersTimers};
-ghost use Rattle.sctp_association.specs.Packets.{IsPacketOf, IsWritten, Transmits};
+ghost use Rattle.sctp_association.specs.Packets.{IsPacketOf, IsWritten, Stands, Transmits};
 ghost use Rattle.sctp_chunks.specs.Init.{init_of};
 ghost use Rattle.sctp_chunks.specs.Wire.{abort_chunk, error_chunk};
 ghost use Rattle.sctp_cookie.specs.Cookie.{sealed};
@@ -95,8 +98,9 @@ impl Association {
         // Where memory is refused it stays due.
         ensures refused { IfSome self.old.due.alone
             (λ alone. OnErr result (self.new.due.alone ≡ Some alone)) }
-        // Where there is no datagram no other reply is due either. In CookieEchoed a COOKIE-ECHO goes alone (RFC 9260 5.1 C).
-        ensures owes { result ≡ Ok false → MayReply self.new → OwesNone self.new }
+        // Where there is no datagram no other reply is due either, nor an ERROR or a HEARTBEAT. In CookieEchoed a COOKIE-ECHO goes alone (RFC
+        // 9260 5.1 C).
+        ensures owes { result ≡ Ok false → MayReply self.new → OwesNone now self.new }
         // Where there is no datagram though DATA may leave: what waits or is to be sent again waits for a SACK, or for T3-rtx.
         ensures idle { result ≡ Ok false → MaySend self.new → IsIdle now self.new }
         // A FORWARD-TSN leaves first, then DATA again, where it may (RFC 9260 6.3.3 E3, 7.2.4), then new DATA: each chunk while nothing is
@@ -104,9 +108,11 @@ impl Association {
         // (7.2.1). A burst lasts until no datagram is due.
         ensures within { SendsWithin now (pauses result self.new) self.old.outbound
             self.new.outbound }
-        // What else is due stays due, or leaves in the datagram: a COOKIE-ECHO with the cookie, a SHUTDOWN with the cumulative TSN, a
-        // HEARTBEAT-ACK with what came. Only one that no packet has room for is dropped.
+        // What else is due stays due, or leaves in the datagram: a COOKIE-ECHO with the cookie, a SHUTDOWN or SACK with the cumulative TSN, a
+        // HEARTBEAT-ACK with what came, an ERROR with its report. Only one that no packet has room for is dropped.
         ensures leaves { LeavesBy (is_sent result) self.old self.new }
+        // So a FORWARD-TSN does, unless none can be made that a packet has room for.
+        ensures skips { LeavesSkipBy (is_sent result) self.old self.new }
         // Nothing else comes to be due, but a SHUTDOWN or SHUTDOWN-ACK where nothing waits or is in flight; no HEARTBEAT or RE-CONFIG (`moments`).
         ensures asks { OwesNothingNew (owed_of self.old) (owed_of self.new) }
         ensures moments { AsksNoMore now self.old self.new }
@@ -146,11 +152,14 @@ impl Association {
         ensures kept { IsUnmoved self.old self.new }
         ensures moments { AsksNoMore now self.old self.new }
         ensures owes { result ≡ Ok false → self.new.machine.state ≢ CookieEchoed
-            → OwesNone self.new }
+            → OwesNone now self.new }
         ensures idle { result ≡ Ok false → sends self.new.machine.state ≡ true
             → IsIdle now self.new }
         ensures within { PausesWithin now (is_unsent result) self.old.outbound self.new.outbound }
         ensures leaves { LeavesBy (is_sent result) self.old self.new }
+        ensures skips { LeavesSkip (IsSentIn (is_sent result) self.new.draft.bytes)
+            self.old.draft.limit self.old.outbound.sender self.old.outbound.is_skip_due
+            self.new.outbound.is_skip_due }
         ensures fewer { result ≡ Ok true
             → most_packets now self.new < most_packets now self.old }
     {
@@ -383,12 +392,15 @@ impl Association {
         ensures kept { IsUnmoved self.old self.new }
         ensures moments { AsksNoMore now self.old self.new }
         ensures owes { OnOk result (self.new.machine.state ≢ CookieEchoed
-            → IfNoneAdded self.old.draft.bytes self.new.draft.bytes (OwesNone self.new)) }
+            → IfNoneAdded self.old.draft.bytes self.new.draft.bytes (OwesNone now self.new)) }
         ensures idle { OnOk result (sends self.new.machine.state ≡ true → (p : Parts)
             → IsDraft p self.old.draft.bytes → length self.new.draft.bytes ≤ 12
             → IsIdle now self.new) }
         ensures within { LeavesWithin now self.old.outbound self.new.outbound }
         ensures leaves { LeavesInto self.old self.new }
+        ensures skips { (p : Parts) → IsDraft p self.old.draft.bytes
+            → LeavesSkip (Stands self.old.draft.bytes self.new.draft.bytes) self.old.draft.limit
+            self.old.outbound.sender self.old.outbound.is_skip_due self.new.outbound.is_skip_due }
         ensures fewer { (p : Parts) → IsDraft p self.old.draft.bytes
             → FewerWherePut (most_packets now self.old) (most_packets now self.new)
             self.old.draft.bytes self.new.draft.bytes }
@@ -413,7 +425,7 @@ impl Association {
         ensures kept { IsUnmoved self.old self.new }
         ensures moments { AsksNoMore now self.old self.new }
         ensures owes { OnOk result (IfNoneAdded self.old.draft.bytes self.new.draft.bytes
-            (OwesNoControl self.new)) }
+            (OwesNoControl now self.new)) }
         ensures acks { sack_delay self.new ≡ sack_delay self.old }
         ensures full { IsAsFull self.old.outbound self.new.outbound }
         ensures leaves { LeavesInto self.old self.new }
@@ -436,8 +448,14 @@ impl Association {
             → IfNonePut self.old.draft.bytes self.new.draft.bytes
             (WaitsForSacks self.new.draft.limit self.new.outbound.sender
             × IsTimed (in_flight self.new.outbound.sender) self.new.outbound.timer.at)) }
+        ensures skip { OnOk result (sends self.new.machine.state ≡ true
+            → IfNonePut self.old.draft.bytes self.new.draft.bytes
+            (self.new.outbound.is_skip_due ≡ false)) }
         ensures within { LeavesWithin now self.old.outbound self.new.outbound }
         ensures replies { replies_of self.new ≡ replies_of self.old }
+        ensures skips { 12 ≤ length self.old.draft.bytes
+            → LeavesSkip (Stands self.old.draft.bytes self.new.draft.bytes) self.old.draft.limit
+            self.old.outbound.sender self.old.outbound.is_skip_due self.new.outbound.is_skip_due }
         ensures fewer { FewerWherePut (most_data self.old.outbound) (most_data self.new.outbound)
             self.old.draft.bytes self.new.draft.bytes }
     {
@@ -515,7 +533,7 @@ impl Association {
         ensures idle { OnOk result (IfNonePut self.old.draft.bytes self.new.draft.bytes
             (HasNoSackDue now self.new)) }
         ensures full { IsAsFull self.old.outbound self.new.outbound }
-        ensures replies { replies_of self.new ≡ replies_of self.old }
+        ensures leaves { LeavesInto self.old self.new }
         ensures skip { self.new.outbound.is_skip_due ≡ self.old.outbound.is_skip_due }
     {
         let has_data = self.outbound.has_data() && self.machine.state().sends_data();
@@ -591,7 +609,7 @@ impl Association {
         ensures kept { IsUnmoved self.old self.new }
         ensures moments { AsksNoMore now self.old self.new }
         ensures owes { OnOk result (IfNoneAdded self.old.draft.bytes self.new.draft.bytes
-            (self.new.due.heartbeat ≡ None)) }
+            ((self.new.due.heartbeat ≡ None) × (beats now self.new ≡ false))) }
         ensures acks { sack_delay self.new ≡ sack_delay self.old }
         ensures leaves { LeavesInto self.old self.new }
     {
@@ -635,6 +653,8 @@ impl Association {
         ensures acks { sack_delay self.new ≡ sack_delay self.old }
         ensures once { OnOk result (self.new.draft ≡ self.old.draft
             ⊎ IsLater now (heartbeat_time self.new)) }
+        ensures owes { OnOk result (IfNonePut self.old.draft.bytes self.new.draft.bytes
+            (beats now self.new ≡ false)) }
         ensures replies { replies_of self.new ≡ replies_of self.old }
     {
         let Some(heartbeat) = &mut self.heartbeat else {
@@ -651,21 +671,42 @@ impl Association {
         Ok(())
     }
 
-    // Puts the ERROR about a chunk of no such stream (RFC 9260 6.5, 3.3.10.1).
+    // Puts the ERROR about a chunk of no such stream (RFC 9260 6.5, 3.3.10.1), if it fits: it waits for a packet that is empty, into which it
+    // always fits. Refuses only for memory, and nothing has changed then.
     #[tactic(auto, using(crate::proofs::Others::others_one, crate::proofs::Others::others_none, crate::proofs::Others::others_then))]
     fn put_unknown_stream(&mut self) -> Result<(), Fault>
         ensures others { PutsOthers self.old self.new }
         ensures acks { sack_delay self.new ≡ sack_delay self.old }
-        ensures replies { replies_of self.new ≡ replies_of self.old }
+        ensures leaves { LeavesInto self.old self.new }
+        ensures owes { OnOk result (IfNonePut self.old.draft.bytes self.new.draft.bytes
+            (unknown_in self.new.inbound ≡ None)) }
+        ensures err { OnErr result (self.new ≡ self.old) }
     {
-        let Some(inbound) = &mut self.inbound else {
+        let Some(inbound) = &self.inbound else {
             return Ok(());
         };
         let Some(stream) = inbound.unknown_stream else {
             return Ok(());
         };
-        inbound.unknown_stream = None;
         let number = stream.to_be_bytes();
-        self.put_error(1, &[number[0], number[1], 0, 0])
+        let told = ChunkError {
+            error_causes: self.causes(1, &[number[0], number[1], 0, 0])?,
+        };
+        let is_told = self.draft.put(&told);
+        if is_told || self.draft.is_empty() {
+            self.note_stream_told();
+        }
+        Ok(())
+    }
+
+    // The peer is told of the stream.
+    fn note_stream_told(&mut self)
+        ensures told { IfSome self.old.inbound (λ old. (new : Inbound)
+            × (self.new.inbound ≡ Some new) × IsStreamTold old new) }
+        ensures rest { IsSameBeside self.old self.new }
+    {
+        if let Some(inbound) = &mut self.inbound {
+            inbound.unknown_stream = None;
+        }
     }
 }

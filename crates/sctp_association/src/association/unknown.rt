@@ -3,7 +3,7 @@
 ghost use Rattle.std.specs.Prelude.{◌≡◌, ◌⊎◌, ◌+◌, ◌-◌, ◌<◌, ◌≤◌, ◌++◌, ℕ, if◌then◌else◌, None, Some, Ok, IfOk, IfSome, OnOk, OnErr, length, map};
 ghost use Rattle.sctp_association.specs.Halves.{PutsOthers};
 ghost use Rattle.sctp_association.specs.Kept.{OwesNoMore};
-ghost use Rattle.sctp_association.specs.Leaving.{replies_of};
+ghost use Rattle.sctp_association.specs.Leaving.{LeavesInto};
 ghost use Rattle.sctp_association.specs.Reports.{host_name_told, most_reported, params_told, reported_after, unrecognized_in};
 ghost use Rattle.sctp_association.specs.Rows.{StepsOn};
 ghost use Rattle.sctp_association.specs.declared.association.Reason.{Reason};
@@ -181,7 +181,7 @@ impl Association {
           draft = self.new.draft;
         } }
         ensures err { OnErr result (self.new ≡ self.old) }
-        ensures replies { replies_of self.new ≡ replies_of self.old }
+        ensures leaves { LeavesInto self.old self.new }
     {
         if self.due.report.is_none() {
             return Ok(());
@@ -205,7 +205,7 @@ impl Association {
           draft = self.new.draft;
         } }
         ensures err { OnErr result (self.new ≡ self.old) }
-        ensures replies { replies_of self.new ≡ replies_of self.old }
+        ensures leaves { LeavesInto self.old self.new }
     {
         let Some(report) = &self.due.report else {
             return Ok(());

@@ -6,8 +6,9 @@ ghost use Rattle.sctp_association.specs.Counts.{CountsNone, IsCountedAlong, IsCo
 ghost use Rattle.sctp_association.specs.Filled.{IfNonePut};
 ghost use Rattle.sctp_association.specs.Idle.{SendsNoneAgain, SendsNoneNew, WaitsBehind, WaitsForSacks, in_flight};
 ghost use Rattle.sctp_association.specs.Most.{FewerWherePut, most_data};
-ghost use Rattle.sctp_association.specs.Packets.{PutsOut, PutsSkip};
+ghost use Rattle.sctp_association.specs.Packets.{PutsOut, PutsSkip, Stands};
 ghost use Rattle.sctp_association.specs.Sending.{EndsWithin, IsTimed, flight_of, idle_times, is_early, is_front_late, is_later, lowered_times, lowered, marked_in, may_send_again, may_send_next, sent_at};
+ghost use Rattle.sctp_association.specs.Skips.{LeavesSkip};
 ghost use Rattle.sctp_outbound.specs.pending_queue.PendingQueue.{chunk_count, next_pending};
 ghost use Rattle.sctp_path.specs.Rto.{smoothed_of};
 ghost use Rattle.sctp_sender.specs.Resending.{is_to_resend, next_within};
@@ -47,9 +48,14 @@ impl Outbound {
             self.new.timer.at }
         ensures limit { packet.new.limit ≡ packet.old.limit }
         ensures grows { length packet.old.bytes ≤ length packet.new.bytes }
-        // Where nothing was put: what waits, or is to be sent again, waits for a SACK.
+        // Where nothing was put: what waits, or is to be sent again, waits for a SACK, and no FORWARD-TSN is due.
         ensures idle { OnOk result (IfNonePut packet.old.bytes packet.new.bytes
             (WaitsForSacks packet.old.limit self.new.sender)) }
+        ensures skip { OnOk result (IfNonePut packet.old.bytes packet.new.bytes
+            (self.new.is_skip_due ≡ false)) }
+        ensures leaves { 12 ≤ length packet.old.bytes
+            → LeavesSkip (Stands packet.old.bytes packet.new.bytes) packet.old.limit
+            self.old.sender self.old.is_skip_due self.new.is_skip_due }
         ensures within { LeavesWithin now self.old self.new }
         ensures fewer { FewerWherePut (most_data self.old) (most_data self.new)
             packet.old.bytes packet.new.bytes }
@@ -69,6 +75,11 @@ impl Outbound {
         ensures grows { length packet.old.bytes ≤ length packet.new.bytes }
         ensures idle { OnOk result (IfNonePut packet.old.bytes packet.new.bytes
             (WaitsForSacks packet.old.limit self.new.sender)) }
+        ensures skip { OnOk result (IfNonePut packet.old.bytes packet.new.bytes
+            (self.new.is_skip_due ≡ false)) }
+        ensures leaves { 12 ≤ length packet.old.bytes
+            → LeavesSkip (Stands packet.old.bytes packet.new.bytes) packet.old.limit
+            self.old.sender self.old.is_skip_due self.new.is_skip_due }
         ensures within { LeavesWithin now self.old self.new }
         ensures fewer { FewerWherePut (most_data self.old) (most_data self.new)
             packet.old.bytes packet.new.bytes }
@@ -87,6 +98,11 @@ impl Outbound {
             ⊎ self.new ≡ record self.old { is_skip_due = false } }
         ensures err { OnErr result (self.new ≡ self.old) }
         ensures grows { length packet.old.bytes ≤ length packet.new.bytes }
+        ensures skip { OnOk result (IfNonePut packet.old.bytes packet.new.bytes
+            (self.new.is_skip_due ≡ false)) }
+        ensures leaves { 12 ≤ length packet.old.bytes
+            → LeavesSkip (Stands packet.old.bytes packet.new.bytes) packet.old.limit
+            self.old.sender self.old.is_skip_due self.new.is_skip_due }
         ensures fewer { FewerWherePut (most_data self.old) (most_data self.new)
             packet.old.bytes packet.new.bytes }
     {
@@ -94,6 +110,10 @@ impl Outbound {
             return Ok(());
         }
         let skip = self.sender.forward_tsn(packet.room())?;
+        // Behind other chunks there may be too little room: it waits for a packet that is empty.
+        if skip.is_none() && !packet.is_empty() {
+            return Ok(());
+        }
         self.is_skip_due = false;
         if let Some(skip) = skip {
             packet.put(&skip);

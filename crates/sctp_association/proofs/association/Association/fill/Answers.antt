@@ -1,10 +1,12 @@
 use Rattle.sctp_association.specs.Congested.{Path}
+use Rattle.sctp_association.proofs.Putting.{adds_then}
+use Rattle.sctp_association.proofs.Skips.{skip_later}
 use Rattle.sctp_association.proofs.Fewer.{data_fewer, due_fewer, once_fewer, others_fewer, fewer_then}
 use Rattle.sctp_association.proofs.Leaving.{into_kept, into_then}
-use Rattle.std.proofs.Common.{ap, ◌≡◌, [], arith, false, subst, sym, ◌∙◌}
+use Rattle.std.proofs.Common.{ap, ◌≡◌, [], arith, false, subst, sym, ◌∙◌, inl}
 use Rattle.std.specs.Prelude.{IfSome}
 use Rattle.sctp_association.proofs.Congested.{from_skip, full_of, full_then, within_behind, within_full}
-use Rattle.sctp_association.proofs.Idle.{added_longer, no_shutdown, on_ok, on_ok_so}
+use Rattle.sctp_association.proofs.Idle.{added_longer, no_shutdown, on_ok, on_ok_both}
 use Rattle.sctp_association.proofs.Known.{still_none, unmoved_then}
 use Rattle.sctp_path.specs.Timers.{is_due}
 use Rattle.sctp_association.proofs.Others.{beats_same, beats_then, due_then, once_puts, others_once, others_puts, others_then, skip_kept, skip_so, timed_then}
@@ -80,7 +82,7 @@ returns-clause-moments c = beats_then c.args.now c.args.self.now c.put_control.n
     ) c.put_data.ensures.moments
 
 pub returns-clause-idle : goal.returns-clause-idle
-returns-clause-idle c = on_ok_so c.put_data.result (λ then_sent state p draft short.
+returns-clause-idle c = on_ok_both c.put_data.result (λ then_sent then_skip state p draft short.
     let cookies = c.put_cookies.ensures.others.added in
     let sack = c.put_sack.ensures.made.added in
     let control = c.put_control.ensures.made.added in
@@ -96,7 +98,8 @@ returns-clause-idle c = on_ok_so c.put_data.result (λ then_sent state p draft s
           (c.in_ok-put_sack.ensures.idle more.0 (omega (arith, short, further.1, last.1)));
       sent = sent.0;
       timed = sent.1;
-    }) c.put_data.ensures.idle
+      skip = then_skip state last.0 short;
+    }) c.put_data.ensures.idle c.put_data.ensures.skip
 
 pub returns-clause-owes : goal.returns-clause-owes
 returns-clause-owes c = on_ok c.put_data.result (λ state p draft short.
@@ -117,6 +120,9 @@ returns-clause-owes c = on_ok c.put_data.result (λ state p draft short.
         shutdown = no_shutdown _ _ _ _ after.shutdown c.put_data.ensures.acks owed.shutdown;
         shutdown_ack = after.shutdown_ack owed.shutdown_ack;
         heartbeat = still_none _ _ after.heartbeat owed.heartbeat;
+        beat = c.put_data.ensures.moments.beat owed.beat;
+        report = still_none _ _ after.report owed.report;
+        unknown = still_none _ _ c.put_data.ensures.kept.unknown owed.unknown;
       };
     })
 
@@ -153,28 +159,26 @@ returns-clause-within c = within_behind c.args.now c.args.self.now.outbound c.pu
 -- ## What leaves
 
 pub returns-else-is_empty-clause-leaves : goal.returns-else-is_empty-clause-leaves
-returns-else-is_empty-clause-leaves c = into_kept c.args.self.now c.put_cookies.new.self c.put_report.new.self [] _ c.put_report.ensures.others.added
-    c.put_cookies.ensures.leaves c.put_report.ensures.replies
+returns-else-is_empty-clause-leaves c = into_then c.args.self.now c.put_cookies.new.self c.put_report.new.self _ _ c.put_cookies.ensures.others.added
+    c.put_report.ensures.others.added c.put_cookies.ensures.leaves c.put_report.ensures.leaves
 
 pub returns-in_err-put_sack-clause-leaves : goal.returns-in_err-put_sack-clause-leaves
-returns-in_err-put_sack-clause-leaves c = into_kept c.args.self.now c.put_cookies.new.self c.put_sack.new.self [] _ c.put_sack.ensures.made.added
-    c.put_cookies.ensures.leaves c.put_sack.ensures.replies
+returns-in_err-put_sack-clause-leaves c = into_then c.args.self.now c.put_cookies.new.self c.put_sack.new.self _ _ c.put_cookies.ensures.others.added
+    c.put_sack.ensures.made.added c.put_cookies.ensures.leaves c.put_sack.ensures.leaves
 
 pub returns-in_err-put_control-clause-leaves : goal.returns-in_err-put_control-clause-leaves
 returns-in_err-put_control-clause-leaves c =
-    let acked = into_kept c.args.self.now c.put_cookies.new.self c.put_sack.new.self [] _ c.put_sack.ensures.made.added c.put_cookies.ensures.leaves
-    c.put_sack.ensures.replies in
-    let both = others_once c.args.self.now c.put_cookies.new.self c.put_sack.new.self c.put_cookies.ensures.others c.put_sack.ensures.made
-    c.put_sack.ensures.kept in
-    into_then c.args.self.now c.put_sack.new.self c.put_control.new.self _ _ both.added c.put_control.ensures.made.added acked c.put_control.ensures.leaves
+    let acked = into_then c.args.self.now c.put_cookies.new.self c.put_sack.new.self _ _ c.put_cookies.ensures.others.added c.put_sack.ensures.made.added
+    c.put_cookies.ensures.leaves c.put_sack.ensures.leaves in
+    let both = adds_then _ _ _ _ _ c.put_cookies.ensures.others.added c.put_sack.ensures.made.added in
+    into_then c.args.self.now c.put_sack.new.self c.put_control.new.self _ _ both c.put_control.ensures.made.added acked c.put_control.ensures.leaves
 
 pub returns-clause-leaves : goal.returns-clause-leaves
 returns-clause-leaves c =
-    let acked = into_kept c.args.self.now c.put_cookies.new.self c.put_sack.new.self [] _ c.put_sack.ensures.made.added c.put_cookies.ensures.leaves
-    c.put_sack.ensures.replies in
-    let both = others_once c.args.self.now c.put_cookies.new.self c.put_sack.new.self c.put_cookies.ensures.others c.put_sack.ensures.made
-    c.put_sack.ensures.kept in
-    let controlled = into_then c.args.self.now c.put_sack.new.self c.put_control.new.self _ _ both.added c.put_control.ensures.made.added acked
+    let acked = into_then c.args.self.now c.put_cookies.new.self c.put_sack.new.self _ _ c.put_cookies.ensures.others.added c.put_sack.ensures.made.added
+    c.put_cookies.ensures.leaves c.put_sack.ensures.leaves in
+    let both = adds_then _ _ _ _ _ c.put_cookies.ensures.others.added c.put_sack.ensures.made.added in
+    let controlled = into_then c.args.self.now c.put_sack.new.self c.put_control.new.self _ _ both c.put_control.ensures.made.added acked
     c.put_control.ensures.leaves in
     into_kept c.args.self.now c.put_control.new.self c.put_data.new.self [] _ c.put_data.ensures.made.added controlled c.put_data.ensures.replies
 
@@ -242,3 +246,32 @@ returns-clause-fewer c p draft =
     let last = c.put_data.ensures in
     let four = data_fewer c.args.now c.put_control.new.self c.put_data.new.self last.kept last.moments last.fewer in
     fewer_then _ _ _ _ _ _ controlled four
+
+-- ## Whether a FORWARD-TSN is due
+
+pub returns-then-is_empty-clause-skips : goal.returns-then-is_empty-clause-skips
+returns-then-is_empty-clause-skips c p draft due = inl (ap (λ (p : Path). p.skip) c.put_cookies.ensures.others.halves.path ∙ due)
+
+pub returns-else-is_empty-clause-skips : goal.returns-else-is_empty-clause-skips
+returns-else-is_empty-clause-skips c p draft due =
+    inl (ap (λ (p : Path). p.skip) (c.put_report.ensures.others.halves.path ∙ c.put_cookies.ensures.others.halves.path) ∙ due)
+
+pub returns-in_err-put_sack-clause-skips : goal.returns-in_err-put_sack-clause-skips
+returns-in_err-put_sack-clause-skips c p draft due =
+    inl (c.put_sack.ensures.skip ∙ ap (λ (p : Path). p.skip) c.put_cookies.ensures.others.halves.path ∙ due)
+
+pub returns-in_err-put_control-clause-skips : goal.returns-in_err-put_control-clause-skips
+returns-in_err-put_control-clause-skips c p draft due = inl (c.put_control.ensures.skip ∙ c.put_sack.ensures.skip
+    ∙ ap (λ (p : Path). p.skip) c.put_cookies.ensures.others.halves.path ∙ due)
+
+pub returns-clause-skips : goal.returns-clause-skips
+returns-clause-skips c p draft =
+    let cookies = c.put_cookies.ensures in
+    let sack = c.put_sack.ensures in
+    let control = c.put_control.ensures in
+    let near = adds_then _ _ _ _ _ cookies.others.added sack.made.added in
+    let longer = added_longer _ _ _ _ c.put_data.ensures.made.added (control.made.added.draft _ (near.draft p draft)) in
+    skip_later c.args.self.now.draft.limit c.put_control.new.self.draft.limit _ _ _ _ _ _ _ _ _ (adds_then _ _ _ _ _ near control.made.added)
+    (control.leaves.limit ∙ sack.leaves.limit ∙ cookies.leaves.limit)
+    (ap (λ (p : Path). p.sender) (control.full.path ∙ sack.full.path ∙ cookies.others.halves.path))
+    (control.skip ∙ sack.skip ∙ ap (λ (p : Path). p.skip) cookies.others.halves.path) (c.put_data.ensures.skips longer.0)

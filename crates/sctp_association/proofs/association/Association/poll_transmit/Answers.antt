@@ -1,5 +1,5 @@
 use Rattle.sctp_association.specs.Congested.{Path}
-use Rattle.std.proofs.Common.{Bool, Option, [], ap, false, refl, subst, sym, true, ◌∙◌, ◌≡◌, None, arith, ◌≤◌}
+use Rattle.std.proofs.Common.{Bool, Option, [], ap, false, inl, refl, ℕ, subst, sym, true, ◌∙◌, ◌≡◌, None, arith, ◌≤◌}
 use Rattle.std.specs.Prelude.{Ok, is_some}
 use Rattle.sctp_association.proofs.Fewer.{data_same, replies_few, settled_few, some_less}
 use Rattle.sctp_association.specs.Most.{most_data}
@@ -14,16 +14,18 @@ use Rattle.sctp_association.proofs.Offering.{offers_none, offers_reply}
 use Rattle.sctp_association.proofs.Owing.{rto_asks}
 use Rattle.sctp_association.proofs.Idle.{on_ok}
 use Rattle.sctp_association.proofs.Rows.{settles_enters}
+use Rattle.sctp_association.proofs.Running.{none_sent}
 use Rattle.sctp_association.proofs.Timers.{enters_from, enters_same, enters_then}
 use Rattle.sctp_association.proofs.Others.{alike_same, at_then, beats_same, before_then, none_sent_so, sent_alone, unsent, unsent_alike, unsent_err}
 use Rattle.sctp_association.proofs.association.Association.poll_transmit.Goals as goal
 use Rattle.sctp_association.specs.Congested.{PausesWithin}
 use Rattle.sctp_association.specs.Entering.{usable_in}
-use Rattle.sctp_association.specs.Halves.{receiver_of, sides_of}
+use Rattle.sctp_association.specs.Halves.{is_sent, receiver_of, sides_of}
 use Rattle.sctp_association.specs.declared.inbound.Inbound.{Inbound}
-use Rattle.sctp_association.specs.Leaving.{owed_of}
+use Rattle.sctp_association.specs.Leaving.{IsSentIn, owed_of}
 use Rattle.sctp_association.specs.declared.outbound.Outbound.{Outbound}
 use Rattle.sctp_association.specs.Runs.{Sends}
+use Rattle.sctp_association.specs.Skips.{LeavesSkip}
 use Rattle.sctp_handshake.specs.declared.machine.Machine.{Machine}
 
 pub returns-in_err-put_alone-clause-made : goal.returns-in_err-put_alone-clause-made
@@ -380,3 +382,46 @@ returns-clause-timers c =
     enters_then c.args.now c.args.self.now c.settle.new.self c.put_packet.new.self
     (enters_from c.args.now c.args.self.now _ _ refl refl refl (settles_enters c.args.now _ _ c.settle.ensures.settles)) kept.machine kept.config kept.rto
     kept.control kept.guard
+
+-- ## Whether a FORWARD-TSN is due
+
+pub returns-in_err-put_alone-clause-skips : goal.returns-in_err-put_alone-clause-skips
+returns-in_err-put_alone-clause-skips c = record {
+  kept = c.args.self.now.outbound.sender;
+  dropped = none_sent c.args.self.now.outbound.sender;
+  leaves = λ due. inl (ap (λ (p : Path). p.skip) c.put_alone.ensures.halves.path ∙ due);
+}
+
+pub returns-in-Some-clause-skips : goal.returns-in-Some-clause-skips
+returns-in-Some-clause-skips c = record {
+  kept = c.args.self.now.outbound.sender;
+  dropped = none_sent c.args.self.now.outbound.sender;
+  leaves = λ due. inl (ap (λ (p : Path). p.skip) c.put_alone.ensures.halves.path ∙ due);
+}
+
+pub returns-then-self-clause-skips : goal.returns-then-self-clause-skips
+returns-then-self-clause-skips c = record {
+  kept = c.args.self.now.outbound.sender;
+  dropped = none_sent c.args.self.now.outbound.sender;
+  leaves = λ due. inl due;
+}
+
+pub returns-in_err-abandon-clause-skips : goal.returns-in_err-abandon-clause-skips
+returns-in_err-abandon-clause-skips c =
+    record { kept = c.abandon.new.self.sender; dropped = c.abandon.ensures.dropped; leaves = λ due. inl (c.abandon.ensures.skip due) }
+
+pub returns-in_default-peer-clause-skips : goal.returns-in_default-peer-clause-skips
+returns-in_default-peer-clause-skips c = record {
+  kept = c.abandon.new.self.sender;
+  dropped = c.abandon.ensures.dropped;
+  leaves = λ due. inl (ap (λ (o : Outbound). o.is_skip_due) c.settle.ensures.sending ∙ c.abandon.ensures.skip due);
+}
+
+pub returns-clause-skips : goal.returns-clause-skips
+returns-clause-skips c = record {
+  kept = c.settle.new.self.outbound.sender;
+  dropped = subst (λ (o : Outbound). Sends [] c.args.self.now.outbound.sender o.sender) (sym c.settle.ensures.sending) c.abandon.ensures.dropped;
+  leaves = λ due. subst (λ (n : ℕ). LeavesSkip (IsSentIn (is_sent c.put_packet.result) c.put_packet.new.self.draft.bytes) n
+      c.settle.new.self.outbound.sender c.settle.new.self.outbound.is_skip_due c.put_packet.new.self.outbound.is_skip_due) c.settle.ensures.stays.limit
+      c.put_packet.ensures.skips (ap (λ (o : Outbound). o.is_skip_due) c.settle.ensures.sending ∙ c.abandon.ensures.skip due);
+}

@@ -1,7 +1,7 @@
 use Rattle.sctp_association.specs.Congested.{Path}
 use Rattle.sctp_association.proofs.Leaving.{into_kept, into_then}
 use Rattle.std.proofs.Common.{[], ap, arith, ◌∙◌}
-use Rattle.sctp_association.proofs.Idle.{added_longer, no_shutdown, on_ok}
+use Rattle.sctp_association.proofs.Idle.{added_longer, no_shutdown, none_or, on_ok}
 use Rattle.sctp_association.proofs.Congested.{full_of, full_others, full_then}
 use Rattle.sctp_association.proofs.Known.{still_none, unmoved_then}
 use Rattle.sctp_association.proofs.Others.{beats_same, beats_then, due_others, due_then, once_puts, others_then, skip_kept, timed_then}
@@ -106,14 +106,22 @@ returns-clause-owes c = on_ok c.put_resets.result (λ p draft short.
     let behind = adds_then _ _ _ _ _ near.added reset.made.added in
     let all = unmoved_then c.put_shutdown.new.self _ _ beaten.kept kept in
     let added = adds_then _ _ _ _ _ beaten.made.added behind in
-    let longer = added_longer _ _ _ _ added (c.put_shutdown.ensures.made.added.draft p draft) in
     let shut-draft = c.put_shutdown.ensures.made.added.draft p draft in
-    let further = added_longer _ _ _ _ behind (beaten.made.added.draft _ shut-draft) in
+    let beat-draft = beaten.made.added.draft _ shut-draft in
+    let told-draft = unknown.others.added.draft _ beat-draft in
+    let longer = added_longer _ _ _ _ added shut-draft in
+    let further = added_longer _ _ _ _ behind beat-draft in
+    let last = added_longer _ _ _ _ (adds_then _ _ _ _ _ told.others.added reset.made.added) told-draft in
     let shut = c.put_shutdown.ensures.owes p draft (omega (arith, short, longer.1)) in
+    let beat = c.in_ok-put_heartbeats.ensures.owes _ shut-draft (omega (arith, short, further.1)) in
     record {
       shutdown = no_shutdown _ _ _ _ all.due.shutdown (reset.acks ∙ ap sack_delay told.rest ∙ unknown.acks ∙ beaten.acks) shut.0;
       shutdown_ack = all.due.shutdown_ack shut.1;
-      heartbeat = still_none _ _ kept.due.heartbeat (c.in_ok-put_heartbeats.ensures.owes _ shut-draft (omega (arith, short, further.1)));
+      heartbeat = still_none _ _ kept.due.heartbeat beat.0;
+      beat = reset.moments.beat ((beats_same c.args.now _ _ near.timed).beat beat.1);
+      report = still_none _ _ reset.kept.due.report (none_or _ _ _ c.in_ok-put_report.ensures.once (omega (arith, short, last.1)));
+      unknown = still_none _ _ (unmoved_then _ _ _ told.others.kept reset.kept).unknown
+          (c.in_ok-put_unknown_stream.ensures.owes further.0 (omega (arith, short, last.1)));
     })
 
 -- ## What leaves
@@ -124,26 +132,37 @@ returns-in_err-put_heartbeats-clause-leaves c = into_then c.args.self.now c.put_
 
 pub returns-in_err-put_unknown_stream-clause-leaves : goal.returns-in_err-put_unknown_stream-clause-leaves
 returns-in_err-put_unknown_stream-clause-leaves c =
-    let beaten = into_then c.args.self.now c.put_shutdown.new.self c.put_heartbeats.new.self _ _ c.put_shutdown.ensures.made.added
-    c.put_heartbeats.ensures.made.added c.put_shutdown.ensures.leaves c.put_heartbeats.ensures.leaves in
-    into_kept c.args.self.now c.put_heartbeats.new.self c.put_unknown_stream.new.self [] _ c.put_unknown_stream.ensures.others.added beaten
-    c.put_unknown_stream.ensures.replies
+    let shut = c.put_shutdown.ensures in
+    let beat = c.put_heartbeats.ensures in
+    let stream = c.put_unknown_stream.ensures in
+    let beaten = into_then c.args.self.now c.put_shutdown.new.self c.put_heartbeats.new.self _ _ shut.made.added beat.made.added shut.leaves beat.leaves in
+    into_then c.args.self.now c.put_heartbeats.new.self c.put_unknown_stream.new.self _ _ (adds_then _ _ _ _ _ shut.made.added beat.made.added)
+    stream.others.added beaten stream.leaves
 
 pub returns-in_err-put_report-clause-leaves : goal.returns-in_err-put_report-clause-leaves
 returns-in_err-put_report-clause-leaves c =
-    let beaten = into_then c.args.self.now c.put_shutdown.new.self c.put_heartbeats.new.self _ _ c.put_shutdown.ensures.made.added
-    c.put_heartbeats.ensures.made.added c.put_shutdown.ensures.leaves c.put_heartbeats.ensures.leaves in
-    let behind = others_then _ _ _ c.put_unknown_stream.ensures.others c.put_report.ensures.others in
-    into_kept c.args.self.now c.put_heartbeats.new.self c.put_report.new.self [] _ behind.added beaten
-    (c.put_report.ensures.replies ∙ c.put_unknown_stream.ensures.replies)
+    let shut = c.put_shutdown.ensures in
+    let beat = c.put_heartbeats.ensures in
+    let stream = c.put_unknown_stream.ensures in
+    let report = c.put_report.ensures in
+    let near = adds_then _ _ _ _ _ shut.made.added beat.made.added in
+    let beaten = into_then c.args.self.now c.put_shutdown.new.self c.put_heartbeats.new.self _ _ shut.made.added beat.made.added shut.leaves beat.leaves in
+    let told = into_then c.args.self.now c.put_heartbeats.new.self c.put_unknown_stream.new.self _ _ near stream.others.added beaten stream.leaves in
+    into_then c.args.self.now c.put_unknown_stream.new.self c.put_report.new.self _ _ (adds_then _ _ _ _ _ near stream.others.added) report.others.added
+    told report.leaves
 
 pub returns-clause-leaves : goal.returns-clause-leaves
 returns-clause-leaves c =
-    let beaten = into_then c.args.self.now c.put_shutdown.new.self c.put_heartbeats.new.self _ _ c.put_shutdown.ensures.made.added
-    c.put_heartbeats.ensures.made.added c.put_shutdown.ensures.leaves c.put_heartbeats.ensures.leaves in
-    let near = others_then _ _ _ c.put_unknown_stream.ensures.others c.put_report.ensures.others in
-    into_kept c.args.self.now c.put_heartbeats.new.self c.put_resets.new.self [] _ (adds_then _ _ _ _ _ near.added c.put_resets.ensures.made.added) beaten
-    (c.put_resets.ensures.replies ∙ c.put_report.ensures.replies ∙ c.put_unknown_stream.ensures.replies)
+    let shut = c.put_shutdown.ensures in
+    let beat = c.put_heartbeats.ensures in
+    let stream = c.put_unknown_stream.ensures in
+    let report = c.put_report.ensures in
+    let near = adds_then _ _ _ _ _ shut.made.added beat.made.added in
+    let beaten = into_then c.args.self.now c.put_shutdown.new.self c.put_heartbeats.new.self _ _ shut.made.added beat.made.added shut.leaves beat.leaves in
+    let told = into_then c.args.self.now c.put_heartbeats.new.self c.put_unknown_stream.new.self _ _ near stream.others.added beaten stream.leaves in
+    let reported = into_then c.args.self.now c.put_unknown_stream.new.self c.put_report.new.self _ _ (adds_then _ _ _ _ _ near stream.others.added)
+    report.others.added told report.leaves in
+    into_kept c.args.self.now c.put_report.new.self c.put_resets.new.self [] _ c.put_resets.ensures.made.added reported c.put_resets.ensures.replies
 
 -- ## What stays
 

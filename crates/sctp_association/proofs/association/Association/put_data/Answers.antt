@@ -1,6 +1,8 @@
 use Rattle.sctp_association.specs.Most.{FewerWherePut, most_data}
 use Rattle.sctp_association.proofs.Fewer.{fewer_same}
-use Rattle.std.proofs.Common.{refl, subst, sym}
+use Rattle.std.proofs.Common.{inl, refl, subst, sym}
+use Rattle.sctp_association.specs.Packets.{Stands}
+use Rattle.sctp_association.specs.Skips.{LeavesSkip}
 use Rattle.sctp_association.proofs.Congested.{within_same}
 use Rattle.sctp_association.proofs.Others.{at_then}
 use Rattle.sctp_association.proofs.Owing.{rto_asks}
@@ -46,3 +48,15 @@ pub returns-clause-fewer : goal.returns-clause-fewer
 returns-clause-fewer c = subst (λ (a : Association).
     FewerWherePut (most_data c.args.self.now.outbound) (most_data a.outbound) c.args.self.now.draft.bytes a.draft.bytes) (sym c.note_use.ensures.rest)
     c.put.ensures.fewer
+
+-- ## Whether a FORWARD-TSN is due
+
+pub returns-then-not-sends_data-clause-skips : goal.returns-then-not-sends_data-clause-skips
+returns-then-not-sends_data-clause-skips c _ due = inl due
+
+pub returns-in_err-put-clause-skips : goal.returns-in_err-put-clause-skips
+returns-in_err-put-clause-skips c head = c.put.ensures.leaves head
+
+pub returns-clause-skips : goal.returns-clause-skips
+returns-clause-skips c head = subst (λ (a : Association). LeavesSkip (Stands c.args.self.now.draft.bytes a.draft.bytes) c.args.self.now.draft.limit
+    c.args.self.now.outbound.sender c.args.self.now.outbound.is_skip_due a.outbound.is_skip_due) (sym c.note_use.ensures.rest) (c.put.ensures.leaves head)

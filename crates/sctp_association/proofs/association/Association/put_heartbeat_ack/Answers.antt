@@ -27,6 +27,9 @@ returns-then-is_put-clause-leaves c =
           (ap heartbeat_ack_chunk (c.in_ok-heartbeat_ack.ensures ∙ ap (λ i. heartbeat_info i ∷ []) (of-some _ _ (sym c.in-Some.is ∙ e))))
           put.added put.fits put.full how
           );
+      sack = λ e. inl e;
+      report = λ _ e. inl e;
+      unknown = λ _ e. inl e;
       cookie = refl;
       acked = refl;
       limit = put.limit;

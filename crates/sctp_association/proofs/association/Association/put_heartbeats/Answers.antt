@@ -1,8 +1,10 @@
-use Rattle.std.proofs.Common.{[], arith}
-use Rattle.sctp_association.proofs.Idle.{added_longer, on_ok}
+use Rattle.std.proofs.Common.{[], Option, Some, ap, arith, sym, ℕ, ◌∙◌}
+use Rattle.sctp_association.proofs.Idle.{added_longer, on_ok_so}
 use Rattle.sctp_association.proofs.Known.{still_none, unmoved_then}
 use Rattle.sctp_association.proofs.Others.{alike_then, beats_same, due_then, once_puts, others_puts, skip_kept}
 use Rattle.sctp_association.proofs.Leaving.{into_kept}
+use Rattle.sctp_association.proofs.Owing.{later_not_due}
+use Rattle.sctp_path.specs.Timers.{is_due}
 use Rattle.sctp_association.proofs.association.Association.put_heartbeats.Goals as goal
 
 pub returns-in-Some-clause-leaves : goal.returns-in-Some-clause-leaves
@@ -10,21 +12,28 @@ returns-in-Some-clause-leaves c = into_kept c.args.self.now c.put_heartbeat_ack.
     c.put_heartbeat.ensures.made.added c.put_heartbeat_ack.ensures.leaves c.put_heartbeat.ensures.replies
 
 pub returns-in-Some-clause-owes : goal.returns-in-Some-clause-owes
-returns-in-Some-clause-owes c = on_ok c.put_heartbeat.result (λ p draft short.
+returns-in-Some-clause-owes c = on_ok_so c.put_heartbeat.result (λ beats p draft short.
     let one = c.put_heartbeat_ack.ensures.others.added in
     let longer = added_longer _ _ _ _ one draft in
-    let more = added_longer _ _ _ _ c.put_heartbeat.ensures.made.added (one.draft p draft) in
-    still_none _ _ c.put_heartbeat.ensures.kept.due.heartbeat (c.in_ok-put_heartbeat_ack.ensures.owes longer.0 (omega (arith, short, more.1))))
+    let more = added_longer _ _ _ _ c.put_heartbeat.ensures.made.added (one.draft p draft) in (
+      still_none _ _ c.put_heartbeat.ensures.kept.due.heartbeat (c.in_ok-put_heartbeat_ack.ensures.owes longer.0 (omega (arith, short, more.1))),
+      beats (omega (arith, longer)) short,
+    )) c.put_heartbeat.ensures.owes
 
 pub returns-in_default-clause-owes : goal.returns-in_default-clause-owes
 returns-in_default-clause-owes c p draft short =
-    let longer = added_longer _ _ _ _ c.put_heartbeat_ack.ensures.others.added draft in
-    c.in_ok-put_heartbeat_ack.ensures.owes longer.0 short
+    let longer = added_longer _ _ _ _ c.put_heartbeat_ack.ensures.others.added draft in (
+      c.in_ok-put_heartbeat_ack.ensures.owes longer.0 short,
+      ap (λ (o : Option ℕ). is_due c.args.now o) (sym c.next_heartbeat.ensures ∙ c.in-Some.is)
+          ∙ later_not_due c.args.now (Some c.in-Some.at) c.if-at-now.false,
+    )
 
 pub returns-in_default-2-clause-owes : goal.returns-in_default-2-clause-owes
 returns-in_default-2-clause-owes c p draft short =
-    let longer = added_longer _ _ _ _ c.put_heartbeat_ack.ensures.others.added draft in
-    c.in_ok-put_heartbeat_ack.ensures.owes longer.0 short
+    let longer = added_longer _ _ _ _ c.put_heartbeat_ack.ensures.others.added draft in (
+      c.in_ok-put_heartbeat_ack.ensures.owes longer.0 short,
+      ap (λ (o : Option ℕ). is_due c.args.now o) (sym c.next_heartbeat.ensures ∙ c.in_default.is),
+    )
 
 -- ## What is put
 

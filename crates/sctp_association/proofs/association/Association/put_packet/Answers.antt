@@ -1,8 +1,11 @@
 use Rattle.std.proofs.lemmas.Bool.{leb-false}
 use Rattle.std.proofs.Common.{arith}
 use Rattle.sctp_association.proofs.Leaving.{by_none, by_sealed, leaves_same, with_limit}
-use Rattle.std.proofs.Common.{[], ap, false, refl, subst, sym, ◌∙◌}
+use Rattle.std.proofs.Common.{[], ap, false, inl, refl, subst, sym, ℕ, ◌∙◌}
+use Rattle.sctp_association.proofs.Skips.{skip_none, skip_sealed}
 use Rattle.sctp_association.specs.Leaving.{replies_of}
+use Rattle.sctp_association.specs.Packets.{Stands}
+use Rattle.sctp_association.specs.Skips.{LeavesSkip}
 use Rattle.std.proofs.lemmas.Bool.{leb-true}
 use Rattle.sctp_association.proofs.Congested.{pauses_not, pauses_then, unsent_of, within_same}
 use Rattle.sctp_association.proofs.Others.{alike_same, at_then, none_sent_so, plain_after, sealed_after, sent_same, unsent_after, unsent_alike, unsent_err}
@@ -51,6 +54,7 @@ returns-then-is_empty-clause-idle c _ state =
       acked = idle.acked;
       sent = subst (λ (o : Outbound). WaitsForSacks limit o.sender) (sym c.pause.ensures) idle.sent;
       timed = subst (λ (o : Outbound). IsTimed (in_flight o.sender) o.timer.at) (sym c.pause.ensures) idle.timed;
+      skip = ap (λ (o : Outbound). o.is_skip_due) c.pause.ensures ∙ idle.skip;
     }
 
 pub returns-then-is_empty-clause-owes : goal.returns-then-is_empty-clause-owes
@@ -60,7 +64,14 @@ returns-then-is_empty-clause-owes c _ state =
     let control = owed.control in
     record {
       cookie_ack = owed.cookie_ack;
-      control = record { shutdown = control.shutdown; shutdown_ack = control.shutdown_ack; heartbeat = control.heartbeat };
+      control = record {
+        shutdown = control.shutdown;
+        shutdown_ack = control.shutdown_ack;
+        heartbeat = control.heartbeat;
+        beat = (rto_asks c.args.now c.fill-filled.new.self c.pause.new.self (ap (λ (o : Outbound). o.rto) c.pause.ensures)).beat control.beat;
+        report = control.report;
+        unknown = control.unknown;
+      };
     }
 
 -- ## What had room
@@ -125,3 +136,35 @@ returns-clause-fewer c _ =
     let long = leb-false _ 12 (sym c.is_empty.ensures ∙ c.if-is_empty.false) in
     let filled = c.fill-filled.ensures.fewer (headed c.args.header) c.in_ok-begin.ensures.begun in
     filled.fewer (omega (arith, c.in_ok-begin.ensures.head, long))
+
+-- ## Whether a FORWARD-TSN is due
+
+pub returns-in_err-begin-clause-skips : goal.returns-in_err-begin-clause-skips
+returns-in_err-begin-clause-skips c due = inl due
+
+pub returns-in_err-filled-clause-skips : goal.returns-in_err-filled-clause-skips
+returns-in_err-filled-clause-skips c =
+    let short = leb-true _ 12 (sym c.is_empty.ensures ∙ c.if-is_empty.true) in
+    let old = c.args.self.now in
+    skip_none c.args.header old.draft.limit old.outbound.sender _ _ _ _ _ _ c.in_ok-begin.ensures.begun
+    (subst (λ (n : ℕ). LeavesSkip (Stands c.begin.new.self.bytes c.fill-filled.new.self.draft.bytes) n old.outbound.sender old.outbound.is_skip_due
+    c.fill-filled.new.self.outbound.is_skip_due) c.begin.ensures.limit
+    (c.fill-filled.ensures.skips (headed c.args.header) c.in_ok-begin.ensures.begun)) refl _ short
+
+pub returns-then-is_empty-clause-skips : goal.returns-then-is_empty-clause-skips
+returns-then-is_empty-clause-skips c =
+    let short = leb-true _ 12 (sym c.is_empty.ensures ∙ c.if-is_empty.true) in
+    let old = c.args.self.now in
+    skip_none c.args.header old.draft.limit old.outbound.sender _ _ _ _ _ _ c.in_ok-begin.ensures.begun
+    (subst (λ (n : ℕ). LeavesSkip (Stands c.begin.new.self.bytes c.fill-filled.new.self.draft.bytes) n old.outbound.sender old.outbound.is_skip_due
+    c.fill-filled.new.self.outbound.is_skip_due) c.begin.ensures.limit
+    (c.fill-filled.ensures.skips (headed c.args.header) c.in_ok-begin.ensures.begun))
+    (ap (λ (o : Outbound). o.is_skip_due) c.pause.ensures) false short
+
+pub returns-clause-skips : goal.returns-clause-skips
+returns-clause-skips c =
+    let old = c.args.self.now in
+    skip_sealed c.args.header old.draft.limit old.outbound.sender _ _ _ _ _ _ c.in_ok-begin.ensures.begun
+    (subst (λ (n : ℕ). LeavesSkip (Stands c.begin.new.self.bytes c.fill-filled.new.self.draft.bytes) n old.outbound.sender old.outbound.is_skip_due
+    c.fill-filled.new.self.outbound.is_skip_due) c.begin.ensures.limit
+    (c.fill-filled.ensures.skips (headed c.args.header) c.in_ok-begin.ensures.begun)) refl c.args.is_zero c.seal.ensures.sealed

@@ -26,6 +26,9 @@ returns-then-put-clause-leaves c = record {
   );
   shutdown_ack = λ e. inl e;
   heartbeat = λ _ e. inl e;
+  sack = λ e. inl e;
+  report = λ _ e. inl e;
+  unknown = λ _ e. inl e;
   cookie = refl;
   acked = refl;
   limit = c.put.ensures.limit;

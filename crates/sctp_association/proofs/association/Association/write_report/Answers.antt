@@ -1,11 +1,17 @@
-use Rattle.std.proofs.Common.{ap, inl, refl, subst, sym, ◌∙◌}
+use Rattle.std.proofs.lemmas.Bool.{leb-true}
+use Rattle.std.proofs.Common.{ap, inl, inr, refl, subst, sym, ◌∙◌}
 use Rattle.std.proofs.lemmas.Option.{none-some}
 use Rattle.sctp_association.proofs.Known.{owes_alike}
 use Rattle.sctp_association.proofs.Others.{others_none, others_one}
 use Rattle.sctp_association.proofs.association.Association.write_report.Goals as goal
 use Rattle.sctp_association.proofs.association.Association.write_report.Goals.{else-is_put+else-is_empty, then-is_put}
+use Rattle.sctp_association.proofs.association.Association.write_report.Goals.{then-is_put-via-then-is_put, then-is_put-via-else-is_put+then-is_empty}
 use Rattle.sctp_association.specs.Halves.{PutsOthers}
 use Rattle.sctp_association.specs.Reports.{one_cause}
+use Rattle.sctp_association.proofs.Leaving.{into_same, left_or_too_long, report_leaves, with_limit}
+use Rattle.sctp_association.proofs.Making.{of-some}
+use Rattle.sctp_association.specs.Leaving.{LeavesInto, error_about, replies_of}
+use Rattle.sctp_chunks.specs.Wire.{error_chunk}
 use Rattle.sctp_packets.specs.Draft.{Draft}
 
 pub returns-clause-others : goal.returns-clause-others
@@ -78,3 +84,18 @@ returns-clause-others c = elim c.if-is_put.branch [
       (ap (λ (d : Draft). d.bytes) (c.put-is_put.ensures.full w.if-is_put.false))
       )
 ]
+
+pub returns-clause-leaves : goal.returns-clause-leaves
+returns-clause-leaves c =
+    let put = c.put-is_put.ensures in
+    elim c.if-is_put.branch [
+      | then-is_put w ↦ subst (LeavesInto c.args.self.now) (sym w.self-is) (report_leaves c.args.self.now _ c.put-is_put.new.self refl put.limit
+          (λ r e. left_or_too_long c.put-is_put.result (error_about r) _ c.args.self.now.draft c.put-is_put.new.self
+          (ap error_chunk (c.in_ok-causes.ensures ∙ ap (one_cause c.in-Some.report.code) c.as_slice.ensures)
+          ∙ ap error_about (of-some _ _ (sym c.in-Some.is ∙ e))) put.added put.fits put.full (elim w.then-is_put.branch [
+            | then-is_put-via-then-is_put v ↦ inl v.if-is_put.true
+            | then-is_put-via-else-is_put+then-is_empty v ↦ inr (v.if-is_put.false, leb-true _ 12 (sym v.is_empty.ensures ∙ v.if-is_empty.true))
+          ])))
+      | else-is_put+else-is_empty w ↦ into_same c.args.self.now c.if-is_put.self
+          (ap replies_of w.self-is ∙ with_limit (replies_of c.args.self.now) _ put.limit)
+    ]

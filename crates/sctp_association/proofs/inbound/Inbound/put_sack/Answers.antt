@@ -1,4 +1,5 @@
 use Rattle.sctp_association.proofs.Making.{sack_kept, sack_put}
+use Rattle.sctp_association.proofs.Leaving.{stands_put}
 use Rattle.sctp_association.proofs.Putting.{nothing}
 use Rattle.sctp_association.proofs.inbound.Inbound.put_sack.Goals as goal
 use Rattle.sctp_association.proofs.inbound.Inbound.put_sack.Goals.{else-not-is_waiting-via-then-not-is_waiting+else-not-is_due}
@@ -8,11 +9,11 @@ use Rattle.sctp_association.proofs.Making.{due_waits}
 use Rattle.std.specs.Prelude.{is_some}
 use Rattle.sctp_chunks.specs.Wire.{sack_chunk}
 use Rattle.sctp_path.specs.Timers.{Delay}
-use Rattle.std.proofs.Common.{◌≡◌, ℕ, ◌+◌, ◌*◌, ◌≤◌, Option, ap, arith, length, max, sym, true, ◌∙◌}
+use Rattle.std.proofs.Common.{◌≡◌, ℕ, ◌+◌, ◌*◌, ◌≤◌, Option, ap, arith, inr, length, max, sym, true, ◌∙◌}
 use Rattle.std.proofs.lemmas.Bool.{false≢true}
 use Rattle.sctp_association.proofs.Idle.{ok_is, sack_fits}
 use Rattle.sctp_data.specs.declared.chunk.chunk_selective_ack.ChunkSelectiveAck.{ChunkSelectiveAck}
-use Rattle.sctp_data.specs.SelectiveAck.{sack_of}
+use Rattle.sctp_data.specs.SelectiveAck.{Sack, sack_of}
 
 pub returns-then-not-is_due-clause-made : goal.returns-then-not-is_due-clause-made
 returns-then-not-is_due-clause-made c = λ t. nothing _
@@ -46,3 +47,12 @@ returns-then-not-put-clause-idle c head short =
     let h = sack_fits (sack_of c.in_ok-sack.sack) (length c.args.packet.now.bytes) c.args.packet.now.limit (omega (arith, fit, c.room.ensures.value)) few
     (omega (arith, short, c.put.ensures.grows)) c.room.ensures.least in
     absurd (false≢true (sym c.if-not-put.true ∙ c.put.ensures.fits h.0 head h.1))
+
+-- ## What waits
+
+pub returns-clause-leaves : goal.returns-clause-leaves
+returns-clause-leaves c = λ _. inr (
+  sack_of c.in_ok-sack.sack,
+  ap (λ (s : Sack). s.cumulative_tsn_ack) c.in_ok-sack.ensures.sack,
+  stands_put c.put.result _ _ _ c.put.ensures.added c.if-not-put.false,
+)

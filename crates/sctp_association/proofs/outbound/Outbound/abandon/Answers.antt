@@ -1,4 +1,4 @@
-use Rattle.std.proofs.Common.{Ok, ◌≡◌, ℕ, arith, refl, sym, ap, ◌∙◌, inl, inr}
+use Rattle.std.proofs.Common.{Bool, Ok, false, true, ◌||◌, ◌≡◌, ℕ, arith, refl, sym, ap, ◌∙◌, inl, inr}
 use Rattle.sctp_association.proofs.Fewer.{data_same}
 use Rattle.sctp_association.proofs.Left.{dropped_few, lifetimes_same, owed_few, told_less}
 use Rattle.sctp_association.proofs.Making.{dropped_in, dropped_on, none_dropped, started_on}
@@ -8,6 +8,10 @@ use Rattle.sctp_delivery.proofs.Dropped.{answered}
 use Rattle.sctp_association.specs.Most.{tells_some}
 use Rattle.sctp_sender.specs.Drops.{with_lifetimes}
 use Rattle.sctp_sender.specs.Sender.{Transmission}
+
+or-true : (b : Bool) → b || true ≡ true
+or-true true = refl
+or-true false = refl
 
 pub loop-preserved : goal.loop-preserved
 loop-preserved c =
@@ -21,8 +25,14 @@ loop-preserved c =
     let less = told_less c.in_ok-dropped.field-0 c.in-Some.dropped _ _ c.in-Some.is few.1 in
     let left = owed_few c.loop.self c.note_dropped.new.self c.drop_expired.new.self (tells_some c.in-Some.dropped) c.note_dropped.ensures few.0 less in
     let all = dropped_in c.args.self.now c.loop.self c.note_dropped.new.self c.drop_expired.new.self _ c.loop.invariant.0 c.note_dropped.ensures sent in
-    let before = c.loop.invariant.3 in
-    (all.0, all.1, λ h. absurd (none_dropped c.args.now c.args.self.now c.loop.self c.loop.invariant.2 may h), omega (arith, before, left))
+    let before = c.loop.invariant.3 in (
+      all.0,
+      all.1,
+      λ h. absurd (none_dropped c.args.now c.args.self.now c.loop.self c.loop.invariant.2 may h),
+      omega (arith, before, left),
+      λ due. ap (λ (o : Outbound). o.is_skip_due) c.note_dropped.ensures ∙ ap (λ (b : Bool). tells_some c.in-Some.dropped || b) (c.loop.invariant.4 due)
+          ∙ or-true (tells_some c.in-Some.dropped),
+    )
 
 pub returns-in-None-clause-dropped : goal.returns-in-None-clause-dropped
 returns-in-None-clause-dropped c =

@@ -1,4 +1,4 @@
-use Rattle.std.proofs.Common.{◌≡◌, ◌≤◌, [], false}
+use Rattle.std.proofs.Common.{◌≡◌, ◌≤◌, [], false, true}
 use Rattle.sctp_association.specs.Most.{most_data}
 use Rattle.sctp_association.specs.Runs.{Sends}
 use Rattle.sctp_association.specs.Sending.{may_drop}
@@ -12,3 +12,4 @@ invariant-loop l = (l.self ≡ record l.initial.self {
 }) × Sends [] l.initial.self.sender l.self.sender
     × (may_drop l.now l.initial.self.sender ≡ false → l.self ≡ l.initial.self)
     × (most_data l.self ≤ most_data l.initial.self)
+    × (l.initial.self.is_skip_due ≡ true → l.self.is_skip_due ≡ true)

@@ -1,7 +1,8 @@
 use Rattle.sctp_association.proofs.Congested.{news_skip, resends_skip, within_again, within_both, within_same, within_told}
-use Rattle.std.proofs.Common.{arith, refl, ◌∙◌}
-use Rattle.sctp_association.proofs.Idle.{both_wait, on_ok_so}
-use Rattle.sctp_association.proofs.Putting.{skip_then, still_so}
+use Rattle.std.proofs.Common.{None, arith, refl, ◌∙◌}
+use Rattle.sctp_association.proofs.Idle.{both_wait, on_ok, on_ok_so}
+use Rattle.sctp_association.proofs.Putting.{adds_then, skip_then, still_so}
+use Rattle.sctp_association.proofs.Skips.{skip_first}
 use Rattle.sctp_association.proofs.Fewer.{fewer_then}
 use Rattle.sctp_association.proofs.outbound.Outbound.put_all.Goals as goal
 
@@ -47,3 +48,26 @@ returns-in_err-put_lost-clause-fewer c = fewer_then _ _ _ _ _ _ c.put_skip.ensur
 
 pub returns-clause-fewer : goal.returns-clause-fewer
 returns-clause-fewer c = fewer_then _ _ _ _ _ _ (fewer_then _ _ _ _ _ _ c.put_skip.ensures.fewer c.put_lost.ensures.fewer) c.put_new.ensures.fewer
+
+-- ## Whether a FORWARD-TSN is due
+
+pub returns-clause-skip : goal.returns-clause-skip
+returns-clause-skip c = on_ok c.put_new.result (λ head short.
+    let lost = c.put_lost.ensures in
+    let rest = c.put_new.ensures in
+    news_skip c.args.now _ _ _ rest.within ∙ resends_skip c.args.now _ _ _ _ _ lost.again
+    ∙ c.in_ok-put_skip.ensures.skip head (omega (arith, short, lost.grows, rest.grows)))
+
+pub returns-in_err-put_lost-clause-leaves : goal.returns-in_err-put_lost-clause-leaves
+returns-in_err-put_lost-clause-leaves c head =
+    let lost = c.put_lost.ensures in
+    skip_first c.args.packet.now.limit c.args.self.now.sender c.args.self.now.is_skip_due c.put_skip.new.self.is_skip_due c.put_lost.new.self.is_skip_due
+    _ _ _ _ (c.put_skip.ensures.leaves head) (lost.made None).added (resends_skip c.args.now _ _ _ _ _ lost.again)
+
+pub returns-clause-leaves : goal.returns-clause-leaves
+returns-clause-leaves c head =
+    let lost = c.put_lost.ensures in
+    let rest = c.put_new.ensures in
+    skip_first c.args.packet.now.limit c.args.self.now.sender c.args.self.now.is_skip_due c.put_skip.new.self.is_skip_due c.put_new.new.self.is_skip_due
+    _ _ _ _ (c.put_skip.ensures.leaves head) (adds_then _ _ _ _ _ (lost.made None).added (rest.made None).added)
+    (news_skip c.args.now _ _ _ rest.within ∙ resends_skip c.args.now _ _ _ _ _ lost.again)
