@@ -1,5 +1,5 @@
 -- When a SACK comes to be due.
-use Rattle.std.proofs.Common.{◌≡◌, ◌⊎◌, ℕ, Bool, List, Option, Some, None, refl, ap, sym, subst, arith, ◌∙◌, inl, inr}
+use Rattle.std.proofs.Common.{◌≡◌, ◌⊎◌, ℕ, Bool, true, false, List, Option, Some, None, refl, ap, sym, subst, arith, ◌∙◌, inl, inr}
 use Rattle.std.specs.Option.{option_map}
 use Rattle.std.specs.Prelude.{Result, Ok, Err, IfOk, if◌then◌else◌}
 use Rattle.sctp_association.specs.AcksDue.{Acks, AcksData, AcksTold, acks_by, acks_in, acks_of, no_acks, with_due}
