@@ -1,5 +1,5 @@
 -- A FORWARD-TSN that is due leaves, or stays due.
-use Rattle.std.proofs.Common.{◌≡◌, ◌⊎◌, inl, inr, ℕ, ◌+◌, ◌*◌, ◌-◌, ◌<◌, ◌≤◌, Bool, true, false, List, length, ap, sym, subst, ◌∙◌, arith}
+use Rattle.std.proofs.Common.{◌≡◌, ◌⊎◌, inl, inr, ℕ, ◌+◌, ◌*◌, ◌-◌, ◌≤◌, Bool, true, List, length, ap, subst, ◌∙◌, arith}
 use Rattle.sctp_association.proofs.Leaving.{stands_first, stands_later, stands_longer, stands_sealed}
 use Rattle.sctp_association.specs.Leaving.{IsSentIn}
 use Rattle.sctp_association.specs.Packets.{Adds, Stands, sum_of}

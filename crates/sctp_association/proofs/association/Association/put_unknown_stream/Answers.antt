@@ -1,4 +1,4 @@
-use Rattle.std.proofs.Common.{Option, Some, ap, arith, false, inl, inr, is_some, length, refl, subst, sym, true, ◌≡◌, ◌≤◌, ◌⊎◌, ◌++◌, ◌∷◌, [], ℕ, ◌∙◌}
+use Rattle.std.proofs.Common.{ap, arith, false, inl, inr, is_some, length, refl, subst, sym, true, ◌≡◌, ◌≤◌, ◌⊎◌, ◌∙◌}
 use Rattle.std.proofs.lemmas.Bool.{leb-false, leb-true}
 use Rattle.std.proofs.lemmas.Option.{none-some}
 use Rattle.sctp_association.proofs.Known.{owes_alike}
