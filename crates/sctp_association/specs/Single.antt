@@ -1,6 +1,7 @@
 -- What becomes of a chunk by itself. Moments are nanoseconds.
 use Rattle.std.specs.Prelude.{◌≡◌, ⊤, ℕ, true, List}
 use Rattle.sctp_association.specs.Beats.{AnswersOn, BeatsOn}
+use Rattle.sctp_association.specs.Brought.{BringsOnly}
 use Rattle.sctp_association.specs.Causes.{cause_after, cause_in}
 use Rattle.sctp_association.specs.Cookies.{cookie_in}
 use Rattle.sctp_association.specs.Openings.{EchoesOn, InitAckOn, OffersTo}
@@ -50,6 +51,8 @@ pub record AloneOn (c : ChunkPlace) (tag : ℕ) (datagram : List ℕ) (now : ℕ
   -- Of each other chunk but a RE-CONFIG the machine makes what the row of its state says. Its reply is due, and no other; what it tells waits to be
   -- told; and the association is over where the row ends it. By DATA, a SACK or a FORWARD-TSN this side may end it (4, 5, 9).
   pub row : has_row c.typ ≡ true → RowOn c datagram now s old new
+  -- By its type it brings events, and no others: a message can be read, or is too long, on the stream of DATA alone (6.2, 6.5, 9, 11.2).
+  pub events : BringsOnly c datagram old new
 
 -- it is none of DATA, INIT, INIT ACK and COOKIE-ECHO
 abbrev pub IsOther : ℕ → Type 0

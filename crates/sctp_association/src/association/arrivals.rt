@@ -6,6 +6,7 @@ ghost use Rattle.sctp_association.specs.Single.{AloneOn};
 ghost use Rattle.sctp_association.specs.Arrivals.{Arrives, CallsArrive};
 ghost use Rattle.sctp_association.specs.Behind.{StillOn};
 ghost use Rattle.sctp_association.specs.Beginnings.{ArrivesAsOffered, BeginsByDatagram, BeginsByTicket, KeepsPeer};
+ghost use Rattle.sctp_association.specs.Brought.{BringsOnly};
 ghost use Rattle.sctp_association.specs.Kept.{IsKept, OwesNoMore, ticket_in_kind};
 ghost use Rattle.sctp_association.specs.Coming.{FollowsData, GoesOn, TakesDataAt, TakesDataOf, TakesEachOf, TakesOnlyData, goes_on, is_due};
 ghost use Rattle.sctp_association.specs.Cookies.{IsAlive, IsSealed, cookie_in};
@@ -610,6 +611,7 @@ impl Association {
         ensures sending { self.new.outbound ≡ self.old.outbound }
         ensures still { IfOk result (λ s. StillOn chunk datagram.now s self.old self.new) }
         ensures row { IfOk result (λ s. RowOn chunk datagram.now now s self.old self.new) }
+        ensures events { BringsOnly chunk datagram.now self.old self.new }
     {
         if !self.machine.state().takes_data() {
             return Ok(Step::Refused(Reason::Unexpected));
@@ -647,6 +649,7 @@ impl Association {
         ensures sending { self.new.outbound ≡ self.old.outbound }
         ensures still { IfOk result (λ s. StillOn chunk datagram.now s self.old self.new) }
         ensures row { IfOk result (λ s. RowOn chunk datagram.now now s self.old self.new) }
+        ensures events { BringsOnly chunk datagram.now self.old self.new }
     {
         if !self.machine.state().takes_data() {
             return Ok(Step::Refused(Reason::Unexpected));
@@ -678,6 +681,8 @@ impl Association {
         ensures on { result ≡ step.Next → self.new ≡ self.old }
         ensures sending { self.new.outbound ≡ self.old.outbound }
         ensures whole { result ≡ step.Cut → ⊥ }
+        ensures events { self.new.events
+            ≡ record self.old.events { closed = self.new.events.closed } }
     {
         let Some(kind) = ending_of(followed) else {
             return Step::Next;
@@ -706,6 +711,7 @@ impl Association {
             (λ s. MovesOn chunk datagram.now now s self.old.outbound self.new.outbound) }
         ensures still { IfOk result (λ s. StillOn chunk datagram.now s self.old self.new) }
         ensures row { IfOk result (λ s. RowOn chunk datagram.now now s self.old self.new) }
+        ensures events { BringsOnly chunk datagram.now self.old self.new }
     {
         if !self.machine.state().takes_sacks() {
             return Ok(Step::Refused(Reason::Unexpected));

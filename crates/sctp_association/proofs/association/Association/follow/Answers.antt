@@ -15,4 +15,4 @@ returns-else-ne-clause-begun c =
 pub returns-else-ne-clause-tells : goal.returns-else-ne-clause-tells
 returns-else-ne-clause-tells c =
     let none : c.args.answer.told ≡ None = search rules in
-    passes_none _ _ _ _ none to_same
+    passes_none _ _ _ _ none to_same refl

@@ -3,7 +3,7 @@ use Rattle.sctp_association.proofs.Expected.{as_same, as_taken, unknown_expected
 use Rattle.sctp_association.specs.Expected.{AsExpected, expects, is_received, may_begin, speaks}
 use Rattle.sctp_association.specs.declared.association.arrivals.Step.{Step}
 use Rattle.sctp_association.proofs.Telling.{tells_due, tells_peer, tells_still}
-use Rattle.std.proofs.Common.{Ok, ap, arith, refl, rules, subst, sym, ◌≡◌, ◌∙◌}
+use Rattle.std.proofs.Common.{Ok, ap, arith, inl, refl, rules, subst, sym, ◌≡◌, ◌∙◌}
 use Rattle.std.specs.Prelude.{◌&&◌, ◌||◌, is_some, true}
 use Rattle.sctp_association.proofs.Single.{alone_by, alone_plain, cause_on, is_plain, plain_other}
 use Rattle.sctp_association.proofs.Rows.{follows_from, follows_step, row_abort, row_other, row_steps, row_typ, steps_on, tag_other}
@@ -18,6 +18,10 @@ use Rattle.sctp_association.proofs.Arrived.{came_alike, came_same}
 use Rattle.sctp_association.proofs.Begun.{quiet_complete, quiet_shutdown_ack}
 use Rattle.sctp_association.proofs.Known.{keeps_by, knows_complete, knows_shutdown_ack}
 use Rattle.sctp_association.proofs.Offered.{offered_alike, offered_calls, offered_fresh, offered_kept, offered_less}
+use Rattle.sctp_association.specs.declared.association.Association.{Association}
+use Rattle.sctp_association.specs.StreamSet.{is_in}
+use Rattle.sctp_association.specs.declared.event.Events.{Events}
+use Rattle.sctp_association.proofs.Brought.{brings_by, brings_none, brings_whole, whole_passed}
 use Rattle.sctp_association.proofs.association.Association.take_control.Goals as goal
 
 pub returns-in-4-clause-came : goal.returns-in-4-clause-came
@@ -92,7 +96,7 @@ pub returns-in-4-clause-alone : goal.returns-in-4-clause-alone
 returns-in-4-clause-alone c other tag =
     let typ : c.args.chunk.typ ≡ 4 = search rules in
     let d = c.args.datagram.now in
-    alone_by c.args.chunk tag d c.args.now c.args.self.now c.take_heartbeat.new.self c.take_heartbeat.result
+    alone_by c.args.chunk tag d c.args.now c.args.self.now c.take_heartbeat.new.self c.take_heartbeat.result (brings_none c.args.chunk c.args.datagram.now c.args.self.now c.take_heartbeat.new.self c.take_heartbeat.ensures.events)
     (λ is. absurd (omega (arith, is, typ))) (λ is. absurd (omega (arith, is, typ))) (λ is. c.take_heartbeat.ensures.answers)
     (λ is. absurd (omega (arith, is, typ))) (λ is. absurd (omega (arith, is, typ))) (λ is. absurd (omega (arith, is, typ)))
     (λ is. absurd (omega (arith, is, typ)))
@@ -104,7 +108,7 @@ pub returns-in-5-clause-alone : goal.returns-in-5-clause-alone
 returns-in-5-clause-alone c other tag =
     let typ : c.args.chunk.typ ≡ 5 = search rules in
     let d = c.args.datagram.now in
-    alone_by c.args.chunk tag d c.args.now c.args.self.now c.take_heartbeat_ack.new.self c.take_heartbeat_ack.result
+    alone_by c.args.chunk tag d c.args.now c.args.self.now c.take_heartbeat_ack.new.self c.take_heartbeat_ack.result (brings_none c.args.chunk c.args.datagram.now c.args.self.now c.take_heartbeat_ack.new.self c.take_heartbeat_ack.ensures.events)
     (λ is. absurd (omega (arith, is, typ))) (λ is. absurd (omega (arith, is, typ))) (λ is. absurd (omega (arith, is, typ)))
     (λ is. c.take_heartbeat_ack.ensures.beats) (λ is. absurd (omega (arith, is, typ))) (λ is. absurd (omega (arith, is, typ)))
     (λ is. absurd (omega (arith, is, typ)))
@@ -115,7 +119,7 @@ returns-in-5-clause-alone c other tag =
 pub returns-in-6-clause-alone : goal.returns-in-6-clause-alone
 returns-in-6-clause-alone c other tag =
     let typ : c.args.chunk.typ ≡ 6 = search rules in
-    alone_plain c.args.chunk tag c.args.datagram.now c.args.now c.args.self.now c.take_abort.new.self (Ok c.take_abort.result) 6 typ refl
+    alone_plain c.args.chunk tag c.args.datagram.now c.args.now c.args.self.now c.take_abort.new.self (Ok c.take_abort.result) (brings_whole c.args.chunk c.args.datagram.now c.args.self.now c.take_abort.new.self 6 typ refl c.take_abort.ensures.events) 6 typ refl
     (row_abort c.args.chunk c.args.datagram.now c.args.now c.args.self.now c.take_abort.new.self c.take_abort.result typ
     c.take_abort.ensures.next c.take_abort.ensures.row)
 
@@ -123,7 +127,7 @@ pub returns-in-7-clause-alone : goal.returns-in-7-clause-alone
 returns-in-7-clause-alone c other tag =
     let typ : c.args.chunk.typ ≡ 7 = search rules in
     let d = c.args.datagram.now in
-    alone_by c.args.chunk tag d c.args.now c.args.self.now c.take_shutdown.new.self c.take_shutdown.result
+    alone_by c.args.chunk tag d c.args.now c.args.self.now c.take_shutdown.new.self c.take_shutdown.result (brings_by c.args.chunk c.args.datagram.now c.args.self.now c.take_shutdown.new.self 7 typ c.take_shutdown.ensures.events refl refl refl c.take_shutdown.ensures.low)
     (λ is. absurd (omega (arith, is, typ))) (λ is. absurd (omega (arith, is, typ))) (λ is. absurd (omega (arith, is, typ)))
     (λ is. absurd (omega (arith, is, typ))) (λ is. c.take_shutdown.ensures.shuts) (λ is. absurd (omega (arith, is, typ)))
     (λ is. absurd (omega (arith, is, typ)))
@@ -140,8 +144,9 @@ returns-in-8-clause-alone c other tag =
     c.take_answer.new.self = λ is.
     follows_step _ _ _ _ _ _ _ took.machine took.answer c.take_answer.ensures.kept.machine (
     follows_from _ _ c.args.self.now.machine.state _ _ c.args.self.now _ _ (c.take_answer.ensures.answer is) c.state-before.ensures refl refl refl refl refl
+    refl
     ) in
-    alone_plain c.args.chunk tag d c.args.now c.args.self.now c.take_answer.new.self (Ok c.take_answer.result) 8 typ refl
+    alone_plain c.args.chunk tag d c.args.now c.args.self.now c.take_answer.new.self (Ok c.take_answer.result) (brings_whole c.args.chunk c.args.datagram.now c.args.self.now c.take_answer.new.self 8 typ refl (whole_passed _ _ c.args.self.now c.take_answer.new.self c.take_answer.ensures.tells)) 8 typ refl
     (row_steps c.args.chunk d c.args.now c.args.self.now c.take_answer.new.self (on_shutdown_ack c.args.self.now.machine) c.peer_tag-tag.result (λ is. omega (arith, is, typ))
     (row_typ c.args.chunk d c.args.now c.args.self.now _ typ) (ap (λ n. tag_to n c.args.self.now.machine) typ ∙ sym c.peer_tag-tag.ensures)
     (Ok c.take_answer.result) (steps_on _ _ _ _ _ c.take_answer.result steps c.take_answer.ensures.next c.take_answer.ensures.whole))
@@ -150,7 +155,8 @@ pub returns-in-9-clause-alone : goal.returns-in-9-clause-alone
 returns-in-9-clause-alone c other tag =
     let typ : c.args.chunk.typ ≡ 9 = search rules in
     let d = c.args.datagram.now in
-    alone_by c.args.chunk tag d c.args.now c.args.self.now c.take_error.new.self (Ok c.take_error.result)
+    alone_by c.args.chunk tag d c.args.now c.args.self.now c.take_error.new.self (Ok c.take_error.result) (brings_by c.args.chunk c.args.datagram.now c.args.self.now c.take_error.new.self 9 typ c.take_error.ensures.events refl refl refl
+    (λ s w. inl (sym (ap (λ (e : Events). is_in s e.low) c.take_error.ensures.events) ∙ w)))
     (λ is. absurd (omega (arith, is, typ))) (λ is. absurd (omega (arith, is, typ))) (λ is. absurd (omega (arith, is, typ)))
     (λ is. absurd (omega (arith, is, typ))) (λ is. absurd (omega (arith, is, typ)))
     (λ is. cause_on c.args.chunk d c.take_error.result c.args.self.now c.take_error.new.self c.take_error.ensures.next c.take_error.ensures.whole
@@ -164,7 +170,7 @@ pub returns-in-11-clause-alone : goal.returns-in-11-clause-alone
 returns-in-11-clause-alone c other tag =
     let typ : c.args.chunk.typ ≡ 11 = search rules in
     let d = c.args.datagram.now in
-    alone_plain c.args.chunk tag d c.args.now c.args.self.now c.take_cookie_ack.new.self (Ok c.take_cookie_ack.result) 11 typ refl
+    alone_plain c.args.chunk tag d c.args.now c.args.self.now c.take_cookie_ack.new.self (Ok c.take_cookie_ack.result) (brings_whole c.args.chunk c.args.datagram.now c.args.self.now c.take_cookie_ack.new.self 11 typ refl c.take_cookie_ack.ensures.events) 11 typ refl
     (row_steps c.args.chunk d c.args.now c.args.self.now c.take_cookie_ack.new.self (on_cookie_ack c.args.self.now.machine) 0 (λ is. omega (arith, is, typ))
     (row_typ c.args.chunk d c.args.now c.args.self.now _ typ) (ap (λ n. tag_to n c.args.self.now.machine) typ)
     (Ok c.take_cookie_ack.result) c.take_cookie_ack.ensures.row)
@@ -178,9 +184,9 @@ returns-in-14-clause-alone c other tag =
     c.take_answer-in-14.new.self = λ is.
     follows_step _ _ _ _ _ _ _ took.machine took.answer c.take_answer-in-14.ensures.kept.machine (
     follows_from _ _ c.args.self.now.machine.state _ _ c.args.self.now _ _ (c.take_answer-in-14.ensures.answer is) c.state-before-in-14.ensures
-    refl refl refl refl refl
+    refl refl refl refl refl refl
     ) in
-    alone_plain c.args.chunk tag d c.args.now c.args.self.now c.take_answer-in-14.new.self (Ok c.take_answer-in-14.result) 14 typ refl
+    alone_plain c.args.chunk tag d c.args.now c.args.self.now c.take_answer-in-14.new.self (Ok c.take_answer-in-14.result) (brings_whole c.args.chunk c.args.datagram.now c.args.self.now c.take_answer-in-14.new.self 14 typ refl (whole_passed _ _ c.args.self.now c.take_answer-in-14.new.self c.take_answer-in-14.ensures.tells)) 14 typ refl
     (row_steps c.args.chunk d c.args.now c.args.self.now c.take_answer-in-14.new.self (on_shutdown_complete c.args.self.now.machine) 0 (λ is. omega (arith, is, typ))
     (row_typ c.args.chunk d c.args.now c.args.self.now _ typ) (ap (λ n. tag_to n c.args.self.now.machine) typ)
     (Ok c.take_answer-in-14.result) (steps_on _ _ _ _ _ c.take_answer-in-14.result steps c.take_answer-in-14.ensures.next c.take_answer-in-14.ensures.whole))
@@ -191,7 +197,7 @@ returns-in_default-clause-alone c other tag =
     let d = c.args.datagram.now in
     let plain : is_plain c.args.chunk.typ ≡ true = plain_other c.args.chunk.typ other.1 other.2 (search rules) (search rules) (search rules)
     (search rules) other.3 in
-    alone_plain c.args.chunk tag d c.args.now c.args.self.now c.note_unknown.new.self c.note_unknown.result c.args.chunk.typ refl plain
+    alone_plain c.args.chunk tag d c.args.now c.args.self.now c.note_unknown.new.self c.note_unknown.result (brings_none c.args.chunk c.args.datagram.now c.args.self.now c.note_unknown.new.self (ap (λ (x : Association). x.events) c.note_unknown.ensures.rest)) c.args.chunk.typ refl plain
     (row_steps c.args.chunk d c.args.now c.args.self.now c.note_unknown.new.self (dropped c.args.self.now.machine) 0 (search rules)
     (row_other c.args.chunk.typ (cause_in d c.args.chunk) _ c.args.self.now.machine other.0 (search rules) (search rules) (search rules)
     (search rules) (search rules) (search rules)) (tag_other c.args.chunk.typ c.args.self.now.machine (search rules))

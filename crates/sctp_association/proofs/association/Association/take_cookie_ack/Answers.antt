@@ -2,6 +2,7 @@ use Rattle.sctp_association.proofs.Telling.{tells_cookie_ack, tells_same}
 use Rattle.std.proofs.Common.{rules, refl}
 use Rattle.sctp_association.proofs.Offered.{offered_same}
 use Rattle.sctp_association.proofs.Offers.{ack_offered}
+use Rattle.sctp_association.proofs.Brought.{whole_passed}
 use Rattle.sctp_association.proofs.association.Association.take_cookie_ack.Goals as goal
 
 pub returns-then-not-may_begin-clause-came : goal.returns-then-not-may_begin-clause-came
@@ -20,3 +21,6 @@ pub returns-clause-tells : goal.returns-clause-tells
 returns-clause-tells c =
     let told = c.take_answer.ensures.tells in
     tells_cookie_ack _ _ _ _ _ _ c.take_answer.ensures.kept.machine told.end told c.cookie_ack-answer.ensures.takes
+
+pub returns-clause-events : goal.returns-clause-events
+returns-clause-events c = whole_passed _ _ _ _ c.take_answer.ensures.tells

@@ -3,6 +3,9 @@ use Rattle.sctp_association.proofs.Entering.{handles_opened, to_use, usable_part
 use Rattle.sctp_association.proofs.Noting.{tells_after}
 use Rattle.sctp_data.specs.declared.chunk.chunk_payload_data.ChunkPayloadData.{ChunkPayloadData}
 use Rattle.sctp_association.proofs.Arriving.{opened_asked, received_then}
+use Rattle.std.proofs.Common.{ap, inr}
+use Rattle.sctp_association.proofs.Brought.{notes_after, notes_more}
+use Rattle.sctp_receiver.specs.Receiver.{arrival_refusal}
 use Rattle.sctp_association.proofs.inbound.Inbound.open_and_take.Goals as goal
 
 pub returns-in_err-open_agreed-clause-received : goal.returns-in_err-open_agreed-clause-received
@@ -22,3 +25,13 @@ returns-clause-handles c to is =
     handles_opened chunk c.args.self.now c.open_agreed.new.self _ to (opened.opens refl)
     (opened.served refl (subst (λ (n : ℕ). chunk.stream_identifier < n) (sym opened.limits.1) parts.0) (opened.same chunk.stream_identifier ∙ parts.1))
     opened.limits.1 opened.same (c.take_on.ensures.handles is)
+
+pub returns-in_err-open_agreed-clause-notes : goal.returns-in_err-open_agreed-clause-notes
+returns-in_err-open_agreed-clause-notes c to = notes_more _ _ _ _ _ _ (λ s p. absurd p) (λ s p. absurd p) c.in_err-open_agreed.ensures.notes
+
+pub returns-clause-notes : goal.returns-clause-notes
+returns-clause-notes c to =
+    let chunk : ChunkPayloadData = c.args.chunk.now in
+    let opens = c.in_ok-open_agreed.ensures.opens refl (to_use chunk.stream_identifier c.args.self.now to) in
+    notes_after _ _ _ _ _ c.in_ok-open_agreed.ensures.notes
+    (notes_more _ _ _ _ _ _ (λ s p. p) (λ s p. inr (p.0, sym (ap (arrival_refusal chunk) opens) ∙ p.1)) c.take_on.ensures.notes)
