@@ -15,6 +15,7 @@ ghost use Rattle.std.specs.Prelude.{◌≡◌, ℕ, IfSome, None, Some, ◌≢�
 ghost use Rattle.std.proofs.Props.{props};
 ghost use Rattle.sctp_association.specs.Entering.{usable_in};
 ghost use Rattle.sctp_association.specs.Events.{IsTold, KeepsOthers, NoneWaits};
+ghost use Rattle.sctp_association.specs.declared.event.Ending.TheVariants.{Aborted};
 ghost use Rattle.sctp_association.specs.declared.fault.Fault.TheVariants.{BadConfig, WrongState};
 ghost use Rattle.sctp_association.specs.Reached.{limits_of, most_user_data};
 ghost use Rattle.sctp_association.specs.Waiting.{amount_on};
@@ -202,6 +203,7 @@ impl Association {
         // The receiving half stays: so the peer may use the same streams.
         ensures inbound { self.new.inbound ≡ self.old.inbound }
         ensures halves { HalvesAlike self.old self.new }
+        ensures quiet { self.new.events ≡ self.old.events }
         ensures err { OnErr result (self.new ≡ self.old) }
     {
         if self.is_over {
@@ -316,6 +318,7 @@ impl Association {
         ensures inbound { self.new.inbound ≡ self.old.inbound }
         ensures halves { HalvesAlike self.old self.new }
         ensures peer { KeepsPeer self.old self.new }
+        ensures quiet { self.new.events ≡ self.old.events }
         ensures err { OnErr result (self.new ≡ self.old) }
     {
         if self.machine.state() == State::Closed {
@@ -349,6 +352,8 @@ impl Association {
         ensures inbound { self.new.inbound ≡ self.old.inbound }
         ensures halves { HalvesAlike self.old self.new }
         ensures peer { KeepsPeer self.old self.new }
+        ensures tells_end { OnOk result (self.new.events
+            ≡ record self.old.events { closed = Some Aborted }) }
         ensures err { OnErr result (self.new ≡ self.old) }
     {
         if self.is_over {
