@@ -4,11 +4,13 @@ use Rattle.std.proofs.lemmas.Bool.{false≢true}
 use Rattle.std.proofs.lemmas.Option.{none-some}
 use Rattle.std.specs.Prelude.{nat_lt, if◌then◌else◌}
 use Rattle.sctp_association.specs.Beginnings.{HasFreshTag, KeepsPeer, KnowsNoMore, is_asking, is_standing}
+use Rattle.sctp_association.specs.Events.{brought_at}
 use Rattle.sctp_association.specs.Kept.{IsKept, IsUnmoved, OwesLess, OwesNoMore, RestStays, ticket_due}
 use Rattle.sctp_association.specs.Lasting.{StaysWithin}
 use Rattle.sctp_association.specs.declared.association.Association.{Association}
 use Rattle.sctp_association.specs.declared.config.Config.{Config}
 use Rattle.sctp_association.specs.declared.due.Due.{Due}
+use Rattle.sctp_association.specs.declared.event.Events.{Events}
 use Rattle.sctp_association.specs.declared.outbound.Outbound.{Outbound}
 use Rattle.sctp_handshake.specs.Answers.{silent}
 use Rattle.sctp_handshake.specs.Cookies.{begun_again, on_stale_cookie, stale_cookie_row}
@@ -358,7 +360,7 @@ unmoved_then a b c f g = record {
 -- ## Beside both halves, the requests and the events
 
 pub rest_same : (a : Association) → RestStays a a
-rest_same a = record { due = refl; control = refl; guard = refl; over = refl; wants = refl; acks = refl }
+rest_same a = record { due = refl; control = refl; guard = refl; over = refl; wants = refl; acks = refl; events = refl }
 
 pub rest_then : (a b c : Association) → RestStays a b → RestStays b c → RestStays a c
 rest_then a b c f g = record {
@@ -368,4 +370,5 @@ rest_then a b c f g = record {
   over = g.over ∙ f.over;
   wants = g.wants ∙ f.wants;
   acks = g.acks ∙ f.acks;
+  events = g.events ∙ ap (λ (e : Events). brought_at 130 e c.events) f.events;
 }

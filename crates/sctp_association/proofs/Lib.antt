@@ -2,6 +2,7 @@ pub mod Entering
 pub mod First
 pub mod BackOff
 pub mod Again
+pub mod Brought
 pub mod Congested
 pub mod Firsts
 pub mod Stale

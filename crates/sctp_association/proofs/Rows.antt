@@ -12,12 +12,14 @@ use Rattle.sctp_association.specs.Kept.{IsKept, RestStays}
 use Rattle.sctp_association.specs.Rows.{FollowsAnswer, FollowsStep, RowOn, Settles, StepsOn, asked_for, asked_in}
 use Rattle.sctp_association.specs.Rows.{drained_where, over_by, owed_by, owed_once, row_at, row_of, settled, still_wants, tag_of, tag_to}
 use Rattle.sctp_association.specs.Sending.{holds_nothing}
-use Rattle.sctp_association.specs.Telling.{IsPassedOn, ending_by}
+use Rattle.sctp_association.specs.Telling.{ending_by, passed_on, whole_of}
 use Rattle.sctp_association.specs.Timers.{EntersTimers, KeepsTimers, RunsTimers, StartsTimers, StopsTimers, stops}
 use Rattle.sctp_association.specs.declared.association.Association.{Association}
 use Rattle.sctp_association.specs.declared.association.arrivals.Step as arrivals
 use Rattle.sctp_association.specs.declared.association.arrivals.Step.TheVariants.{Next, Stop, Cut, Refused}
 use Rattle.sctp_association.specs.declared.due.Due.{Due}
+use Rattle.sctp_association.specs.declared.event.Ending.{Ending}
+use Rattle.sctp_association.specs.declared.event.Events.{Events}
 use Rattle.sctp_association.specs.declared.fault.Fault.{Fault}
 use Rattle.sctp_association.specs.declared.outbound.Outbound.{Outbound}
 use Rattle.sctp_datagram.specs.declared.datagram.ChunkPlace.{ChunkPlace}
@@ -43,7 +45,7 @@ follows_none a tag before now x reply told state = record {
   due = sym (ap (λ o. by (owed_once a.told (owed_by o tag x.due))) reply ∙ ap (λ o. by (owed_once o x.due)) told);
   timers = runs_none a before now x x reply told state refl refl;
   over = sym (ap (λ o. over_by o x.is_over) told);
-  told = subst (λ o. IsPassedOn o (ending_by (is_some a.reply)) x.events) (sym told) tt;
+  told = sym (ap (λ o. passed_on o (ending_by (is_some a.reply)) (whole_of x.events)) told);
   wants = refl;
 }
   where
@@ -53,14 +55,15 @@ follows_none a tag before now x reply told state = record {
 -- nothing is answered, and another reply may be due
 pub follows_still : (tag now : ℕ) (x y : Association) → y.machine ≡ x.machine
     → y.due ≡ record x.due { heartbeat = y.due.heartbeat; report = y.due.report } → y.is_over ≡ x.is_over
-    → y.wants_shutdown ≡ x.wants_shutdown → y.control ≡ x.control → y.guard ≡ x.guard → FollowsStep (dropped x.machine) tag now x y
-follows_still tag now x y machine due over wants control guard = record {
+    → y.wants_shutdown ≡ x.wants_shutdown → y.control ≡ x.control → y.guard ≡ x.guard → whole_of y.events ≡ whole_of x.events
+    → FollowsStep (dropped x.machine) tag now x y
+follows_still tag now x y machine due over wants control guard whole = record {
   machine = machine;
   answer = record {
     due = due;
     timers = runs_none silent x.machine.state now x y refl refl (ap (λ (m : Machine). m.state) machine) control guard;
     over = over;
-    told = tt;
+    told = whole;
     wants = wants;
   };
 }
@@ -68,25 +71,25 @@ follows_still tag now x y machine due over wants control guard = record {
 -- what came before left what is due
 pub follows_from : (r : Answer) (tag : ℕ) (before was : State) (now : ℕ) (x y e : Association) → FollowsAnswer r tag was now y e → was ≡ before
     → y.due ≡ x.due → y.is_over ≡ x.is_over → y.wants_shutdown ≡ x.wants_shutdown → y.control ≡ x.control → y.guard ≡ x.guard
-    → FollowsAnswer r tag before now x e
-follows_from r tag before was now x y e h same due over wants control guard = record {
+    → whole_of y.events ≡ whole_of x.events → FollowsAnswer r tag before now x e
+follows_from r tag before was now x y e h same due over wants control guard whole = record {
   due = h.due ∙ ap (λ (d : Due). record (owed_once r.told (owed_by r.reply tag d)) { heartbeat = e.due.heartbeat; report = e.due.report }) due;
   timers = subst (λ (s : State). RunsTimers r s now x e) same (runs_from r was now x y e control guard h.timers);
   over = h.over ∙ ap (λ (b : Bool). over_by r.told b) over;
-  told = h.told;
+  told = h.told ∙ ap (λ (v : Events). passed_on r.told (ending_by (is_some r.reply)) v) whole;
   wants = h.wants ∙ wants;
 }
 
 -- so is it where a report was noted
 pub follows_noted : (r : Answer) (tag : ℕ) (before : State) (now : ℕ) (x y e : Association) → y.due ≡ record x.due { report = y.due.report }
     → y.is_over ≡ x.is_over → y.wants_shutdown ≡ x.wants_shutdown → y.control ≡ x.control → y.guard ≡ x.guard
-    → FollowsAnswer r tag before now y e → FollowsAnswer r tag before now x e
-follows_noted r tag before now x y e due over wants control guard h = record {
+    → whole_of y.events ≡ whole_of x.events → FollowsAnswer r tag before now y e → FollowsAnswer r tag before now x e
+follows_noted r tag before now x y e due over wants control guard whole h = record {
   due = h.due ∙ ap (λ (d : Due). record (owed_once r.told (owed_by r.reply tag d)) { heartbeat = e.due.heartbeat; report = e.due.report }) due
       ∙ reported r.told r.reply;
   timers = runs_from r before now x y e control guard h.timers;
   over = h.over ∙ ap (λ (b : Bool). over_by r.told b) over;
-  told = h.told;
+  told = h.told ∙ ap (λ (v : Events). passed_on r.told (ending_by (is_some r.reply)) v) whole;
   wants = h.wants ∙ wants;
 }
   where
@@ -110,6 +113,13 @@ follows_noted r tag before now x y e due over wants control guard h = record {
         → by (owed_once t (owed_by k tag (record x.due { report = y.due.report }))) ≡ by (owed_once t (owed_by k tag x.due))
     reported t k = told-of t k (replied k)
 
+whole-passed : (t : Told) (how : Ending) (e : Events) → whole_of (passed_on (Some t) how e) ≡ passed_on (Some t) how (whole_of e)
+whole-passed told.Connected how e = refl
+whole-passed told.Restarted how e = refl
+whole-passed told.ShutdownBegun how e = refl
+whole-passed told.Closed how e = refl
+whole-passed told.Failed how e = refl
+
 -- the timers run, its reply is due, and what it tells is passed on
 module _ (a : Answer) (tag : ℕ) (before : State) (now : ℕ) (x y z e : Association) (first : y ≡ record x { control = y.control; guard = y.guard })
     (next : z ≡ record y { due = owed_by a.reply tag y.due }) where
@@ -119,7 +129,8 @@ module _ (a : Answer) (tag : ℕ) (before : State) (now : ℕ) (x y z e : Associ
 
   pub follows_told : ((y.machine.state ≢ before) ⊎ (a.reply ≡ Some reply.Shutdown) → StartsTimers now x y)
       → (y.machine.state ≡ before → a.reply ≢ Some reply.Shutdown → KeepsTimers x y) → (t : Told) → a.told ≡ Some t → e.due ≡ owed_once (Some t) z.due
-      → e.is_over ≡ over_by (Some t) z.is_over → IsPassedOn (Some t) (ending_by (is_some a.reply)) e.events → e.wants_shutdown ≡ z.wants_shutdown
+      → e.is_over ≡ over_by (Some t) z.is_over → e.events ≡ passed_on (Some t) (ending_by (is_some a.reply)) z.events
+      → e.wants_shutdown ≡ z.wants_shutdown
       → e.machine ≡ z.machine
       → e.config ≡ z.config → (stops (Some t) ≡ true → StopsTimers e) → (stops (Some t) ≡ false → KeepsTimers z e)
       → (stops (Some t) ≡ false → e.outbound.rto ≡ z.outbound.rto) → FollowsAnswer a tag before now x e
@@ -131,7 +142,9 @@ module _ (a : Answer) (tag : ℕ) (before : State) (now : ℕ) (x y z e : Associ
           guard = k.guard ∙ ap (λ (k : Association). k.guard) next;
         }) (λ s. rto (goes false s) ∙ ap (λ (k : Association). k.outbound.rto) next);
     over = over ∙ ap (λ (k : Association). over_by (Some t) k.is_over) ran ∙ ap (λ o. over_by o x.is_over) (sym is);
-    told = subst (λ o. IsPassedOn o (ending_by (is_some a.reply)) e.events) (sym is) told;
+    told = ap whole_of told ∙ whole-passed t (ending_by (is_some a.reply)) z.events
+        ∙ ap (λ (k : Association). passed_on (Some t) (ending_by (is_some a.reply)) (whole_of k.events)) ran
+        ∙ ap (λ o. passed_on o (ending_by (is_some a.reply)) (whole_of x.events)) (sym is);
     wants = wants ∙ ap (λ (k : Association). k.wants_shutdown) ran;
   }
     where
@@ -184,7 +197,7 @@ module _ (c : ChunkPlace) (d : List ℕ) (now : ℕ) (a b : Association) where
     where
       still : FollowsStep (dropped a.machine) 0 now a b
       still = follows_still 0 now a b kept.machine
-          (rest.due ∙ ap (λ (k : Due). record a.due { heartbeat = k.heartbeat; report = k.report }) (sym rest.due)) rest.over rest.wants rest.control rest.guard
+          (rest.due ∙ ap (λ (k : Due). record a.due { heartbeat = k.heartbeat; report = k.report }) (sym rest.due)) rest.over rest.wants rest.control rest.guard (ap whole_of rest.events)
 
       on : (s : arrivals.Step) → r ≡ Ok s → RowOn c d now s a b
       on Next is =

@@ -5,6 +5,7 @@ use Rattle.std.specs.Prelude.{Result, Ok, Err, IfOk, ◌==◌, ◌||◌, not}
 use Rattle.sctp_association.specs.AcksOn.{AcksOn}
 use Rattle.sctp_association.specs.Single.{AloneOn, CauseOn, OffersOn}
 use Rattle.sctp_association.specs.Beats.{AnswersOn, BeatsOn}
+use Rattle.sctp_association.specs.Brought.{BringsOnly}
 use Rattle.sctp_association.specs.Causes.{cause_after, cause_in}
 use Rattle.sctp_association.specs.Cookies.{cookie_in}
 use Rattle.sctp_association.specs.Openings.{EchoesOn, InitAckOn}
@@ -24,8 +25,8 @@ abbrev pub is_plain : ℕ → Bool
 is_plain typ = not ((typ == 1) || ((typ == 2) || ((typ == 4) || ((typ == 5) || ((typ == 7) || ((typ == 9) || (typ == 10)))))))
 
 module _ (c : ChunkPlace) (tag : ℕ) (d : List ℕ) (now : ℕ) (a b : Association) where
-  pub alone_refused : (r : Reason) → AloneOn c tag d now (Refused r) a b
-  alone_refused r = record {
+  pub alone_refused : (r : Reason) → BringsOnly c d a b → AloneOn c tag d now (Refused r) a b
+  alone_refused r brings = record {
     init = λ is. tt;
     init_ack = λ is. tt;
     heartbeat = λ is. tt;
@@ -35,9 +36,10 @@ module _ (c : ChunkPlace) (tag : ℕ) (d : List ℕ) (now : ℕ) (a b : Associat
     cookie_echo = λ is. tt;
     row = λ is. tt;
     acks = λ is. tt;
+    events = brings;
   }
 
-  module _ (r : Result Step Fault) where
+  module _ (r : Result Step Fault) (brings : BringsOnly c d a b) where
     pub alone_by : (has_row c.typ ≡ true → IfOk r (λ s. AcksOn c d now s a b))
         → (c.typ ≡ 1 → IfOk r (λ s. OffersOn c d now s a b)) → (c.typ ≡ 2 → IfOk r (λ s. InitAckOn c d now s a b))
         → (c.typ ≡ 4 → IfOk r (λ s. AnswersOn c.at d s a b)) → (c.typ ≡ 5 → IfOk r (λ s. BeatsOn c.at d now s a b))
@@ -57,6 +59,7 @@ module _ (c : ChunkPlace) (tag : ℕ) (d : List ℕ) (now : ℕ) (a b : Associat
           cookie_echo = λ e. subst (λ (x : Result Step Fault). IfOk x (λ s. EchoesOn tag (cookie_in d c) now s a b)) is (cookie_echo e);
           row = λ e. subst (λ (x : Result Step Fault). IfOk x (λ s. RowOn c d now s a b)) is (row e);
           acks = λ e. subst (λ (x : Result Step Fault). IfOk x (λ s. AcksOn c d now s a b)) is (acks e);
+          events = brings;
         }
         by (Err e) is = tt
 

@@ -18,7 +18,7 @@ use Rattle.sctp_association.specs.Reads.{message_in}
 use Rattle.sctp_association.specs.Rooms.{without}
 use Rattle.sctp_association.specs.Runs.{AcksBy, ReportsIn, Runs, reported_by}
 use Rattle.sctp_association.specs.StreamSet.{is_in}
-use Rattle.sctp_association.specs.Telling.{IsPassedOn, KeepsEvents, NotesReadable, PassesOn, Stays, Tells, TellsEnd, TellsIn, TellsTo, opened_in}
+use Rattle.sctp_association.specs.Telling.{KeepsEvents, NotesReadable, PassesOn, Stays, Tells, TellsEnd, TellsIn, TellsTo, opened_in, passed_on}
 use Rattle.sctp_data.specs.SelectiveAck.{Sack}
 use Rattle.sctp_delivery.specs.ReceiverCalls.{ReceiverCall, forgets, makes_sack}
 use Rattle.sctp_handshake.specs.Beginnings.{init_ack_checked, init_ack_row, on_connect, on_init_ack}
@@ -414,18 +414,19 @@ init-told _ peer m = told-none m _ (λ e. e) refl
 pub passes_as : (t o : Told) (how : Ending) (a b : Association) → t ≡ o → PassesOn (Some o) how a b → PassesOn (Some t) how a b
 passes_as t o how a b is p = subst (λ k. PassesOn (Some k) how a b) (sym is) p
 
-pub passes_none : (t : Option Told) (how : Ending) (a b : Association) → t ≡ None → TellsEnd a b → PassesOn t how a b
-passes_none t how a b is end = subst (λ k. PassesOn k how a b) (sym is) (record { end = end; told = tt })
+pub passes_none : (t : Option Told) (how : Ending) (a b : Association) → t ≡ None → TellsEnd a b → b.events ≡ a.events
+    → PassesOn t how a b
+passes_none t how a b is end same = subst (λ k. PassesOn k how a b) (sym is) (record { end = end; told = same })
 
 -- behind what the machine took
 module _ (a b z : Association) (n : Machine) (x : Answer) (how : Ending) (moved : b.machine ≡ n) (end : TellsEnd a b) (on : PassesOn x.told how z b) where
   tells-by : (s : Step) → IsToldBy a.machine s → Takes s n x → Tells a b
   tells-by s t takes = record {
     end = end;
-    begun = λ e stands. subst (λ o. IsPassedOn o how b.events)
-        (ap (λ k. k.told) takes.answer ∙ t.begun e (sym (ap (λ (k : Machine). is_standing k.state) (moved ∙ takes.machine)) ∙ stands)) on.told;
-    restarted = λ e anew. subst (λ o. IsPassedOn o how b.events)
-        (ap (λ k. k.told) takes.answer ∙ t.restarted e (sym (ap (λ (k : Machine). k.has_restarted) (moved ∙ takes.machine)) ∙ anew)) on.told;
+    begun = λ e stands. ap (λ (v : Events). v.connected) (on.told ∙ ap (λ o. passed_on o how z.events)
+        (ap (λ k. k.told) takes.answer ∙ t.begun e (sym (ap (λ (k : Machine). is_standing k.state) (moved ∙ takes.machine)) ∙ stands)));
+    restarted = λ e anew. ap (λ (v : Events). v.restarted) (on.told ∙ ap (λ o. passed_on o how z.events)
+        (ap (λ k. k.told) takes.answer ∙ t.restarted e (sym (ap (λ (k : Machine). k.has_restarted) (moved ∙ takes.machine)) ∙ anew)));
   }
 
   pub tells_cookie : (t : Ticket) (stale : Bool) → Takes (on_cookie_echo t stale a.machine) n x → Tells a b

@@ -1,5 +1,5 @@
 -- What an association tells its user, once.
-use Rattle.std.specs.Prelude.{◌≡◌, ◌⊎◌, true, Option, Some}
+use Rattle.std.specs.Prelude.{◌≡◌, ◌⊎◌, ℕ, ◌==◌, ◌||◌, true, if◌then◌else◌, Option, Some}
 use Rattle.sctp_association.specs.declared.event.Event.{Event}
 use Rattle.sctp_association.specs.declared.event.Event.TheVariants as event
 use Rattle.sctp_association.specs.declared.event.Events.{Events}
@@ -36,6 +36,10 @@ AddsNone old new = (v : Event) → Waits v new → Waits v old
 abbrev pub NoneWaits : Events → Type 0
 NoneWaits e = (v : Event) → Waits v e → ⊥
 
+-- none waits that did not wait before
+abbrev pub BringsNone : (old new : Events) → Type 0
+BringsNone old new = (v : Event) → Waits v new → Waits v old
+
 -- none waits that is of a stream
 pub record NoneWaitsOfStream (e : Events) : Type 0 where
   pub readable : IsEmpty e.readable
@@ -44,3 +48,41 @@ pub record NoneWaitsOfStream (e : Events) : Type 0 where
   pub reset_refused : IsEmpty e.reset_refused
   pub reset_by_peer : IsEmpty e.reset_by_peer
   pub too_long : IsEmpty e.too_long
+
+-- ## Which events a chunk brings
+
+-- the old events, but those of the whole association as in the new ones: it begins, begins anew, shuts down, or ends
+abbrev pub whole_from : (old new : Events) → Events
+whole_from old new = record old {
+  connected = new.connected;
+  restarted = new.restarted;
+  shutdown = new.shutdown;
+  closed = new.closed;
+}
+
+-- the old ones, but of streams on which the peer writes: a message can be read, is too long, or the peer has reset the stream
+abbrev pub peers_from : (old new : Events) → Events
+peers_from old new = record old {
+  readable = new.readable;
+  too_long = new.too_long;
+  reset_by_peer = new.reset_by_peer;
+}
+
+-- The old ones, but those that a chunk of this type may bring as in the new ones: of streams on which the peer writes by DATA and a FORWARD-TSN; a low
+-- buffered amount by a SACK and a SHUTDOWN; an error of the peer by an ERROR; what becomes of resets by a RE-CONFIG. By DATA, a SACK and a FORWARD-TSN
+-- this side may end the association. By an INIT ACK, ABORT, SHUTDOWN, SHUTDOWN-ACK, ERROR, COOKIE-ECHO, COOKIE-ACK and SHUTDOWN-COMPLETE the machine
+-- tells what becomes of it. By another chunk none comes.
+abbrev pub brought_at : (typ : ℕ) → (old new : Events) → Events
+brought_at typ old new =
+    if (typ == 0) || (typ == 192) then record (peers_from old new) { closed = new.closed }
+    else (if typ == 3 then record old { closed = new.closed; low = new.low }
+    else (if typ == 7 then record (whole_from old new) { low = new.low }
+    else (if typ == 9 then record (whole_from old new) { peer_error = new.peer_error }
+    else (if typ == 130 then record old {
+      readable = new.readable;
+      reset_by_us = new.reset_by_us;
+      reset_refused = new.reset_refused;
+      reset_by_peer = new.reset_by_peer;
+    }
+    else (if (typ == 2) || ((typ == 6) || ((typ == 8) || ((typ == 10) || ((typ == 11) || (typ == 14)))))
+    then whole_from old new else old)))))

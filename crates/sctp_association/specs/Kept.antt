@@ -6,6 +6,7 @@ use Rattle.sctp_association.specs.declared.due.Alone.{Alone}
 use Rattle.sctp_association.specs.declared.due.AloneKind.{AloneKind}
 use Rattle.sctp_association.specs.declared.due.AloneKind.TheVariants.{InitAck}
 use Rattle.sctp_association.specs.declared.due.Due.{Due}
+use Rattle.sctp_association.specs.Events.{brought_at}
 use Rattle.sctp_association.specs.Entering.{usable_in}
 use Rattle.sctp_association.specs.Lasting.{StaysWithin}
 use Rattle.sctp_association.specs.declared.due.Report.{Report}
@@ -41,8 +42,8 @@ pub record IsKept (old new : Association) : Type 0 where
   pub owes : OwesNoMore old new
   pub sending : StaysWithin old new
 
--- Beside both halves, the requests of both sides and the events: what is due, when a SACK is, the timers of the state, whether it is over, and whether
--- a shutdown is asked for
+-- Beside both halves and the requests of both sides: what is due, when a SACK is, the timers of the state, whether it is over, and whether a shutdown is
+-- asked for. Of events those stay that no RE-CONFIG brings.
 pub record RestStays (old new : Association) : Type 0 where
   pub due : new.due ≡ old.due
   pub control : new.control ≡ old.control
@@ -50,6 +51,7 @@ pub record RestStays (old new : Association) : Type 0 where
   pub over : new.is_over ≡ old.is_over
   pub wants : new.wants_shutdown ≡ old.wants_shutdown
   pub acks : acks_of new.inbound ≡ acks_of old.inbound
+  pub events : new.events ≡ brought_at 130 old.events new.events
 
 -- DATA came that no SACK told of: one waits, or is due at once (6.2)
 abbrev pub sack_waits : Option Inbound → Bool

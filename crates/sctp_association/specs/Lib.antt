@@ -8,6 +8,7 @@ pub mod BackOff
 pub mod Beats
 pub mod Beginnings
 pub mod Behind
+pub mod Brought
 pub mod Calls
 pub mod Causes
 pub mod Coming

@@ -7,7 +7,7 @@ use Rattle.sctp_association.specs.Fresh.{fresh_tag}
 use Rattle.sctp_association.specs.Reports.{to_tag}
 use Rattle.sctp_association.specs.Runs.{Sends}
 use Rattle.sctp_association.specs.Sending.{holds_nothing}
-use Rattle.sctp_association.specs.Telling.{IsPassedOn, ending_by}
+use Rattle.sctp_association.specs.Telling.{ending_by, passed_on, whole_of}
 use Rattle.sctp_association.specs.Timers.{EntersTimers, RunsTimers}
 use Rattle.sctp_association.specs.declared.association.Association.{Association}
 use Rattle.sctp_association.specs.declared.association.arrivals.Step.TheVariants as chunk
@@ -79,8 +79,8 @@ owed_once (Some told.ShutdownBegun) d = d
 owed_once (Some told.Closed) d = d
 owed_once (Some told.Failed) d = d
 
--- What the machine answers is followed: its reply is due, what it tells waits to be told, and the association is over where that ends it. The timers
--- of the state run. Beside that a HEARTBEAT-ACK or a report may be due.
+-- What the machine answers is followed: its reply is due, what it tells waits to be told, and nothing else of the whole association. It is over where
+-- that ends it. The timers of the state run. Beside that a HEARTBEAT-ACK or a report may be due.
 pub record FollowsAnswer (a : Answer) (tag : ℕ) (before : State) (now : ℕ)
     (old new : Association) : Type 0 where
   pub due : new.due ≡ record (owed_once a.told (owed_by a.reply tag old.due)) {
@@ -89,7 +89,8 @@ pub record FollowsAnswer (a : Answer) (tag : ℕ) (before : State) (now : ℕ)
   }
   pub timers : RunsTimers a before now old new
   pub over : new.is_over ≡ over_by a.told old.is_over
-  pub told : IsPassedOn a.told (ending_by (is_some a.reply)) new.events
+  pub told : whole_of new.events
+      ≡ passed_on a.told (ending_by (is_some a.reply)) (whole_of old.events)
   pub wants : new.wants_shutdown ≡ old.wants_shutdown
 
 -- the machine takes the step, and what it answers is followed

@@ -2,6 +2,7 @@
 use Rattle.std.specs.Prelude.{◌≡◌, ⊤, ℕ, true, List}
 use Rattle.sctp_association.specs.AcksOn.{AcksOn}
 use Rattle.sctp_association.specs.Beats.{AnswersOn, BeatsOn}
+use Rattle.sctp_association.specs.Brought.{BringsOnly}
 use Rattle.sctp_association.specs.Causes.{cause_after, cause_in}
 use Rattle.sctp_association.specs.Cookies.{cookie_in}
 use Rattle.sctp_association.specs.Openings.{EchoesOn, InitAckOn, OffersTo}
@@ -54,6 +55,8 @@ pub record AloneOn (c : ChunkPlace) (tag : ℕ) (datagram : List ℕ) (now : ℕ
   -- DATA is noted, and is acknowledged at once where it is a repeat, has the I bit, or there is a gap. By DATA that is refused, and by a FORWARD-TSN, a SACK
   -- is due now. Other chunks leave when one is (6.2, 6.7; RFC 7053; RFC 3758 3.6).
   pub acks : has_row c.typ ≡ true → AcksOn c datagram now s old new
+  -- By its type it brings events, and no others: a message can be read, or is too long, on the stream of DATA alone (6.2, 6.5, 9, 11.2).
+  pub events : BringsOnly c datagram old new
 
 -- it is none of DATA, INIT, INIT ACK, COOKIE-ECHO and FORWARD-TSN
 abbrev pub IsOther : ℕ → Type 0

@@ -1,5 +1,5 @@
 -- What waits to be told: what happens is told, and nothing that waits is lost (RFC 9260 11.2).
-use Rattle.std.specs.Prelude.{◌≡◌, ⊤, ℕ, ◌<◌, Bool, true, false, List, length, Option, Some, None, is_some}
+use Rattle.std.specs.Prelude.{◌≡◌, ℕ, ◌<◌, Bool, true, false, List, [], length, Option, Some, None, is_some}
 use Rattle.sctp_association.specs.Beginnings.{is_standing}
 use Rattle.sctp_association.specs.Reads.{message_in}
 use Rattle.sctp_association.specs.StreamSet.{is_in}
@@ -88,16 +88,28 @@ abbrev pub ending_by : (replies : Bool) → Ending
 ending_by true = Aborted
 ending_by false = Unanswered
 
--- It is passed on: it waits to be told. One that is closed ended by SHUTDOWN, and one that failed ended so.
-abbrev pub IsPassedOn : Option Told → Ending → Events → Type 0
-IsPassedOn None how e = ⊤
-IsPassedOn (Some told.Connected) how e = e.connected ≡ true
-IsPassedOn (Some told.Restarted) how e = e.restarted ≡ true
-IsPassedOn (Some told.ShutdownBegun) how e = e.shutdown ≡ true
-IsPassedOn (Some told.Closed) how e = e.closed ≡ Some Shutdown
-IsPassedOn (Some told.Failed) how e = e.closed ≡ Some how
+-- What waits once it is passed on, and each other event as before. One that is closed ended by SHUTDOWN, and one that failed ended so.
+abbrev pub passed_on : Option Told → Ending → Events → Events
+passed_on None how e = e
+passed_on (Some told.Connected) how e = record e { connected = true }
+passed_on (Some told.Restarted) how e = record e { restarted = true }
+passed_on (Some told.ShutdownBegun) how e = record e { shutdown = true }
+passed_on (Some told.Closed) how e = record e { closed = Some Shutdown }
+passed_on (Some told.Failed) how e = record e { closed = Some how }
 
--- behind an input of the machine what it told is passed on, and what waited is kept
+-- behind an input of the machine what it told is passed on, and nothing else is told
 pub record PassesOn (t : Option Told) (how : Ending) (old new : Association) : Type 0 where
   pub end : TellsEnd old new
-  pub told : IsPassedOn t how new.events
+  pub told : new.events ≡ passed_on t how old.events
+
+-- the events of the whole association alone: without those of streams and errors of the peer
+abbrev pub whole_of : Events → Events
+whole_of e = record e {
+  peer_error = None;
+  readable = [];
+  low = [];
+  reset_by_us = [];
+  reset_refused = [];
+  reset_by_peer = [];
+  too_long = [];
+}

@@ -16,6 +16,7 @@ ghost use Rattle.std.proofs.Props.{props};
 ghost use Rattle.sctp_association.specs.Entering.{usable_in};
 ghost use Rattle.sctp_association.specs.Events.{AddsNone, IsTold, KeepsOthers, NoneWaits};
 ghost use Rattle.sctp_association.specs.Configs.{can_be_made, offer_by};
+ghost use Rattle.sctp_association.specs.declared.event.Ending.TheVariants.{Aborted};
 ghost use Rattle.sctp_association.specs.declared.fault.Fault.TheVariants.{BadConfig, WrongState};
 ghost use Rattle.sctp_association.specs.Reached.{limits_of, most_user_data};
 ghost use Rattle.sctp_association.specs.Waiting.{amount_on};
@@ -208,6 +209,7 @@ impl Association {
         // The receiving half stays: so the peer may use the same streams.
         ensures inbound { self.new.inbound ≡ self.old.inbound }
         ensures halves { HalvesAlike self.old self.new }
+        ensures quiet { self.new.events ≡ self.old.events }
         ensures err { OnErr result (self.new ≡ self.old) }
     {
         if self.is_over {
@@ -323,6 +325,7 @@ impl Association {
         ensures inbound { self.new.inbound ≡ self.old.inbound }
         ensures halves { HalvesAlike self.old self.new }
         ensures peer { KeepsPeer self.old self.new }
+        ensures quiet { self.new.events ≡ self.old.events }
         ensures err { OnErr result (self.new ≡ self.old) }
     {
         if self.machine.state() == State::Closed {
@@ -356,6 +359,8 @@ impl Association {
         ensures inbound { self.new.inbound ≡ self.old.inbound }
         ensures halves { HalvesAlike self.old self.new }
         ensures peer { KeepsPeer self.old self.new }
+        ensures tells_end { OnOk result (self.new.events
+            ≡ record self.old.events { closed = Some Aborted }) }
         ensures err { OnErr result (self.new ≡ self.old) }
     {
         if self.is_over {

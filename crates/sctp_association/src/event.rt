@@ -1,7 +1,8 @@
 //! What an association tells its user.
 
 ghost use Rattle.std.specs.Prelude.{◌≡◌, ◌<◌, ◌≤◌, IfSome, None, IfOk, OnErr, OnOk, false, length, take};
-ghost use Rattle.sctp_association.specs.Events.{AddsNone, IsTold, KeepsOthers, NoneWaits, NoneWaitsOfStream};
+ghost use Rattle.sctp_association.specs.Events.{AddsNone, IsTold, KeepsOthers, NoneWaits, NoneWaitsOfStream, BringsNone};
+ghost use Rattle.sctp_association.specs.Brought.{NotesOnly};
 ghost use Rattle.sctp_association.specs.Telling.{KeepsEvents, Stays};
 
 use crate::stream_set::StreamSet;
@@ -99,6 +100,7 @@ impl Events {
     pub(crate) fn reserve_outbound(&mut self, stream: u16) -> Result<Rooms, AllocError>
         ensures kept { KeepsEvents self.old self.new }
         ensures readable { self.new.readable ≡ self.old.readable }
+        ensures none { BringsNone self.old self.new }
         ensures undo { IfOk result (λ rooms. without rooms self.new ≡ self.old) }
         ensures err { OnErr result (self.new ≡ self.old) }
     {
@@ -119,6 +121,7 @@ impl Events {
     // The same, but after a refusal there may be more room than before.
     fn reserve_each(&mut self, stream: u16) -> Result<(), AllocError>
         ensures kept { KeepsEvents self.old self.new }
+        ensures none { BringsNone self.old self.new }
         ensures rest { self.new ≡ record self.old {
           low = self.new.low;
           reset_by_us = self.new.reset_by_us;
@@ -150,6 +153,7 @@ impl Events {
         ensures readable { Stays self.old.readable self.new.readable }
         ensures room { length self.old.readable ≤ length self.new.readable }
         ensures place { OnOk result (stream < length self.new.readable) }
+        ensures notes { NotesOnly (λ s. ⊥) (λ s. ⊥) self.old self.new }
     {
         self.readable.reserve(stream)?;
         self.too_long.reserve(stream)?;

@@ -76,9 +76,11 @@ pub(crate) struct Inbound {
 
 impl Inbound {
     ghost use Rattle.sctp_association.specs.AcksDue.{AcksData, acks_by, acks_in, ended, is_at_once, no_acks, with_due};
+    ghost use Rattle.sctp_association.specs.Brought.{AddsOnly, IsLargeOf, IsLongOf, IsReadOf, NotesOnly};
     ghost use Rattle.sctp_association.specs.Coming.{HasComeOrIsDropped};
     ghost use Rattle.sctp_association.specs.Ends.{EndsData, EndsSkip};
     ghost use Rattle.sctp_association.specs.Entering.{Handles, HandlesOpen, HandlesRefused};
+    ghost use Rattle.sctp_association.specs.Events.{brought_at};
     ghost use Rattle.sctp_association.specs.Reads.{IsReadOff};
     ghost use Rattle.sctp_association.specs.Served.{AreServed, IsServed, is_to_open, is_usable};
     ghost use Rattle.sctp_association.specs.Telling.{KeepsEvents, Stays, TellsIn};
@@ -119,6 +121,9 @@ impl Inbound {
     ) -> Result<Followed, Fault>
         requires short { length chunk.now.user_data ≤ most_user_data }
         ensures tells { TellsIn (Some self.old) events.old (Some self.new) events.new }
+        // Of events it adds only that a message of its stream can be read, or is too long.
+        ensures notes { NotesOnly (IsReadOf chunk.now self.new.receiver)
+            (IsLongOf chunk.now self.old.receiver) events.old events.new }
         // Whatever it answers, the receiver is called for this chunk alone.
         ensures received { Received (AsksFor (data_chunk (data_of chunk.now)))
             self.old.receiver self.new.receiver }
@@ -159,6 +164,9 @@ impl Inbound {
     ) -> Result<Followed, Fault>
         requires short { length chunk.now.user_data ≤ most_user_data }
         ensures tells { TellsIn (Some self.old) events.old (Some self.new) events.new }
+        ensures notes { is_to_open chunk.now.stream_identifier self.old ≡ true
+            → NotesOnly (IsReadOf chunk.now self.new.receiver)
+            (IsLongOf chunk.now self.old.receiver) events.old events.new }
         ensures received { Received (AsksFor (data_chunk (data_of chunk.now)))
             self.old.receiver self.new.receiver }
         ensures limits { (self.new.receiver.limits ≡ self.old.receiver.limits)
@@ -184,6 +192,8 @@ impl Inbound {
     ) -> Result<Followed, Fault>
         requires short { length chunk.now.user_data ≤ most_user_data }
         ensures tells { TellsIn (Some self.old) events.old (Some self.new) events.new }
+        ensures notes { NotesOnly (IsReadOf chunk.now self.new.receiver)
+            (IsLargeOf chunk.now self.old.receiver) events.old events.new }
         ensures received { Received (AsksFor (data_chunk (data_of chunk.now)))
             self.old.receiver self.new.receiver }
         ensures limits { (self.new.receiver.limits ≡ self.old.receiver.limits)
@@ -259,6 +269,7 @@ impl Inbound {
     #[tactic(auto, using(crate::proofs::Reaching::opened))]
     fn open(&mut self, stream: u16, events: &mut Events) -> Result<(), Fault>
         ensures tells { TellsIn (Some self.old) events.old (Some self.new) events.new }
+        ensures notes { NotesOnly (λ s. ⊥) (λ s. ⊥) events.old events.new }
         ensures received { Received (IsOpening stream) self.old.receiver self.new.receiver }
         ensures limits { (self.new.receiver.limits ≡ self.old.receiver.limits)
             × (self.new.streams ≡ self.old.streams) }
@@ -281,6 +292,7 @@ impl Inbound {
     #[inline(never)]
     fn open_agreed(&mut self, stream: u16, events: &mut Events) -> Result<(), Fault>
         ensures tells { TellsIn (Some self.old) events.old (Some self.new) events.new }
+        ensures notes { NotesOnly (λ s. ⊥) (λ s. ⊥) events.old events.new }
         ensures received { Received (IsOpening stream) self.old.receiver self.new.receiver }
         ensures limits { (self.new.receiver.limits ≡ self.old.receiver.limits)
             × (self.new.streams ≡ self.old.streams) }
@@ -314,6 +326,8 @@ impl Inbound {
         now: u64,
     ) -> Result<Followed, Fault>
         ensures tells { TellsIn (Some self.old) events.old (Some self.new) events.new }
+        ensures notes { arrival_refusal chunk.now self.old.receiver ≡ Some refusal
+            → NotesOnly (λ s. ⊥) (IsLargeOf chunk.now self.old.receiver) events.old events.new }
         ensures received { Received (AsksFor (data_chunk (data_of chunk.now)))
             self.old.receiver self.new.receiver }
         // Where a message is too long its stream opens no more, and that is told.
@@ -362,6 +376,7 @@ impl Inbound {
     // Opens the streams that a FORWARD-TSN names, where it is ahead: of their messages those may be the first that are skipped (RFC 3758 3.6).
     fn open_named(&mut self, skip: &ChunkForwardTsn, events: &mut Events) -> Result<(), Fault>
         ensures tells { TellsIn (Some self.old) events.old (Some self.new) events.new }
+        ensures notes { NotesOnly (λ s. ⊥) (λ s. ⊥) events.old events.new }
         ensures received { Received (IsOpeningNamed (forward_tsn_of skip.now))
             self.old.receiver self.new.receiver }
         ensures limits { (self.new.receiver.limits ≡ self.old.receiver.limits)
@@ -392,6 +407,9 @@ impl Inbound {
         now: u64,
     ) -> Result<Followed, Fault>
         ensures tells { TellsIn (Some self.old) events.old (Some self.new) events.new }
+        // Of events it adds only that a message can be read.
+        ensures notes { NotesOnly (λ s. is_some (message_on s self.new.receiver) ≡ true) (λ s. ⊥)
+            events.old events.new }
         // Whatever it answers, the receiver is called for this chunk alone.
         ensures received { Received (AsksFor (forward_tsn_chunk (forward_tsn_of skip.now)))
             self.old.receiver self.new.receiver }
@@ -432,6 +450,9 @@ impl Inbound {
         ensures kept { KeepsEvents events.old events.new }
         ensures room { length events.new.readable ≡ length events.old.readable }
         ensures readable { Stays events.old.readable events.new.readable }
+        ensures only { AddsOnly (λ s. is_some (message_on s self.now.receiver) ≡ true)
+            events.old.readable events.new.readable }
+        ensures rest { events.new ≡ record events.old { readable = events.new.readable } }
     {
         for stream in 0..self.streams {
             self.note_if_readable(stream, events);
@@ -446,6 +467,8 @@ impl Inbound {
         ensures rest { events.new ≡ record events.old { readable = events.new.readable } }
         ensures room { length events.new.readable ≡ length events.old.readable }
         ensures readable { Stays events.old.readable events.new.readable }
+        ensures only { AddsOnly (λ s. is_some (message_on s self.now.receiver) ≡ true)
+            events.old.readable events.new.readable }
     {
         if self.receiver.is_readable(stream) {
             events.readable.insert(stream);
@@ -459,6 +482,7 @@ impl Inbound {
         ensures kept { KeepsEvents events.old events.new }
         ensures room { length events.new.readable ≡ length events.old.readable }
         ensures readable { Stays events.old.readable events.new.readable }
+        ensures rest { events.new ≡ record events.old { readable = events.new.readable } }
     {
         if !could_read {
             self.note_if_readable(stream, events);
@@ -499,6 +523,7 @@ impl Inbound {
         events: &mut Events,
     ) -> Result<ReconfigResult, Fault>
         ensures tells { TellsIn (Some self.old) events.old (Some self.new) events.new }
+        ensures events { events.new ≡ brought_at 130 events.old events.new }
         ensures received { Received (IsReset stream last_tsn)
             self.old.receiver self.new.receiver }
         ensures limits { (self.new.receiver.limits ≡ self.old.receiver.limits)

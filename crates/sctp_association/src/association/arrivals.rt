@@ -8,6 +8,7 @@ ghost use Rattle.sctp_association.specs.AcksOn.{AcksOn};
 ghost use Rattle.sctp_association.specs.Arrivals.{Arrives, CallsArrive};
 ghost use Rattle.sctp_association.specs.Behind.{StillOn};
 ghost use Rattle.sctp_association.specs.Beginnings.{ArrivesAsOffered, BeginsByDatagram, BeginsByTicket, KeepsPeer};
+ghost use Rattle.sctp_association.specs.Brought.{BringsOnly};
 ghost use Rattle.sctp_association.specs.Kept.{IsKept, OwesNoMore, ticket_in_kind};
 ghost use Rattle.sctp_association.specs.Coming.{FollowsData, GoesOn, TakesDataAt, TakesDataOf, TakesEachOf, TakesOnlyData, goes_on, is_due};
 ghost use Rattle.sctp_association.specs.Cookies.{IsAlive, IsSealed, cookie_in};
@@ -617,6 +618,7 @@ impl Association {
         ensures still { IfOk result (λ s. StillOn chunk datagram.now s self.old self.new) }
         ensures row { IfOk result (λ s. RowOn chunk datagram.now now s self.old self.new) }
         ensures acks { IfOk result (λ s. AcksOn chunk datagram.now now s self.old self.new) }
+        ensures events { BringsOnly chunk datagram.now self.old self.new }
     {
         if !self.machine.state().takes_data() {
             return Ok(Step::Refused(Reason::Unexpected));
@@ -655,6 +657,7 @@ impl Association {
         ensures still { IfOk result (λ s. StillOn chunk datagram.now s self.old self.new) }
         ensures row { IfOk result (λ s. RowOn chunk datagram.now now s self.old self.new) }
         ensures acks { IfOk result (λ s. AcksOn chunk datagram.now now s self.old self.new) }
+        ensures events { BringsOnly chunk datagram.now self.old self.new }
     {
         if !self.machine.state().takes_data() {
             return Ok(Step::Refused(Reason::Unexpected));
@@ -686,6 +689,8 @@ impl Association {
         ensures on { result ≡ step.Next → self.new ≡ self.old }
         ensures sending { self.new.outbound ≡ self.old.outbound }
         ensures whole { result ≡ step.Cut → ⊥ }
+        ensures events { self.new.events
+            ≡ record self.old.events { closed = self.new.events.closed } }
     {
         let Some(kind) = ending_of(followed) else {
             return Step::Next;
@@ -715,6 +720,7 @@ impl Association {
         ensures still { IfOk result (λ s. StillOn chunk datagram.now s self.old self.new) }
         ensures row { IfOk result (λ s. RowOn chunk datagram.now now s self.old self.new) }
         ensures acks { IfOk result (λ s. AcksOn chunk datagram.now now s self.old self.new) }
+        ensures events { BringsOnly chunk datagram.now self.old self.new }
     {
         if !self.machine.state().takes_sacks() {
             return Ok(Step::Refused(Reason::Unexpected));

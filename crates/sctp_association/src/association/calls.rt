@@ -4,6 +4,7 @@ ghost use Rattle.std.specs.Prelude.{◌≡◌, ◌<◌, None, Some, Err, OnOk, O
 ghost use Rattle.sctp_association.specs.declared.fault.Fault.{Fault};
 ghost use Rattle.sctp_association.specs.Asked.{AsksOn};
 ghost use Rattle.sctp_association.specs.Beginnings.{IsKeptButMtu};
+ghost use Rattle.sctp_association.specs.Events.{BringsNone};
 ghost use Rattle.sctp_association.specs.Halves.{SetsFragmentSize};
 ghost use Rattle.sctp_association.specs.Lasting.{LastsNoLonger};
 ghost use Rattle.sctp_association.specs.Made.{mtu_fault};
@@ -80,6 +81,7 @@ impl Association {
           outbound = self.new.outbound;
           events = self.new.events;
         } }
+        ensures quiet { BringsNone self.old.events self.new.events }
         ensures err { OnErr result (self.new ≡ self.old) }
     {
         if let Some(fault) = self.use_fault(stream) {
@@ -120,6 +122,7 @@ impl Association {
           outbound = self.new.outbound;
           events = self.new.events;
         } }
+        ensures quiet { BringsNone self.old.events self.new.events }
         ensures err { OnErr result (self.new ≡ self.old) }
     {
         if let Some(fault) = self.use_fault(stream) {
@@ -155,6 +158,7 @@ impl Association {
           outbound = self.new.outbound;
           events = self.new.events;
         } }
+        ensures quiet { BringsNone self.old.events self.new.events }
         ensures err { OnErr result (self.new ≡ self.old) }
     {
         if let Some(fault) = self.use_fault(stream) {
@@ -182,6 +186,7 @@ impl Association {
         ensures refused { IfErr result (λ e. mtu_fault mtu self.old ≡ Some e) }
         ensures inbound { self.new.inbound ≡ self.old.inbound }
         ensures left { LastsNoLonger self.old self.new }
+        ensures quiet { self.new.events ≡ self.old.events }
         ensures err { OnErr result (self.new ≡ self.old) }
     {
         if mtu < 512 || mtu > 65_535 {

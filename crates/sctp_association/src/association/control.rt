@@ -14,6 +14,7 @@ ghost use Rattle.sctp_association.specs.Rows.{FollowsAnswer, Settles, cause_code
 ghost use Rattle.sctp_association.specs.Most.{shutdowns_left};
 ghost use Rattle.sctp_association.specs.Sending.{holds_nothing};
 ghost use Rattle.sctp_association.specs.Telling.{PassesOn, TellsEnd, ending_by};
+ghost use Rattle.sctp_association.specs.declared.event.Ending.TheVariants.{Aborted};
 ghost use Rattle.sctp_association.specs.Timers.{KeepsTimers, RunsTimers, StartsTimers, StopsTimers, guard_in, stops};
 ghost use Rattle.sctp_handshake.specs.declared.answer.Reply.TheVariants.{Init, Shutdown};
 ghost use Rattle.sctp_handshake.specs.declared.answer.Told.TheVariants.{ShutdownBegun};
@@ -275,6 +276,7 @@ impl Association {
         ensures over { self.new.is_over ≡ self.old.is_over }
         ensures wants { self.new.wants_shutdown ≡ self.old.wants_shutdown }
         ensures due { self.new.due ≡ record self.old.due { cookie_echo = false } }
+        ensures events { self.new.events ≡ self.old.events }
         ensures timers { KeepsTimers self.old self.new }
         ensures rto { self.new.outbound.rto ≡ self.old.outbound.rto }
         ensures acks { acks_of self.new.inbound ≡ Some (no_acks self.old.config.sack_delay)
@@ -376,6 +378,7 @@ impl Association {
         ensures owed { self.new.due.alone ≡ farewell_to kind self.old.machine.peer }
         ensures timers { StopsTimers self.new }
         ensures aborted { IsAborted kind self.old.machine.peer self.new }
+        ensures events { self.new.events ≡ record self.old.events { closed = Some Aborted } }
         ensures outbound { self.new.outbound ≡ self.old.outbound }
         ensures inbound { self.new.inbound ≡ self.old.inbound }
         ensures halves { HalvesAlike self.old self.new }

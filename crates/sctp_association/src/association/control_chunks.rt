@@ -6,8 +6,10 @@ ghost use Rattle.sctp_association.specs.Single.{AloneOn, IsOther};
 ghost use Rattle.sctp_association.specs.Arrivals.{CallsArrive};
 ghost use Rattle.sctp_association.specs.Beats.{AnswersOn, BeatsOn, IsBeaten, nonce_in};
 ghost use Rattle.sctp_association.specs.Beginnings.{ArrivesAsOffered, BeginsBy, KeepsPeer, KeepsPeerButTag};
+ghost use Rattle.sctp_association.specs.Brought.{AddsOnly, IsLowBy};
 ghost use Rattle.sctp_association.specs.Causes.{cause_after, cause_in};
 ghost use Rattle.sctp_association.specs.Ends.{IsAbortedByPeer};
+ghost use Rattle.sctp_association.specs.Events.{brought_at};
 ghost use Rattle.sctp_association.specs.Kept.{IsKept};
 ghost use Rattle.sctp_association.specs.Halves.{HalvesAlike, halves_of};
 ghost use Rattle.sctp_association.specs.Expected.{AsExpected, expects, is_received, speaks};
@@ -168,6 +170,8 @@ impl Association {
         ensures peer { KeepsPeer self.old self.new }
         ensures whole { result ≡ step.Cut → ⊥ }
         ensures next { result ≡ step.Next → ⊥ }
+        ensures events { self.new.events
+            ≡ brought_at 6 self.old.events self.new.events }
         ensures row { result ≡ step.Stop → IsAbortedByPeer self.old self.new }
         ensures expected { AsExpected (speaks (on_abort self.old.machine).answer) result }
     {
@@ -196,6 +200,10 @@ impl Association {
         ensures whole { result ≡ Ok step.Cut → ⊥ }
         ensures shuts { IfOk result
             (λ s. ShutsOn chunk.at datagram.now now s self.old.outbound self.new.outbound) }
+        ensures events { self.new.events
+            ≡ brought_at 7 self.old.events self.new.events }
+        ensures low { AddsOnly (IsLowBy chunk datagram.now self.old)
+            self.old.events.low self.new.events.low }
         ensures row { IfOk result
             (λ s. StepsOn (on_shutdown self.old.machine) 0 now s self.old self.new) }
         ensures expected { chunk.typ ≡ 7 → IfOk result (λ s. AsExpected
@@ -237,6 +245,7 @@ impl Association {
         ensures whole { result ≡ Ok step.Cut → ⊥ }
         ensures answers { IfOk result
             (λ s. AnswersOn chunk.at datagram.now s self.old self.new) }
+        ensures events { self.new.events ≡ self.old.events }
         ensures row { (now : ℕ) → IfOk result
             (λ s. StepsOn (dropped self.old.machine) 0 now s self.old self.new) }
         ensures expected { chunk.typ ≡ 4
@@ -272,6 +281,7 @@ impl Association {
         ensures whole { result ≡ Ok step.Cut → ⊥ }
         ensures beats { IfOk result
             (λ s. BeatsOn chunk.at datagram.now now s self.old self.new) }
+        ensures events { self.new.events ≡ self.old.events }
         ensures row { IfOk result
             (λ s. StepsOn (dropped self.old.machine) 0 now s self.old self.new) }
         ensures expected { chunk.typ ≡ 5
@@ -316,6 +326,8 @@ impl Association {
         ensures halves { halves_of self.new ≡ halves_of self.old }
         ensures peer { KeepsPeerButTag chunk datagram.now self.old self.new }
         ensures whole { result ≡ step.Cut → ⊥ }
+        ensures events { self.new.events
+            ≡ brought_at 9 self.old.events self.new.events }
         ensures row { StepsOn (error_row (cause_in datagram.now chunk)
             (fresh_tag self.old.key now self.old.machine.own) self.old.machine) 0 now
             result self.old self.new }

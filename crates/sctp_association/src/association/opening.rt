@@ -4,6 +4,7 @@ ghost use Rattle.std.specs.Prelude.{◌≡◌, ◌≢◌, ◌⊎◌, ◌≤◌, 
 ghost use Rattle.sctp_association.specs.AcksDue.{AcksTold, acks_of};
 ghost use Rattle.sctp_association.specs.Single.{OffersOn};
 ghost use Rattle.sctp_association.specs.Beginnings.{ArrivesAsOffered, BeginsByTicket, IsOwedFor, KeepsPeer, is_standing};
+ghost use Rattle.sctp_association.specs.Events.{brought_at};
 ghost use Rattle.sctp_association.specs.Kept.{OwesNoMore, OwesTicket, ticket_in_kind};
 ghost use Rattle.sctp_association.specs.Cookies.{IsAlive, IsSealed, cookie_in};
 ghost use Rattle.sctp_association.specs.Halves.{HalvesAlike, halves_of};
@@ -121,6 +122,8 @@ impl Association {
         ensures passed { result ≡ Ok step.Next → host_name_of (value_in datagram.now chunk) ≡ None }
         ensures host { result ≡ Ok step.Stop
             → EndsByHostName (value_in datagram.now chunk) self.old self.new }
+        ensures events { self.new.events
+            ≡ brought_at 2 self.old.events self.new.events }
         ensures row { IfOk result (λ s. InitAckOn chunk datagram.now now s self.old self.new) }
         ensures expected { IsInitAckExpected chunk datagram.now self.old
             → (r : Reason) → result ≡ Ok (step.Refused r) → ⊥ }
@@ -176,6 +179,8 @@ impl Association {
         ensures tells { TellsEnd self.old self.new }
         ensures ends { result ≡ step.Stop
             → EndsBegun kind raw (u32_at value.now 0) self.old self.new }
+        ensures events { self.new.events
+            ≡ brought_at 2 self.old.events self.new.events }
         ensures begun { result ≡ step.Stop → self.old.machine.state ≡ CookieWait }
         ensures taken { self.old.machine.state ≡ CookieWait → u32_at value.now 0 ≢ 0
             → result ≡ step.Stop }
@@ -228,6 +233,8 @@ impl Association {
         // A cookie that is too old begins nothing (RFC 9260 5.1.5).
         ensures stale { result ≡ Ok step.Stop → self.new.machine ≡ self.old.machine }
         ensures whole { result ≡ Ok step.Cut → ⊥ }
+        ensures events { self.new.events
+            ≡ brought_at 10 self.old.events self.new.events }
         ensures row { IfOk result (λ s. EchoesOn tag (cookie_in datagram.now chunk) now s
             self.old self.new) }
         ensures expected { IsEchoExpected chunk tag datagram.now now self.old
@@ -270,6 +277,8 @@ impl Association {
         ensures came { ArrivesAsOffered datagram.now self.old self.new }
         ensures refused { (r : Reason) → result ≡ step.Refused r → self.new ≡ self.old }
         ensures whole { result ≡ step.Cut → ⊥ }
+        ensures events { self.new.events
+            ≡ brought_at 11 self.old.events self.new.events }
         ensures row { StepsOn (on_cookie_ack self.old.machine) 0 now result self.old self.new }
         ensures expected { AsExpected
             (speaks (on_cookie_ack self.old.machine).answer && may_begin self.old) result }

@@ -4,6 +4,7 @@ ghost use Rattle.std.specs.Prelude.{◌≡◌, ◌⊎◌, ◌<◌, ◌≤◌, tr
 ghost use Rattle.sctp_association.specs.Arrivals.{CallsArrive, HearsBy, Does, Follows, IsReset, IsResetAt, IsRestart, ParamAsks, ParamAsksIn, ReceivedIn};
 ghost use Rattle.sctp_association.specs.Kept.{IsKept, IsUnmoved, RestStays};
 ghost use Rattle.sctp_association.specs.Calls.{is_resettable};
+ghost use Rattle.sctp_association.specs.Events.{BringsNone};
 ghost use Rattle.sctp_association.specs.Expected.{AsExpected, takes_resets};
 ghost use Rattle.sctp_association.specs.Halves.{HalvesAlike, PutsDue, halves_of, receiver_of};
 ghost use Rattle.sctp_association.specs.Idle.{sack_delay};
@@ -82,6 +83,7 @@ impl Association {
           requests = self.new.requests;
           events = self.new.events;
         } }
+        ensures quiet { BringsNone self.old.events self.new.events }
         ensures err { OnErr result (self.new ≡ self.old) }
     {
         let is_known = match self.machine.agreed() {

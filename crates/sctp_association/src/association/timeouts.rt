@@ -4,6 +4,7 @@ ghost use Rattle.std.specs.Prelude.{◌≡◌, ◌⊎◌, ◌≤◌, None, Some,
 ghost use Rattle.sctp_association.specs.Again.{IsAgain, IsRunOut, IsSentAgain, RunsAgain, missed_where, run_in};
 ghost use Rattle.sctp_association.specs.BackOff.{IsAsIdle, counted_where, doubled_where, failures_after, is_missed, is_unanswered, reduced_where, rto_after};
 ghost use Rattle.sctp_association.specs.Beginnings.{KeepsPeer};
+ghost use Rattle.sctp_association.specs.Brought.{BringsEnd};
 ghost use Rattle.sctp_association.specs.Congested.{expired_at, path_of};
 ghost use Rattle.sctp_association.specs.Kept.{ticket_due};
 ghost use Rattle.sctp_association.specs.Halves.{MarksByT3};
@@ -11,6 +12,8 @@ ghost use Rattle.sctp_association.specs.Lasting.{Expires, expires, expires_contr
 ghost use Rattle.sctp_association.specs.Rows.{owed_by};
 ghost use Rattle.sctp_association.specs.Sending.{IsTimed, t3_time};
 ghost use Rattle.sctp_association.specs.Telling.{Tells, TellsEnd};
+ghost use Rattle.sctp_association.specs.declared.event.Ending.TheVariants.{Unanswered};
+ghost use Rattle.sctp_handshake.specs.declared.ticket.Ticket.{Ticket};
 ghost use Rattle.sctp_handshake.specs.States.{timer};
 ghost use Rattle.sctp_handshake.specs.declared.ticket.Ticket.{Ticket};
 ghost use Rattle.sctp_path.specs.Rto.{after_back_off};
@@ -136,6 +139,8 @@ impl Association {
             → self.new.is_over ≡ true → IsUnanswered self.new }
         ensures guarded { (self.new.is_over ≡ true) ⊎ IsGuarded self.new }
         // With each expiry fewer are left until it is over, while nothing of the peer comes.
+        // It tells no more than how the association ended, where it is over.
+        ensures tells_end { BringsEnd self.old self.new }
         ensures left { Expires (expires now self.old) self.old self.new }
         // The receiving half stays: so the peer may use the same streams.
         ensures inbound { self.new.inbound ≡ self.old.inbound }
@@ -188,6 +193,7 @@ impl Association {
             ≡ doubled_where (is_due now self.old.control.at) self.old.outbound.rto }
         ensures requests { self.new.requests ≡ self.old.requests }
         ensures heartbeat { self.new.heartbeat ≡ self.old.heartbeat }
+        ensures tells_end { BringsEnd self.old self.new }
         ensures state { IsAsIdle self.old.machine.state self.new.machine.state }
         ensures again { (self.new.is_over ≡ true) ⊎ RunsAgain now self.old self.new }
     {
@@ -214,6 +220,7 @@ impl Association {
         ensures rto { self.new.outbound.rto ≡ after_back_off self.old.outbound.rto }
         ensures requests { self.new.requests ≡ self.old.requests }
         ensures heartbeat { self.new.heartbeat ≡ self.old.heartbeat }
+        ensures tells_end { BringsEnd self.old self.new }
         ensures state { IsAsIdle self.old.machine.state self.new.machine.state }
         ensures again { (self.new.is_over ≡ true) ⊎ IsRunOut self.old self.new }
     {
@@ -301,6 +308,7 @@ impl Association {
         ensures unanswered { IsUnanswered self.new }
         ensures outbound { self.new.outbound ≡ self.old.outbound }
         ensures inbound { self.new.inbound ≡ self.old.inbound }
+        ensures events { self.new.events ≡ record self.old.events { closed = Some Unanswered } }
         ensures peer { KeepsPeer self.old self.new }
     {
         let _answer = self.machine.abort();

@@ -4,6 +4,9 @@ use Rattle.sctp_association.proofs.Known.{keeps_by, knows_abort, owes_none, with
 use Rattle.sctp_association.specs.Kept.{ticket_due}
 use Rattle.sctp_association.specs.declared.association.Association.{Association}
 use Rattle.sctp_association.specs.declared.due.Due.{Due}
+use Rattle.std.proofs.Common.{Some, sym}
+use Rattle.sctp_association.specs.Events.{whole_from}
+use Rattle.sctp_association.specs.declared.event.Ending.TheVariants.{Aborted}
 use Rattle.sctp_association.proofs.association.Association.end_begun.Goals as goal
 
 pub returns-clause-peer : goal.returns-clause-peer
@@ -23,3 +26,8 @@ returns-clause-tells c =
     let owed = c.owe_farewell.ensures.rest in
     end_then (end_same _ _ owed)
     (to_over _ _ _ _ _ _ _ (ap (λ (x : Association). streams_in x.inbound) c.end.ensures.rest) c.end.ensures.told c.end.ensures.over)
+
+pub returns-clause-events : goal.returns-clause-events
+returns-clause-events c =
+    let is = c.end.ensures.told ∙ ap (λ (x : Association). record x.events { closed = Some Aborted }) c.owe_farewell.ensures.rest in
+    is ∙ sym (ap (whole_from c.args.self.now.events) is)

@@ -16,7 +16,7 @@ returns-else-ne-clause-begun c =
 pub returns-else-ne-clause-tells : goal.returns-else-ne-clause-tells
 returns-else-ne-clause-tells c =
     let none : c.args.answer.told ≡ None = search rules in
-    passes_none _ _ _ _ none to_same
+    passes_none _ _ _ _ none to_same refl
 
 pub returns-else-ne-clause-acks : goal.returns-else-ne-clause-acks
 returns-else-ne-clause-acks c =

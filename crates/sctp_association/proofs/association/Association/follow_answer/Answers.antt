@@ -6,10 +6,11 @@ use Rattle.sctp_association.proofs.Telling.{end_same, end_then, tells_due}
 use Rattle.sctp_association.proofs.association.Association.follow_answer.Goals as goal
 use Rattle.sctp_association.proofs.association.Association.follow_answer.Goals.{else-begins_timer, in-Some, in_default, then-begins_timer}
 use Rattle.sctp_association.specs.Rows.{owed_by}
-use Rattle.sctp_association.specs.Telling.{IsPassedOn, PassesOn, TellsEnd, ending_by}
+use Rattle.sctp_association.specs.Telling.{PassesOn, TellsEnd, ending_by, passed_on}
 use Rattle.sctp_association.specs.Timers.{KeepsTimers, StartsTimers}
 use Rattle.sctp_association.specs.declared.association.Association.{Association}
 use Rattle.sctp_association.specs.declared.due.Due.{Due}
+use Rattle.sctp_association.specs.declared.event.Events.{Events}
 use Rattle.sctp_handshake.specs.declared.answer.Reply.TheVariants.{Shutdown}
 
 neither : (A B : Type 0) → A × (B → ⊥) → (A → ⊥) ⊎ B → ⊥
@@ -28,9 +29,18 @@ returns-in-Some-told-clause-tells c =
     ] in
     let told = c.tell.ensures.tells in
     let how : ending_by c.is_some.result ≡ ending_by (is_some c.args.answer.reply) = ap ending_by c.is_some.ensures in
+    let began : c.if-begins_timer.self.events ≡ c.args.self.now.events = elim c.if-begins_timer.branch [
+      | then-begins_timer w ↦ ap (λ (x : Association). x.events) (w.self-is ∙ w.run_control.ensures.rest)
+      | else-begins_timer w ↦ ap (λ (x : Association). x.events) w.self-is
+    ] in
+    let owed : c.match-answer.self.events ≡ c.if-begins_timer.self.events = elim c.match-answer.branch [
+      | in-Some w ↦ ap (λ (x : Association). x.events) (w.self-is ∙ w.owe.ensures.rest)
+      | in_default w ↦ ap (λ (x : Association). x.events) w.self-is
+    ] in
     subst (λ t. PassesOn t (ending_by (is_some c.args.answer.reply)) c.args.self.now c.tell.new.self) (sym c.in-Some-told.is) (record {
       end = end_then (end_then first next) told.end;
-      told = subst (λ h. IsPassedOn (Some c.in-Some-told.told) h c.tell.new.self.events) how told.told;
+      told = told.told ∙ ap (λ h. passed_on (Some c.in-Some-told.told) h c.match-answer.self.events) how
+          ∙ ap (λ (e : Events). passed_on (Some c.in-Some-told.told) (ending_by (is_some c.args.answer.reply)) e) (owed ∙ began);
     })
 
 pub returns-in-Some-told-clause-answer : goal.returns-in-Some-told-clause-answer
@@ -65,7 +75,7 @@ returns-in-Some-told-clause-answer c =
     let tell = c.tell.ensures in
     follows_told c.args.answer c.args.tag c.args.before c.args.now old c.if-begins_timer.self c.match-answer.self c.tell.new.self first next start keep
     c.in-Some-told.told c.in-Some-told.is tell.due tell.over
-    (subst (λ h. IsPassedOn (Some c.in-Some-told.told) h c.tell.new.self.events) (ap ending_by c.is_some.ensures) tell.tells.told) tell.wants tell.kept.machine tell.kept.config tell.stop tell.keep tell.rto
+    (tell.tells.told ∙ ap (λ h. passed_on (Some c.in-Some-told.told) h c.match-answer.self.events) (ap ending_by c.is_some.ensures)) tell.wants tell.kept.machine tell.kept.config tell.stop tell.keep tell.rto
 
 pub returns-in-Some-told-clause-acks : goal.returns-in-Some-told-clause-acks
 returns-in-Some-told-clause-acks c =

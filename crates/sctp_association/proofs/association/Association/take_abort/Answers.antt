@@ -2,6 +2,8 @@ use Rattle.sctp_association.proofs.Telling.{streams_in, to_over}
 use Rattle.std.proofs.Common.{ap, refl}
 use Rattle.sctp_association.proofs.Known.{keeps_by, knows_abort, owes_same, within_same}
 use Rattle.sctp_association.specs.declared.association.Association.{Association}
+use Rattle.std.proofs.Common.{sym, ◌∙◌}
+use Rattle.sctp_association.specs.Events.{whole_from}
 use Rattle.sctp_association.proofs.association.Association.take_abort.Goals as goal
 
 pub returns-then-is_none-clause-peer : goal.returns-then-is_none-clause-peer
@@ -19,3 +21,8 @@ returns-clause-peer c =
 
 pub returns-clause-tells : goal.returns-clause-tells
 returns-clause-tells c = to_over _ _ _ _ _ _ _ (ap (λ (x : Association). streams_in x.inbound) c.end.ensures.rest) c.end.ensures.told c.end.ensures.over
+
+pub returns-clause-events : goal.returns-clause-events
+returns-clause-events c =
+    let is = c.end.ensures.told in
+    is ∙ sym (ap (whole_from c.args.self.now.events) is)

@@ -17,6 +17,7 @@ use Rattle.sctp_association.proofs.Single.{alone_by, alone_plain, alone_refused}
 use Rattle.sctp_association.specs.Rows.{has_row}
 use Rattle.sctp_association.proofs.Offered.{offered_calls, offered_due, offered_kept, offered_same}
 use Rattle.sctp_association.proofs.Paths.{moves_none}
+use Rattle.sctp_association.proofs.Brought.{brings_none, brings_reset, brings_whole}
 use Rattle.sctp_association.proofs.association.Association.take_chunk.Goals as goal
 
 pub returns-then-not-admits-clause-came : goal.returns-then-not-admits-clause-came
@@ -78,21 +79,23 @@ returns-in-3-clause-sacks c takes going = c.take_sack.ensures.sacks c.args.tag t
 
 pub returns-then-not-admits-clause-alone : goal.returns-then-not-admits-clause-alone
 returns-then-not-admits-clause-alone c = alone_refused c.args.chunk c.args.tag c.args.datagram.now c.args.now c.args.self.now c.args.self.now _
+    (brings_none _ _ _ _ refl)
 
 pub returns-then-not-is_beginning-clause-alone : goal.returns-then-not-is_beginning-clause-alone
 returns-then-not-is_beginning-clause-alone c = alone_refused c.args.chunk c.args.tag c.args.datagram.now c.args.now c.args.self.now c.args.self.now _
+    (brings_none _ _ _ _ refl)
 
 pub returns-in-0-clause-alone : goal.returns-in-0-clause-alone
 returns-in-0-clause-alone c =
     let typ : c.args.chunk.typ ≡ 0 = search rules in
-    alone_plain c.args.chunk c.args.tag c.args.datagram.now c.args.now c.args.self.now c.take_data.new.self c.take_data.result 0 typ refl
+    alone_plain c.args.chunk c.args.tag c.args.datagram.now c.args.now c.args.self.now c.take_data.new.self c.take_data.result c.take_data.ensures.events 0 typ refl
     c.take_data.ensures.acks
     c.take_data.ensures.row
 
 pub returns-in-1-clause-alone : goal.returns-in-1-clause-alone
 returns-in-1-clause-alone c =
     let typ : c.args.chunk.typ ≡ 1 = search rules in
-    alone_by c.args.chunk c.args.tag c.args.datagram.now c.args.now c.args.self.now c.take_init.new.self c.take_init.result
+    alone_by c.args.chunk c.args.tag c.args.datagram.now c.args.now c.args.self.now c.take_init.new.self c.take_init.result (brings_none c.args.chunk c.args.datagram.now c.args.self.now c.take_init.new.self (ap (λ (x : Association). x.events) c.take_init.ensures.due))
     (λ row. absurd (false≢true (sym (ap has_row typ) ∙ row)))
     (λ is. c.take_init.ensures.offers) (λ is. absurd (omega (arith, is, typ))) (λ is. absurd (omega (arith, is, typ)))
     (λ is. absurd (omega (arith, is, typ))) (λ is. absurd (omega (arith, is, typ))) (λ is. absurd (omega (arith, is, typ)))
@@ -101,7 +104,7 @@ returns-in-1-clause-alone c =
 pub returns-in-2-clause-alone : goal.returns-in-2-clause-alone
 returns-in-2-clause-alone c =
     let typ : c.args.chunk.typ ≡ 2 = search rules in
-    alone_by c.args.chunk c.args.tag c.args.datagram.now c.args.now c.args.self.now c.take_init_ack.new.self c.take_init_ack.result
+    alone_by c.args.chunk c.args.tag c.args.datagram.now c.args.now c.args.self.now c.take_init_ack.new.self c.take_init_ack.result (brings_whole c.args.chunk c.args.datagram.now c.args.self.now c.take_init_ack.new.self 2 typ refl c.take_init_ack.ensures.events)
     (λ row. absurd (false≢true (sym (ap has_row typ) ∙ row)))
     (λ is. absurd (omega (arith, is, typ))) (λ is. c.take_init_ack.ensures.row) (λ is. absurd (omega (arith, is, typ)))
     (λ is. absurd (omega (arith, is, typ))) (λ is. absurd (omega (arith, is, typ))) (λ is. absurd (omega (arith, is, typ)))
@@ -110,14 +113,14 @@ returns-in-2-clause-alone c =
 pub returns-in-3-clause-alone : goal.returns-in-3-clause-alone
 returns-in-3-clause-alone c =
     let typ : c.args.chunk.typ ≡ 3 = search rules in
-    alone_plain c.args.chunk c.args.tag c.args.datagram.now c.args.now c.args.self.now c.take_sack.new.self c.take_sack.result 3 typ refl
+    alone_plain c.args.chunk c.args.tag c.args.datagram.now c.args.now c.args.self.now c.take_sack.new.self c.take_sack.result c.take_sack.ensures.events 3 typ refl
     c.take_sack.ensures.acks
     c.take_sack.ensures.row
 
 pub returns-in-10-clause-alone : goal.returns-in-10-clause-alone
 returns-in-10-clause-alone c =
     let typ : c.args.chunk.typ ≡ 10 = search rules in
-    alone_by c.args.chunk c.args.tag c.args.datagram.now c.args.now c.args.self.now c.take_cookie.new.self c.take_cookie.result
+    alone_by c.args.chunk c.args.tag c.args.datagram.now c.args.now c.args.self.now c.take_cookie.new.self c.take_cookie.result (brings_whole c.args.chunk c.args.datagram.now c.args.self.now c.take_cookie.new.self 10 typ refl c.take_cookie.ensures.events)
     (λ row. absurd (false≢true (sym (ap has_row typ) ∙ row)))
     (λ is. absurd (omega (arith, is, typ))) (λ is. absurd (omega (arith, is, typ))) (λ is. absurd (omega (arith, is, typ)))
     (λ is. absurd (omega (arith, is, typ))) (λ is. absurd (omega (arith, is, typ))) (λ is. absurd (omega (arith, is, typ))) (λ is. c.take_cookie.ensures.row)
@@ -126,7 +129,7 @@ returns-in-10-clause-alone c =
 pub returns-in-130-clause-alone : goal.returns-in-130-clause-alone
 returns-in-130-clause-alone c =
     let typ : c.args.chunk.typ ≡ 130 = search rules in
-    alone_plain c.args.chunk c.args.tag c.args.datagram.now c.args.now c.args.self.now c.take_reconfig.new.self c.take_reconfig.result 130 typ refl
+    alone_plain c.args.chunk c.args.tag c.args.datagram.now c.args.now c.args.self.now c.take_reconfig.new.self c.take_reconfig.result (brings_reset c.args.chunk c.args.datagram.now c.args.self.now c.take_reconfig.new.self typ c.take_reconfig.ensures.rest.events) 130 typ refl
     (acks_rows c.args.chunk c.args.datagram.now c.args.now c.args.self.now c.take_reconfig.new.self (dropped c.args.self.now.machine)
     (row_typ c.args.chunk c.args.datagram.now c.args.now c.args.self.now 130 typ) c.take_reconfig.result (λ _. c.take_reconfig.ensures.rest.acks)
     (λ is. omega (arith, is, typ)) (λ is. omega (arith, is, typ))) (
@@ -137,7 +140,7 @@ returns-in-130-clause-alone c =
 pub returns-in-192-clause-alone : goal.returns-in-192-clause-alone
 returns-in-192-clause-alone c =
     let typ : c.args.chunk.typ ≡ 192 = search rules in
-    alone_plain c.args.chunk c.args.tag c.args.datagram.now c.args.now c.args.self.now c.take_skip.new.self c.take_skip.result 192 typ refl
+    alone_plain c.args.chunk c.args.tag c.args.datagram.now c.args.now c.args.self.now c.take_skip.new.self c.take_skip.result c.take_skip.ensures.events 192 typ refl
     c.take_skip.ensures.acks
     c.take_skip.ensures.row
 

@@ -3,7 +3,7 @@ use Rattle.sctp_association.proofs.Expected.{as_same, as_taken, unknown_expected
 use Rattle.sctp_association.specs.Expected.{AsExpected, expects, is_received, may_begin, speaks}
 use Rattle.sctp_association.specs.declared.association.arrivals.Step.{Step}
 use Rattle.sctp_association.proofs.Telling.{tells_due, tells_peer, tells_still}
-use Rattle.std.proofs.Common.{Ok, Option, ap, arith, refl, rules, subst, sym, ◌≡◌, ◌∙◌}
+use Rattle.std.proofs.Common.{Ok, Option, ap, arith, refl, rules, subst, sym, ◌≡◌, ◌∙◌, inl}
 use Rattle.std.specs.Prelude.{◌&&◌, ◌||◌, is_some, true}
 use Rattle.sctp_association.proofs.AcksOn.{acks_row, acks_rows, told_as}
 use Rattle.sctp_association.specs.AcksDue.{acks_of}
@@ -22,6 +22,10 @@ use Rattle.sctp_association.proofs.Arrived.{came_alike, came_same}
 use Rattle.sctp_association.proofs.Begun.{quiet_complete, quiet_shutdown_ack}
 use Rattle.sctp_association.proofs.Known.{keeps_by, knows_complete, knows_shutdown_ack}
 use Rattle.sctp_association.proofs.Offered.{offered_alike, offered_calls, offered_fresh, offered_kept, offered_less}
+use Rattle.sctp_association.specs.declared.association.Association.{Association}
+use Rattle.sctp_association.specs.StreamSet.{is_in}
+use Rattle.sctp_association.specs.declared.event.Events.{Events}
+use Rattle.sctp_association.proofs.Brought.{brings_by, brings_none, brings_whole, whole_passed}
 use Rattle.sctp_association.proofs.association.Association.take_control.Goals as goal
 
 pub returns-in-4-clause-came : goal.returns-in-4-clause-came
@@ -96,7 +100,7 @@ pub returns-in-4-clause-alone : goal.returns-in-4-clause-alone
 returns-in-4-clause-alone c other tag =
     let typ : c.args.chunk.typ ≡ 4 = search rules in
     let d = c.args.datagram.now in
-    alone_by c.args.chunk tag d c.args.now c.args.self.now c.take_heartbeat.new.self c.take_heartbeat.result
+    alone_by c.args.chunk tag d c.args.now c.args.self.now c.take_heartbeat.new.self c.take_heartbeat.result (brings_none c.args.chunk c.args.datagram.now c.args.self.now c.take_heartbeat.new.self c.take_heartbeat.ensures.events)
     (λ e. acks_rows c.args.chunk d c.args.now c.args.self.now c.take_heartbeat.new.self (dropped c.args.self.now.machine)
     (row_typ c.args.chunk d c.args.now c.args.self.now _ typ) c.take_heartbeat.result (λ _. ap (λ (o : Option Inbound). acks_of o) c.take_heartbeat.ensures.inbound)
     (λ is. omega (arith, is, typ)) (λ is. omega (arith, is, typ)))
@@ -111,7 +115,7 @@ pub returns-in-5-clause-alone : goal.returns-in-5-clause-alone
 returns-in-5-clause-alone c other tag =
     let typ : c.args.chunk.typ ≡ 5 = search rules in
     let d = c.args.datagram.now in
-    alone_by c.args.chunk tag d c.args.now c.args.self.now c.take_heartbeat_ack.new.self c.take_heartbeat_ack.result
+    alone_by c.args.chunk tag d c.args.now c.args.self.now c.take_heartbeat_ack.new.self c.take_heartbeat_ack.result (brings_none c.args.chunk c.args.datagram.now c.args.self.now c.take_heartbeat_ack.new.self c.take_heartbeat_ack.ensures.events)
     (λ e. acks_rows c.args.chunk d c.args.now c.args.self.now c.take_heartbeat_ack.new.self (dropped c.args.self.now.machine)
     (row_typ c.args.chunk d c.args.now c.args.self.now _ typ) c.take_heartbeat_ack.result (λ _. ap (λ (o : Option Inbound). acks_of o) c.take_heartbeat_ack.ensures.inbound)
     (λ is. omega (arith, is, typ)) (λ is. omega (arith, is, typ)))
@@ -125,7 +129,7 @@ returns-in-5-clause-alone c other tag =
 pub returns-in-6-clause-alone : goal.returns-in-6-clause-alone
 returns-in-6-clause-alone c other tag =
     let typ : c.args.chunk.typ ≡ 6 = search rules in
-    alone_plain c.args.chunk tag c.args.datagram.now c.args.now c.args.self.now c.take_abort.new.self (Ok c.take_abort.result) 6 typ refl
+    alone_plain c.args.chunk tag c.args.datagram.now c.args.now c.args.self.now c.take_abort.new.self (Ok c.take_abort.result) (brings_whole c.args.chunk c.args.datagram.now c.args.self.now c.take_abort.new.self 6 typ refl c.take_abort.ensures.events) 6 typ refl
     (acks_row c.args.chunk c.args.datagram.now c.args.now c.args.self.now c.take_abort.new.self (on_abort c.args.self.now.machine)
     (row_typ c.args.chunk c.args.datagram.now c.args.now c.args.self.now _ typ) c.take_abort.result (λ next. absurd (c.take_abort.ensures.next next))
     (λ is. omega (arith, is, typ)) (λ is. omega (arith, is, typ)))
@@ -136,7 +140,7 @@ pub returns-in-7-clause-alone : goal.returns-in-7-clause-alone
 returns-in-7-clause-alone c other tag =
     let typ : c.args.chunk.typ ≡ 7 = search rules in
     let d = c.args.datagram.now in
-    alone_by c.args.chunk tag d c.args.now c.args.self.now c.take_shutdown.new.self c.take_shutdown.result
+    alone_by c.args.chunk tag d c.args.now c.args.self.now c.take_shutdown.new.self c.take_shutdown.result (brings_by c.args.chunk c.args.datagram.now c.args.self.now c.take_shutdown.new.self 7 typ c.take_shutdown.ensures.events refl refl refl c.take_shutdown.ensures.low)
     (λ e. acks_rows c.args.chunk d c.args.now c.args.self.now c.take_shutdown.new.self (on_shutdown c.args.self.now.machine)
     (row_typ c.args.chunk d c.args.now c.args.self.now _ typ) c.take_shutdown.result c.take_shutdown.ensures.acks
     (λ is. omega (arith, is, typ)) (λ is. omega (arith, is, typ)))
@@ -156,8 +160,9 @@ returns-in-8-clause-alone c other tag =
     c.take_answer.new.self = λ is.
     follows_step _ _ _ _ _ _ _ took.machine took.answer c.take_answer.ensures.kept.machine (
     follows_from _ _ c.args.self.now.machine.state _ _ c.args.self.now _ _ (c.take_answer.ensures.answer is) c.state-before.ensures refl refl refl refl refl
+    refl
     ) in
-    alone_plain c.args.chunk tag d c.args.now c.args.self.now c.take_answer.new.self (Ok c.take_answer.result) 8 typ refl
+    alone_plain c.args.chunk tag d c.args.now c.args.self.now c.take_answer.new.self (Ok c.take_answer.result) (brings_whole c.args.chunk c.args.datagram.now c.args.self.now c.take_answer.new.self 8 typ refl (whole_passed _ _ c.args.self.now c.take_answer.new.self c.take_answer.ensures.tells)) 8 typ refl
     (acks_row c.args.chunk d c.args.now c.args.self.now c.take_answer.new.self (on_shutdown_ack c.args.self.now.machine)
     (row_typ c.args.chunk d c.args.now c.args.self.now _ typ) c.take_answer.result (λ next. told_as _ _ _ _ _ took.answer (c.take_answer.ensures.acks next))
     (λ is. omega (arith, is, typ)) (λ is. omega (arith, is, typ)))
@@ -169,7 +174,8 @@ pub returns-in-9-clause-alone : goal.returns-in-9-clause-alone
 returns-in-9-clause-alone c other tag =
     let typ : c.args.chunk.typ ≡ 9 = search rules in
     let d = c.args.datagram.now in
-    alone_by c.args.chunk tag d c.args.now c.args.self.now c.take_error.new.self (Ok c.take_error.result)
+    alone_by c.args.chunk tag d c.args.now c.args.self.now c.take_error.new.self (Ok c.take_error.result) (brings_by c.args.chunk c.args.datagram.now c.args.self.now c.take_error.new.self 9 typ c.take_error.ensures.events refl refl refl
+    (λ s w. inl (sym (ap (λ (e : Events). is_in s e.low) c.take_error.ensures.events) ∙ w)))
     (λ e. acks_rows c.args.chunk d c.args.now c.args.self.now c.take_error.new.self (error_row (cause_in d c.args.chunk) (fresh_tag c.args.self.now.key c.args.now c.args.self.now.machine.own) c.args.self.now.machine)
     (row_typ c.args.chunk d c.args.now c.args.self.now _ typ) (Ok c.take_error.result) (λ _. c.take_error.ensures.acks)
     (λ is. omega (arith, is, typ)) (λ is. omega (arith, is, typ)))
@@ -186,7 +192,7 @@ pub returns-in-11-clause-alone : goal.returns-in-11-clause-alone
 returns-in-11-clause-alone c other tag =
     let typ : c.args.chunk.typ ≡ 11 = search rules in
     let d = c.args.datagram.now in
-    alone_plain c.args.chunk tag d c.args.now c.args.self.now c.take_cookie_ack.new.self (Ok c.take_cookie_ack.result) 11 typ refl
+    alone_plain c.args.chunk tag d c.args.now c.args.self.now c.take_cookie_ack.new.self (Ok c.take_cookie_ack.result) (brings_whole c.args.chunk c.args.datagram.now c.args.self.now c.take_cookie_ack.new.self 11 typ refl c.take_cookie_ack.ensures.events) 11 typ refl
     (acks_row c.args.chunk d c.args.now c.args.self.now c.take_cookie_ack.new.self (on_cookie_ack c.args.self.now.machine)
     (row_typ c.args.chunk d c.args.now c.args.self.now _ typ) c.take_cookie_ack.result c.take_cookie_ack.ensures.acks
     (λ is. omega (arith, is, typ)) (λ is. omega (arith, is, typ)))
@@ -203,9 +209,9 @@ returns-in-14-clause-alone c other tag =
     c.take_answer-in-14.new.self = λ is.
     follows_step _ _ _ _ _ _ _ took.machine took.answer c.take_answer-in-14.ensures.kept.machine (
     follows_from _ _ c.args.self.now.machine.state _ _ c.args.self.now _ _ (c.take_answer-in-14.ensures.answer is) c.state-before-in-14.ensures
-    refl refl refl refl refl
+    refl refl refl refl refl refl
     ) in
-    alone_plain c.args.chunk tag d c.args.now c.args.self.now c.take_answer-in-14.new.self (Ok c.take_answer-in-14.result) 14 typ refl
+    alone_plain c.args.chunk tag d c.args.now c.args.self.now c.take_answer-in-14.new.self (Ok c.take_answer-in-14.result) (brings_whole c.args.chunk c.args.datagram.now c.args.self.now c.take_answer-in-14.new.self 14 typ refl (whole_passed _ _ c.args.self.now c.take_answer-in-14.new.self c.take_answer-in-14.ensures.tells)) 14 typ refl
     (acks_row c.args.chunk d c.args.now c.args.self.now c.take_answer-in-14.new.self (on_shutdown_complete c.args.self.now.machine)
     (row_typ c.args.chunk d c.args.now c.args.self.now _ typ) c.take_answer-in-14.result (λ next. told_as _ _ _ _ _ took.answer (c.take_answer-in-14.ensures.acks next))
     (λ is. omega (arith, is, typ)) (λ is. omega (arith, is, typ)))
@@ -219,7 +225,7 @@ returns-in_default-clause-alone c other tag =
     let d = c.args.datagram.now in
     let plain : is_plain c.args.chunk.typ ≡ true = plain_other c.args.chunk.typ other.1 other.2 (search rules) (search rules) (search rules)
     (search rules) other.3 in
-    alone_plain c.args.chunk tag d c.args.now c.args.self.now c.note_unknown.new.self c.note_unknown.result c.args.chunk.typ refl plain
+    alone_plain c.args.chunk tag d c.args.now c.args.self.now c.note_unknown.new.self c.note_unknown.result (brings_none c.args.chunk c.args.datagram.now c.args.self.now c.note_unknown.new.self (ap (λ (x : Association). x.events) c.note_unknown.ensures.rest)) c.args.chunk.typ refl plain
     (acks_rows c.args.chunk d c.args.now c.args.self.now c.note_unknown.new.self (dropped c.args.self.now.machine)
     (row_other c.args.chunk.typ (cause_in d c.args.chunk) _ c.args.self.now.machine other.0 (search rules) (search rules) (search rules)
     (search rules) (search rules) (search rules)) c.note_unknown.result

@@ -21,6 +21,7 @@ use Rattle.std.proofs.Common.{arith, drop, length, List, ℕ}
 use Rattle.std.specs.Prelude.{slice_range}
 use Rattle.sctp_chunks.specs.Framing.{declared_length}
 use Rattle.sctp_datagram.specs.declared.datagram.ChunkPlace.{ChunkPlace}
+use Rattle.sctp_association.proofs.Brought.{whole_passed}
 use Rattle.sctp_association.proofs.association.Association.take_cookie.Goals as goal
 use Rattle.sctp_association.proofs.association.Association.take_cookie.Goals.{then-chunk-raw-via-then-chunk-raw}
 use Rattle.sctp_association.proofs.association.Association.take_cookie.Goals.{then-chunk-raw-via-else-chunk-raw+then-chunk-lt4}
@@ -181,7 +182,7 @@ returns-in-Some-StaleCookie-clause-row c =
       ap is_stale_reply (sym (ap (λ a. a.reply) takes.answer) ∙ found),
       echoes_by c.args.tag _ c.args.now c.args.self.now c.follow.new.self c.in-Some.moment made c.is_stale-is_old.result c.is_stale-is_old.ensures _ _ takes
           c.follow.ensures.kept.machine (
-          follows_from _ _ c.args.self.now.machine.state _ _ c.args.self.now _ _ h c.state-before.ensures refl refl refl refl refl
+          follows_from _ _ c.args.self.now.machine.state _ _ c.args.self.now _ _ h c.state-before.ensures refl refl refl refl refl refl
           ) c.follow.ensures.acks,
     )
 
@@ -201,7 +202,7 @@ returns-in_default-reply-clause-row c =
       ap is_stale_reply (sym (ap (λ a. a.reply) takes.answer)) ∙ fresh,
       echoes_by c.args.tag _ c.args.now c.args.self.now c.follow.new.self c.in-Some.moment made c.is_stale-is_old.result c.is_stale-is_old.ensures _ _ takes
           c.follow.ensures.kept.machine (
-          follows_from _ _ c.args.self.now.machine.state _ _ c.args.self.now _ _ h c.state-before.ensures refl refl refl refl refl
+          follows_from _ _ c.args.self.now.machine.state _ _ c.args.self.now _ _ h c.state-before.ensures refl refl refl refl refl refl
           ) c.follow.ensures.acks,
     )
 
@@ -221,7 +222,7 @@ returns-in_default-reply-2-clause-row c =
       ap is_stale_reply (sym (ap (λ a. a.reply) takes.answer)) ∙ fresh,
       echoes_by c.args.tag _ c.args.now c.args.self.now c.follow.new.self c.in-Some.moment made c.is_stale-is_old.result c.is_stale-is_old.ensures _ _ takes
           c.follow.ensures.kept.machine (
-          follows_from _ _ c.args.self.now.machine.state _ _ c.args.self.now _ _ h c.state-before.ensures refl refl refl refl refl
+          follows_from _ _ c.args.self.now.machine.state _ _ c.args.self.now _ _ h c.state-before.ensures refl refl refl refl refl refl
           ) c.follow.ensures.acks,
     )
 
@@ -271,3 +272,14 @@ returns-then-is_none-2-clause-expected c expected r is =
 
 pub returns-then-not-may_begin-clause-came : goal.returns-then-not-may_begin-clause-came
 returns-then-not-may_begin-clause-came c = offered_same _ _ _ refl
+
+-- ## What it brings
+
+pub returns-in-Some-StaleCookie-clause-events : goal.returns-in-Some-StaleCookie-clause-events
+returns-in-Some-StaleCookie-clause-events c = whole_passed _ _ _ _ c.follow.ensures.tells
+
+pub returns-in_default-reply-clause-events : goal.returns-in_default-reply-clause-events
+returns-in_default-reply-clause-events c = whole_passed _ _ _ _ c.follow.ensures.tells
+
+pub returns-in_default-reply-2-clause-events : goal.returns-in_default-reply-2-clause-events
+returns-in_default-reply-2-clause-events c = whole_passed _ _ _ _ c.follow.ensures.tells

@@ -3,6 +3,7 @@ use Rattle.std.proofs.Common.{rules, refl}
 use Rattle.sctp_association.proofs.AcksOn.{told_as}
 use Rattle.sctp_association.proofs.Offered.{offered_same}
 use Rattle.sctp_association.proofs.Offers.{ack_offered}
+use Rattle.sctp_association.proofs.Brought.{whole_passed}
 use Rattle.sctp_association.proofs.association.Association.take_cookie_ack.Goals as goal
 
 pub returns-then-not-may_begin-clause-came : goal.returns-then-not-may_begin-clause-came
@@ -24,3 +25,6 @@ returns-clause-tells c =
 
 pub returns-clause-acks : goal.returns-clause-acks
 returns-clause-acks c next = told_as _ _ _ _ _ c.cookie_ack-answer.ensures.takes.answer (c.take_answer.ensures.acks next)
+
+pub returns-clause-events : goal.returns-clause-events
+returns-clause-events c = whole_passed _ _ _ _ c.take_answer.ensures.tells

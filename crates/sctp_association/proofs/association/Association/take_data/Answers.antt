@@ -34,6 +34,9 @@ use Rattle.sctp_association.proofs.Expected.{and_none, as_taken}
 use Rattle.sctp_association.specs.Coming.{is_due}
 use Rattle.sctp_association.specs.declared.inbound.Inbound.{Inbound}
 use Rattle.sctp_handshake.specs.States.{takes_data}
+use Rattle.sctp_association.proofs.Brought.{brings_data, brings_none}
+use Rattle.sctp_association.specs.Telling.{whole_of}
+use Rattle.sctp_association.specs.declared.event.Events.{Events}
 use Rattle.sctp_association.proofs.association.Association.take_data.Goals as goal
 
 pub returns-then-not-takes_data-clause-came : goal.returns-then-not-takes_data-clause-came
@@ -192,6 +195,7 @@ returns-clause-row c =
     λ next. subst (λ (x : Association). FollowsStep step 0 c.args.now old x) (sym (c.end_by.ensures.on next)) (
     follows_step step 0 c.args.now old c.follow.new.self _ _ took.machine took.answer (c.follow.ensures.kept.machine) (
     follows_from _ 0 old.machine.state _ c.args.now old _ c.follow.new.self c.follow.ensures.answer c.state-before.ensures refl refl refl refl refl
+    (ap whole_of c.take_data.ensures.notes.rest)
     )
     )
     ) (still_stop c.args.chunk c.args.datagram.now old c.end_by.new.self c.end_by.result (returns-clause-still c))
@@ -236,3 +240,31 @@ returns-clause-acks c =
     acks_data_in c.args.chunk.at c.args.datagram.now c.args.now _ c.take_data.new.self old.inbound _ c.in-Some.is there (
     record { chunk = c.in_ok-data.data; reads = c.in_ok-data.ensures.found; acks = c.take_data.ensures.acks done }
     ))
+
+-- ## What it brings
+
+pub returns-then-not-takes_data-clause-events : goal.returns-then-not-takes_data-clause-events
+returns-then-not-takes_data-clause-events c = brings_none _ _ _ _ refl
+
+pub returns-in_err-data-clause-events : goal.returns-in_err-data-clause-events
+returns-in_err-data-clause-events c = brings_none _ _ _ _ refl
+
+pub returns-in_default-clause-events : goal.returns-in_default-clause-events
+returns-in_default-clause-events c = brings_none _ _ _ _ refl
+
+pub returns-in_err-followed-clause-events : goal.returns-in_err-followed-clause-events
+returns-in_err-followed-clause-events c = brings_none _ _ _ _ c.in_err-followed.ensures.err.1
+
+pub returns-in-Wanting-clause-events : goal.returns-in-Wanting-clause-events
+returns-in-Wanting-clause-events c =
+    brings_data _ _ _ _ _ c.take_data.new.self _ c.in-Some.is refl refl c.requires.typ c.in_ok-data.data c.in_ok-data.ensures.found c.take_data.ensures.notes
+
+pub returns-clause-events : goal.returns-clause-events
+returns-clause-events c =
+    let quiet = arrived_told c.args.self.now.machine _ _ c.packet_arrived-answer.ensures in
+    let there : receiver_of c.end_by.new.self.inbound ≡ Some c.take_data.new.self.receiver =
+    c.end_by.ensures.halves.receiver
+    ∙ ap (λ (h : Halves). h.receiver) (quiet_arrived _ _ _ _ _ _ c.follow.ensures.begun c.packet_arrived-answer.ensures.answer) in
+    let end = c.end_by.ensures.events ∙ ap (λ (e : Events). record e { closed = c.end_by.new.self.events.closed }) (c.follow.ensures.events quiet) in
+    brings_data _ _ _ _ _ c.take_data.new.self _ c.in-Some.is there end c.requires.typ c.in_ok-data.data c.in_ok-data.ensures.found
+    c.take_data.ensures.notes

@@ -6,6 +6,10 @@ use Rattle.sctp_association.proofs.Fresh.{fresh_some}
 use Rattle.sctp_association.specs.Beginnings.{KeepsPeerButTag}
 use Rattle.sctp_handshake.specs.declared.machine.Machine.{Machine}
 use Rattle.sctp_association.specs.declared.association.Association.{Association}
+use Rattle.std.specs.Prelude.{◌≡◌, Some}
+use Rattle.sctp_association.proofs.Brought.{whole_passed}
+use Rattle.sctp_association.specs.Events.{whole_from}
+use Rattle.sctp_association.specs.declared.event.Events.{Events}
 use Rattle.sctp_association.proofs.association.Association.take_error.Goals as goal
 use Rattle.sctp_association.proofs.association.Association.take_error.Goals.{else-code-eq3, then-code-eq3}
 
@@ -47,3 +51,16 @@ returns-clause-tells c =
       | else-code-eq3 w ↦ end_same _ _ w.self-is
     ] in
     end_then first (to_error _ _ _ _)
+
+pub returns-clause-events : goal.returns-clause-events
+returns-clause-events c =
+    let old = c.args.self.now.events in
+    let first : c.if-code-eq3.self.events ≡ whole_from old c.if-code-eq3.self.events = elim c.if-code-eq3.branch [
+      | then-code-eq3 w ↦
+          let e = ap (λ (x : Association). x.events) w.self-is in
+          e ∙ whole_passed _ _ _ _ w.follow.ensures.tells ∙ sym (ap (whole_from old) e)
+      | else-code-eq3 w ↦
+          let e = ap (λ (x : Association). x.events) w.self-is in
+          e ∙ sym (ap (whole_from old) e)
+    ] in
+    ap (λ (e : Events). record e { peer_error = Some c.in-Some.code }) first

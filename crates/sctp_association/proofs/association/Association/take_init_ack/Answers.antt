@@ -17,6 +17,9 @@ use Rattle.sctp_association.proofs.Offers.{init_ack_offered}
 use Rattle.sctp_association.specs.Beginnings.{AnswersInit, BeginsBy}
 use Rattle.sctp_association.specs.declared.association.Association.{Association}
 use Rattle.sctp_association.specs.Halves.{halves_of}
+use Rattle.sctp_association.proofs.Brought.{whole_passed}
+use Rattle.sctp_association.specs.Events.{whole_from}
+use Rattle.sctp_association.specs.Telling.{whole_of}
 use Rattle.sctp_association.proofs.association.Association.take_init_ack.Goals as goal
 
 -- what is not answered changed nothing
@@ -85,7 +88,8 @@ returns-clause-row c =
       follows = follows_step _ _ c.args.now old c.follow.new.self _ _ takes.machine takes.answer
           (c.follow.ensures.kept.machine ∙ ap (λ (x : Association). x.machine) rest)
           (follows_noted _ _ _ c.args.now old c.note_params.new.self c.follow.new.self noted (ap (λ (x : Association). x.is_over) rest)
-          (ap (λ (x : Association). x.wants_shutdown) rest) (ap (λ (x : Association). x.control) rest) (ap (λ (x : Association). x.guard) rest) h);
+          (ap (λ (x : Association). x.wants_shutdown) rest) (ap (λ (x : Association). x.control) rest) (ap (λ (x : Association). x.guard) rest)
+          (ap (λ (x : Association). whole_of x.events) rest) h);
       acks = told_as _ _ _ _ _ takes.answer (subst (λ (x : Association). AcksTold c.init_ack-answer.result.told x.config.sack_delay (acks_of x.inbound)
           (acks_of c.follow.new.self.inbound)) rest c.follow.ensures.acks);
       cookie = λ none.
@@ -142,3 +146,10 @@ returns-in_default-clause-why c brings r is =
     let said = said_of _ _ brings.reads in
     absurd (value_found c.args.datagram.now c.args.chunk c.requires.place (inr c.requires.typ) said.0 said.1 c.bytes_of.result.now c.bytes_of.ensures _
     c.in_default.ensures.fault)
+
+-- ## What it brings
+
+pub returns-clause-events : goal.returns-clause-events
+returns-clause-events c =
+    whole_passed _ _ _ _ c.follow.ensures.tells
+    ∙ ap (λ (x : Association). whole_from x.events c.follow.new.self.events) c.note_params.ensures.rest

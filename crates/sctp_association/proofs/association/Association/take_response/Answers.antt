@@ -1,5 +1,6 @@
 use Rattle.sctp_association.proofs.Telling.{end_then, stays_insert, to_by_us, to_same}
-use Rattle.std.proofs.Common.{refl}
+use Rattle.std.proofs.Common.{ap, refl}
+use Rattle.sctp_association.specs.declared.event.Events.{Events}
 use Rattle.sctp_association.proofs.Arriving.{acknowledged_restart_by, acknowledged_same, acknowledged_then}
 use Rattle.sctp_association.proofs.Known.{kept_by, rest_same}
 use Rattle.sctp_association.proofs.association.Association.take_response.Goals as goal
@@ -33,6 +34,7 @@ loop-stream-preserved c = (
     over = c.loop-stream.invariant.4.over;
     wants = c.loop-stream.invariant.4.wants;
     acks = c.loop-stream.invariant.4.acks;
+    events = ap (λ (e : Events). record e { reset_by_us = c.insert.new.self }) c.loop-stream.invariant.4.events;
   },
 )
 
@@ -56,6 +58,7 @@ returns-in-Err c = record {
     over = c.loop-stream.invariant.4.over;
     wants = c.loop-stream.invariant.4.wants;
     acks = c.loop-stream.invariant.4.acks;
+    events = c.loop-stream.invariant.4.events;
   };
 }
 

@@ -10,7 +10,11 @@ use Rattle.sctp_association.specs.Rows.{tag_to}
 use Rattle.sctp_association.specs.declared.association.arrivals.Step.TheVariants.{Next}
 use Rattle.sctp_handshake.specs.Machines.{dropped}
 use Rattle.sctp_association.proofs.Telling.{end_then, to_low, to_same}
-use Rattle.std.proofs.Common.{arith, refl, rules, ◌∙◌}
+use Rattle.std.proofs.Common.{arith, refl, rules, sym, ◌∙◌}
+use Rattle.sctp_association.proofs.Brought.{adds_more, brings_at, brings_none, low_sack}
+use Rattle.sctp_association.specs.Brought.{low_by_sack}
+use Rattle.sctp_association.specs.StreamSet.{is_in}
+use Rattle.sctp_association.specs.declared.event.Events.{Events}
 use Rattle.sctp_association.proofs.Entering.{calls_of_sack, may_use_by}
 use Rattle.sctp_association.proofs.Arrived.{came_alike, came_same, came_then, sack_came}
 use Rattle.sctp_association.proofs.Going.{sack_read}
@@ -104,7 +108,7 @@ returns-in-Taken-clause-row c =
     let old = c.args.self.now in
     row_is c.args.chunk c.args.datagram.now c.args.now old _ (dropped old.machine) 0 (λ is. omega (arith, is, c.requires.typ))
     (row_typ c.args.chunk c.args.datagram.now c.args.now old _ c.requires.typ) (ap (λ n. tag_to n old.machine) c.requires.typ)
-    Next (follows_still 0 c.args.now old _ refl refl refl refl refl refl)
+    Next (follows_still 0 c.args.now old _ refl refl refl refl refl refl refl)
 
 -- by a forged one the association ends
 pub returns-clause-still : goal.returns-clause-still
@@ -130,3 +134,35 @@ returns-in-Taken-clause-acks c =
     let old = c.args.self.now in
     acks_row c.args.chunk c.args.datagram.now c.args.now old _ (dropped old.machine) (row_typ c.args.chunk c.args.datagram.now c.args.now old _ c.requires.typ)
     Next (λ _. refl) (λ is. omega (arith, is, c.requires.typ)) (λ is. omega (arith, is, c.requires.typ))
+
+-- ## What it brings
+
+pub returns-then-not-takes_sacks-clause-events : goal.returns-then-not-takes_sacks-clause-events
+returns-then-not-takes_sacks-clause-events c = brings_none _ _ _ _ refl
+
+pub returns-in-Err-clause-events : goal.returns-in-Err-clause-events
+returns-in-Err-clause-events c = brings_none _ _ _ _ refl
+
+pub returns-in_err-unless_memory-in-Err-clause-events : goal.returns-in_err-unless_memory-in-Err-clause-events
+returns-in_err-unless_memory-in-Err-clause-events c = brings_none _ _ _ _ refl
+
+pub returns-in_err-take_sack-clause-events : goal.returns-in_err-take_sack-clause-events
+returns-in_err-take_sack-clause-events c = brings_at _ _ _ _ 3 c.requires.typ refl refl refl refl
+    (adds_more _ _ _ _ (λ s p. low_by_sack _
+    (sack_there c.args.chunk.at c.args.datagram.now _ c.bytes_of.result.now c.bytes_of.ensures c.in-Ok.ensures.found) p)
+    c.take_sack.ensures.fell)
+
+pub returns-in-Taken-clause-events : goal.returns-in-Taken-clause-events
+returns-in-Taken-clause-events c = brings_at _ _ _ _ 3 c.requires.typ refl refl refl refl
+    (adds_more _ _ _ _ (λ s p. low_by_sack _
+    (sack_there c.args.chunk.at c.args.datagram.now _ c.bytes_of.result.now c.bytes_of.ensures c.in-Ok.ensures.found) p)
+    c.take_sack.ensures.fell)
+
+pub returns-clause-events : goal.returns-clause-events
+returns-clause-events c =
+    let is = c.end_with.ensures.events in
+    brings_at _ _ _ _ 3 c.requires.typ (is ∙ sym (ap (λ (e : Events). record c.args.self.now.events { closed = e.closed; low = e.low }) is))
+    (ap (λ (e : Events). e.readable) is) (ap (λ (e : Events). e.too_long) is) (ap (λ (e : Events). e.reset_by_peer) is)
+    (λ s w. low_sack c.args.chunk c.args.datagram.now c.args.self.now _ c.take_sack.new.low
+    (sack_there c.args.chunk.at c.args.datagram.now _ c.bytes_of.result.now c.bytes_of.ensures c.in-Ok.ensures.found) c.take_sack.ensures.fell s
+    (sym (ap (λ (e : Events). is_in s e.low) is) ∙ w))

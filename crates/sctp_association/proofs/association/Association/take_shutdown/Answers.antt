@@ -12,6 +12,11 @@ use Rattle.sctp_association.proofs.Shutting.{shutdown_still, shuts_still}
 use Rattle.sctp_association.specs.Shutting.{ShutsBy}
 use Rattle.sctp_association.proofs.Known.{keeps_by, knows_shutdown}
 use Rattle.sctp_association.proofs.Going.{shutdown_read}
+use Rattle.std.proofs.Common.{sym}
+use Rattle.sctp_association.proofs.Brought.{low_tsn, whole_passed}
+use Rattle.sctp_association.specs.StreamSet.{is_in}
+use Rattle.sctp_association.specs.Events.{whole_from}
+use Rattle.sctp_association.specs.declared.event.Events.{Events}
 use Rattle.sctp_association.proofs.association.Association.take_shutdown.Goals as goal
 
 pub returns-in_err-shutdown-clause-came : goal.returns-in_err-shutdown-clause-came
@@ -69,5 +74,27 @@ returns-clause-row c =
     let old = c.args.self.now in
     let takes = c.shutdown-answer.ensures.takes in
     follows_step _ 0 c.args.now old c.follow.new.self _ _ takes.machine takes.answer c.follow.ensures.kept.machine (
-    follows_from _ 0 old.machine.state _ c.args.now old _ c.follow.new.self c.follow.ensures.answer c.state-before.ensures refl refl refl refl refl
+    follows_from _ 0 old.machine.state _ c.args.now old _ c.follow.new.self c.follow.ensures.answer c.state-before.ensures refl refl refl refl refl refl
     )
+
+pub returns-clause-events : goal.returns-clause-events
+returns-clause-events c =
+    let old = c.args.self.now.events in
+    let new = c.follow.new.self.events in
+    let is = whole_passed _ _ _ c.follow.new.self c.follow.ensures.tells in
+    is ∙ ap (λ l. record (whole_from old new) { low = l }) (sym (ap (λ (e : Events). e.low) is))
+
+-- the buffered amount of a stream falls by it
+pub returns-clause-low : goal.returns-clause-low
+returns-clause-low c s w =
+    let is = whole_passed _ _ _ c.follow.new.self c.follow.ensures.tells in
+    let tsn = c.in-Some.shutdown.cumulative_tsn_ack in
+    let reads : StartsWith (drop c.args.chunk.at c.args.datagram.now) (shutdown_chunk tsn) = search rules in
+    low_tsn c.args.chunk c.args.datagram.now c.args.self.now tsn c.take_shutdown.new.low reads c.take_shutdown.ensures.fell s
+    (sym (ap (λ (e : Events). is_in s e.low) is) ∙ w)
+
+pub returns-in_err-_taken-clause-low : goal.returns-in_err-_taken-clause-low
+returns-in_err-_taken-clause-low c =
+    let tsn = c.in-Some.shutdown.cumulative_tsn_ack in
+    let reads : StartsWith (drop c.args.chunk.at c.args.datagram.now) (shutdown_chunk tsn) = search rules in
+    low_tsn c.args.chunk c.args.datagram.now c.args.self.now tsn c.take_shutdown.new.low reads c.take_shutdown.ensures.fell

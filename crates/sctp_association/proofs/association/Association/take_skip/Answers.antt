@@ -32,6 +32,8 @@ use Rattle.sctp_association.proofs.Expected.{and_none, as_taken}
 use Rattle.sctp_association.specs.Coming.{is_due}
 use Rattle.sctp_association.specs.declared.inbound.Inbound.{Inbound}
 use Rattle.sctp_handshake.specs.States.{takes_data}
+use Rattle.sctp_association.proofs.Brought.{brings_none, brings_skip}
+use Rattle.sctp_association.specs.Telling.{whole_of}
 use Rattle.sctp_association.proofs.association.Association.take_skip.Goals as goal
 
 pub returns-then-not-takes_data-clause-came : goal.returns-then-not-takes_data-clause-came
@@ -127,7 +129,7 @@ returns-clause-row c =
     (row_typ c.args.chunk c.args.datagram.now c.args.now old _ c.requires.typ) (ap (λ n. tag_to n old.machine) c.requires.typ)
     (ap goes_on c.requires.typ) c.end_by.result
     (λ next. subst (λ (x : Association). FollowsStep step 0 c.args.now old x) (sym (c.end_by.ensures.on next))
-    (follows_still 0 c.args.now old _ refl refl refl refl refl refl))
+    (follows_still 0 c.args.now old _ refl refl refl refl refl refl (ap whole_of c.take_skip.ensures.notes.rest)))
     (still_stop c.args.chunk c.args.datagram.now old c.end_by.new.self c.end_by.result (returns-clause-still c))
 
 -- ## Where it is taken
@@ -170,3 +172,26 @@ returns-clause-acks c =
     ∙ ap Ok (done_unless _ _ (c.end_by.ensures.next next) (λ wanting. c.take_skip.ensures.whole (c.in-Ok.is ∙ ap Ok wanting)) (λ e. e)) in
     ap (λ (a : Association). acks_of a.inbound) (c.end_by.ensures.on next) ∙ ap (λ (a : Acks). Some a) (c.take_skip.ensures.acks done)
     ∙ sym (ap (λ (o : Option Inbound). option_map (with_due c.args.now) (acks_of o)) c.in-Some-inbound.is))
+
+-- ## What it brings
+
+pub returns-then-not-takes_data-clause-events : goal.returns-then-not-takes_data-clause-events
+returns-then-not-takes_data-clause-events c = brings_none _ _ _ _ refl
+
+pub returns-in_err-skip-clause-events : goal.returns-in_err-skip-clause-events
+returns-in_err-skip-clause-events c = brings_none _ _ _ _ refl
+
+pub returns-in_default-clause-events : goal.returns-in_default-clause-events
+returns-in_default-clause-events c = brings_none _ _ _ _ refl
+
+pub returns-in_default-inbound-clause-events : goal.returns-in_default-inbound-clause-events
+returns-in_default-inbound-clause-events c = brings_none _ _ _ _ refl
+
+pub returns-in_default-take_skip-clause-events : goal.returns-in_default-take_skip-clause-events
+returns-in_default-take_skip-clause-events c =
+    brings_skip _ _ _ _ _ c.take_skip.new.self _ c.in-Some-inbound.is refl refl c.requires.typ c.take_skip.ensures.notes
+
+pub returns-clause-events : goal.returns-clause-events
+returns-clause-events c =
+    brings_skip _ _ _ _ _ c.take_skip.new.self _ c.in-Some-inbound.is c.end_by.ensures.halves.receiver c.end_by.ensures.events c.requires.typ
+    c.take_skip.ensures.notes

@@ -1,7 +1,7 @@
 use Rattle.sctp_association.specs.declared.event.Events.{Events}
 use Rattle.sctp_association.specs.declared.association.Association.{Association}
 use Rattle.sctp_association.proofs.Telling.{end_then, passes_as, streams_in, to_connected, to_none, to_over, to_restarted, to_shutdown}
-use Rattle.std.proofs.Common.{None, Some, ap, refl, rules, ◌≡◌, ◌∙◌}
+use Rattle.std.proofs.Common.{None, Some, ap, refl, rules, ◌≡◌, ◌∙◌, true}
 use Rattle.sctp_association.proofs.AcksOn.{told_begun, told_by}
 use Rattle.sctp_association.proofs.Begun.{begun_by}
 use Rattle.sctp_association.specs.Arrivals.{halves, new_sender}
@@ -45,12 +45,18 @@ returns-in-Failed-clause-begun c =
 pub returns-in-Connected-clause-tells : goal.returns-in-Connected-clause-tells
 returns-in-Connected-clause-tells c =
     let is : c.args.told ≡ told.Connected = search rules in
-    passes_as _ _ _ _ _ is (record { end = end_then c.begin.ensures.tells (to_connected _ _ _); told = refl })
+    passes_as _ _ _ _ _ is (record {
+      end = end_then c.begin.ensures.tells (to_connected _ _ _);
+      told = ap (λ (e : Events). record e { connected = true }) c.begin.ensures.events;
+    })
 
 pub returns-in-Restarted-clause-tells : goal.returns-in-Restarted-clause-tells
 returns-in-Restarted-clause-tells c =
     let is : c.args.told ≡ told.Restarted = search rules in
-    passes_as _ _ _ _ _ is (record { end = end_then (to_none _ _ _) (end_then c.begin-in-Restarted.ensures.tells (to_restarted _ _ _)); told = refl })
+    passes_as _ _ _ _ _ is (record {
+      end = end_then (to_none _ _ _) (end_then c.begin-in-Restarted.ensures.tells (to_restarted _ _ _));
+      told = ap (λ (e : Events). record e { restarted = true }) c.begin-in-Restarted.ensures.events;
+    })
 
 pub returns-in-ShutdownBegun-clause-tells : goal.returns-in-ShutdownBegun-clause-tells
 returns-in-ShutdownBegun-clause-tells c =
@@ -63,7 +69,7 @@ returns-in-Closed-clause-tells c =
     let rest = c.end.ensures.rest in
     passes_as _ _ _ _ _ is (record {
       end = to_over _ _ _ _ _ _ _ (ap (λ (x : Association). streams_in x.inbound) rest) c.end.ensures.told c.end.ensures.over;
-      told = ap (λ (e : Events). e.closed) c.end.ensures.told;
+      told = c.end.ensures.told;
     })
 
 pub returns-in-Failed-clause-tells : goal.returns-in-Failed-clause-tells
@@ -72,7 +78,7 @@ returns-in-Failed-clause-tells c =
     let rest = c.end-in-Failed.ensures.rest in
     passes_as _ _ _ _ _ is (record {
       end = to_over _ _ _ _ _ _ _ (ap (λ (x : Association). streams_in x.inbound) rest) c.end-in-Failed.ensures.told c.end-in-Failed.ensures.over;
-      told = ap (λ (e : Events). e.closed) c.end-in-Failed.ensures.told ∙ ap (λ e. Some e) c.failure.ensures;
+      told = c.end-in-Failed.ensures.told ∙ ap (λ how. record c.args.self.now.events { closed = Some how }) c.failure.ensures;
     })
 
 pub returns-in-Connected-clause-acks : goal.returns-in-Connected-clause-acks

@@ -8,6 +8,7 @@ use Rattle.sctp_data.specs.declared.chunk.chunk_payload_data.ChunkPayloadData.{C
 use Rattle.sctp_receiver.specs.declared.receiver.refusal.ReceiverRefusal.{ReceiverRefusal}
 use Rattle.sctp_receiver.specs.Receiver.{close_stream}
 use Rattle.sctp_association.specs.declared.inbound.Inbound.{Inbound}
+use Rattle.sctp_association.proofs.Brought.{adds_one, adds_out, notes_long, notes_none}
 use Rattle.sctp_association.proofs.inbound.Inbound.follow.Goals as goal
 use Rattle.sctp_association.proofs.inbound.Inbound.follow.Goals.{in-Drop, in-CloseAndDiscard+in_ok-discard-in-CloseAndDiscard}
 use Rattle.sctp_association.proofs.inbound.Inbound.follow.Goals.{in-OpenOrDiscard+in_ok-discard-in-OpenOrDiscard+then-not-contains}
@@ -70,3 +71,21 @@ returns-clause-tells c =
           (stays_put _ _ _ w.insert-in-CloseAndDiscard.ensures.value w.insert-in-CloseAndDiscard.ensures.full) (λ n h. h))
           w.remove.ensures.room w.remove.ensures.value)
     ])
+
+-- what is too long is noted, and no message of its stream can be read
+pub returns-clause-notes : goal.returns-clause-notes
+returns-clause-notes c why =
+    let e : Events = c.args.events.now in
+    let chunk : ChunkPayloadData = c.args.chunk.now in
+    elim c.match-advise.branch [
+      | in-Drop w ↦ rw w.events-is (notes_none _ _ _ _ refl)
+      | in-OpenOrDiscard+in_ok-discard-in-OpenOrDiscard+then-not-contains w ↦ rw w.events-is (notes_none _ _ _ _ refl)
+      | in-OpenOrDiscard+in_ok-discard-in-OpenOrDiscard+else-not-contains w ↦ rw w.events-is (notes_none _ _ _ _ refl)
+      | in-CloseAndDiscard+in_ok-discard-in-CloseAndDiscard w ↦
+          let large = only_too_large chunk c.args.self.now.receiver c.args.refusal (sym c.advise.ensures ∙ w.in-CloseAndDiscard.is) in
+          rw w.events-is (notes_long _ _ e w.remove.new.self w.insert-in-CloseAndDiscard.new.self
+          (adds_out _ chunk.stream_identifier e.readable w.remove.new.self w.remove.ensures.value)
+          (adds_one _ chunk.stream_identifier e.too_long w.insert-in-CloseAndDiscard.new.self
+          (refl, why ∙ ap (λ (x : ReceiverRefusal). Some x) large)
+          w.insert-in-CloseAndDiscard.ensures.value w.insert-in-CloseAndDiscard.ensures.full))
+    ]

@@ -1,6 +1,7 @@
 use Rattle.std.proofs.Common.{◌≡◌, ℕ, ◌<◌, true, length}
 use Rattle.std.specs.Prelude.{is_some}
 use Rattle.sctp_association.proofs.inbound.Inbound.note_readable.Given as goal
+use Rattle.sctp_association.specs.Brought.{AddsOnly}
 use Rattle.sctp_association.specs.StreamSet.{is_in}
 use Rattle.sctp_association.specs.Telling.{Stays}
 use Rattle.sctp_receiver.specs.Receiver.{message_on}
@@ -13,4 +14,5 @@ invariant-loop-stream l = record {
   rest : l.events ≡ record l.initial.events { readable = l.events.readable };
   room : length l.events.readable ≡ length l.initial.events.readable;
   readable : Stays l.initial.events.readable l.events.readable;
+  only : AddsOnly (λ s. is_some (message_on s l.self.receiver) ≡ true) l.initial.events.readable l.events.readable;
 }

@@ -1,6 +1,7 @@
 use Rattle.sctp_association.proofs.Noting.{same_streams, tells_in, tells_no_more, tells_opened, tells_same}
 use Rattle.std.proofs.Common.{ap, refl}
 use Rattle.sctp_association.proofs.Arriving.{received_opened, received_same}
+use Rattle.sctp_association.proofs.Brought.{notes_none}
 use Rattle.sctp_association.proofs.inbound.Inbound.open_agreed.Goals as goal
 use Rattle.sctp_receiver.specs.Receiver.{Reception}
 use Rattle.sctp_association.proofs.Named.{open_now, open_still}
@@ -48,3 +49,18 @@ pub returns-clause-tells : goal.returns-clause-tells
 returns-clause-tells c =
     let e = c.in_ok-reserve_inbound.ensures in
     tells_in _ _ _ _ (tells_opened _ _ _ _ _ e.kept e.room e.readable e.place c.in_ok-open.ensures.ok)
+
+pub returns-then-stream-self-clause-notes : goal.returns-then-stream-self-clause-notes
+returns-then-stream-self-clause-notes c = notes_none _ _ _ _ refl
+
+pub returns-in_err-reserve_inbound-clause-notes : goal.returns-in_err-reserve_inbound-clause-notes
+returns-in_err-reserve_inbound-clause-notes c = c.in_err-reserve_inbound.ensures.notes
+
+pub returns-in_err-reserve-clause-notes : goal.returns-in_err-reserve-clause-notes
+returns-in_err-reserve-clause-notes c = c.in_ok-reserve_inbound.ensures.notes
+
+pub returns-in_err-open-clause-notes : goal.returns-in_err-open-clause-notes
+returns-in_err-open-clause-notes c = c.in_ok-reserve_inbound.ensures.notes
+
+pub returns-clause-notes : goal.returns-clause-notes
+returns-clause-notes c = c.in_ok-reserve_inbound.ensures.notes

@@ -4,6 +4,9 @@ use Rattle.sctp_association.proofs.Entering.{handles_opened, to_use, usable_part
 use Rattle.sctp_association.proofs.Noting.{tells_after}
 use Rattle.sctp_data.specs.declared.chunk.chunk_payload_data.ChunkPayloadData.{ChunkPayloadData}
 use Rattle.sctp_association.proofs.Arriving.{opened_asked, received_then}
+use Rattle.std.proofs.Common.{ap, inr}
+use Rattle.sctp_association.proofs.Brought.{notes_after, notes_more}
+use Rattle.sctp_receiver.specs.Receiver.{arrival_refusal}
 use Rattle.sctp_association.proofs.inbound.Inbound.open_and_take.Goals as goal
 
 pub returns-in_err-open_agreed-clause-received : goal.returns-in_err-open_agreed-clause-received
@@ -30,3 +33,13 @@ returns-clause-acks c to is =
     let opened = c.in_ok-open_agreed.ensures in
     acks_opened c.args.chunk.now c.args.now c.args.self.now c.open_agreed.new.self c.take_on.new.self to
     (opened.opens refl (to_use stream c.args.self.now to)) opened.acks (c.take_on.ensures.acks is)
+
+pub returns-in_err-open_agreed-clause-notes : goal.returns-in_err-open_agreed-clause-notes
+returns-in_err-open_agreed-clause-notes c to = notes_more _ _ _ _ _ _ (λ s p. absurd p) (λ s p. absurd p) c.in_err-open_agreed.ensures.notes
+
+pub returns-clause-notes : goal.returns-clause-notes
+returns-clause-notes c to =
+    let chunk : ChunkPayloadData = c.args.chunk.now in
+    let opens = c.in_ok-open_agreed.ensures.opens refl (to_use chunk.stream_identifier c.args.self.now to) in
+    notes_after _ _ _ _ _ c.in_ok-open_agreed.ensures.notes
+    (notes_more _ _ _ _ _ _ (λ s p. p) (λ s p. inr (p.0, sym (ap (arrival_refusal chunk) opens) ∙ p.1)) c.take_on.ensures.notes)

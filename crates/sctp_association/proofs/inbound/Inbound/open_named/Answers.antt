@@ -4,6 +4,7 @@ use Rattle.std.proofs.lemmas.List.{take_all}
 use Rattle.std.proofs.lemmas.List.Elements.{All-more, All-nil, All-weaker}
 use Rattle.std.specs.Prelude.{All}
 use Rattle.sctp_association.proofs.Arriving.{received_same, received_then}
+use Rattle.sctp_association.proofs.Brought.{notes_none, notes_then}
 use Rattle.sctp_association.proofs.inbound.Inbound.open_named.Goals as goal
 use Rattle.sctp_association.proofs.Named.{named_at, named_opened, served_still}
 use Rattle.sctp_association.specs.Served.{IsServed}
@@ -14,7 +15,17 @@ returns-then-not-sna32lt-clause-received c = received_same _ _ _ refl
 
 pub loop-named-init : goal.loop-named-init
 loop-named-init c =
-    record { tells = tells_same _ _; received = received_same _ _ _ refl; limits = refl; streams = refl; same = λ n. refl; place = refl; acks = refl; served = All-nil _ }
+    record {
+      tells = tells_same _ _;
+      received = received_same _ _ _ refl;
+      limits = refl;
+      streams = refl;
+      same = λ n. refl;
+      place = refl;
+      acks = refl;
+      served = All-nil _;
+      notes = notes_none _ _ _ _ refl;
+    }
 
 pub returns-in_err-open-clause-received : goal.returns-in_err-open-clause-received
 returns-in_err-open-clause-received c =
@@ -47,6 +58,7 @@ loop-named-preserved c =
     let e = c.in_ok-open.ensures in
     record {
       tells = tells_after _ _ _ _ _ _ i.tells e.tells;
+      notes = notes_then _ _ _ _ _ i.notes e.notes;
       received = received_then _ _ _ _ i.received (named_opened f _ (named_at f xs at _ c.deref-named-items.ensures.value lt) _ _ e.received);
       limits = e.limits.0 ∙ i.limits;
       streams = e.limits.1 ∙ i.streams;
@@ -90,3 +102,12 @@ returns-in_err-open-clause-tells c = tells_after _ _ _ _ _ _ c.loop-named.invari
 
 pub returns-clause-tells : goal.returns-clause-tells
 returns-clause-tells c = c.loop-named.invariant.tells
+
+pub returns-then-not-sna32lt-clause-notes : goal.returns-then-not-sna32lt-clause-notes
+returns-then-not-sna32lt-clause-notes c = notes_none _ _ _ _ refl
+
+pub returns-in_err-open-clause-notes : goal.returns-in_err-open-clause-notes
+returns-in_err-open-clause-notes c = notes_then _ _ _ _ _ c.loop-named.invariant.notes c.in_err-open.ensures.notes
+
+pub returns-clause-notes : goal.returns-clause-notes
+returns-clause-notes c = c.loop-named.invariant.notes

@@ -2,6 +2,7 @@ use Rattle.std.proofs.Common.{◌≡◌, ℕ, take}
 use Rattle.std.specs.Prelude.{All, Some}
 use Rattle.sctp_association.specs.AcksDue.{acks_in}
 use Rattle.sctp_association.specs.Telling.{TellsIn}
+use Rattle.sctp_association.specs.Brought.{NotesOnly}
 use Rattle.sctp_association.specs.Arrivals.{IsOpeningNamed, Received}
 use Rattle.sctp_association.specs.Served.{IsServed}
 use Rattle.sctp_association.specs.StreamSet.{is_in}
@@ -18,5 +19,6 @@ invariant-loop-named l = record {
   same : (n : ℕ) → is_in n l.self.discarded ≡ is_in n l.initial.self.discarded;
   place : l.self.receiver.cumulative_tsn ≡ l.initial.self.receiver.cumulative_tsn;
   acks : acks_in l.self ≡ acks_in l.initial.self;
+  notes : NotesOnly (λ s. ⊥) (λ s. ⊥) l.initial.events l.events;
   served : All (λ n. IsServed n.identifier l.self) (take l.named-index l.named-items);
 }

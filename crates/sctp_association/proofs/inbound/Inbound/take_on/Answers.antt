@@ -7,6 +7,8 @@ use Rattle.sctp_association.proofs.inbound.Inbound.take_on.Goals.{else-complete-
 use Rattle.sctp_association.proofs.inbound.Inbound.take_on.Goals.{else-complete-via-then-complete+else-not-contains, else-complete-via-else-complete}
 use Rattle.std.proofs.Common.{ap, inl, refl, rules, sym, ◌<◌, ◌^◌, ◌∙◌}
 use Rattle.sctp_association.proofs.Arriving.{received_data, received_same, received_then}
+use Rattle.std.proofs.Common.{true, ◌≡◌}
+use Rattle.sctp_association.proofs.Brought.{adds_one, notes_more, notes_none, notes_read}
 use Rattle.sctp_association.proofs.inbound.Inbound.take_on.Goals as goal
 use Rattle.std.specs.Prelude.{IsOk}
 use Rattle.sctp_association.proofs.Coming.{refused_for}
@@ -120,3 +122,28 @@ returns-else-complete-clause-tells c =
       | else-complete-via-then-complete+else-not-contains w ↦ sym w.if-not-contains.ensures
       | else-complete-via-else-complete w ↦ cc (is, c.in-Ok-New.is, c.in-Ok-New.field-0-is, w.if-complete.false)
     ]))
+
+-- ## What is noted
+
+pub returns-then-is_readable-clause-notes : goal.returns-then-is_readable-clause-notes
+returns-then-is_readable-clause-notes c =
+    let s = c.args.chunk.now.stream_identifier in
+    let e : Events = c.args.events.now in
+    let there : is_some (message_on s c.note_data.new.self.receiver) ≡ true = search rules in
+    notes_read _ _ e c.insert.new.self (adds_one _ s e.readable c.insert.new.self (refl, there) c.insert.ensures.value c.insert.ensures.full)
+
+pub returns-else-complete-clause-notes : goal.returns-else-complete-clause-notes
+returns-else-complete-clause-notes c = notes_none _ _ _ _ refl
+
+pub returns-in-Ok-Repeat-clause-notes : goal.returns-in-Ok-Repeat-clause-notes
+returns-in-Ok-Repeat-clause-notes c = notes_none _ _ _ _ refl
+
+pub returns-in-OutOfMemory-clause-notes : goal.returns-in-OutOfMemory-clause-notes
+returns-in-OutOfMemory-clause-notes c = notes_none _ _ _ _ refl
+
+pub returns-in_default-clause-notes : goal.returns-in_default-clause-notes
+returns-in_default-clause-notes c =
+    let chunk : ChunkPayloadData = c.args.chunk.now in
+    let same = ap (arrival_refusal chunk) c.in-Err.ensures.err in
+    let why = same ∙ refused_for _ _ c.in_default.not-OutOfMemory c.in-Err.ensures.refused in
+    notes_more _ _ _ _ _ _ (λ s p. absurd p) (λ s p. (p.0, sym same ∙ p.1)) (c.follow.ensures.notes why)

@@ -2,6 +2,7 @@ use Rattle.sctp_association.proofs.Noting.{all_kept, tells_after, tells_in, tell
 use Rattle.std.proofs.Common.{ap, refl, rules, ◌<◌, ◌^◌}
 use Rattle.sctp_association.specs.AcksDue.{with_due}
 use Rattle.sctp_association.proofs.Arriving.{received_skip, received_then}
+use Rattle.sctp_association.proofs.Brought.{notes_after, notes_more, notes_rest}
 use Rattle.sctp_association.proofs.inbound.Inbound.take_skip.Goals as goal
 use Rattle.sctp_association.proofs.inbound.Inbound.take_skip.Goals.{in-Err+in_default, in-Ok-Skipped, in-Ok-Stale}
 use Rattle.sctp_association.proofs.Named.{named_asked, skipped_served}
@@ -32,6 +33,7 @@ returns-in-Abort c =
       same = c.in_ok-open_named.ensures.same;
       acks = λ is. cc (is);
       whole = λ is. cc (is);
+      notes = notes_more _ _ _ _ _ _ (λ s p. absurd p) (λ s p. p) c.in_ok-open_named.ensures.notes;
       ends = record { refusal = c.in-Err.refusal; refused = search rules; advised = search rules };
     }
 
@@ -86,3 +88,20 @@ returns-clause-acks c is =
       | in-Ok-Stale w ↦ rw w.self-is due
       | in-Err+in_default w ↦ rw w.self-is due
     ])
+
+-- ## What is noted
+
+pub returns-in_err-open_named-clause-notes : goal.returns-in_err-open_named-clause-notes
+returns-in_err-open_named-clause-notes c = notes_more _ _ _ _ _ _ (λ s p. absurd p) (λ s p. p) c.in_err-open_named.ensures.notes
+
+pub returns-in-Err-OutOfMemory-clause-notes : goal.returns-in-Err-OutOfMemory-clause-notes
+returns-in-Err-OutOfMemory-clause-notes c = notes_more _ _ _ _ _ _ (λ s p. absurd p) (λ s p. p) c.in_ok-open_named.ensures.notes
+
+pub returns-clause-notes : goal.returns-clause-notes
+returns-clause-notes c = elim c.match-forward_tsn.branch [
+  | in-Ok-Skipped w ↦
+      let n = w.note_readable.ensures in
+      rw (w.self-is, w.events-is) (notes_after _ _ _ _ _ c.in_ok-open_named.ensures.notes (notes_rest _ _ _ _ n.rest n.only))
+  | in-Ok-Stale w ↦ rw (w.self-is, w.events-is) (notes_more _ _ _ _ _ _ (λ s p. absurd p) (λ s p. p) c.in_ok-open_named.ensures.notes)
+  | in-Err+in_default w ↦ rw (w.self-is, w.events-is) (notes_more _ _ _ _ _ _ (λ s p. absurd p) (λ s p. p) c.in_ok-open_named.ensures.notes)
+]

@@ -7,6 +7,7 @@ use Rattle.sctp_association.proofs.Sacks.{hears_outdated, hears_taken}
 use Rattle.sctp_association.specs.Paths.{FollowsSack}
 use Rattle.sctp_data.specs.SelectiveAck.{Sack, sack_of}
 use Rattle.sctp_sender.specs.Flight.{is_outdated}
+use Rattle.sctp_association.proofs.Brought.{adds_more, adds_none, sack_fell}
 use Rattle.sctp_association.proofs.outbound.Outbound.take_sack.Goals as goal
 
 pub returns-then-sna32lt-clause-hearing : goal.returns-then-sna32lt-clause-hearing
@@ -18,6 +19,7 @@ returns-in-Err-OutOfMemory-clause-hearing c = acknowledged_sack _ _ c.pass_over_
 pub returns-in-Err : goal.returns-in-Err
 returns-in-Err c = record {
   low = λ s w. w;
+  fell = adds_none _ _;
   hearing = acknowledged_sack _ _ c.pass_over_blocks.ensures.either _ _ _ c.acked.ensures;
   hears = search rules;
   path = search rules;
@@ -73,3 +75,16 @@ returns-clause-path c taken =
             rest = c.follow.ensures.rest;
           }) c.acked_tsn.result c.acked_tsn.ensures c.count_missing.ensures.missed c.run_timer.ensures.at c.run_timer.ensures.rest),
     )
+
+-- ## The buffered amounts that fall
+
+pub returns-then-sna32lt-clause-fell : goal.returns-then-sna32lt-clause-fell
+returns-then-sna32lt-clause-fell c = adds_none _ _
+
+pub returns-in-Err-OutOfMemory-clause-fell : goal.returns-in-Err-OutOfMemory-clause-fell
+returns-in-Err-OutOfMemory-clause-fell c = adds_none _ _
+
+pub returns-clause-fell : goal.returns-clause-fell
+returns-clause-fell c =
+    adds_more _ _ _ _ (λ n h. sack_fell n _ c.args.self.now _ c.acked.new.self c.in-Ok.acked _ c.in-Ok.is c.acked.ensures
+    c.pass_over_blocks.ensures.taken c.deref.ensures.value h) c.note_low.ensures.only
