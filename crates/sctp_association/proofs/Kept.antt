@@ -5,8 +5,11 @@ use Rattle.std.specs.Prelude.{IfSome, Option}
 use Rattle.sctp_association.specs.declared.association.Association.{Association}
 use Rattle.sctp_association.specs.declared.event.Events.{Events}
 use Rattle.sctp_association.specs.declared.inbound.Inbound.{Inbound}
+use Rattle.sctp_association.specs.declared.outbound.Outbound.{Outbound}
 use Rattle.sctp_association.specs.Reached.{limits_of}
 use Rattle.sctp_handshake.specs.declared.machine.Machine.{Machine}
+use Rattle.sctp_reset.specs.Requests.{Requests}
+use Rattle.sctp_reset.specs.declared.peer_requests.PeerRequests.{PeerRequests}
 
 abbrev IsWithin : Association → Type 0
 IsWithin a = IfSome a.inbound (λ i. (i.receiver.limits ≡ Some (limits_of a.config)) × (i.streams ≤ a.config.inbound_streams))
@@ -28,3 +31,14 @@ same_inbound a o e p same told =
 
 pub same_due : (a b : Association) (p : IsWithin a) → b ≡ record a { due = b.due; limited = p } → b ≡ record a { due = b.due }
 same_due a b p e = e ∙ ap (λ l. record a { due = b.due; limited = l }) (one_proof a p a.limited)
+
+pub same_told : (a : Association) (o : Outbound) (e : Events) (p : IsWithin a)
+    → record a { outbound = o; events = e; limited = p } ≡ record a { outbound = o; events = e }
+same_told a o e p = ap (λ l. record a { outbound = o; events = e; limited = l }) (one_proof a p a.limited)
+
+pub same_requests : (a : Association) (o : Requests) (p : IsWithin a) → record a { requests = o; limited = p } ≡ record a { requests = o }
+same_requests a o p = ap (λ l. record a { requests = o; limited = l }) (one_proof a p a.limited)
+
+pub same_peer : (a : Association) (o : Option PeerRequests) (p : IsWithin a)
+    → record a { peer_requests = o; limited = p } ≡ record a { peer_requests = o }
+same_peer a o p = ap (λ l. record a { peer_requests = o; limited = l }) (one_proof a p a.limited)

@@ -4,6 +4,7 @@ use Rattle.sctp_association.specs.Beats.{AnswersOn, BeatsOn}
 use Rattle.sctp_association.specs.Causes.{cause_after, cause_in}
 use Rattle.sctp_association.specs.Cookies.{cookie_in}
 use Rattle.sctp_association.specs.Openings.{EchoesOn, InitAckOn, OffersTo}
+use Rattle.sctp_association.specs.Reconfigs.{ReconfigOn}
 use Rattle.sctp_association.specs.Reports.{value_in}
 use Rattle.sctp_association.specs.Rows.{RowOn, has_row}
 use Rattle.sctp_association.specs.Shutting.{ShutsOn}
@@ -50,7 +51,10 @@ pub record AloneOn (c : ChunkPlace) (tag : ℕ) (datagram : List ℕ) (now : ℕ
   -- Of each other chunk but a RE-CONFIG the machine makes what the row of its state says. Its reply is due, and no other; what it tells waits to be
   -- told; and the association is over where the row ends it. By DATA, a SACK or a FORWARD-TSN this side may end it (4, 5, 9).
   pub row : has_row c.typ ≡ true → RowOn c datagram now s old new
+  -- A RE-CONFIG: its parameters are followed. A request of the peer resets streams that the peer sends on, and is answered; a response ends the
+  -- request of this side, and its streams begin at SSN 0 again. Nothing else changes (RFC 6525 4, 5.2).
+  pub reconfig : c.typ ≡ 130 → ReconfigOn c datagram now s old new
 
--- it is none of DATA, INIT, INIT ACK and COOKIE-ECHO
+-- it is none of DATA, INIT, INIT ACK, COOKIE-ECHO and RE-CONFIG
 abbrev pub IsOther : ℕ → Type 0
-IsOther typ = (typ ≡ 0 → ⊥) × (typ ≡ 1 → ⊥) × (typ ≡ 2 → ⊥) × (typ ≡ 10 → ⊥)
+IsOther typ = (typ ≡ 0 → ⊥) × (typ ≡ 1 → ⊥) × (typ ≡ 2 → ⊥) × (typ ≡ 10 → ⊥) × (typ ≡ 130 → ⊥)

@@ -11,7 +11,7 @@ use Rattle.sctp_handshake.specs.declared.state.State.TheVariants.{Closed}
 use Rattle.sctp_association.proofs.Telling.{tells_due, tells_peer, tells_same, tells_still}
 use Rattle.std.proofs.Common.{ap, arith, refl, rules, sym, ◌≡◌, ◌∙◌}
 use Rattle.std.proofs.lemmas.Bool.{false≢true}
-use Rattle.sctp_association.proofs.Single.{alone_by, alone_plain, alone_refused}
+use Rattle.sctp_association.proofs.Single.{alone_by, alone_plain, alone_reconfig, alone_refused}
 use Rattle.sctp_association.specs.Rows.{has_row}
 use Rattle.sctp_association.proofs.Offered.{offered_calls, offered_due, offered_kept, offered_same}
 use Rattle.sctp_association.proofs.Paths.{moves_none}
@@ -90,6 +90,7 @@ pub returns-in-1-clause-alone : goal.returns-in-1-clause-alone
 returns-in-1-clause-alone c =
     let typ : c.args.chunk.typ ≡ 1 = search rules in
     alone_by c.args.chunk c.args.tag c.args.datagram.now c.args.now c.args.self.now c.take_init.new.self c.take_init.result
+    (λ is. absurd (omega (arith, is, typ)))
     (λ is. c.take_init.ensures.offers) (λ is. absurd (omega (arith, is, typ))) (λ is. absurd (omega (arith, is, typ)))
     (λ is. absurd (omega (arith, is, typ))) (λ is. absurd (omega (arith, is, typ))) (λ is. absurd (omega (arith, is, typ)))
     (λ is. absurd (omega (arith, is, typ))) (λ row. absurd (false≢true (sym (ap has_row typ) ∙ row)))
@@ -98,6 +99,7 @@ pub returns-in-2-clause-alone : goal.returns-in-2-clause-alone
 returns-in-2-clause-alone c =
     let typ : c.args.chunk.typ ≡ 2 = search rules in
     alone_by c.args.chunk c.args.tag c.args.datagram.now c.args.now c.args.self.now c.take_init_ack.new.self c.take_init_ack.result
+    (λ is. absurd (omega (arith, is, typ)))
     (λ is. absurd (omega (arith, is, typ))) (λ is. c.take_init_ack.ensures.row) (λ is. absurd (omega (arith, is, typ)))
     (λ is. absurd (omega (arith, is, typ))) (λ is. absurd (omega (arith, is, typ))) (λ is. absurd (omega (arith, is, typ)))
     (λ is. absurd (omega (arith, is, typ))) (λ row. absurd (false≢true (sym (ap has_row typ) ∙ row)))
@@ -112,6 +114,7 @@ pub returns-in-10-clause-alone : goal.returns-in-10-clause-alone
 returns-in-10-clause-alone c =
     let typ : c.args.chunk.typ ≡ 10 = search rules in
     alone_by c.args.chunk c.args.tag c.args.datagram.now c.args.now c.args.self.now c.take_cookie.new.self c.take_cookie.result
+    (λ is. absurd (omega (arith, is, typ)))
     (λ is. absurd (omega (arith, is, typ))) (λ is. absurd (omega (arith, is, typ))) (λ is. absurd (omega (arith, is, typ)))
     (λ is. absurd (omega (arith, is, typ))) (λ is. absurd (omega (arith, is, typ))) (λ is. absurd (omega (arith, is, typ))) (λ is. c.take_cookie.ensures.row)
     (λ row. absurd (false≢true (sym (ap has_row typ) ∙ row)))
@@ -119,10 +122,10 @@ returns-in-10-clause-alone c =
 pub returns-in-130-clause-alone : goal.returns-in-130-clause-alone
 returns-in-130-clause-alone c =
     let typ : c.args.chunk.typ ≡ 130 = search rules in
-    alone_plain c.args.chunk c.args.tag c.args.datagram.now c.args.now c.args.self.now c.take_reconfig.new.self c.take_reconfig.result 130 typ refl (
+    alone_reconfig c.args.chunk c.args.tag c.args.datagram.now c.args.now c.args.self.now c.take_reconfig.new.self c.take_reconfig.result typ (
     row_reset c.args.chunk c.args.datagram.now c.args.now c.args.self.now c.take_reconfig.new.self typ c.take_reconfig.ensures.kept
     c.take_reconfig.ensures.rest c.take_reconfig.result c.take_reconfig.ensures.goes_on
-    )
+    ) c.take_reconfig.ensures.reconfig
 
 pub returns-in-192-clause-alone : goal.returns-in-192-clause-alone
 returns-in-192-clause-alone c =
@@ -131,7 +134,7 @@ returns-in-192-clause-alone c =
     c.take_skip.ensures.row
 
 pub returns-in_default-clause-alone : goal.returns-in_default-clause-alone
-returns-in_default-clause-alone c = c.take_control.ensures.alone (search rules, search rules, search rules, search rules) c.args.tag
+returns-in_default-clause-alone c = c.take_control.ensures.alone (search rules, search rules, search rules, search rules, search rules) c.args.tag
 
 -- ## What is expected is not refused
 
@@ -188,7 +191,7 @@ returns-in_default-clause-due c admitted expected r =
     let at = expected_at c.args.chunk c.args.tag c.args.datagram.now c.args.now c.args.self.now expected c.args.chunk.typ refl (search rules) (search rules)
     (search rules) in
     never_refused (expects c.args.chunk.typ c.args.self.now) c.take_control.result
-    (c.take_control.ensures.expected (search rules, search rules, search rules, search rules) (search rules)) r
+    (c.take_control.ensures.expected (search rules, search rules, search rules, search rules, search rules) (search rules)) r
     (expected_control c.args.self.now c.args.chunk.typ (search rules) (search rules) (search rules) at).1
 
 -- ## Where a chunk is taken
@@ -241,7 +244,8 @@ pub returns-in_default-clause-expected : goal.returns-in_default-clause-expected
 returns-in_default-clause-expected c admitted row =
     let begun : c.args.self.now.machine.state ≡ Closed → ⊥ = search rules in
     as_same (expects c.args.chunk.typ c.args.self.now) c.take_control.result
-    (c.take_control.ensures.expected (search rules, search rules, search rules, search rules) (search rules)) (is_expected c.args.chunk.typ c.args.self.now)
+    (c.take_control.ensures.expected (search rules, search rules, search rules, search rules, search rules) (search rules))
+    (is_expected c.args.chunk.typ c.args.self.now)
     (control_expected c.args.self.now c.args.chunk.typ (search rules) (search rules) (search rules) begun)
 
 -- ## What ends the association
@@ -294,7 +298,7 @@ returns-in_default-clause-over c =
     let n192 : c.args.chunk.typ ≡ 192 → ⊥ = search rules in
     if_then c.take_control.result (λ s is h. ends_row c.args.chunk c.args.datagram.now c.args.self.now c.take_control.new.self
     c.args.now (off_other c.args.chunk.typ n0 n3 n192) s (λ cut. c.take_control.ensures.whole (is ∙ ap Ok cut)) (h.row (row_has c.args.chunk.typ n1 n2 n10)))
-    (c.take_control.ensures.alone (n0, n1, n2, n10) c.args.tag)
+    (c.take_control.ensures.alone (n0, n1, n2, n10, search rules) c.args.tag)
 
 -- ## What a chunk leaves behind which the datagram goes on
 
