@@ -10,8 +10,11 @@ use Rattle.sctp_path.specs.declared.timer.Timer.{Timer}
 use Rattle.sctp_reset.specs.Requests.{Requests}
 use Rattle.sctp_association.specs.declared.event.Events.{Events}
 use Rattle.sctp_association.specs.declared.inbound.Inbound.{Inbound}
+use Rattle.sctp_association.specs.declared.outbound.Outbound.{Outbound}
 use Rattle.sctp_association.specs.Reached.{limits_of}
 use Rattle.sctp_handshake.specs.declared.machine.Machine.{Machine}
+use Rattle.sctp_reset.specs.Requests.{Requests}
+use Rattle.sctp_reset.specs.declared.peer_requests.PeerRequests.{PeerRequests}
 
 abbrev IsWithin : Association → Type 0
 IsWithin a = IfSome a.inbound (λ i. (i.receiver.limits ≡ Some (limits_of a.config)) × (i.streams ≤ a.config.inbound_streams))
@@ -43,3 +46,14 @@ same_run_out a m d k o p = ap (λ l. record a { machine = m; due = d; control = 
 pub same_later : (a : Association) (o : Outbound) (q : Requests) (h : Option Heartbeat) (p : IsWithin a)
     → record a { outbound = o; requests = q; heartbeat = h; limited = p } ≡ record a { outbound = o; requests = q; heartbeat = h }
 same_later a o q h p = ap (λ l. record a { outbound = o; requests = q; heartbeat = h; limited = l }) (one_proof a p a.limited)
+
+pub same_told : (a : Association) (o : Outbound) (e : Events) (p : IsWithin a)
+    → record a { outbound = o; events = e; limited = p } ≡ record a { outbound = o; events = e }
+same_told a o e p = ap (λ l. record a { outbound = o; events = e; limited = l }) (one_proof a p a.limited)
+
+pub same_requests : (a : Association) (o : Requests) (p : IsWithin a) → record a { requests = o; limited = p } ≡ record a { requests = o }
+same_requests a o p = ap (λ l. record a { requests = o; limited = l }) (one_proof a p a.limited)
+
+pub same_peer : (a : Association) (o : Option PeerRequests) (p : IsWithin a)
+    → record a { peer_requests = o; limited = p } ≡ record a { peer_requests = o }
+same_peer a o p = ap (λ l. record a { peer_requests = o; limited = l }) (one_proof a p a.limited)

@@ -25,6 +25,7 @@ pub mod Inits
 pub mod Readings
 pub mod Others
 pub mod Owing
+pub mod Reconfigs
 pub mod Resetting
 pub mod Making
 pub mod Sessions

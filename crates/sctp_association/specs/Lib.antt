@@ -47,6 +47,7 @@ pub mod Pairs
 pub mod Paths
 pub mod Reached
 pub mod Reads
+pub mod Reconfigs
 pub mod Replying
 pub mod Reports
 pub mod Rooms

@@ -6,6 +6,7 @@ use Rattle.sctp_association.specs.Brought.{BringsOnly}
 use Rattle.sctp_association.specs.Causes.{cause_after, cause_in}
 use Rattle.sctp_association.specs.Cookies.{cookie_in}
 use Rattle.sctp_association.specs.Openings.{EchoesOn, InitAckOn, OffersTo}
+use Rattle.sctp_association.specs.Reconfigs.{ReconfigOn}
 use Rattle.sctp_association.specs.Reports.{value_in}
 use Rattle.sctp_association.specs.Rows.{RowOn, has_row}
 use Rattle.sctp_association.specs.Shutting.{ShutsOn}
@@ -57,8 +58,11 @@ pub record AloneOn (c : ChunkPlace) (tag : ℕ) (datagram : List ℕ) (now : ℕ
   pub acks : has_row c.typ ≡ true → AcksOn c datagram now s old new
   -- By its type it brings events, and no others: a message can be read, or is too long, on the stream of DATA alone (6.2, 6.5, 9, 11.2).
   pub events : BringsOnly c datagram old new
+  -- A RE-CONFIG: its parameters are followed. A request of the peer resets streams that the peer sends on, and is answered; a response ends the
+  -- request of this side, and its streams begin at SSN 0 again. Nothing else changes (RFC 6525 4, 5.2).
+  pub reconfig : c.typ ≡ 130 → ReconfigOn c datagram now s old new
 
--- it is none of DATA, INIT, INIT ACK, COOKIE-ECHO and FORWARD-TSN
+-- it is none of DATA, INIT, INIT ACK, COOKIE-ECHO, FORWARD-TSN and RE-CONFIG
 abbrev pub IsOther : ℕ → Type 0
-IsOther typ =
-    (typ ≡ 0 → ⊥) × (typ ≡ 1 → ⊥) × (typ ≡ 2 → ⊥) × (typ ≡ 10 → ⊥) × (typ ≡ 192 → ⊥)
+IsOther typ = (typ ≡ 0 → ⊥) × (typ ≡ 1 → ⊥) × (typ ≡ 2 → ⊥) × (typ ≡ 10 → ⊥)
+    × (typ ≡ 192 → ⊥) × (typ ≡ 130 → ⊥)

@@ -82,6 +82,7 @@ impl Inbound {
     ghost use Rattle.sctp_association.specs.Entering.{Handles, HandlesOpen, HandlesRefused};
     ghost use Rattle.sctp_association.specs.Events.{brought_at};
     ghost use Rattle.sctp_association.specs.Reads.{IsReadOff};
+    ghost use Rattle.sctp_association.specs.Reconfigs.{ResetsOne};
     ghost use Rattle.sctp_association.specs.Served.{AreServed, IsServed, is_to_open, is_usable};
     ghost use Rattle.sctp_association.specs.Telling.{KeepsEvents, Stays, TellsIn};
     ghost use Rattle.sctp_association.specs.declared.event.Events.{Events};
@@ -480,6 +481,7 @@ impl Inbound {
         ensures noted { could_read ≡ false → is_some (message_on stream self.now.receiver) ≡ true
             → stream < length events.old.readable → is_in stream events.new.readable ≡ true }
         ensures kept { KeepsEvents events.old events.new }
+        ensures rest { events.new ≡ record events.old { readable = events.new.readable } }
         ensures room { length events.new.readable ≡ length events.old.readable }
         ensures readable { Stays events.old.readable events.new.readable }
         ensures rest { events.new ≡ record events.old { readable = events.new.readable } }
@@ -535,6 +537,9 @@ impl Inbound {
         ensures others { (n : ℕ) → (n == stream) ≡ false
             → is_in n self.new.discarded ≡ is_in n self.old.discarded }
         ensures acks { acks_in self.new ≡ acks_in self.old }
+        // It is performed, or in progress, or the number is wrong, and all that follows.
+        ensures resets { IfOk result (λ r. ResetsOne stream last_tsn is_named r
+            self.old events.old self.new events.new) }
     {
         if stream >= self.streams {
             return Ok(ReconfigResult::ErrorWrongSsn);

@@ -9,6 +9,7 @@ ghost use Rattle.sctp_association.specs.Expected.{AsExpected, takes_resets};
 ghost use Rattle.sctp_association.specs.Halves.{HalvesAlike, PutsDue, halves_of, receiver_of};
 ghost use Rattle.sctp_association.specs.Idle.{sack_delay};
 ghost use Rattle.sctp_association.specs.Leaving.{AsksNoMore, IsReconfigOf, PutsReconfig, replies_of, requests_due, responses_due};
+ghost use Rattle.sctp_association.specs.Reconfigs.{FollowsBytes, ParamOn, ReconfigOn, RequestOn, ResetsEach, ResetsListed, ResetsStream, answered, denied_by, inbound_agreed, number_at, numbers_from};
 ghost use Rattle.sctp_association.specs.Telling.{Tells, TellsEnd};
 ghost use Rattle.sctp_association.specs.declared.fault.Fault.TheVariants.{NoSuchStream, OutOfMemory};
 ghost use Rattle.sctp_association.specs.declared.association.Reason.{Reason};
@@ -16,12 +17,14 @@ ghost use Rattle.sctp_association.specs.declared.association.arrivals.Step.TheVa
 ghost use Rattle.sctp_datagram.specs.Carried.{IsChunkOf};
 ghost use Rattle.sctp_datagram.specs.Places.{IsPlace};
 ghost use Rattle.sctp_params.specs.Param.{outgoing_reset_request};
+ghost use Rattle.sctp_handshake.specs.Machines.{agreed};
 ghost use Rattle.sctp_params.specs.ResetRequest.{reset_request_of};
+ghost use Rattle.sctp_params.specs.declared.param.param_reconfig_response.ReconfigResult.TheVariants.{SuccessPerformed};
 ghost use Rattle.sctp_association.specs.Still.{IsLater, request_time};
 ghost use Rattle.sctp_chunks.specs.Reconfig.{reconfig_of};
 ghost use Rattle.sctp_reset.specs.Own.{after_ask, is_idle};
 
-use super::arrivals::Step;
+use super::arrivals::{Step, unless_memory};
 use super::{Association, Reason};
 use crate::fault::Fault;
 use bytes::Bytes;
@@ -33,7 +36,6 @@ use sctp_params::{
 };
 use sctp_reset::{Answer, Due};
 use sctp_sender::sender::refusal::SenderRefusal;
-use sctp_util::error::Error;
 
 // The most streams of a request: it then fits into the least packet.
 const MOST_STREAMS: usize = 64;
@@ -283,6 +285,8 @@ impl Association {
         ensures goes_on { result ≡ Ok step.Stop → ⊥ }
         ensures expected { IfOk result
             (λ s. AsExpected (takes_resets self.old.machine.state) s) }
+        ensures reconfig { IfOk result
+            (λ s. ReconfigOn chunk datagram.now now s self.old self.new) }
     {
         if !self.machine.state().takes_data() && !self.machine.state().takes_sacks() {
             return Ok(Step::Refused(Reason::Unexpected));
@@ -294,7 +298,7 @@ impl Association {
         let raw = datagram.slice(chunk.at..end)?;
         let mut at = 4;
         let mut has_request = false;
-        for _ in 0..MOST_PARAMS {
+        for _done in 0..MOST_PARAMS {
             if at >= raw.len() {
                 break;
             }
@@ -321,22 +325,36 @@ impl Association {
             (halves_of self.old) (halves_of self.new) }
         ensures kept { IsKept self.old self.new }
         ensures rest { RestStays self.old self.new }
+        ensures made { OnOk result (ParamOn typ raw.now at now self.old self.new) }
     {
         match typ {
-            13 | 16 => {}
-            14 | 15 | 17 | 18 => return Ok(self.deny(raw, at)),
-            _ => return Ok(()),
+            13 | 16 => self.follow_param(raw, at, now),
+            14 | 15 | 17 | 18 => Ok(self.deny(raw, at)),
+            _ => Ok(()),
         }
+    }
+
+    // Reads a parameter, and follows it where it is a request to reset outgoing streams or a response.
+    fn follow_param(&mut self, raw: &Bytes, at: usize, now: u64) -> Result<(), Fault>
+        ensures tells { TellsEnd self.old self.new }
+        ensures came { Follows (ParamAsksIn (drop at raw.now)) Does
+            (halves_of self.old) (halves_of self.new) }
+        ensures kept { IsKept self.old self.new }
+        ensures rest { RestStays self.old self.new }
+        ensures made { OnOk result (FollowsBytes (drop at raw.now) now self.old self.new) }
+    {
         if at > raw.len() {
             return Ok(());
         }
         let rest = raw.slice(at..)?;
-        match build_param(self.alloc, &rest) {
-            Ok(ParamKind::OutgoingResetRequest(request)) => self.take_request(&request),
-            Ok(ParamKind::ReconfigResponse(response)) => self.take_response(&response, now),
-            Ok(_) => Ok(()),
-            Err(Error::ErrOutOfMemory) => Err(Fault::OutOfMemory),
-            Err(_) => Ok(()),
+        let param = match build_param(self.alloc, &rest) {
+            Ok(param) => param,
+            Err(e) => return unless_memory(e),
+        };
+        match param {
+            ParamKind::OutgoingResetRequest(request) => self.take_request(&request),
+            ParamKind::ReconfigResponse(response) => self.take_response(&response, now),
+            _ => Ok(()),
         }
     }
 
@@ -346,6 +364,7 @@ impl Association {
         ensures halves { HalvesAlike self.old self.new }
         ensures kept { IsKept self.old self.new }
         ensures rest { RestStays self.old self.new }
+        ensures made { self.new ≡ denied_by (number_at raw.now at) self.old }
     {
         let Some(peer) = &mut self.peer_requests else {
             return;
@@ -367,6 +386,8 @@ impl Association {
             Does (halves_of self.old) (halves_of self.new) }
         ensures kept { IsKept self.old self.new }
         ensures rest { RestStays self.old self.new }
+        ensures made { OnOk result (RequestOn (reset_request_of request.now)
+            self.old.peer_requests self.old self.new) }
     {
         let Some(peer) = &mut self.peer_requests else {
             return Ok(());
@@ -390,6 +411,8 @@ impl Association {
             Does (halves_of self.old) (halves_of self.new) }
         ensures kept { IsKept self.old self.new }
         ensures rest { RestStays self.old self.new }
+        ensures listed { IfOk result (λ r. ResetsListed request.now.sender_last_tsn
+            request.now.stream_identifiers.items r self.old self.new) }
     {
         if request.stream_identifiers.is_empty() {
             return self.perform_all(request.sender_last_tsn);
@@ -413,6 +436,9 @@ impl Association {
             (receiver_of self.old.inbound) (receiver_of self.new.inbound) }
         ensures kept { IsKept self.old self.new }
         ensures rest { RestStays self.old self.new }
+        ensures each { IfOk result (λ r. ResetsEach last_tsn false
+            (numbers_from (inbound_agreed (agreed self.old.machine)) 0)
+            SuccessPerformed r self.old self.new) }
     {
         let streams = match self.machine.agreed() {
             Some(agreed) => agreed.inbound_streams,
@@ -439,6 +465,8 @@ impl Association {
             (receiver_of self.old.inbound) (receiver_of self.new.inbound) }
         ensures kept { IsKept self.old self.new }
         ensures rest { RestStays self.old self.new }
+        ensures one { IfOk result
+            (λ r. ResetsStream stream last_tsn is_named r self.old self.new) }
     {
         match &mut self.inbound {
             Some(inbound) => inbound.reset(stream, last_tsn, is_named, &mut self.events),
@@ -454,6 +482,7 @@ impl Association {
         ensures inbound { self.new.inbound ≡ self.old.inbound }
         ensures kept { IsKept self.old self.new }
         ensures rest { RestStays self.old self.new }
+        ensures made { OnOk result (self.new ≡ answered response.now now self.old) }
     {
         let rto = self.outbound.rto.get();
         let number = response.reconfig_response_sequence_number;

@@ -1,5 +1,10 @@
 use Rattle.sctp_association.specs.Arrivals.{Does, Follows, ParamAsks}
 use Rattle.sctp_association.specs.Kept.{IsKept, RestStays}
+use Rattle.std.specs.Prelude.{drop, true}
+use Rattle.sctp_association.specs.Reconfigs.{ResetsEach}
+use Rattle.sctp_association.specs.declared.association.Association.{Association}
+use Rattle.sctp_params.specs.declared.param.param_reconfig_response.ReconfigResult.{ReconfigResult}
+use Rattle.sctp_params.specs.declared.param.param_reconfig_response.ReconfigResult.TheVariants.{SuccessPerformed}
 use Rattle.sctp_association.specs.Halves.{halves_of}
 use Rattle.sctp_params.specs.Param.{outgoing_reset_request}
 use Rattle.sctp_params.specs.ResetRequest.{reset_request_of}
@@ -13,4 +18,7 @@ invariant-loop-stream l = record {
   kept : IsKept l.initial.self l.self;
   tells : TellsEnd l.initial.self l.self;
   rest : RestStays l.initial.self l.self;
+  each : (outcome : ReconfigResult) (new : Association)
+      → ResetsEach l.request.sender_last_tsn true (drop l.stream-index l.stream-items) l.outcome outcome l.self new
+      → ResetsEach l.request.sender_last_tsn true l.stream-items SuccessPerformed outcome l.initial.self new;
 }

@@ -1,4 +1,9 @@
-use Rattle.std.proofs.Common.{◌≡◌}
+use Rattle.std.proofs.Common.{◌≡◌, ℕ, ◌+◌}
+use Rattle.std.specs.Prelude.{false}
+use Rattle.sctp_association.specs.Reconfigs.{ResetsEach, numbers_from}
+use Rattle.sctp_association.specs.declared.association.Association.{Association}
+use Rattle.sctp_params.specs.declared.param.param_reconfig_response.ReconfigResult.{ReconfigResult}
+use Rattle.sctp_params.specs.declared.param.param_reconfig_response.ReconfigResult.TheVariants.{SuccessPerformed}
 use Rattle.sctp_association.specs.Arrivals.{IsResetAt, ReceivedIn}
 use Rattle.sctp_association.specs.Kept.{IsKept, RestStays}
 use Rattle.sctp_association.specs.Halves.{receiver_of}
@@ -13,4 +18,7 @@ invariant-loop-stream l = record {
   kept : IsKept l.initial.self l.self;
   tells : TellsEnd l.initial.self l.self;
   rest : RestStays l.initial.self l.self;
+  each : (left : ℕ) → left + l.stream ≡ l.streams → (outcome : ReconfigResult) (new : Association)
+      → ResetsEach l.last_tsn false (numbers_from left l.stream) SuccessPerformed outcome l.self new
+      → ResetsEach l.last_tsn false (numbers_from l.streams 0) SuccessPerformed outcome l.initial.self new;
 }

@@ -3,6 +3,8 @@ use Rattle.std.proofs.Common.{Option, Some, ap, refl, sym, ◌∙◌}
 use Rattle.sctp_association.specs.AcksDue.{Acks, acks_of}
 use Rattle.sctp_association.specs.declared.inbound.Inbound.{Inbound}
 use Rattle.sctp_association.proofs.Arrived.{received_in, received_in_same}
+use Rattle.sctp_association.proofs.Kept.{same_machine}
+use Rattle.sctp_association.proofs.Reconfigs.{stream_in, stream_none}
 use Rattle.sctp_association.proofs.association.Association.perform_one.Goals as goal
 
 pub returns-in-Some-clause-received : goal.returns-in-Some-clause-received
@@ -21,5 +23,28 @@ returns-in-Some-clause-rest c = record {
   guard = refl;
   over = refl;
   wants = refl;
+  events = c.reset.ensures.events;
   acks = ap (λ (a : Acks). Some a) c.reset.ensures.acks ∙ sym (ap (λ (x : Option Inbound). acks_of x) c.in-Some.is);
 }
+
+pub returns-in-Some-clause-one : goal.returns-in-Some-clause-one
+returns-in-Some-clause-one c = stream_in c.args.stream c.args.last_tsn c.args.is_named _ _ c.reset.result _ c.reset.new.self c.in-Some.is refl
+    c.reset.ensures.resets (record {
+      config = refl;
+      key = refl;
+      machine = refl;
+      is_over = refl;
+      wants_shutdown = refl;
+      outbound = refl;
+      requests = refl;
+      peer_requests = refl;
+      control = refl;
+      guard = refl;
+      heartbeat = refl;
+      cookie = refl;
+      due = refl;
+      draft = refl;
+    })
+
+pub returns-in-None-clause-one : goal.returns-in-None-clause-one
+returns-in-None-clause-one c = stream_none c.args.stream c.args.last_tsn c.args.is_named _ _ c.in-None.is (same_machine c.args.self.now _ _ refl)

@@ -13,7 +13,7 @@ use Rattle.sctp_handshake.specs.declared.state.State.TheVariants.{Closed}
 use Rattle.sctp_association.proofs.Telling.{tells_due, tells_peer, tells_same, tells_still}
 use Rattle.std.proofs.Common.{ap, arith, refl, rules, sym, ◌≡◌, ◌∙◌}
 use Rattle.std.proofs.lemmas.Bool.{false≢true}
-use Rattle.sctp_association.proofs.Single.{alone_by, alone_plain, alone_refused}
+use Rattle.sctp_association.proofs.Single.{alone_by, alone_plain, alone_reconfig, alone_refused}
 use Rattle.sctp_association.specs.Rows.{has_row}
 use Rattle.sctp_association.proofs.Offered.{offered_calls, offered_due, offered_kept, offered_same}
 use Rattle.sctp_association.proofs.Paths.{moves_none}
@@ -97,6 +97,7 @@ returns-in-1-clause-alone c =
     let typ : c.args.chunk.typ ≡ 1 = search rules in
     alone_by c.args.chunk c.args.tag c.args.datagram.now c.args.now c.args.self.now c.take_init.new.self c.take_init.result (brings_none c.args.chunk c.args.datagram.now c.args.self.now c.take_init.new.self (ap (λ (x : Association). x.events) c.take_init.ensures.due))
     (λ row. absurd (false≢true (sym (ap has_row typ) ∙ row)))
+    (λ is. absurd (omega (arith, is, typ)))
     (λ is. c.take_init.ensures.offers) (λ is. absurd (omega (arith, is, typ))) (λ is. absurd (omega (arith, is, typ)))
     (λ is. absurd (omega (arith, is, typ))) (λ is. absurd (omega (arith, is, typ))) (λ is. absurd (omega (arith, is, typ)))
     (λ is. absurd (omega (arith, is, typ))) (λ row. absurd (false≢true (sym (ap has_row typ) ∙ row)))
@@ -106,6 +107,7 @@ returns-in-2-clause-alone c =
     let typ : c.args.chunk.typ ≡ 2 = search rules in
     alone_by c.args.chunk c.args.tag c.args.datagram.now c.args.now c.args.self.now c.take_init_ack.new.self c.take_init_ack.result (brings_whole c.args.chunk c.args.datagram.now c.args.self.now c.take_init_ack.new.self 2 typ refl c.take_init_ack.ensures.events)
     (λ row. absurd (false≢true (sym (ap has_row typ) ∙ row)))
+    (λ is. absurd (omega (arith, is, typ)))
     (λ is. absurd (omega (arith, is, typ))) (λ is. c.take_init_ack.ensures.row) (λ is. absurd (omega (arith, is, typ)))
     (λ is. absurd (omega (arith, is, typ))) (λ is. absurd (omega (arith, is, typ))) (λ is. absurd (omega (arith, is, typ)))
     (λ is. absurd (omega (arith, is, typ))) (λ row. absurd (false≢true (sym (ap has_row typ) ∙ row)))
@@ -122,6 +124,7 @@ returns-in-10-clause-alone c =
     let typ : c.args.chunk.typ ≡ 10 = search rules in
     alone_by c.args.chunk c.args.tag c.args.datagram.now c.args.now c.args.self.now c.take_cookie.new.self c.take_cookie.result (brings_whole c.args.chunk c.args.datagram.now c.args.self.now c.take_cookie.new.self 10 typ refl c.take_cookie.ensures.events)
     (λ row. absurd (false≢true (sym (ap has_row typ) ∙ row)))
+    (λ is. absurd (omega (arith, is, typ)))
     (λ is. absurd (omega (arith, is, typ))) (λ is. absurd (omega (arith, is, typ))) (λ is. absurd (omega (arith, is, typ)))
     (λ is. absurd (omega (arith, is, typ))) (λ is. absurd (omega (arith, is, typ))) (λ is. absurd (omega (arith, is, typ))) (λ is. c.take_cookie.ensures.row)
     (λ row. absurd (false≢true (sym (ap has_row typ) ∙ row)))
@@ -129,13 +132,13 @@ returns-in-10-clause-alone c =
 pub returns-in-130-clause-alone : goal.returns-in-130-clause-alone
 returns-in-130-clause-alone c =
     let typ : c.args.chunk.typ ≡ 130 = search rules in
-    alone_plain c.args.chunk c.args.tag c.args.datagram.now c.args.now c.args.self.now c.take_reconfig.new.self c.take_reconfig.result (brings_reset c.args.chunk c.args.datagram.now c.args.self.now c.take_reconfig.new.self typ c.take_reconfig.ensures.rest.events) 130 typ refl
+    alone_reconfig c.args.chunk c.args.tag c.args.datagram.now c.args.now c.args.self.now c.take_reconfig.new.self c.take_reconfig.result (brings_reset c.args.chunk c.args.datagram.now c.args.self.now c.take_reconfig.new.self typ c.take_reconfig.ensures.rest.events) typ
     (acks_rows c.args.chunk c.args.datagram.now c.args.now c.args.self.now c.take_reconfig.new.self (dropped c.args.self.now.machine)
     (row_typ c.args.chunk c.args.datagram.now c.args.now c.args.self.now 130 typ) c.take_reconfig.result (λ _. c.take_reconfig.ensures.rest.acks)
     (λ is. omega (arith, is, typ)) (λ is. omega (arith, is, typ))) (
     row_reset c.args.chunk c.args.datagram.now c.args.now c.args.self.now c.take_reconfig.new.self typ c.take_reconfig.ensures.kept
     c.take_reconfig.ensures.rest c.take_reconfig.result c.take_reconfig.ensures.goes_on
-    )
+    ) c.take_reconfig.ensures.reconfig
 
 pub returns-in-192-clause-alone : goal.returns-in-192-clause-alone
 returns-in-192-clause-alone c =
@@ -309,7 +312,7 @@ returns-in_default-clause-over c =
     let n192 : c.args.chunk.typ ≡ 192 → ⊥ = search rules in
     if_then c.take_control.result (λ s is h. ends_row c.args.chunk c.args.datagram.now c.args.self.now c.take_control.new.self
     c.args.now (off_other c.args.chunk.typ n0 n3 n192) s (λ cut. c.take_control.ensures.whole (is ∙ ap Ok cut)) (h.row (row_has c.args.chunk.typ n1 n2 n10)))
-    (c.take_control.ensures.alone (n0, n1, n2, n10, n192) c.args.tag)
+    (c.take_control.ensures.alone (n0, n1, n2, n10, n192, search rules) c.args.tag)
 
 -- ## What a chunk leaves behind which the datagram goes on
 

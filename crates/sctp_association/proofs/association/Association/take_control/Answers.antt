@@ -104,6 +104,7 @@ returns-in-4-clause-alone c other tag =
     (λ e. acks_rows c.args.chunk d c.args.now c.args.self.now c.take_heartbeat.new.self (dropped c.args.self.now.machine)
     (row_typ c.args.chunk d c.args.now c.args.self.now _ typ) c.take_heartbeat.result (λ _. ap (λ (o : Option Inbound). acks_of o) c.take_heartbeat.ensures.inbound)
     (λ is. omega (arith, is, typ)) (λ is. omega (arith, is, typ)))
+    (λ is. absurd (omega (arith, is, typ)))
     (λ is. absurd (omega (arith, is, typ))) (λ is. absurd (omega (arith, is, typ))) (λ is. c.take_heartbeat.ensures.answers)
     (λ is. absurd (omega (arith, is, typ))) (λ is. absurd (omega (arith, is, typ))) (λ is. absurd (omega (arith, is, typ)))
     (λ is. absurd (omega (arith, is, typ)))
@@ -119,6 +120,7 @@ returns-in-5-clause-alone c other tag =
     (λ e. acks_rows c.args.chunk d c.args.now c.args.self.now c.take_heartbeat_ack.new.self (dropped c.args.self.now.machine)
     (row_typ c.args.chunk d c.args.now c.args.self.now _ typ) c.take_heartbeat_ack.result (λ _. ap (λ (o : Option Inbound). acks_of o) c.take_heartbeat_ack.ensures.inbound)
     (λ is. omega (arith, is, typ)) (λ is. omega (arith, is, typ)))
+    (λ is. absurd (omega (arith, is, typ)))
     (λ is. absurd (omega (arith, is, typ))) (λ is. absurd (omega (arith, is, typ))) (λ is. absurd (omega (arith, is, typ)))
     (λ is. c.take_heartbeat_ack.ensures.beats) (λ is. absurd (omega (arith, is, typ))) (λ is. absurd (omega (arith, is, typ)))
     (λ is. absurd (omega (arith, is, typ)))
@@ -144,6 +146,7 @@ returns-in-7-clause-alone c other tag =
     (λ e. acks_rows c.args.chunk d c.args.now c.args.self.now c.take_shutdown.new.self (on_shutdown c.args.self.now.machine)
     (row_typ c.args.chunk d c.args.now c.args.self.now _ typ) c.take_shutdown.result c.take_shutdown.ensures.acks
     (λ is. omega (arith, is, typ)) (λ is. omega (arith, is, typ)))
+    (λ is. absurd (omega (arith, is, typ)))
     (λ is. absurd (omega (arith, is, typ))) (λ is. absurd (omega (arith, is, typ))) (λ is. absurd (omega (arith, is, typ)))
     (λ is. absurd (omega (arith, is, typ))) (λ is. c.take_shutdown.ensures.shuts) (λ is. absurd (omega (arith, is, typ)))
     (λ is. absurd (omega (arith, is, typ)))
@@ -179,6 +182,7 @@ returns-in-9-clause-alone c other tag =
     (λ e. acks_rows c.args.chunk d c.args.now c.args.self.now c.take_error.new.self (error_row (cause_in d c.args.chunk) (fresh_tag c.args.self.now.key c.args.now c.args.self.now.machine.own) c.args.self.now.machine)
     (row_typ c.args.chunk d c.args.now c.args.self.now _ typ) (Ok c.take_error.result) (λ _. c.take_error.ensures.acks)
     (λ is. omega (arith, is, typ)) (λ is. omega (arith, is, typ)))
+    (λ is. absurd (omega (arith, is, typ)))
     (λ is. absurd (omega (arith, is, typ))) (λ is. absurd (omega (arith, is, typ))) (λ is. absurd (omega (arith, is, typ)))
     (λ is. absurd (omega (arith, is, typ))) (λ is. absurd (omega (arith, is, typ)))
     (λ is. cause_on c.args.chunk d c.take_error.result c.args.self.now c.take_error.new.self c.take_error.ensures.next c.take_error.ensures.whole
@@ -224,7 +228,7 @@ pub returns-in_default-clause-alone : goal.returns-in_default-clause-alone
 returns-in_default-clause-alone c other tag =
     let d = c.args.datagram.now in
     let plain : is_plain c.args.chunk.typ ≡ true = plain_other c.args.chunk.typ other.1 other.2 (search rules) (search rules) (search rules)
-    (search rules) other.3 in
+    (search rules) other.3 other.5 in
     alone_plain c.args.chunk tag d c.args.now c.args.self.now c.note_unknown.new.self c.note_unknown.result (brings_none c.args.chunk c.args.datagram.now c.args.self.now c.note_unknown.new.self (ap (λ (x : Association). x.events) c.note_unknown.ensures.rest)) c.args.chunk.typ refl plain
     (acks_rows c.args.chunk d c.args.now c.args.self.now c.note_unknown.new.self (dropped c.args.self.now.machine)
     (row_other c.args.chunk.typ (cause_in d c.args.chunk) _ c.args.self.now.machine other.0 (search rules) (search rules) (search rules)

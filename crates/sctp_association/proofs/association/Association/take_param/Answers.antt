@@ -1,10 +1,8 @@
-use Rattle.std.proofs.Common.{ap, drop, refl, rules, subst, ◌≡◌, ◌∙◌}
-use Rattle.std.proofs.lemmas.List.{take_rest}
-use Rattle.sctp_association.specs.Halves.{receiver_of}
+use Rattle.std.proofs.Common.{false, refl, rules, true, ◌≡◌}
 use Rattle.sctp_association.proofs.Arriving.{follows_same}
-use Rattle.sctp_association.proofs.Arrived.{alike_halves, param_follows_of, responded_of}
-use Rattle.sctp_params.specs.declared.param.param_kind.ParamKind.TheVariants.{OutgoingResetRequest, ReconfigResponse}
-use Rattle.sctp_params.specs.ParamKind.{ReadsParam, parameter_of}
+use Rattle.sctp_association.proofs.Arrived.{alike_halves}
+use Rattle.sctp_association.proofs.Reconfigs.{param_denied, param_ok, param_other}
+use Rattle.sctp_association.specs.Reconfigs.{is_denied, is_read}
 use Rattle.sctp_association.proofs.association.Association.take_param.Goals as goal
 
 pub returns-in-14-clause-came : goal.returns-in-14-clause-came
@@ -13,34 +11,20 @@ returns-in-14-clause-came c = follows_same _ _ _ _ (alike_halves _ _ c.deny.ensu
 pub returns-in_default-clause-came : goal.returns-in_default-clause-came
 returns-in_default-clause-came c = follows_same _ _ _ _ refl
 
-pub returns-in_default-2-clause-came : goal.returns-in_default-2-clause-came
-returns-in_default-2-clause-came c = follows_same _ _ _ _ refl
+pub returns-in-13-clause-made : goal.returns-in-13-clause-made
+returns-in-13-clause-made c =
+    let on : is_read c.args.typ ≡ true = search rules in
+    let plain : is_denied c.args.typ ≡ false = search rules in
+    param_ok c.follow_param.result c.args.typ c.args.raw.now c.args.at c.args.now c.args.self.now c.follow_param.new.self on plain c.follow_param.ensures.made
 
-pub returns-then-at-len-clause-came : goal.returns-then-at-len-clause-came
-returns-then-at-len-clause-came c = follows_same _ _ _ _ refl
+pub returns-in-14-clause-made : goal.returns-in-14-clause-made
+returns-in-14-clause-made c =
+    let on : is_denied c.args.typ ≡ true = search rules in
+    let plain : is_read c.args.typ ≡ false = search rules in
+    param_denied c.args.typ c.args.raw.now c.args.at c.args.now c.args.self.now c.deny.new.self on plain c.deny.ensures.made
 
-pub returns-in_err-rest-clause-came : goal.returns-in_err-rest-clause-came
-returns-in_err-rest-clause-came c = follows_same _ _ _ _ refl
-
-pub returns-in-Ok-clause-came : goal.returns-in-Ok-clause-came
-returns-in-Ok-clause-came c = follows_same _ _ _ _ refl
-
-pub returns-in-Err-ErrOutOfMemory-clause-came : goal.returns-in-Err-ErrOutOfMemory-clause-came
-returns-in-Err-ErrOutOfMemory-clause-came c = follows_same _ _ _ _ refl
-
-pub returns-clause-came : goal.returns-clause-came
-returns-clause-came c = follows_same _ _ _ _ refl
-
-pub returns-in-Ok-OutgoingResetRequest-clause-came : goal.returns-in-Ok-OutgoingResetRequest-clause-came
-returns-in-Ok-OutgoingResetRequest-clause-came c =
-    let cut : c.in_ok-rest.rest ≡ drop c.args.at c.args.raw.now = c.in_ok-rest.ensures.ok ∙ take_rest c.args.raw.now c.args.at in
-    let is : c.in-Ok-OutgoingResetRequest.field-0 ≡ OutgoingResetRequest c.in-Ok-OutgoingResetRequest.request = search rules in
-    let reads = subst (λ p. ReadsParam c.in_ok-rest.rest (parameter_of p)) is c.in-Ok-OutgoingResetRequest.ensures.found in
-    param_follows_of _ _ (parameter_of (OutgoingResetRequest c.in-Ok-OutgoingResetRequest.request)) cut reads _ _ c.take_request.ensures.came
-
-pub returns-in-Ok-ReconfigResponse-clause-came : goal.returns-in-Ok-ReconfigResponse-clause-came
-returns-in-Ok-ReconfigResponse-clause-came c =
-    let cut : c.in_ok-rest.rest ≡ drop c.args.at c.args.raw.now = c.in_ok-rest.ensures.ok ∙ take_rest c.args.raw.now c.args.at in
-    let is : c.in-Ok-ReconfigResponse.field-0 ≡ ReconfigResponse c.in-Ok-ReconfigResponse.response = search rules in
-    let reads = subst (λ p. ReadsParam c.in_ok-rest.rest (parameter_of p)) is c.in-Ok-ReconfigResponse.ensures.found in
-    responded_of _ _ c.in-Ok-ReconfigResponse.response cut reads _ _ (ap receiver_of c.take_response.ensures.inbound) _ _ c.take_response.ensures.hearing
+pub returns-in_default-clause-made : goal.returns-in_default-clause-made
+returns-in_default-clause-made c =
+    let read : is_read c.args.typ ≡ false = search rules in
+    let denied : is_denied c.args.typ ≡ false = search rules in
+    param_other c.args.typ c.args.raw.now c.args.at c.args.now c.args.self.now c.args.self.now read denied refl
