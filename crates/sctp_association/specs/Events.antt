@@ -28,10 +28,6 @@ pub record IsTold (old new : Events) (v : Event) : Type 0 where
 abbrev pub KeepsOthers : (old new : Events) → Option Event → Type 0
 KeepsOthers old new told = (v : Event) → Waits v old → (told ≡ Some v) ⊎ Waits v new
 
--- none waits that did not wait before
-abbrev pub AddsNone : (old new : Events) → Type 0
-AddsNone old new = (v : Event) → Waits v new → Waits v old
-
 -- none waits
 abbrev pub NoneWaits : Events → Type 0
 NoneWaits e = (v : Event) → Waits v e → ⊥

@@ -14,7 +14,7 @@ mod unknown;
 ghost use Rattle.std.specs.Prelude.{◌≡◌, ℕ, IfSome, None, Some, ◌≢◌, ◌≤◌, ◌+◌, ◌*◌, option_map, true, false, IfErr, IfOk, IsOk, OnErr, OnOk};
 ghost use Rattle.std.proofs.Props.{props};
 ghost use Rattle.sctp_association.specs.Entering.{usable_in};
-ghost use Rattle.sctp_association.specs.Events.{AddsNone, IsTold, KeepsOthers, NoneWaits};
+ghost use Rattle.sctp_association.specs.Events.{BringsNone, IsTold, KeepsOthers, NoneWaits};
 ghost use Rattle.sctp_association.specs.Configs.{can_be_made, offer_by};
 ghost use Rattle.sctp_association.specs.declared.event.Ending.TheVariants.{Aborted};
 ghost use Rattle.sctp_association.specs.declared.fault.Fault.TheVariants.{BadConfig, WrongState};
@@ -247,7 +247,7 @@ impl Association {
             → HasPlaces self.new.inbound self.new.events }
         // Each other event that waited waits still, and no other comes to wait.
         ensures others { KeepsOthers self.old.events self.new.events result }
-        ensures adds { AddsNone self.old.events self.new.events }
+        ensures adds { BringsNone self.old.events self.new.events }
         // None waits where it answers None.
         ensures all { result ≡ None → NoneWaits self.old.events }
         ensures told { IfSome result (IsTold self.old.events self.new.events) }

@@ -1,7 +1,7 @@
 //! What an association tells its user.
 
 ghost use Rattle.std.specs.Prelude.{◌≡◌, ◌<◌, ◌≤◌, IfSome, None, IfOk, OnErr, OnOk, false, length, take};
-ghost use Rattle.sctp_association.specs.Events.{AddsNone, IsTold, KeepsOthers, NoneWaits, NoneWaitsOfStream, BringsNone};
+ghost use Rattle.sctp_association.specs.Events.{IsTold, KeepsOthers, NoneWaits, NoneWaitsOfStream, BringsNone};
 ghost use Rattle.sctp_association.specs.Brought.{NotesOnly};
 ghost use Rattle.sctp_association.specs.Telling.{KeepsEvents, Stays};
 
@@ -164,7 +164,7 @@ impl Events {
     fn pop_whole(&mut self) -> Option<Event>
         ensures room { length self.new.readable ≡ length self.old.readable }
         ensures others { KeepsOthers self.old self.new result }
-        ensures adds { AddsNone self.old self.new }
+        ensures adds { BringsNone self.old self.new }
         ensures all { result ≡ None → (self.old.connected ≡ false)
             × ((self.old.restarted ≡ false) × (self.old.peer_error ≡ None)) }
         ensures told { IfSome result (IsTold self.old self.new) }
@@ -189,7 +189,7 @@ impl Events {
     fn pop_of_stream(&mut self) -> Option<Event>
         ensures room { length self.new.readable ≡ length self.old.readable }
         ensures others { KeepsOthers self.old self.new result }
-        ensures adds { AddsNone self.old self.new }
+        ensures adds { BringsNone self.old self.new }
         ensures all { result ≡ None → NoneWaitsOfStream self.old }
         ensures told { IfSome result (IsTold self.old self.new) }
         ensures none { result ≡ None → self.new ≡ self.old }
@@ -219,7 +219,7 @@ impl Events {
     fn pop_end(&mut self) -> Option<Event>
         ensures room { length self.new.readable ≡ length self.old.readable }
         ensures others { KeepsOthers self.old self.new result }
-        ensures adds { AddsNone self.old self.new }
+        ensures adds { BringsNone self.old self.new }
         ensures all { result ≡ None
             → (self.old.shutdown ≡ false) × (self.old.closed ≡ None) }
         ensures told { IfSome result (IsTold self.old self.new) }
@@ -238,7 +238,7 @@ impl Events {
     pub(crate) fn pop(&mut self) -> Option<Event>
         ensures room { length self.new.readable ≡ length self.old.readable }
         ensures others { KeepsOthers self.old self.new result }
-        ensures adds { AddsNone self.old self.new }
+        ensures adds { BringsNone self.old self.new }
         ensures all { result ≡ None → NoneWaits self.old }
         ensures told { IfSome result (IsTold self.old self.new) }
         ensures none { result ≡ None → self.new ≡ self.old }

@@ -484,7 +484,6 @@ impl Inbound {
         ensures rest { events.new ≡ record events.old { readable = events.new.readable } }
         ensures room { length events.new.readable ≡ length events.old.readable }
         ensures readable { Stays events.old.readable events.new.readable }
-        ensures rest { events.new ≡ record events.old { readable = events.new.readable } }
     {
         if !could_read {
             self.note_if_readable(stream, events);
