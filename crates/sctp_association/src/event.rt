@@ -102,6 +102,8 @@ impl Events {
         ensures readable { self.new.readable ≡ self.old.readable }
         ensures none { BringsNone self.old self.new }
         ensures undo { IfOk result (λ rooms. without rooms self.new ≡ self.old) }
+        ensures room { OnOk result ((stream < length self.new.reset_by_us)
+            × (stream < length self.new.reset_refused)) }
         ensures err { OnErr result (self.new ≡ self.old) }
     {
         let rooms = Rooms {
@@ -132,6 +134,8 @@ impl Events {
             ≡ self.old.reset_by_us }
         ensures refused { take (length self.old.reset_refused) self.new.reset_refused
             ≡ self.old.reset_refused }
+        ensures room { OnOk result ((stream < length self.new.reset_by_us)
+            × (stream < length self.new.reset_refused)) }
     {
         self.low.reserve(stream)?;
         self.reset_by_us.reserve(stream)?;

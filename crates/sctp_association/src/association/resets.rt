@@ -1,6 +1,6 @@
 //! Streams that are reset (RFC 6525; RFC 8831 6.7).
 
-ghost use Rattle.std.specs.Prelude.{◌≡◌, ◌⊎◌, ◌<◌, ◌≤◌, true, false, Ok, Err, IfErr, IfOk, IfSome, IsOk, OnOk, OnErr, drop, is_some};
+ghost use Rattle.std.specs.Prelude.{◌≡◌, ◌⊎◌, ◌<◌, ◌≤◌, true, false, Ok, Err, IfErr, IfOk, IfSome, IsOk, OnOk, OnErr, drop, is_some, length};
 ghost use Rattle.sctp_association.specs.Arrivals.{CallsArrive, HearsBy, Does, Follows, IsReset, IsResetAt, IsRestart, ParamAsks, ParamAsksIn, ReceivedIn};
 ghost use Rattle.sctp_association.specs.Kept.{IsKept, IsUnmoved, RestStays};
 ghost use Rattle.sctp_association.specs.Calls.{is_resettable};
@@ -77,6 +77,9 @@ impl Association {
     pub fn reset_stream(&mut self, stream: u16) -> Result<(), Fault>
         ensures tells { Tells self.old self.new }
         ensures ok { OnOk result (self.new.requests ≡ after_ask stream self.old.requests) }
+        // There is room for the event that the answer to it tells.
+        ensures room { OnOk result ((stream < length self.new.events.reset_by_us)
+            × (stream < length self.new.events.reset_refused)) }
         ensures accepted { IsOk result → is_resettable stream self.old ≡ true }
         ensures named { is_resettable stream self.old ≡ false → result ≡ Err NoSuchStream }
         ensures memory { is_resettable stream self.old ≡ true
