@@ -197,7 +197,8 @@ module _ (c : ChunkPlace) (d : List ℕ) (now : ℕ) (a b : Association) where
     where
       still : FollowsStep (dropped a.machine) 0 now a b
       still = follows_still 0 now a b kept.machine
-          (rest.due ∙ ap (λ (k : Due). record a.due { heartbeat = k.heartbeat; report = k.report }) (sym rest.due)) rest.over rest.wants rest.control rest.guard (ap whole_of rest.events)
+          (rest.due ∙ ap (λ (k : Due). record a.due { heartbeat = k.heartbeat; report = k.report }) (sym rest.due))
+          rest.over rest.wants rest.control rest.guard (ap whole_of rest.events)
 
       on : (s : arrivals.Step) → r ≡ Ok s → RowOn c d now s a b
       on Next is =

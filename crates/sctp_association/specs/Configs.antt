@@ -10,7 +10,8 @@ use Rattle.sctp_handshake.specs.declared.offer.Offer.{Offer}
 abbrev pub is_mtu : ℕ → Bool
 is_mtu mtu = nat_le 512 mtu && nat_le mtu 65535
 
--- The window is at least that of an INIT (3.3.2). There is a stream each way, a chunk may be in flight, a TSN may lie past the cumulative one, and no port is 0.
+-- The window is at least that of an INIT (3.3.2). There is a stream each way, a chunk may be in flight, a TSN may lie past the cumulative one, and no
+-- port is 0.
 abbrev pub is_config : Config → Bool
 is_config c = is_mtu c.mtu && (nat_le 1500 c.window
     && (nat_le 1 c.reach && (nat_le 1 c.most_in_flight

@@ -75,7 +75,8 @@ returns-in-Some-told-clause-answer c =
     let tell = c.tell.ensures in
     follows_told c.args.answer c.args.tag c.args.before c.args.now old c.if-begins_timer.self c.match-answer.self c.tell.new.self first next start keep
     c.in-Some-told.told c.in-Some-told.is tell.due tell.over
-    (tell.tells.told ∙ ap (λ h. passed_on (Some c.in-Some-told.told) h c.match-answer.self.events) (ap ending_by c.is_some.ensures)) tell.wants tell.kept.machine tell.kept.config tell.stop tell.keep tell.rto
+    (tell.tells.told ∙ ap (λ h. passed_on (Some c.in-Some-told.told) h c.match-answer.self.events) (ap ending_by c.is_some.ensures))
+    tell.wants tell.kept.machine tell.kept.config tell.stop tell.keep tell.rto
 
 pub returns-in-Some-told-clause-acks : goal.returns-in-Some-told-clause-acks
 returns-in-Some-told-clause-acks c =

@@ -88,14 +88,16 @@ returns-then-not-is_beginning-clause-alone c = alone_refused c.args.chunk c.args
 pub returns-in-0-clause-alone : goal.returns-in-0-clause-alone
 returns-in-0-clause-alone c =
     let typ : c.args.chunk.typ ≡ 0 = search rules in
-    alone_plain c.args.chunk c.args.tag c.args.datagram.now c.args.now c.args.self.now c.take_data.new.self c.take_data.result c.take_data.ensures.events 0 typ refl
+    alone_plain c.args.chunk c.args.tag c.args.datagram.now c.args.now c.args.self.now c.take_data.new.self c.take_data.result
+    c.take_data.ensures.events 0 typ refl
     c.take_data.ensures.acks
     c.take_data.ensures.row
 
 pub returns-in-1-clause-alone : goal.returns-in-1-clause-alone
 returns-in-1-clause-alone c =
     let typ : c.args.chunk.typ ≡ 1 = search rules in
-    alone_by c.args.chunk c.args.tag c.args.datagram.now c.args.now c.args.self.now c.take_init.new.self c.take_init.result (brings_none c.args.chunk c.args.datagram.now c.args.self.now c.take_init.new.self (ap (λ (x : Association). x.events) c.take_init.ensures.due))
+    alone_by c.args.chunk c.args.tag c.args.datagram.now c.args.now c.args.self.now c.take_init.new.self c.take_init.result
+    (brings_none c.args.chunk c.args.datagram.now c.args.self.now c.take_init.new.self (ap (λ (x : Association). x.events) c.take_init.ensures.due))
     (λ row. absurd (false≢true (sym (ap has_row typ) ∙ row)))
     (λ is. absurd (omega (arith, is, typ)))
     (λ is. c.take_init.ensures.offers) (λ is. absurd (omega (arith, is, typ))) (λ is. absurd (omega (arith, is, typ)))
@@ -105,7 +107,8 @@ returns-in-1-clause-alone c =
 pub returns-in-2-clause-alone : goal.returns-in-2-clause-alone
 returns-in-2-clause-alone c =
     let typ : c.args.chunk.typ ≡ 2 = search rules in
-    alone_by c.args.chunk c.args.tag c.args.datagram.now c.args.now c.args.self.now c.take_init_ack.new.self c.take_init_ack.result (brings_whole c.args.chunk c.args.datagram.now c.args.self.now c.take_init_ack.new.self 2 typ refl c.take_init_ack.ensures.events)
+    alone_by c.args.chunk c.args.tag c.args.datagram.now c.args.now c.args.self.now c.take_init_ack.new.self c.take_init_ack.result
+    (brings_whole c.args.chunk c.args.datagram.now c.args.self.now c.take_init_ack.new.self 2 typ refl c.take_init_ack.ensures.events)
     (λ row. absurd (false≢true (sym (ap has_row typ) ∙ row)))
     (λ is. absurd (omega (arith, is, typ)))
     (λ is. absurd (omega (arith, is, typ))) (λ is. c.take_init_ack.ensures.row) (λ is. absurd (omega (arith, is, typ)))
@@ -115,14 +118,16 @@ returns-in-2-clause-alone c =
 pub returns-in-3-clause-alone : goal.returns-in-3-clause-alone
 returns-in-3-clause-alone c =
     let typ : c.args.chunk.typ ≡ 3 = search rules in
-    alone_plain c.args.chunk c.args.tag c.args.datagram.now c.args.now c.args.self.now c.take_sack.new.self c.take_sack.result c.take_sack.ensures.events 3 typ refl
+    alone_plain c.args.chunk c.args.tag c.args.datagram.now c.args.now c.args.self.now c.take_sack.new.self c.take_sack.result
+    c.take_sack.ensures.events 3 typ refl
     c.take_sack.ensures.acks
     c.take_sack.ensures.row
 
 pub returns-in-10-clause-alone : goal.returns-in-10-clause-alone
 returns-in-10-clause-alone c =
     let typ : c.args.chunk.typ ≡ 10 = search rules in
-    alone_by c.args.chunk c.args.tag c.args.datagram.now c.args.now c.args.self.now c.take_cookie.new.self c.take_cookie.result (brings_whole c.args.chunk c.args.datagram.now c.args.self.now c.take_cookie.new.self 10 typ refl c.take_cookie.ensures.events)
+    alone_by c.args.chunk c.args.tag c.args.datagram.now c.args.now c.args.self.now c.take_cookie.new.self c.take_cookie.result
+    (brings_whole c.args.chunk c.args.datagram.now c.args.self.now c.take_cookie.new.self 10 typ refl c.take_cookie.ensures.events)
     (λ row. absurd (false≢true (sym (ap has_row typ) ∙ row)))
     (λ is. absurd (omega (arith, is, typ)))
     (λ is. absurd (omega (arith, is, typ))) (λ is. absurd (omega (arith, is, typ))) (λ is. absurd (omega (arith, is, typ)))
@@ -132,7 +137,9 @@ returns-in-10-clause-alone c =
 pub returns-in-130-clause-alone : goal.returns-in-130-clause-alone
 returns-in-130-clause-alone c =
     let typ : c.args.chunk.typ ≡ 130 = search rules in
-    alone_reconfig c.args.chunk c.args.tag c.args.datagram.now c.args.now c.args.self.now c.take_reconfig.new.self c.take_reconfig.result (brings_reset c.args.chunk c.args.datagram.now c.args.self.now c.take_reconfig.new.self typ c.take_reconfig.ensures.rest.events) typ
+    alone_reconfig c.args.chunk c.args.tag c.args.datagram.now c.args.now c.args.self.now c.take_reconfig.new.self c.take_reconfig.result
+    (brings_reset c.args.chunk c.args.datagram.now c.args.self.now c.take_reconfig.new.self typ c.take_reconfig.ensures.rest.events)
+    typ
     (acks_rows c.args.chunk c.args.datagram.now c.args.now c.args.self.now c.take_reconfig.new.self (dropped c.args.self.now.machine)
     (row_typ c.args.chunk c.args.datagram.now c.args.now c.args.self.now 130 typ) c.take_reconfig.result (λ _. c.take_reconfig.ensures.rest.acks)
     (λ is. omega (arith, is, typ)) (λ is. omega (arith, is, typ))) (
@@ -143,7 +150,8 @@ returns-in-130-clause-alone c =
 pub returns-in-192-clause-alone : goal.returns-in-192-clause-alone
 returns-in-192-clause-alone c =
     let typ : c.args.chunk.typ ≡ 192 = search rules in
-    alone_plain c.args.chunk c.args.tag c.args.datagram.now c.args.now c.args.self.now c.take_skip.new.self c.take_skip.result c.take_skip.ensures.events 192 typ refl
+    alone_plain c.args.chunk c.args.tag c.args.datagram.now c.args.now c.args.self.now c.take_skip.new.self c.take_skip.result
+    c.take_skip.ensures.events 192 typ refl
     c.take_skip.ensures.acks
     c.take_skip.ensures.row
 

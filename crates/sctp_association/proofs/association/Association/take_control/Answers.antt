@@ -100,9 +100,11 @@ pub returns-in-4-clause-alone : goal.returns-in-4-clause-alone
 returns-in-4-clause-alone c other tag =
     let typ : c.args.chunk.typ ≡ 4 = search rules in
     let d = c.args.datagram.now in
-    alone_by c.args.chunk tag d c.args.now c.args.self.now c.take_heartbeat.new.self c.take_heartbeat.result (brings_none c.args.chunk c.args.datagram.now c.args.self.now c.take_heartbeat.new.self c.take_heartbeat.ensures.events)
+    alone_by c.args.chunk tag d c.args.now c.args.self.now c.take_heartbeat.new.self c.take_heartbeat.result
+    (brings_none c.args.chunk c.args.datagram.now c.args.self.now c.take_heartbeat.new.self c.take_heartbeat.ensures.events)
     (λ e. acks_rows c.args.chunk d c.args.now c.args.self.now c.take_heartbeat.new.self (dropped c.args.self.now.machine)
-    (row_typ c.args.chunk d c.args.now c.args.self.now _ typ) c.take_heartbeat.result (λ _. ap (λ (o : Option Inbound). acks_of o) c.take_heartbeat.ensures.inbound)
+    (row_typ c.args.chunk d c.args.now c.args.self.now _ typ) c.take_heartbeat.result
+    (λ _. ap (λ (o : Option Inbound). acks_of o) c.take_heartbeat.ensures.inbound)
     (λ is. omega (arith, is, typ)) (λ is. omega (arith, is, typ)))
     (λ is. absurd (omega (arith, is, typ)))
     (λ is. absurd (omega (arith, is, typ))) (λ is. absurd (omega (arith, is, typ))) (λ is. c.take_heartbeat.ensures.answers)
@@ -116,9 +118,11 @@ pub returns-in-5-clause-alone : goal.returns-in-5-clause-alone
 returns-in-5-clause-alone c other tag =
     let typ : c.args.chunk.typ ≡ 5 = search rules in
     let d = c.args.datagram.now in
-    alone_by c.args.chunk tag d c.args.now c.args.self.now c.take_heartbeat_ack.new.self c.take_heartbeat_ack.result (brings_none c.args.chunk c.args.datagram.now c.args.self.now c.take_heartbeat_ack.new.self c.take_heartbeat_ack.ensures.events)
+    alone_by c.args.chunk tag d c.args.now c.args.self.now c.take_heartbeat_ack.new.self c.take_heartbeat_ack.result
+    (brings_none c.args.chunk c.args.datagram.now c.args.self.now c.take_heartbeat_ack.new.self c.take_heartbeat_ack.ensures.events)
     (λ e. acks_rows c.args.chunk d c.args.now c.args.self.now c.take_heartbeat_ack.new.self (dropped c.args.self.now.machine)
-    (row_typ c.args.chunk d c.args.now c.args.self.now _ typ) c.take_heartbeat_ack.result (λ _. ap (λ (o : Option Inbound). acks_of o) c.take_heartbeat_ack.ensures.inbound)
+    (row_typ c.args.chunk d c.args.now c.args.self.now _ typ) c.take_heartbeat_ack.result
+    (λ _. ap (λ (o : Option Inbound). acks_of o) c.take_heartbeat_ack.ensures.inbound)
     (λ is. omega (arith, is, typ)) (λ is. omega (arith, is, typ)))
     (λ is. absurd (omega (arith, is, typ)))
     (λ is. absurd (omega (arith, is, typ))) (λ is. absurd (omega (arith, is, typ))) (λ is. absurd (omega (arith, is, typ)))
@@ -131,7 +135,9 @@ returns-in-5-clause-alone c other tag =
 pub returns-in-6-clause-alone : goal.returns-in-6-clause-alone
 returns-in-6-clause-alone c other tag =
     let typ : c.args.chunk.typ ≡ 6 = search rules in
-    alone_plain c.args.chunk tag c.args.datagram.now c.args.now c.args.self.now c.take_abort.new.self (Ok c.take_abort.result) (brings_whole c.args.chunk c.args.datagram.now c.args.self.now c.take_abort.new.self 6 typ refl c.take_abort.ensures.events) 6 typ refl
+    alone_plain c.args.chunk tag c.args.datagram.now c.args.now c.args.self.now c.take_abort.new.self (Ok c.take_abort.result)
+    (brings_whole c.args.chunk c.args.datagram.now c.args.self.now c.take_abort.new.self 6 typ refl c.take_abort.ensures.events)
+    6 typ refl
     (acks_row c.args.chunk c.args.datagram.now c.args.now c.args.self.now c.take_abort.new.self (on_abort c.args.self.now.machine)
     (row_typ c.args.chunk c.args.datagram.now c.args.now c.args.self.now _ typ) c.take_abort.result (λ next. absurd (c.take_abort.ensures.next next))
     (λ is. omega (arith, is, typ)) (λ is. omega (arith, is, typ)))
@@ -142,7 +148,9 @@ pub returns-in-7-clause-alone : goal.returns-in-7-clause-alone
 returns-in-7-clause-alone c other tag =
     let typ : c.args.chunk.typ ≡ 7 = search rules in
     let d = c.args.datagram.now in
-    alone_by c.args.chunk tag d c.args.now c.args.self.now c.take_shutdown.new.self c.take_shutdown.result (brings_by c.args.chunk c.args.datagram.now c.args.self.now c.take_shutdown.new.self 7 typ c.take_shutdown.ensures.events refl refl refl c.take_shutdown.ensures.low)
+    alone_by c.args.chunk tag d c.args.now c.args.self.now c.take_shutdown.new.self c.take_shutdown.result
+    (brings_by c.args.chunk c.args.datagram.now c.args.self.now c.take_shutdown.new.self 7 typ c.take_shutdown.ensures.events refl refl refl
+    c.take_shutdown.ensures.low)
     (λ e. acks_rows c.args.chunk d c.args.now c.args.self.now c.take_shutdown.new.self (on_shutdown c.args.self.now.machine)
     (row_typ c.args.chunk d c.args.now c.args.self.now _ typ) c.take_shutdown.result c.take_shutdown.ensures.acks
     (λ is. omega (arith, is, typ)) (λ is. omega (arith, is, typ)))
@@ -165,11 +173,15 @@ returns-in-8-clause-alone c other tag =
     follows_from _ _ c.args.self.now.machine.state _ _ c.args.self.now _ _ (c.take_answer.ensures.answer is) c.state-before.ensures refl refl refl refl refl
     refl
     ) in
-    alone_plain c.args.chunk tag d c.args.now c.args.self.now c.take_answer.new.self (Ok c.take_answer.result) (brings_whole c.args.chunk c.args.datagram.now c.args.self.now c.take_answer.new.self 8 typ refl (whole_passed _ _ c.args.self.now c.take_answer.new.self c.take_answer.ensures.tells)) 8 typ refl
+    alone_plain c.args.chunk tag d c.args.now c.args.self.now c.take_answer.new.self (Ok c.take_answer.result)
+    (brings_whole c.args.chunk c.args.datagram.now c.args.self.now c.take_answer.new.self 8 typ refl
+    (whole_passed _ _ _ c.take_answer.new.self c.take_answer.ensures.tells))
+    8 typ refl
     (acks_row c.args.chunk d c.args.now c.args.self.now c.take_answer.new.self (on_shutdown_ack c.args.self.now.machine)
     (row_typ c.args.chunk d c.args.now c.args.self.now _ typ) c.take_answer.result (λ next. told_as _ _ _ _ _ took.answer (c.take_answer.ensures.acks next))
     (λ is. omega (arith, is, typ)) (λ is. omega (arith, is, typ)))
-    (row_steps c.args.chunk d c.args.now c.args.self.now c.take_answer.new.self (on_shutdown_ack c.args.self.now.machine) c.peer_tag-tag.result (λ is. omega (arith, is, typ))
+    (row_steps c.args.chunk d c.args.now c.args.self.now c.take_answer.new.self (on_shutdown_ack c.args.self.now.machine) c.peer_tag-tag.result
+    (λ is. omega (arith, is, typ))
     (row_typ c.args.chunk d c.args.now c.args.self.now _ typ) (ap (λ n. tag_to n c.args.self.now.machine) typ ∙ sym c.peer_tag-tag.ensures)
     (Ok c.take_answer.result) (steps_on _ _ _ _ _ c.take_answer.result steps c.take_answer.ensures.next c.take_answer.ensures.whole))
 
@@ -177,9 +189,11 @@ pub returns-in-9-clause-alone : goal.returns-in-9-clause-alone
 returns-in-9-clause-alone c other tag =
     let typ : c.args.chunk.typ ≡ 9 = search rules in
     let d = c.args.datagram.now in
-    alone_by c.args.chunk tag d c.args.now c.args.self.now c.take_error.new.self (Ok c.take_error.result) (brings_by c.args.chunk c.args.datagram.now c.args.self.now c.take_error.new.self 9 typ c.take_error.ensures.events refl refl refl
+    alone_by c.args.chunk tag d c.args.now c.args.self.now c.take_error.new.self (Ok c.take_error.result)
+    (brings_by c.args.chunk c.args.datagram.now c.args.self.now c.take_error.new.self 9 typ c.take_error.ensures.events refl refl refl
     (λ s w. inl (sym (ap (λ (e : Events). is_in s e.low) c.take_error.ensures.events) ∙ w)))
-    (λ e. acks_rows c.args.chunk d c.args.now c.args.self.now c.take_error.new.self (error_row (cause_in d c.args.chunk) (fresh_tag c.args.self.now.key c.args.now c.args.self.now.machine.own) c.args.self.now.machine)
+    (λ e. acks_rows c.args.chunk d c.args.now c.args.self.now c.take_error.new.self
+    (error_row (cause_in d c.args.chunk) (fresh_tag c.args.self.now.key c.args.now c.args.self.now.machine.own) c.args.self.now.machine)
     (row_typ c.args.chunk d c.args.now c.args.self.now _ typ) (Ok c.take_error.result) (λ _. c.take_error.ensures.acks)
     (λ is. omega (arith, is, typ)) (λ is. omega (arith, is, typ)))
     (λ is. absurd (omega (arith, is, typ)))
@@ -196,7 +210,9 @@ pub returns-in-11-clause-alone : goal.returns-in-11-clause-alone
 returns-in-11-clause-alone c other tag =
     let typ : c.args.chunk.typ ≡ 11 = search rules in
     let d = c.args.datagram.now in
-    alone_plain c.args.chunk tag d c.args.now c.args.self.now c.take_cookie_ack.new.self (Ok c.take_cookie_ack.result) (brings_whole c.args.chunk c.args.datagram.now c.args.self.now c.take_cookie_ack.new.self 11 typ refl c.take_cookie_ack.ensures.events) 11 typ refl
+    alone_plain c.args.chunk tag d c.args.now c.args.self.now c.take_cookie_ack.new.self (Ok c.take_cookie_ack.result)
+    (brings_whole c.args.chunk c.args.datagram.now c.args.self.now c.take_cookie_ack.new.self 11 typ refl c.take_cookie_ack.ensures.events)
+    11 typ refl
     (acks_row c.args.chunk d c.args.now c.args.self.now c.take_cookie_ack.new.self (on_cookie_ack c.args.self.now.machine)
     (row_typ c.args.chunk d c.args.now c.args.self.now _ typ) c.take_cookie_ack.result c.take_cookie_ack.ensures.acks
     (λ is. omega (arith, is, typ)) (λ is. omega (arith, is, typ)))
@@ -215,11 +231,16 @@ returns-in-14-clause-alone c other tag =
     follows_from _ _ c.args.self.now.machine.state _ _ c.args.self.now _ _ (c.take_answer-in-14.ensures.answer is) c.state-before-in-14.ensures
     refl refl refl refl refl refl
     ) in
-    alone_plain c.args.chunk tag d c.args.now c.args.self.now c.take_answer-in-14.new.self (Ok c.take_answer-in-14.result) (brings_whole c.args.chunk c.args.datagram.now c.args.self.now c.take_answer-in-14.new.self 14 typ refl (whole_passed _ _ c.args.self.now c.take_answer-in-14.new.self c.take_answer-in-14.ensures.tells)) 14 typ refl
+    alone_plain c.args.chunk tag d c.args.now c.args.self.now c.take_answer-in-14.new.self (Ok c.take_answer-in-14.result)
+    (brings_whole c.args.chunk c.args.datagram.now c.args.self.now c.take_answer-in-14.new.self 14 typ refl
+    (whole_passed _ _ _ c.take_answer-in-14.new.self c.take_answer-in-14.ensures.tells))
+    14 typ refl
     (acks_row c.args.chunk d c.args.now c.args.self.now c.take_answer-in-14.new.self (on_shutdown_complete c.args.self.now.machine)
-    (row_typ c.args.chunk d c.args.now c.args.self.now _ typ) c.take_answer-in-14.result (λ next. told_as _ _ _ _ _ took.answer (c.take_answer-in-14.ensures.acks next))
+    (row_typ c.args.chunk d c.args.now c.args.self.now _ typ) c.take_answer-in-14.result
+    (λ next. told_as _ _ _ _ _ took.answer (c.take_answer-in-14.ensures.acks next))
     (λ is. omega (arith, is, typ)) (λ is. omega (arith, is, typ)))
-    (row_steps c.args.chunk d c.args.now c.args.self.now c.take_answer-in-14.new.self (on_shutdown_complete c.args.self.now.machine) 0 (λ is. omega (arith, is, typ))
+    (row_steps c.args.chunk d c.args.now c.args.self.now c.take_answer-in-14.new.self (on_shutdown_complete c.args.self.now.machine) 0
+    (λ is. omega (arith, is, typ))
     (row_typ c.args.chunk d c.args.now c.args.self.now _ typ) (ap (λ n. tag_to n c.args.self.now.machine) typ)
     (Ok c.take_answer-in-14.result) (steps_on _ _ _ _ _ c.take_answer-in-14.result steps c.take_answer-in-14.ensures.next c.take_answer-in-14.ensures.whole))
 
@@ -229,7 +250,9 @@ returns-in_default-clause-alone c other tag =
     let d = c.args.datagram.now in
     let plain : is_plain c.args.chunk.typ ≡ true = plain_other c.args.chunk.typ other.1 other.2 (search rules) (search rules) (search rules)
     (search rules) other.3 other.5 in
-    alone_plain c.args.chunk tag d c.args.now c.args.self.now c.note_unknown.new.self c.note_unknown.result (brings_none c.args.chunk c.args.datagram.now c.args.self.now c.note_unknown.new.self (ap (λ (x : Association). x.events) c.note_unknown.ensures.rest)) c.args.chunk.typ refl plain
+    alone_plain c.args.chunk tag d c.args.now c.args.self.now c.note_unknown.new.self c.note_unknown.result
+    (brings_none c.args.chunk c.args.datagram.now c.args.self.now c.note_unknown.new.self (ap (λ (x : Association). x.events) c.note_unknown.ensures.rest))
+    c.args.chunk.typ refl plain
     (acks_rows c.args.chunk d c.args.now c.args.self.now c.note_unknown.new.self (dropped c.args.self.now.machine)
     (row_other c.args.chunk.typ (cause_in d c.args.chunk) _ c.args.self.now.machine other.0 (search rules) (search rules) (search rules)
     (search rules) (search rules) (search rules)) c.note_unknown.result
