@@ -156,7 +156,7 @@ returns-in-192-clause-alone c =
     c.take_skip.ensures.row
 
 pub returns-in_default-clause-alone : goal.returns-in_default-clause-alone
-returns-in_default-clause-alone c = c.take_control.ensures.alone (search rules, search rules, search rules, search rules, search rules) c.args.tag
+returns-in_default-clause-alone c = c.take_control.ensures.alone (search rules, search rules, search rules, search rules, search rules, search rules) c.args.tag
 
 -- ## What is expected is not refused
 
@@ -213,7 +213,7 @@ returns-in_default-clause-due c admitted expected r =
     let at = expected_at c.args.chunk c.args.tag c.args.datagram.now c.args.now c.args.self.now expected c.args.chunk.typ refl (search rules) (search rules)
     (search rules) in
     never_refused (expects c.args.chunk.typ c.args.self.now) c.take_control.result
-    (c.take_control.ensures.expected (search rules, search rules, search rules, search rules, search rules) (search rules)) r
+    (c.take_control.ensures.expected (search rules, search rules, search rules, search rules, search rules, search rules) (search rules)) r
     (expected_control c.args.self.now c.args.chunk.typ (search rules) (search rules) (search rules) at).1
 
 -- ## Where a chunk is taken
@@ -266,7 +266,7 @@ pub returns-in_default-clause-expected : goal.returns-in_default-clause-expected
 returns-in_default-clause-expected c admitted row =
     let begun : c.args.self.now.machine.state ≡ Closed → ⊥ = search rules in
     as_same (expects c.args.chunk.typ c.args.self.now) c.take_control.result
-    (c.take_control.ensures.expected (search rules, search rules, search rules, search rules, search rules) (search rules))
+    (c.take_control.ensures.expected (search rules, search rules, search rules, search rules, search rules, search rules) (search rules))
     (is_expected c.args.chunk.typ c.args.self.now)
     (control_expected c.args.self.now c.args.chunk.typ (search rules) (search rules) (search rules) begun)
 
