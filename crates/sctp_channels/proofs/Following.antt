@@ -2,8 +2,10 @@
 use Rattle.std.proofs.Common.{◌≡◌, ℕ, zero, suc, Bool, true, false, not, List, [], ◌∷◌, ◌++◌, Option, Some, None, refl, ap, sym, ◌∙◌, subst}
 use Rattle.std.specs.Prelude.{replicate}
 use Rattle.sctp_association.specs.declared.association.Association.{Association}
-use Rattle.sctp_association.specs.Reads.{AreReadOff, message_in}
-use Rattle.sctp_channels.specs.Reading.{ReadsControl, TakesControl, TakesControlOf, is_control}
+use Rattle.sctp_association.specs.Reads.{AreReadOff, length_of, message_in}
+use Rattle.sctp_channels.specs.Reading.{ReadsControl, TakesControl, TakesControlOf, is_control, is_data, is_dcep, tells_data}
+use Rattle.sctp_data.specs.ChunkSet.{ChunkSet}
+use Rattle.sctp_data.specs.declared.chunk.chunk_payload_data.PayloadProtocolIdentifier.{PayloadProtocolIdentifier}
 
 -- ## Steps that leave what was received
 
@@ -52,3 +54,18 @@ some_of now s a b h = record { streams = replicate h.count s; reads = h.reads }
 
 pub some_more : (now : ℕ) (a b c : Association) → TakesControl now a b → TakesControl now b c → TakesControl now a c
 some_more now a b c h k = record { streams = h.streams ++ k.streams; reads = reads_more now h.streams k.streams a b c h.reads k.reads }
+
+-- ## What is next
+
+-- so the payload type says it that the association tells of the next message
+abbrev pub tells_control : Option (ℕ × PayloadProtocolIdentifier) → Bool
+tells_control None = false
+tells_control (Some p) = is_dcep p.1
+
+pub control_told : (m : Option ChunkSet) (o : Option (ℕ × PayloadProtocolIdentifier)) → o ≡ length_of m → tells_control o ≡ true → is_control m ≡ true
+control_told None o is told = sym (ap tells_control is) ∙ told
+control_told (Some s) o is told = sym (ap tells_control is) ∙ told
+
+pub data_told : (b : Bool) (m : Option ChunkSet) (o : Option (ℕ × PayloadProtocolIdentifier)) → o ≡ length_of m → tells_data o ≡ b → is_data m ≡ b
+data_told b None o is told = sym (ap tells_data is) ∙ told
+data_told b (Some s) o is told = sym (ap tells_data is) ∙ told

@@ -29,6 +29,11 @@ abbrev pub is_data : Option ChunkSet → Bool
 is_data None = false
 is_data (Some m) = not (is_dcep m.ppi)
 
+-- by its length and its payload type, as the association tells them
+abbrev pub tells_data : Option (ℕ × PayloadProtocolIdentifier) → Bool
+tells_data None = false
+tells_data (Some p) = not (is_dcep p.1)
+
 -- ## Messages of RFC 8832 are taken out
 
 -- of these streams, one after the other; and nothing else has changed of what the association received

@@ -4,7 +4,7 @@ ghost use Rattle.std.specs.Prelude.{◌≡◌, ◌<◌, ◌++◌, ◌∷◌, ◌
 ghost use Rattle.sctp_channels.specs.Channels.{Gains, IsFull, IsNextFree, asked, asked_for, channel_on, has_channel, is_on, is_once, note_on, takes_messages};
 ghost use Rattle.sctp_channels.specs.Events.{TellsMaybe};
 ghost use Rattle.sctp_channels.specs.Messages.{IsHanded, IsOpened, kind_of, sent_of};
-ghost use Rattle.sctp_channels.specs.Reading.{ReadsNext, TakesControl, TakesControlOf};
+ghost use Rattle.sctp_channels.specs.Reading.{ReadsNext, TakesControl, TakesControlOf, tells_data};
 ghost use Rattle.sctp_channels.specs.Refusals.{AgreedRefused, OpenRefused, WriteRefused, refusal_of, refusal_of_name};
 ghost use Rattle.sctp_channels.specs.declared.channel.Stage.TheVariants as stage;
 ghost use Rattle.sctp_channels.specs.declared.channels.Refusal.TheVariants.{InUse, NoChannel, NoStream, OutOfMemory};
@@ -93,6 +93,23 @@ pub struct Channels {
     // A stream that the peer has reset and this side is still to reset.
     pub(crate) owed: Option<u16>,
     ghost once: { is_once channels.items ≡ true },
+}
+
+// Whether the next message, of this length and payload type, is one of the application, and none of RFC 8832.
+fn is_of_application(next: Option<(usize, PayloadProtocolIdentifier)>) -> bool
+    ensures { result ≡ tells_data next }
+{
+    let Some((_, kind)) = next else {
+        return false;
+    };
+    match kind {
+        PayloadProtocolIdentifier::Dcep => false,
+        PayloadProtocolIdentifier::String
+        | PayloadProtocolIdentifier::StringEmpty
+        | PayloadProtocolIdentifier::Binary
+        | PayloadProtocolIdentifier::BinaryEmpty
+        | PayloadProtocolIdentifier::Unknown => true,
+    }
 }
 
 // More events than an association has at once, and more messages than a stream has.
@@ -299,7 +316,7 @@ impl Channels {
 
     /// Reads the next message of a channel, None where there is none. Messages of RFC 8832 that stand before it are followed: also where it refuses,
     /// some may be, and each channel stays, but those that the peer opened are new. No other message is lost then.
-    #[tactic(auto, using(crate::proofs::Gaining::gains_same))]
+    #[tactic(auto, using(crate::proofs::Gaining::gains_same, crate::proofs::Following::data_told))]
     pub fn read(
         &mut self,
         association: &mut Association,
@@ -313,9 +330,8 @@ impl Channels {
         ensures err { OnErr result (TakesControlOf now stream association.old association.new) }
     {
         self.follow_control(association, stream, now)?;
-        match association.next_len(stream) {
-            None | Some((_, PayloadProtocolIdentifier::Dcep)) => return Ok(None),
-            Some(_) => {}
+        if !is_of_application(association.next_len(stream)) {
+            return Ok(None);
         }
         match association.read(stream, now)? {
             Some(chunks) => Ok(Some(Received::new(chunks))),

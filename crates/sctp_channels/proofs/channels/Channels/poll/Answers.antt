@@ -1,5 +1,7 @@
-use Rattle.std.proofs.Common.{◌∙◌}
+use Rattle.std.proofs.Common.{◌∙◌, ap}
+use Rattle.sctp_association.specs.declared.association.Association.{Association}
 use Rattle.sctp_channels.proofs.Gaining.{gains_then}
+use Rattle.sctp_channels.proofs.Following.{some_more, some_same}
 use Rattle.sctp_channels.proofs.Telling.{always_err, tells_then}
 use Rattle.sctp_channels.proofs.channels.Channels.poll.Goals as goal
 
@@ -31,4 +33,25 @@ loop-preserved c =
       c.take.ensures.side ∙ side,
       gains_then c.args.self.now.side c.next_event.new.self.side c.args.self.now.channels.items c.next_event.new.self.channels.items
           c.take.new.self.channels.items still side c.in-None-take.ensures.told,
+      some_more _ _ _ _ c.loop.invariant.2 (
+          some_more _ _ _ _ c.settle.ensures.control (some_same _ _ _ (ap (λ (a : Association). a.inbound) c.poll.ensures.rest))
+          ),
+    )
+
+pub returns-in_err-settle-clause-control : goal.returns-in_err-settle-clause-control
+returns-in_err-settle-clause-control c = some_more _ _ _ _ c.loop.invariant.2 c.settle.ensures.control
+
+pub returns-in-Some-clause-control : goal.returns-in-Some-clause-control
+returns-in-Some-clause-control c = some_more _ _ _ _ c.loop.invariant.2 c.settle.ensures.control
+
+pub returns-in_default-clause-control : goal.returns-in_default-clause-control
+returns-in_default-clause-control c =
+    some_more _ _ _ _ c.loop.invariant.2 (
+    some_more _ _ _ _ c.settle.ensures.control (some_same _ _ _ (ap (λ (a : Association). a.inbound) c.poll.ensures.rest))
+    )
+
+pub returns-in-Some-take-clause-control : goal.returns-in-Some-take-clause-control
+returns-in-Some-take-clause-control c =
+    some_more _ _ _ _ c.loop.invariant.2 (
+    some_more _ _ _ _ c.settle.ensures.control (some_same _ _ _ (ap (λ (a : Association). a.inbound) c.poll.ensures.rest))
     )

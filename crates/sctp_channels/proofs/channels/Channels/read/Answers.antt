@@ -1,0 +1,19 @@
+use Rattle.std.proofs.Common.{◌≡◌, ◌∙◌, true, false, Some, ap, sym, rules}
+use Rattle.sctp_channels.specs.Reading.{tells_data}
+use Rattle.sctp_channels.proofs.Following.{data_told}
+use Rattle.sctp_channels.proofs.channels.Channels.read.Goals as goal
+
+pub returns-in-Some : goal.returns-in-Some
+returns-in-Some c =
+    let told : tells_data c.next_len.result ≡ true = search rules in record {
+      gains = c.follow_control.ensures.gains;
+      side = c.follow_control.ensures.side;
+      message = (
+          c.follow_control.new.association,
+          c.follow_control.ensures.control,
+          data_told true _ _ c.next_len.ensures told,
+          ap Some c.new.ensures ∙ sym c.in-Some.is ∙ c.in_ok-chunks.ensures.message,
+          c.read.ensures.taken,
+          );
+      err = tt;
+    }
