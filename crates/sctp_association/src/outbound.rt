@@ -10,6 +10,7 @@ ghost use Rattle.sctp_association.specs.Counts.{CountsNone, HasLimitsOf};
 ghost use Rattle.sctp_association.specs.Halves.{fragment_size};
 ghost use Rattle.sctp_association.specs.Most.{most_data, tells_some};
 ghost use Rattle.sctp_association.specs.Runs.{Sends};
+ghost use Rattle.sctp_association.specs.Telling.{Stays};
 ghost use Rattle.sctp_association.specs.Waiting.{IsRefusal, closed_where, fault_of, opened, waiting_fault};
 ghost use Rattle.sctp_sender.specs.Settings.{IsKeptWithin, with_fragment_size, with_low_on};
 ghost use Rattle.sctp_stream.specs.Stats.{count_up};
@@ -29,10 +30,12 @@ mod sending;
 
 pub(crate) use self::acks::SackTaken;
 use crate::fault::Fault;
+use crate::stream_set::StreamSet;
 use bytes::Bytes;
 use sctp_data::chunk::chunk_payload_data::{PayloadProtocolIdentifier, ReliabilityType};
 use sctp_path::{Congestion, Failures, Rto, RtoLimits, Timer};
 use sctp_sender::replay;
+use sctp_sender::sender::flight::late::AbandonedMessage;
 use sctp_sender::sender::refusal::SenderRefusal;
 use sctp_sender::sender::{Dropped, Reported, Sender};
 use std::alloc::Global;
@@ -108,6 +111,17 @@ fn fault_of(refusal: SenderRefusal) -> Fault
         SenderRefusal::MessageTooLarge => Fault::MessageTooLarge,
         SenderRefusal::QueueFull => Fault::Full,
         _ => Fault::OutOfMemory,
+    }
+}
+
+// Notes the streams whose buffered amount fell to the low threshold as messages were abandoned.
+fn note_abandoned(low: &mut StreamSet, gone: &[AbandonedMessage])
+    ensures stays { Stays low.old low.new }
+{
+    for one in gone {
+        if one.is_low {
+            low.insert(one.stream);
+        }
     }
 }
 
@@ -429,7 +443,8 @@ impl Outbound {
 
     /// Abandons what is past its lifetime (RFC 3758 4.1), and what was sent as often as it may be (RFC 7496 3.1). While nothing is to be sent
     /// again, what is in flight may have come: it is not abandoned, unless more of the message in front waits than its last chunk.
-    pub(crate) fn abandon(&mut self, now: u64) -> Result<(), Fault>
+    pub(crate) fn abandon(&mut self, low: &mut StreamSet, now: u64) -> Result<(), Fault>
+        ensures low { Stays low.old low.new }
         ensures dropped { Sends [] self.old.sender self.new.sender }
         ensures early { may_drop now self.old.sender ≡ false → self.new ≡ self.old
             ⊎ self.new ≡ record self.old { sender = with_lifetimes now self.old.sender } }
@@ -449,7 +464,7 @@ impl Outbound {
                 break;
             }
             match self.sender.drop_expired(now)? {
-                Some(dropped) => self.note_dropped(&dropped),
+                Some(dropped) => self.note_dropped(low, &dropped),
                 None => break,
             }
         }
@@ -457,14 +472,23 @@ impl Outbound {
     }
 
     // A FORWARD-TSN is due where some message of which a part was sent is dropped (RFC 3758 3.5 A3).
-    fn note_dropped(&mut self, dropped: &Dropped)
-        ensures { self.new ≡ record self.old {
+    fn note_dropped(&mut self, low: &mut StreamSet, dropped: &Dropped)
+        ensures low { Stays low.old low.new }
+        ensures rest { self.new ≡ record self.old {
           is_skip_due = tells_some dropped.now || self.old.is_skip_due;
         } }
     {
-        if let Dropped::Abandoned(gone) = dropped {
-            if !gone.is_empty() {
-                self.is_skip_due = true;
+        match dropped {
+            Dropped::Expired(gone) => {
+                if gone.is_low {
+                    low.insert(gone.stream);
+                }
+            }
+            Dropped::Abandoned(gone) => {
+                note_abandoned(low, gone);
+                if !gone.is_empty() {
+                    self.is_skip_due = true;
+                }
             }
         }
     }

@@ -23,15 +23,16 @@ loop-preserved c =
     let few = dropped_few c.args.now c.in_ok-dropped.field-0 c.loop.self.sender c.drop_expired.new.self c.in_ok-dropped.ensures.run
     c.in_ok-dropped.ensures.tail c.in_ok-dropped.ensures.late c.in_ok-dropped.ensures.worn c.in_ok-dropped.ensures.none in
     let less = told_less c.in_ok-dropped.field-0 c.in-Some.dropped _ _ c.in-Some.is few.1 in
-    let left = owed_few c.loop.self c.note_dropped.new.self c.drop_expired.new.self (tells_some c.in-Some.dropped) c.note_dropped.ensures few.0 less in
-    let all = dropped_in c.args.self.now c.loop.self c.note_dropped.new.self c.drop_expired.new.self _ c.loop.invariant.0 c.note_dropped.ensures sent in
+    let left = owed_few c.loop.self c.note_dropped.new.self c.drop_expired.new.self (tells_some c.in-Some.dropped) c.note_dropped.ensures.rest few.0 less in
+    let all = dropped_in c.args.self.now c.loop.self c.note_dropped.new.self c.drop_expired.new.self _ c.loop.invariant.0 c.note_dropped.ensures.rest sent in
     let before = c.loop.invariant.3 in (
       all.0,
       all.1,
       λ h. absurd (none_dropped c.args.now c.args.self.now c.loop.self c.loop.invariant.2 may h),
       omega (arith, before, left),
-      λ due. ap (λ (o : Outbound). o.is_skip_due) c.note_dropped.ensures ∙ ap (λ (b : Bool). tells_some c.in-Some.dropped || b) (c.loop.invariant.4 due)
+      λ due. ap (λ (o : Outbound). o.is_skip_due) c.note_dropped.ensures.rest ∙ ap (λ (b : Bool). tells_some c.in-Some.dropped || b) (c.loop.invariant.4 due)
           ∙ or-true (tells_some c.in-Some.dropped),
+      λ s h. c.note_dropped.ensures.low s (c.loop.invariant.5 s h),
     )
 
 pub returns-in-None-clause-dropped : goal.returns-in-None-clause-dropped
