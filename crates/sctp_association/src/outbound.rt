@@ -2,12 +2,14 @@
 
 ghost use Rattle.std.specs.Prelude.{◌≡◌, ◌⊎◌, ◌-◌, ◌<◌, ◌≤◌, ◌==◌, ◌||◌, [], max, min, nat_lt, not, true, false, None, Some, OnOk, OnErr, IfOk, IfErr, IsOk, length};
 ghost use Rattle.sctp_association.specs.declared.fault.Fault.TheVariants.{OutOfMemory};
+ghost use Rattle.std.specs.List.{list_any};
 ghost use Rattle.sctp_association.specs.Arrivals.{new_sender};
 ghost use Rattle.sctp_association.specs.Asked.{AsksOn};
 ghost use Rattle.sctp_association.specs.Beats.{after_beat};
 ghost use Rattle.sctp_association.specs.Congested.{expired_at, path_of};
 ghost use Rattle.sctp_association.specs.Counts.{CountsNone, HasLimitsOf};
 ghost use Rattle.sctp_association.specs.Halves.{fragment_size};
+ghost use Rattle.sctp_association.specs.Lows.{PutsAll, tells_drop_low};
 ghost use Rattle.sctp_association.specs.Most.{most_data, tells_some};
 ghost use Rattle.sctp_association.specs.Runs.{Sends};
 ghost use Rattle.sctp_association.specs.Telling.{Stays};
@@ -23,6 +25,7 @@ ghost use Rattle.sctp_path.specs.Rto.{after_back_off, first as first_rto};
 ghost use Rattle.sctp_path.specs.Timers.{is_due, is_passed, one_more};
 ghost use Rattle.sctp_sender.specs.Drops.{with_lifetimes};
 ghost use Rattle.sctp_sender.specs.Resending.{all_marked};
+ghost use Rattle.sctp_sender.specs.Thresholds.{tells_message_low};
 ghost use Rattle.sctp_sender.specs.Sender.{is_open, stream_of, with_flight, with_mode_on, written_to};
 
 mod acks;
@@ -117,6 +120,7 @@ fn fault_of(refusal: SenderRefusal) -> Fault
 // Notes the streams whose buffered amount fell to the low threshold as messages were abandoned.
 fn note_abandoned(low: &mut StreamSet, gone: &[AbandonedMessage])
     ensures stays { Stays low.old low.new }
+    ensures told { PutsAll (λ s. list_any (tells_message_low s) gone.now) low.old low.new }
 {
     for one in gone {
         if one.is_low {
@@ -474,6 +478,7 @@ impl Outbound {
     // A FORWARD-TSN is due where some message of which a part was sent is dropped (RFC 3758 3.5 A3).
     fn note_dropped(&mut self, low: &mut StreamSet, dropped: &Dropped)
         ensures low { Stays low.old low.new }
+        ensures told { PutsAll (λ s. tells_drop_low s dropped.now) low.old low.new }
         ensures rest { self.new ≡ record self.old {
           is_skip_due = tells_some dropped.now || self.old.is_skip_due;
         } }
