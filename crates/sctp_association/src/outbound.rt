@@ -25,7 +25,7 @@ ghost use Rattle.sctp_path.specs.Rto.{after_back_off, first as first_rto};
 ghost use Rattle.sctp_path.specs.Timers.{is_due, is_passed, one_more};
 ghost use Rattle.sctp_sender.specs.Drops.{with_lifetimes};
 ghost use Rattle.sctp_sender.specs.Resending.{all_marked};
-ghost use Rattle.sctp_sender.specs.Thresholds.{tells_message_low};
+ghost use Rattle.sctp_sender.specs.Thresholds.{fell, tells_message_low};
 ghost use Rattle.sctp_sender.specs.Sender.{is_open, stream_of, with_flight, with_mode_on, written_to};
 
 mod acks;
@@ -121,6 +121,7 @@ fn fault_of(refusal: SenderRefusal) -> Fault
 fn note_abandoned(low: &mut StreamSet, gone: &[AbandonedMessage])
     ensures stays { Stays low.old low.new }
     ensures told { PutsAll (λ s. list_any (tells_message_low s) gone.now) low.old low.new }
+    ensures room { length low.new ≡ length low.old }
 {
     for one in gone {
         if one.is_low {
@@ -449,6 +450,7 @@ impl Outbound {
     /// again, what is in flight may have come: it is not abandoned, unless more of the message in front waits than its last chunk.
     pub(crate) fn abandon(&mut self, low: &mut StreamSet, now: u64) -> Result<(), Fault>
         ensures low { Stays low.old low.new }
+        ensures told { PutsAll (λ s. fell s self.old.sender self.new.sender) low.old low.new }
         ensures dropped { Sends [] self.old.sender self.new.sender }
         ensures early { may_drop now self.old.sender ≡ false → self.new ≡ self.old
             ⊎ self.new ≡ record self.old { sender = with_lifetimes now self.old.sender } }
@@ -479,6 +481,7 @@ impl Outbound {
     fn note_dropped(&mut self, low: &mut StreamSet, dropped: &Dropped)
         ensures low { Stays low.old low.new }
         ensures told { PutsAll (λ s. tells_drop_low s dropped.now) low.old low.new }
+        ensures room { length low.new ≡ length low.old }
         ensures rest { self.new ≡ record self.old {
           is_skip_due = tells_some dropped.now || self.old.is_skip_due;
         } }
