@@ -27,6 +27,7 @@ pub mod Others
 pub mod Owing
 pub mod Reconfigs
 pub mod Resetting
+pub mod Lows
 pub mod Making
 pub mod Sessions
 pub mod Delivered

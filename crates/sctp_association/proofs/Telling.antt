@@ -495,6 +495,10 @@ kept-low e m h = record {
   too_long = λ s w. w;
 }
 
+-- the low amounts are all that changed
+pub low_only : (e f : Events) (m : List Bool) → f ≡ record e { low = m } → f ≡ record e { low = f.low }
+low_only e f m is = is ∙ ap (λ l. record e { low = l }) (sym (ap (λ (x : Events). x.low) is))
+
 kept-by-us : (e : Events) (m : List Bool) → Stays e.reset_by_us m → KeepsEvents e (record e { reset_by_us = m })
 kept-by-us e m h = record {
   connected = λ w. w;

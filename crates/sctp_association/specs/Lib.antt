@@ -36,6 +36,7 @@ pub mod Leaving
 pub mod Limited
 pub mod Links
 pub mod Lives
+pub mod Lows
 pub mod Made
 pub mod Most
 pub mod Offering

@@ -2,14 +2,17 @@
 
 ghost use Rattle.std.specs.Prelude.{◌≡◌, ◌⊎◌, ◌-◌, ◌<◌, ◌≤◌, ◌==◌, ◌||◌, [], max, min, nat_lt, not, true, false, None, Some, OnOk, OnErr, IfOk, IfErr, IsOk, length};
 ghost use Rattle.sctp_association.specs.declared.fault.Fault.TheVariants.{OutOfMemory};
+ghost use Rattle.std.specs.List.{list_any};
 ghost use Rattle.sctp_association.specs.Arrivals.{new_sender};
 ghost use Rattle.sctp_association.specs.Asked.{AsksOn};
 ghost use Rattle.sctp_association.specs.Beats.{after_beat};
 ghost use Rattle.sctp_association.specs.Congested.{expired_at, path_of};
 ghost use Rattle.sctp_association.specs.Counts.{CountsNone, HasLimitsOf};
 ghost use Rattle.sctp_association.specs.Halves.{fragment_size};
+ghost use Rattle.sctp_association.specs.Lows.{PutsAll, tells_drop_low};
 ghost use Rattle.sctp_association.specs.Most.{most_data, tells_some};
 ghost use Rattle.sctp_association.specs.Runs.{Sends};
+ghost use Rattle.sctp_association.specs.Telling.{Stays};
 ghost use Rattle.sctp_association.specs.Waiting.{IsRefusal, closed_where, fault_of, opened, waiting_fault};
 ghost use Rattle.sctp_sender.specs.Settings.{IsKeptWithin, with_fragment_size, with_low_on};
 ghost use Rattle.sctp_stream.specs.Stats.{count_up};
@@ -22,6 +25,7 @@ ghost use Rattle.sctp_path.specs.Rto.{after_back_off, first as first_rto};
 ghost use Rattle.sctp_path.specs.Timers.{is_due, is_passed, one_more};
 ghost use Rattle.sctp_sender.specs.Drops.{with_lifetimes};
 ghost use Rattle.sctp_sender.specs.Resending.{all_marked};
+ghost use Rattle.sctp_sender.specs.Thresholds.{fell, tells_message_low};
 ghost use Rattle.sctp_sender.specs.Sender.{is_open, stream_of, with_flight, with_mode_on, written_to};
 
 mod acks;
@@ -29,10 +33,12 @@ mod sending;
 
 pub(crate) use self::acks::SackTaken;
 use crate::fault::Fault;
+use crate::stream_set::StreamSet;
 use bytes::Bytes;
 use sctp_data::chunk::chunk_payload_data::{PayloadProtocolIdentifier, ReliabilityType};
 use sctp_path::{Congestion, Failures, Rto, RtoLimits, Timer};
 use sctp_sender::replay;
+use sctp_sender::sender::flight::late::AbandonedMessage;
 use sctp_sender::sender::refusal::SenderRefusal;
 use sctp_sender::sender::{Dropped, Reported, Sender};
 use std::alloc::Global;
@@ -108,6 +114,19 @@ fn fault_of(refusal: SenderRefusal) -> Fault
         SenderRefusal::MessageTooLarge => Fault::MessageTooLarge,
         SenderRefusal::QueueFull => Fault::Full,
         _ => Fault::OutOfMemory,
+    }
+}
+
+// Notes the streams whose buffered amount fell to the low threshold as messages were abandoned.
+fn note_abandoned(low: &mut StreamSet, gone: &[AbandonedMessage])
+    ensures stays { Stays low.old low.new }
+    ensures told { PutsAll (λ s. list_any (tells_message_low s) gone.now) low.old low.new }
+    ensures room { length low.new ≡ length low.old }
+{
+    for one in gone {
+        if one.is_low {
+            low.insert(one.stream);
+        }
     }
 }
 
@@ -429,7 +448,9 @@ impl Outbound {
 
     /// Abandons what is past its lifetime (RFC 3758 4.1), and what was sent as often as it may be (RFC 7496 3.1). While nothing is to be sent
     /// again, what is in flight may have come: it is not abandoned, unless more of the message in front waits than its last chunk.
-    pub(crate) fn abandon(&mut self, now: u64) -> Result<(), Fault>
+    pub(crate) fn abandon(&mut self, low: &mut StreamSet, now: u64) -> Result<(), Fault>
+        ensures low { Stays low.old low.new }
+        ensures told { PutsAll (λ s. fell s self.old.sender self.new.sender) low.old low.new }
         ensures dropped { Sends [] self.old.sender self.new.sender }
         ensures early { may_drop now self.old.sender ≡ false → self.new ≡ self.old
             ⊎ self.new ≡ record self.old { sender = with_lifetimes now self.old.sender } }
@@ -449,7 +470,7 @@ impl Outbound {
                 break;
             }
             match self.sender.drop_expired(now)? {
-                Some(dropped) => self.note_dropped(&dropped),
+                Some(dropped) => self.note_dropped(low, &dropped),
                 None => break,
             }
         }
@@ -457,14 +478,25 @@ impl Outbound {
     }
 
     // A FORWARD-TSN is due where some message of which a part was sent is dropped (RFC 3758 3.5 A3).
-    fn note_dropped(&mut self, dropped: &Dropped)
-        ensures { self.new ≡ record self.old {
+    fn note_dropped(&mut self, low: &mut StreamSet, dropped: &Dropped)
+        ensures low { Stays low.old low.new }
+        ensures told { PutsAll (λ s. tells_drop_low s dropped.now) low.old low.new }
+        ensures room { length low.new ≡ length low.old }
+        ensures rest { self.new ≡ record self.old {
           is_skip_due = tells_some dropped.now || self.old.is_skip_due;
         } }
     {
-        if let Dropped::Abandoned(gone) = dropped {
-            if !gone.is_empty() {
-                self.is_skip_due = true;
+        match dropped {
+            Dropped::Expired(gone) => {
+                if gone.is_low {
+                    low.insert(gone.stream);
+                }
+            }
+            Dropped::Abandoned(gone) => {
+                note_abandoned(low, gone);
+                if !gone.is_empty() {
+                    self.is_skip_due = true;
+                }
             }
         }
     }

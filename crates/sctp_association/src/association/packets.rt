@@ -80,6 +80,8 @@ impl Association {
         ensures tells { Tells self.old self.new }
         ensures over { self.old.is_over ≡ true → self.old.due.alone ≡ None
             → (result ≡ Ok false) × (self.new ≡ self.old) }
+        // It tells no more than that a buffered amount fell to its low threshold.
+        ensures quiet { self.new.events ≡ record self.old.events { low = self.new.events.low } }
         ensures made { Transmits (is_sent result) (sides_of self.old) (sides_of self.new) }
         // An INIT has the first TSN of this side; an INIT ACK has a cookie over the ticket that was due.
         ensures offers { is_sent result ≡ true → OffersAsDue self.old self.new.draft.bytes }
@@ -133,7 +135,7 @@ impl Association {
         if self.is_over {
             return Ok(false);
         }
-        self.outbound.abandon(now)?;
+        self.outbound.abandon(&mut self.events.low, now)?;
         self.settle(now);
         let Some(peer) = self.machine.peer() else {
             return Ok(false);

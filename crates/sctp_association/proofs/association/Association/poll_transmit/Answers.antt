@@ -3,7 +3,7 @@ use Rattle.std.proofs.Common.{Bool, Option, [], ap, false, inl, refl, ℕ, subst
 use Rattle.std.specs.Prelude.{Ok, is_some}
 use Rattle.sctp_association.proofs.Fewer.{data_same, replies_few, settled_few, some_less}
 use Rattle.sctp_association.specs.Most.{most_data}
-use Rattle.sctp_association.proofs.Telling.{tells_kept, tells_peer, tells_same, tells_then, to_same, transmits_end, unmoved_end}
+use Rattle.sctp_association.proofs.Telling.{end_then, low_only, tells_kept, tells_peer, tells_same, tells_then, to_low, transmits_end, unmoved_end}
 use Rattle.std.proofs.lemmas.Option.{none-some}
 use Rattle.sctp_association.proofs.Congested.{as_full, dropped_due, full_of, goes_on, over_not, sends_after, sends_alike, sends_same, stops, unknown_not}
 use Rattle.sctp_association.proofs.Congested.{unsent_of}
@@ -128,16 +128,32 @@ pub returns-then-self-clause-tells : goal.returns-then-self-clause-tells
 returns-then-self-clause-tells c = tells_same _ _ refl
 
 pub returns-in_err-abandon-clause-tells : goal.returns-in_err-abandon-clause-tells
-returns-in_err-abandon-clause-tells c = tells_kept _ _ (knows_same _ _ refl) to_same
+returns-in_err-abandon-clause-tells c = tells_kept _ _ (knows_same _ _ refl)
+    (to_low c.args.self.now.inbound c.args.self.now.events c.args.self.now.is_over c.abandon.new.low c.abandon.ensures.low)
 
 pub returns-in_default-peer-clause-tells : goal.returns-in_default-peer-clause-tells
-returns-in_default-peer-clause-tells c = tells_kept _ _ c.settle.ensures.peer.machine c.settle.ensures.tells
+returns-in_default-peer-clause-tells c = tells_kept _ _ c.settle.ensures.peer.machine (end_then
+    (to_low c.args.self.now.inbound c.args.self.now.events c.args.self.now.is_over c.abandon.new.low c.abandon.ensures.low) c.settle.ensures.tells)
 
 pub returns-clause-tells : goal.returns-clause-tells
 returns-clause-tells c =
     let put = c.put_packet.ensures in
-    tells_then _ c.settle.new.self _ (tells_kept _ _ c.settle.ensures.peer.machine c.settle.ensures.tells)
+    tells_then _ c.settle.new.self _ (tells_kept _ _ c.settle.ensures.peer.machine (end_then
+    (to_low c.args.self.now.inbound c.args.self.now.events c.args.self.now.is_over c.abandon.new.low c.abandon.ensures.low) c.settle.ensures.tells))
     (tells_peer _ _ (unmoved_keeps _ _ put.kept) (transmits_end _ _ _ put.made put.kept))
+
+-- a low buffered amount, and nothing else
+pub returns-in_err-put_alone-clause-quiet : goal.returns-in_err-put_alone-clause-quiet
+returns-in_err-put_alone-clause-quiet c = low_only c.args.self.now.events _ c.args.self.now.events.low c.put_alone.ensures.kept.events
+
+pub returns-in-Some-clause-quiet : goal.returns-in-Some-clause-quiet
+returns-in-Some-clause-quiet c = low_only c.args.self.now.events _ c.args.self.now.events.low c.put_alone.ensures.kept.events
+
+pub returns-in_default-peer-clause-quiet : goal.returns-in_default-peer-clause-quiet
+returns-in_default-peer-clause-quiet c = low_only c.args.self.now.events _ c.abandon.new.low c.settle.ensures.events
+
+pub returns-clause-quiet : goal.returns-clause-quiet
+returns-clause-quiet c = low_only c.args.self.now.events _ c.abandon.new.low (c.put_packet.ensures.kept.events ∙ c.settle.ensures.events)
 
 -- ## What is left
 

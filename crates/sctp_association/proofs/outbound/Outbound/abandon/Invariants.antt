@@ -1,7 +1,10 @@
-use Rattle.std.proofs.Common.{◌≡◌, ◌≤◌, [], false, true}
+use Rattle.std.proofs.Common.{◌≡◌, ◌≤◌, [], false, length, true}
+use Rattle.sctp_association.specs.Lows.{PutsAll}
 use Rattle.sctp_association.specs.Most.{most_data}
 use Rattle.sctp_association.specs.Runs.{Sends}
 use Rattle.sctp_association.specs.Sending.{may_drop}
+use Rattle.sctp_association.specs.Telling.{Stays}
+use Rattle.sctp_sender.specs.Thresholds.{fell}
 use Rattle.sctp_association.proofs.outbound.Outbound.abandon.Given as goal
 
 -- what is late is abandoned, and nothing else changes; nothing is before something may be
@@ -12,4 +15,5 @@ invariant-loop l = (l.self ≡ record l.initial.self {
 }) × Sends [] l.initial.self.sender l.self.sender
     × (may_drop l.now l.initial.self.sender ≡ false → l.self ≡ l.initial.self)
     × (most_data l.self ≤ most_data l.initial.self)
-    × (l.initial.self.is_skip_due ≡ true → l.self.is_skip_due ≡ true)
+    × (l.initial.self.is_skip_due ≡ true → l.self.is_skip_due ≡ true) × Stays l.initial.low l.low
+    × (length l.low ≡ length l.initial.low) × PutsAll (λ s. fell s l.initial.self.sender l.self.sender) l.initial.low l.low

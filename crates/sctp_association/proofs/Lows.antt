@@ -1,0 +1,85 @@
+-- Which streams fell to their low threshold, as messages are dropped.
+use Rattle.std.proofs.Common.{◌≡◌, ◌⊎◌, inl, inr, ℕ, ◌<◌, Bool, true, false, List, [], ◌∷◌, length, Option, Some, refl, ap, sym, subst, ◌∙◌}
+use Rattle.std.proofs.lemmas.Bool.{eqb-true, false≢true}
+use Rattle.std.specs.List.{find, list_any}
+use Rattle.std.specs.Prelude.{IfSome, ◌==◌, ◌&&◌, not, if◌then◌else◌}
+use Rattle.sctp_association.specs.Lows.{PutsAll, tells_drop_low}
+use Rattle.sctp_association.specs.Telling.{Stays}
+use Rattle.sctp_sender.specs.Drops.{list_in, run_in}
+use Rattle.sctp_sender.specs.Outgoing.{after_expiries, has_number}
+use Rattle.sctp_sender.specs.Sender.{Transmission, after_expire_run, stream_of}
+use Rattle.sctp_sender.specs.Thresholds.{fell, is_above, tells_message_low}
+use Rattle.sctp_sender.specs.declared.sender.Dropped.{Dropped}
+use Rattle.sctp_sender.specs.declared.sender.Dropped.TheVariants.{Abandoned, Expired}
+use Rattle.sctp_sender.proofs.Lows.{expiry-number}
+use Rattle.sctp_stream.specs.declared.outbound_stream.OutboundStream.{OutboundStream}
+use Rattle.sctp_util.specs.Lists.{change_where}
+
+-- ## One call
+
+-- another stream is as it was before a change of one
+found-other : (f : OutboundStream → OutboundStream) → ((l : OutboundStream) → (f l).stream_identifier ≡ l.stream_identifier) → (s t : ℕ)
+    → (t == s) ≡ false → (ls : List OutboundStream) → find (has_number s) (change_where (has_number t) f ls) ≡ find (has_number s) ls
+found-other f keeps s t ne [] = refl
+found-other f keeps s t ne (l ∷ ls) = by (has_number t l) refl (found-other f keeps s t ne ls)
+  where
+    by : (b : Bool) → has_number t l ≡ b → find (has_number s) (change_where (has_number t) f ls) ≡ find (has_number s) ls
+        → find (has_number s) ((if b then f l else l) ∷ change_where (has_number t) f ls) ≡ find (has_number s) (l ∷ ls)
+    by true e ih =
+        let no : has_number s l ≡ false = ap (λ n. n == s) (eqb-true l.stream_identifier t e) ∙ ne in
+        ap (λ b. if b then Some (f l) else find (has_number s) (change_where (has_number t) f ls)) (ap (λ n. n == s) (keeps l) ∙ no) ∙ ih
+        ∙ sym (ap (λ b. if b then Some l else find (has_number s) ls) no)
+    by false e ih = ap (λ o. if has_number s l then Some l else o) ih
+
+never : (b : Bool) → (b && not b) ≡ true → ⊥
+never true e = false≢true e
+never false e = false≢true e
+
+told-by : (now : ℕ) (d : Dropped) (old new : Transmission)
+    → IfSome (run_in (Some d)) (λ g. new ≡ after_expire_run g.stream g.unordered g.messages g.bytes now old)
+    → IfSome (run_in (Some d)) (λ g. g.is_low ≡ fell g.stream old new)
+    → IfSome (list_in (Some d)) (λ gone. (s : ℕ) → list_any (tells_message_low s) gone ≡ fell s old new)
+    → (s : ℕ) → fell s old new ≡ true → tells_drop_low s d ≡ true
+told-by now (Expired g) old new run low gone s h = by (g.stream == s) refl
+  where
+    by : (b : Bool) → (g.stream == s) ≡ b → (b && g.is_low) ≡ true
+    by true e = low ∙ ap (λ n. fell n old new) (eqb-true g.stream s e) ∙ h
+    by false e =
+        let same : stream_of s new ≡ stream_of s old = ap (λ (t : Transmission). find (has_number s) t.streams) run
+        ∙ found-other (after_expiries g.unordered g.messages g.bytes) (expiry-number g.unordered g.messages g.bytes) s g.stream e old.streams in
+        absurd (never (is_above (stream_of s old)) (subst (λ o. (is_above (stream_of s old) && not (is_above o)) ≡ true) same h))
+told-by now (Abandoned gone) old new run low all s h = all s ∙ h
+
+-- each stream whose amount fell is among those that the answer tells
+pub told_in : (now : ℕ) (o : Option Dropped) (d : Dropped) → o ≡ Some d → (old new : Transmission)
+    → IfSome (run_in o) (λ g. new ≡ after_expire_run g.stream g.unordered g.messages g.bytes now old)
+    → IfSome (run_in o) (λ g. g.is_low ≡ fell g.stream old new)
+    → IfSome (list_in o) (λ gone. (s : ℕ) → list_any (tells_message_low s) gone ≡ fell s old new)
+    → (s : ℕ) → fell s old new ≡ true → tells_drop_low s d ≡ true
+told_in now o d is old new run low gone = told-by now d old new
+    (subst (λ p. IfSome (run_in p) (λ g. new ≡ after_expire_run g.stream g.unordered g.messages g.bytes now old)) is run)
+    (subst (λ p. IfSome (run_in p) (λ g. g.is_low ≡ fell g.stream old new)) is low)
+    (subst (λ p. IfSome (list_in p) (λ all. (s : ℕ) → list_any (tells_message_low s) all ≡ fell s old new)) is gone)
+
+-- ## One call after another
+
+fell-then : (x y z : Bool) → (x && not z) ≡ true → ((x && not y) ≡ true) ⊎ ((y && not z) ≡ true)
+fell-then true true z h = inr h
+fell-then true false z h = inl refl
+fell-then false y z h = absurd (false≢true h)
+
+pub puts_then : (a b c : Transmission) (test : ℕ → Bool) (l m n : List Bool) → ((s : ℕ) → fell s b c ≡ true → test s ≡ true)
+    → PutsAll (λ s. fell s a b) l m → length m ≡ length l → Stays m n → PutsAll test m n → PutsAll (λ s. fell s a c) l n
+puts_then a b c test l m n tells first room stays second s h lt =
+    elim (fell-then (is_above (stream_of s a)) (is_above (stream_of s b)) (is_above (stream_of s c)) h) [
+      | inl x ↦ stays s (first s x lt)
+      | inr y ↦ second s (tells s y) (subst (λ k. s < k) (sym room) lt)
+    ]
+
+-- no stream changes
+pub puts_same : (a b c : Transmission) (l m : List Bool) → c.streams ≡ b.streams → PutsAll (λ s. fell s a b) l m → PutsAll (λ s. fell s a c) l m
+puts_same a b c l m same first s h lt =
+    first s (ap (λ (ls : List OutboundStream). is_above (stream_of s a) && not (is_above (find (has_number s) ls))) (sym same) ∙ h) lt
+
+pub puts_none : (a : Transmission) (l m : List Bool) → PutsAll (λ s. fell s a a) l m
+puts_none a l m s h lt = absurd (never (is_above (stream_of s a)) h)
