@@ -4,7 +4,6 @@ use Rattle.std.specs.Prelude.{◌&&◌, if◌then◌else◌, nat_lt}
 use Rattle.sctp_association.specs.Again.{IsAgain, IsRunOut, IsSentAgain, RunsAgain, expired, expired_where, missed_where, run_in, stopped_where}
 use Rattle.sctp_association.specs.BackOff.{IsAsIdle, doubled_where, is_awaited, is_control_due, is_missed, rto_behind}
 use Rattle.sctp_association.specs.Rows.{owed_by}
-use Rattle.sctp_association.specs.Still.{heartbeat_in}
 use Rattle.sctp_association.specs.Timers.{guard_in}
 use Rattle.sctp_association.specs.declared.association.Association.{Association}
 use Rattle.sctp_association.specs.declared.config.Config.{Config}
@@ -25,7 +24,6 @@ use Rattle.sctp_path.specs.Timers.{is_due}
 use Rattle.sctp_path.specs.declared.heartbeat.Heartbeat.{Heartbeat}
 use Rattle.sctp_path.specs.declared.timer.Timer.{Timer}
 use Rattle.sctp_reset.specs.Own.{after_failed}
-use Rattle.sctp_reset.specs.Requests.{Requests}
 
 -- ## The timer of the state expires
 

@@ -5,7 +5,7 @@ use Rattle.std.specs.List.{list_any}
 use Rattle.std.specs.Prelude.{Result, Ok, ◌==◌, ◌||◌, drop, if◌then◌else◌, is_some}
 use Rattle.sctp_association.proofs.Coming.{if_ok, on_ok}
 use Rattle.sctp_association.specs.Acks.{without_blocks}
-use Rattle.sctp_association.specs.Brought.{AddsOnly, BringsOnly, IsLargeOf, IsLongOf, IsLowBy, IsReadOf, NotesOnly, falls_at, falls_by, low_by_sack, low_by_shutdown}
+use Rattle.sctp_association.specs.Brought.{AddsOnly, BringsOnly, IsLongOf, IsLowBy, IsReadOf, NotesOnly, falls_at, falls_by, low_by_sack, low_by_shutdown}
 use Rattle.sctp_association.specs.Events.{BringsNone, Waits, brought_at, peers_from, whole_from}
 use Rattle.sctp_association.specs.Halves.{receiver_of}
 use Rattle.sctp_association.specs.Paths.{taken_as}

@@ -12,9 +12,9 @@ returns-in_err-follow_held-in-Some-default-Dcep-clause-control c =
     let told : tells_control c.next_len.result ≡ true = search rules in
     let start = c.args.association.now in
     let read = of_read c.args.now c.args.stream start c.loop.association c.hold.new.association c.loop.invariant.2 (
-          control_told _ _ c.next_len.ensures told) c.in_ok-hold-in-Some-default-Dcep.ensures.read in
+    control_told _ _ c.next_len.ensures told) c.in_ok-hold-in-Some-default-Dcep.ensures.read in
     of_then c.args.now c.args.stream start c.hold.new.association c.follow_held-in-Some-default-Dcep.new.association read (
-        c.follow_held-in-Some-default-Dcep.ensures.inbound)
+    c.follow_held-in-Some-default-Dcep.ensures.inbound)
 
 pub returns-in-Some : goal.returns-in-Some
 returns-in-Some c = record {
@@ -28,7 +28,7 @@ loop-preserved c =
     let told : tells_control c.next_len.result ≡ true = search rules in
     let start = c.args.association.now in
     let read = of_read c.args.now c.args.stream start c.loop.association c.hold.new.association c.loop.invariant.2 (
-          control_told _ _ c.next_len.ensures told) c.in_ok-hold-in-Some-default-Dcep.ensures.read in
+    control_told _ _ c.next_len.ensures told) c.in_ok-hold-in-Some-default-Dcep.ensures.read in
     let same = c.hold.ensures.side ∙ c.loop.invariant.0 in
     let held : Gains c.args.self.now.side c.args.self.now.channels.items c.hold.new.self.channels.items = rw c.hold.ensures.same c.loop.invariant.1 in (
       c.follow_held-in-Some-default-Dcep.ensures.side ∙ same,

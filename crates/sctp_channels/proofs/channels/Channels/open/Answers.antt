@@ -17,7 +17,7 @@ returns-clause-written c =
     record {
       mid = c.set_mode.new.self;
       mode = subst (λ (o : Open). c.set_mode.new.self.outbound ≡ record before {
-            sender = with_mode_on stream false o.reliability o.value (opened stream before.sender);
-          }) same c.in_ok-set_mode.ensures.ok;
+        sender = with_mode_on stream false o.reliability o.value (opened stream before.sender);
+      }) same c.in_ok-set_mode.ensures.ok;
       written = subst (λ (b : List ℕ). IsHanded stream Dcep b c.set_mode.new.self c.write-2.new.self) is (c.in_ok-write.ensures.ok some);
     }

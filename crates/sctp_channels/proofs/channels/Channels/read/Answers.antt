@@ -9,11 +9,11 @@ returns-in-Some c =
       gains = c.follow_control.ensures.gains;
       side = c.follow_control.ensures.side;
       message = (
-          c.follow_control.new.association,
-          c.follow_control.ensures.control,
-          data_told true _ _ c.next_len.ensures told,
-          ap Some c.new.ensures ∙ sym c.in-Some.is ∙ c.in_ok-chunks.ensures.message,
-          c.read.ensures.taken,
-          );
+        c.follow_control.new.association,
+        c.follow_control.ensures.control,
+        data_told true _ _ c.next_len.ensures told,
+        ap Some c.new.ensures ∙ sym c.in-Some.is ∙ c.in_ok-chunks.ensures.message,
+        c.read.ensures.taken,
+      );
       err = tt;
     }
