@@ -1,8 +1,8 @@
 -- The list gains channels of the peer alone.
-use Rattle.std.proofs.Common.{◌≡◌, ℕ, Bool, true, false, not, ◌&&◌, List, [], ◌∷◌, ◌++◌, map, refl, ap, sym, ◌∙◌, subst, arith, append_assoc}
+use Rattle.std.proofs.Common.{◌≡◌, true, false, List, [], ◌∷◌, ◌++◌, refl, ap, sym, ◌∙◌, subst, arith, append_assoc}
 use Rattle.std.proofs.lemmas.List.{append-nil, map-append}
 use Rattle.std.specs.List.{list_all}
-use Rattle.sctp_channels.specs.Channels.{Gains, as_asked, asked, has_channel, is_of, is_peers}
+use Rattle.sctp_channels.specs.Channels.{Gains, as_asked, asked, is_of, is_peers}
 use Rattle.sctp_channels.specs.declared.channel.Channel.{Channel}
 use Rattle.sctp_dcep.specs.declared.side.Side.{Side}
 

@@ -5,7 +5,7 @@ use Rattle.sctp_dcep.specs.Message.{encoding, open_encoding}
 use Rattle.sctp_dcep.specs.declared.message.Message.{Message}
 use Rattle.sctp_dcep.specs.declared.message.Message.TheVariants as message
 use Rattle.sctp_dcep.specs.declared.message.Open as request
-use Rattle.sctp_data.specs.declared.chunk.chunk_payload_data.PayloadProtocolIdentifier.TheVariants.{String, Binary, StringEmpty, BinaryEmpty}
+use Rattle.sctp_data.specs.declared.chunk.chunk_payload_data.PayloadProtocolIdentifier.TheVariants.{String, Binary}
 
 pub kind_is : (b : Bool) (bytes : List ℕ) → 0 < length bytes → kind_of b bytes ≡ (if b then String else Binary)
 kind_is true [] h = absurd (omega (arith, h))
@@ -27,4 +27,5 @@ request_in o message.Ack = o
 request_in _ (message.Open o) = o
 
 pub open_same : (a b : request.Open) → message.Open a ≡ message.Open b → a ≡ b
+unfolding request_in
 open_same a b same = ap (request_in a) same

@@ -1,9 +1,8 @@
 -- Lists of channels: places in them, and what is noted.
-use Rattle.std.proofs.Common.{◌≡◌, ℕ, zero, suc, ◌+◌, ◌-◌, ◌<◌, ◌≤◌, ◌==◌, Bool, true, false, not, ◌&&◌, ◌||◌, cond, List, [], ◌∷◌, ◌++◌, length, map, get_or, set, take, drop, position, find, Some, None, refl, ap, sym, ◌∙◌, arith}
-use Rattle.std.specs.Prelude.{nat_lt, slice_get}
-use Rattle.std.specs.List.{list_any, list_all, position_or_len}
+use Rattle.std.proofs.Common.{◌≡◌, ℕ, zero, suc, ◌+◌, ◌<◌, ◌≤◌, ◌==◌, Bool, true, false, not, ◌||◌, cond, List, [], ◌∷◌, ◌++◌, length, get_or, set, take, drop, position, find, Some, None, refl, ap, sym, ◌∙◌, arith}
+use Rattle.std.specs.List.{list_any, position_or_len}
 use Rattle.std.proofs.lemmas.Bool.Decides.{nat_tests}
-use Rattle.sctp_channels.specs.Channels.{as_asked, asked, channel_on, has_channel, is_on, is_once, note_on, noted}
+use Rattle.sctp_channels.specs.Channels.{as_asked, asked, has_channel, is_on, is_once, note_on, noted}
 use Rattle.sctp_channels.specs.declared.channel.Channel.{Channel}
 use Rattle.sctp_channels.specs.declared.channel.News.{News}
 use Rattle.sctp_channels.specs.declared.channel.News.TheVariants.{Known, Readable, Closing, OursReset, PeersReset}

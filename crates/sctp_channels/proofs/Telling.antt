@@ -1,11 +1,11 @@
 -- What is told, of a list at a place.
-use Rattle.std.proofs.Common.{◌≡◌, ℕ, suc, ◌<◌, Bool, true, false, ◌&&◌, List, ◌++◌, length, get_or, set, take, drop, refl, sym, ◌∙◌, ap, subst, [], Result, Ok, Err, arith}
+use Rattle.std.proofs.Common.{◌≡◌, ℕ, suc, ◌<◌, Bool, true, false, ◌&&◌, List, ◌++◌, length, get_or, set, take, drop, refl, ◌∙◌, subst, [], Result, Ok, Err, arith}
 use Rattle.std.specs.Prelude.{MatchBool, OnErr}
 use Rattle.std.proofs.lemmas.List.{get_or_default}
 use Rattle.sctp_channels.proofs.Gaining.{gains_same, gains_more}
 use Rattle.sctp_channels.proofs.Lists.{asked_set, has_at, has_same, split_at}
-use Rattle.sctp_channels.specs.Channels.{Gains, as_asked, asked, has_channel, is_reset}
-use Rattle.sctp_channels.specs.Events.{IsAbout, IsClosed, IsTakenOut, IsTold, Tells, is_end}
+use Rattle.sctp_channels.specs.Channels.{Gains, as_asked, is_reset}
+use Rattle.sctp_channels.specs.Events.{IsAbout, IsClosed, IsTold, Tells, is_end}
 use Rattle.sctp_channels.specs.declared.channel.Channel.{Channel}
 use Rattle.sctp_channels.specs.declared.event.ChannelEvent.{ChannelEvent}
 use Rattle.sctp_channels.specs.declared.event.ChannelEvent.TheVariants.{Opened, Acknowledged, Readable, Closed, Association}

@@ -1,5 +1,5 @@
 -- Messages of channels (RFC 8831 6.6, 8).
-use Rattle.std.specs.Prelude.{◌≡◌, ℕ, Bool, true, false, if◌then◌else◌, List, [], ◌∷◌, Option, Some}
+use Rattle.std.specs.Prelude.{◌≡◌, ℕ, Bool, true, false, if◌then◌else◌, List, [], ◌∷◌, Some}
 use Rattle.sctp_association.specs.Waiting.{opened}
 use Rattle.sctp_association.specs.declared.association.Association.{Association}
 use Rattle.sctp_data.specs.declared.chunk.chunk_payload_data.PayloadProtocolIdentifier.{PayloadProtocolIdentifier}

@@ -1,8 +1,8 @@
 -- Why calls are refused.
-use Rattle.std.specs.Prelude.{◌≡◌, ◌⊎◌, ℕ, true, false, List, Option, Some, None, is_some}
+use Rattle.std.specs.Prelude.{◌≡◌, ℕ, true, false, List, Option, Some, None, is_some}
 use Rattle.sctp_association.specs.declared.fault.Fault.{Fault}
 use Rattle.sctp_association.specs.declared.fault.Fault.TheVariants as fault
-use Rattle.sctp_channels.specs.Channels.{IsFull, IsNextFree, channel_on, has_channel, takes_messages}
+use Rattle.sctp_channels.specs.Channels.{IsFull, channel_on, has_channel, takes_messages}
 use Rattle.sctp_channels.specs.declared.channel.Channel.{Channel}
 use Rattle.sctp_channels.specs.declared.channels.Refusal.{Refusal}
 use Rattle.sctp_channels.specs.declared.channels.Refusal.TheVariants.{OutOfMemory, NoStream, InUse, NoChannel, NameTooLong, Association}

@@ -1,4 +1,4 @@
-use Rattle.std.proofs.Common.{◌≡◌, ◌∙◌, true, false, Some, ap, sym, rules}
+use Rattle.std.proofs.Common.{◌≡◌, ◌∙◌, true, Some, ap, sym, rules}
 use Rattle.sctp_channels.specs.Reading.{tells_data}
 use Rattle.sctp_channels.proofs.Following.{data_told}
 use Rattle.sctp_channels.proofs.channels.Channels.read.Goals as goal
