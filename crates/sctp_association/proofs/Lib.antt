@@ -27,6 +27,8 @@ pub mod Others
 pub mod Owing
 pub mod Reconfigs
 pub mod Resetting
+pub mod Requesting
+pub mod PuttingResets
 pub mod Lows
 pub mod Making
 pub mod Sessions

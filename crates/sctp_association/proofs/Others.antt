@@ -427,7 +427,7 @@ unsent_alike a b h y = unsent (sides_of a) b.outbound.sender (receiver_of b.inbo
     (subst (λ t. Sends [] a.outbound.sender t) (sym h.sender) (none_sent a.outbound.sender)) h.receiver
 
 -- nor where the call is refused
-refused : (o : Result Bool Fault) → IsErr o → is_sent o ≡ false
+pub refused : (o : Result Bool Fault) → IsErr o → is_sent o ≡ false
 refused (Ok b) h = absurd (false≢true h)
 refused (Err e) h = refl
 

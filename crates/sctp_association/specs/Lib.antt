@@ -51,6 +51,7 @@ pub mod Reads
 pub mod Reconfigs
 pub mod Replying
 pub mod Reports
+pub mod Requesting
 pub mod Rooms
 pub mod Rows
 pub mod Runs

@@ -27,6 +27,7 @@ ghost use Rattle.sctp_receiver.specs.Limits.{chunk_cost};
 ghost use Rattle.sctp_sender.specs.Sender.{stream_of};
 
 pub use self::stats::Stats;
+use crate::asking::Asking;
 use crate::config::{Config, Secrets};
 use crate::draft::Draft;
 use crate::due::{AloneKind, Due};
@@ -40,7 +41,7 @@ use sctp_data::chunk::chunk_payload_data::PayloadProtocolIdentifier;
 use sctp_handshake::{Machine, Offer, State};
 use sctp_path::{Heartbeat, Timer};
 use sctp_reassembly::Chunks;
-use sctp_reset::{OwnRequests, PeerRequests};
+use sctp_reset::PeerRequests;
 use std::alloc::Global;
 
 /// What became of a datagram.
@@ -84,7 +85,7 @@ pub struct Association {
     wants_shutdown: bool,
     outbound: Outbound,
     inbound: Option<Inbound>,
-    requests: OwnRequests,
+    requests: Asking,
     peer_requests: Option<PeerRequests>,
     // T1-init, T1-cookie or T2-shutdown, by the state.
     control: Timer,
@@ -182,7 +183,7 @@ impl Association {
             wants_shutdown: false,
             outbound,
             inbound: None,
-            requests: OwnRequests::new(alloc, secrets.first_tsn),
+            requests: Asking::new(alloc, secrets.first_tsn),
             peer_requests: None,
             control: Timer::new(),
             guard: Timer::new(),

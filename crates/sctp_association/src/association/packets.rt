@@ -17,6 +17,7 @@ ghost use Rattle.sctp_association.specs.declared.inbound.Inbound.{Inbound};
 ghost use Rattle.sctp_association.specs.Reads.{IsSameBeside};
 ghost use Rattle.sctp_association.specs.Replying.{AddsReply, IsReply, LeavesAlone, PutsOne, header_to, host_name_causes};
 ghost use Rattle.sctp_association.specs.Reports.{one_cause, unrecognized_in};
+ghost use Rattle.sctp_association.specs.Requesting.{KeepsResets, LeavesResetBy, LeavesResetIn, OwesNoReset, PutsReset, resets_of};
 ghost use Rattle.sctp_association.specs.Rows.{SettlesToSend};
 ghost use Rattle.sctp_association.specs.Sending.{IsTimed};
 ghost use Rattle.sctp_association.specs.Skips.{LeavesSkip, LeavesSkipBy};
@@ -115,6 +116,9 @@ impl Association {
         ensures leaves { LeavesBy (is_sent result) self.old self.new }
         // So a FORWARD-TSN does, unless none can be made that a packet has room for.
         ensures skips { LeavesSkipBy (is_sent result) self.old self.new }
+        // A RE-CONFIG has the response that is due, and the request whose moment has come, which may begin now (RFC 6525 5.1, 5.2.1). One that does
+        // not leave stays due; where there is no datagram none is.
+        ensures resets { LeavesResetBy now result self.old self.new }
         // Nothing else comes to be due, but a SHUTDOWN or SHUTDOWN-ACK where nothing waits or is in flight; no HEARTBEAT or RE-CONFIG (`moments`).
         ensures asks { OwesNothingNew (owed_of self.old) (owed_of self.new) }
         ensures moments { AsksNoMore now self.old self.new }
@@ -162,6 +166,10 @@ impl Association {
         ensures skips { LeavesSkip (IsSentIn (is_sent result) self.new.draft.bytes)
             self.old.draft.limit self.old.outbound.sender self.old.outbound.is_skip_due
             self.new.outbound.is_skip_due }
+        ensures resets { LeavesResetIn now (is_sent result) self.old.outbound.sender
+            self.old self.new }
+        ensures unasked { result ≡ Ok false → self.new.machine.state ≢ CookieEchoed
+            → OwesNoReset now self.old.outbound.sender (resets_of self.old) }
         ensures fewer { result ≡ Ok true
             → most_packets now self.new < most_packets now self.old }
     {
@@ -403,6 +411,11 @@ impl Association {
         ensures skips { (p : Parts) → IsDraft p self.old.draft.bytes
             → LeavesSkip (Stands self.old.draft.bytes self.new.draft.bytes) self.old.draft.limit
             self.old.outbound.sender self.old.outbound.is_skip_due self.new.outbound.is_skip_due }
+        ensures resets { (p : Parts) → IsDraft p self.old.draft.bytes
+            → PutsReset now self.old self.new }
+        ensures unasked { OnOk result (self.new.machine.state ≢ CookieEchoed
+            → IfNoneAdded self.old.draft.bytes self.new.draft.bytes
+            (OwesNoReset now self.old.outbound.sender (resets_of self.old))) }
         ensures fewer { (p : Parts) → IsDraft p self.old.draft.bytes
             → FewerWherePut (most_packets now self.old) (most_packets now self.new)
             self.old.draft.bytes self.new.draft.bytes }
@@ -432,6 +445,10 @@ impl Association {
         ensures full { IsAsFull self.old.outbound self.new.outbound }
         ensures leaves { LeavesInto self.old self.new }
         ensures skip { self.new.outbound.is_skip_due ≡ self.old.outbound.is_skip_due }
+        ensures resets { (p : Parts) → IsDraft p self.old.draft.bytes
+            → PutsReset now self.old self.new }
+        ensures unasked { OnOk result (IfNoneAdded self.old.draft.bytes self.new.draft.bytes
+            (OwesNoReset now self.old.outbound.sender (resets_of self.old))) }
     {
         self.put_shutdown();
         self.put_heartbeats(now)?;
@@ -458,6 +475,7 @@ impl Association {
         ensures skips { 12 ≤ length self.old.draft.bytes
             → LeavesSkip (Stands self.old.draft.bytes self.new.draft.bytes) self.old.draft.limit
             self.old.outbound.sender self.old.outbound.is_skip_due self.new.outbound.is_skip_due }
+        ensures resets { resets_of self.new ≡ resets_of self.old }
         ensures fewer { FewerWherePut (most_data self.old.outbound) (most_data self.new.outbound)
             self.old.draft.bytes self.new.draft.bytes }
     {
@@ -614,6 +632,7 @@ impl Association {
             ((self.new.due.heartbeat ≡ None) × (beats now self.new ≡ false))) }
         ensures acks { sack_delay self.new ≡ sack_delay self.old }
         ensures leaves { LeavesInto self.old self.new }
+        ensures resets { KeepsResets self.old self.new }
     {
         self.put_heartbeat_ack()?;
         match self.next_heartbeat() {
@@ -644,7 +663,7 @@ impl Association {
     }
 
     // Puts a HEARTBEAT with this time. The next one is later.
-    #[tactic(auto, using(crate::proofs::Owing::used_later, crate::proofs::Others::same_puts))]
+    #[tactic(auto, using(crate::proofs::Owing::used_later, crate::proofs::Others::same_puts, crate::proofs::Requesting::keeps_same))]
     #[inline(never)]
     fn put_heartbeat(&mut self, now: u64) -> Result<(), Fault>
         requires due { beats now self.old ≡ true }
@@ -658,6 +677,7 @@ impl Association {
         ensures owes { OnOk result (IfNonePut self.old.draft.bytes self.new.draft.bytes
             (beats now self.new ≡ false)) }
         ensures replies { replies_of self.new ≡ replies_of self.old }
+        ensures resets { KeepsResets self.old self.new }
     {
         let Some(heartbeat) = &mut self.heartbeat else {
             return Ok(());

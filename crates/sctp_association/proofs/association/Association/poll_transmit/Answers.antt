@@ -27,6 +27,9 @@ use Rattle.sctp_association.specs.declared.outbound.Outbound.{Outbound}
 use Rattle.sctp_association.specs.Runs.{Sends}
 use Rattle.sctp_association.specs.Skips.{LeavesSkip}
 use Rattle.sctp_handshake.specs.declared.machine.Machine.{Machine}
+use Rattle.std.proofs.lemmas.Bool.{false≢true}
+use Rattle.sctp_association.proofs.Requesting.{not_ok, reset_alone, reset_from, reset_kept, reset_none_so, timed_resets}
+use Rattle.sctp_association.specs.Requesting.{OwesNoReset, Resets}
 
 pub returns-in_err-put_alone-clause-made : goal.returns-in_err-put_alone-clause-made
 returns-in_err-put_alone-clause-made c =
@@ -440,4 +443,65 @@ returns-clause-skips c = record {
   leaves = λ due. subst (λ (n : ℕ). LeavesSkip (IsSentIn (is_sent c.put_packet.result) c.put_packet.new.self.draft.bytes) n
       c.settle.new.self.outbound.sender c.settle.new.self.outbound.is_skip_due c.put_packet.new.self.outbound.is_skip_due) c.settle.ensures.stays.limit
       c.put_packet.ensures.skips (ap (λ (o : Outbound). o.is_skip_due) c.settle.ensures.sending ∙ c.abandon.ensures.skip due);
+}
+
+-- ## A RE-CONFIG
+
+pub returns-in_err-put_alone-clause-resets : goal.returns-in_err-put_alone-clause-resets
+returns-in_err-put_alone-clause-resets c =
+    let old = c.args.self.now in
+    record {
+      kept = old.outbound.sender;
+      dropped = none_sent old.outbound.sender;
+      leaves = reset_none_so c.args.now _ old.outbound.sender old c.put_alone.new.self c.from_residual.ensures.0
+          (reset_kept c.args.now old.outbound.sender old c.put_alone.new.self (timed_resets old c.put_alone.new.self c.put_alone.ensures.timed));
+      owes = λ is may. not_ok _ c.from_residual.ensures.0 is;
+    }
+
+pub returns-in-Some-clause-resets : goal.returns-in-Some-clause-resets
+returns-in-Some-clause-resets c =
+    let old = c.args.self.now in
+    record {
+      kept = old.outbound.sender;
+      dropped = none_sent old.outbound.sender;
+      leaves = reset_alone c.args.now old.outbound.sender c.in-Some.alone old _ c.in_ok-put_alone.ensures.reply
+          (timed_resets old c.put_alone.new.self c.put_alone.ensures.timed);
+      owes = λ is may. absurd (cc is);
+    }
+
+pub returns-then-self-clause-resets : goal.returns-then-self-clause-resets
+returns-then-self-clause-resets c =
+    let old = c.args.self.now in
+    record {
+      kept = old.outbound.sender;
+      dropped = none_sent old.outbound.sender;
+      leaves = reset_kept c.args.now old.outbound.sender old old refl;
+      owes = λ is may. absurd (false≢true (sym may.going ∙ c.if-self.true));
+    }
+
+pub returns-in_err-abandon-clause-resets : goal.returns-in_err-abandon-clause-resets
+returns-in_err-abandon-clause-resets c = record {
+  kept = c.abandon.new.self.sender;
+  dropped = c.abandon.ensures.dropped;
+  leaves = reset_none_so c.args.now _ c.abandon.new.self.sender c.args.self.now _ c.from_residual-in_err-abandon.ensures.0
+      (reset_kept c.args.now c.abandon.new.self.sender c.args.self.now _ refl);
+  owes = λ is may. not_ok _ c.from_residual-in_err-abandon.ensures.0 is;
+}
+
+pub returns-in_default-peer-clause-resets : goal.returns-in_default-peer-clause-resets
+returns-in_default-peer-clause-resets c = record {
+  kept = c.abandon.new.self.sender;
+  dropped = c.abandon.ensures.dropped;
+  leaves = reset_kept c.args.now c.abandon.new.self.sender c.args.self.now c.settle.new.self c.settle.ensures.resets;
+  owes = λ is may. absurd (false≢true (sym (ap is_some (sym c.peer.ensures ∙ c.in_default-peer.is)) ∙ may.known));
+}
+
+pub returns-clause-resets : goal.returns-clause-resets
+returns-clause-resets c = record {
+  kept = c.settle.new.self.outbound.sender;
+  dropped = subst (λ (o : Outbound). Sends [] c.args.self.now.outbound.sender o.sender) (sym c.settle.ensures.sending) c.abandon.ensures.dropped;
+  leaves = reset_from c.args.now _ c.settle.new.self.outbound.sender c.args.self.now c.settle.new.self c.put_packet.new.self
+      (ap (λ (o : Outbound). o.rto) (c.settle.ensures.sending ∙ c.abandon.ensures.rest)) c.settle.ensures.resets c.put_packet.ensures.resets;
+  owes = λ is may. subst (λ (r : Resets). OwesNoReset c.args.now c.settle.new.self.outbound.sender r) c.settle.ensures.resets
+      (c.put_packet.ensures.unasked is may.state);
 }

@@ -1,13 +1,14 @@
 use Rattle.sctp_association.specs.Congested.{Path}
 use Rattle.sctp_association.proofs.Leaving.{into_kept, into_then}
 use Rattle.std.proofs.Common.{[], ap, arith, ◌∙◌}
-use Rattle.sctp_association.proofs.Idle.{added_longer, no_shutdown, none_or, on_ok}
+use Rattle.sctp_association.proofs.Idle.{added_longer, no_shutdown, none_or, on_ok, on_ok_so}
 use Rattle.sctp_association.proofs.Congested.{full_of, full_others, full_then}
 use Rattle.sctp_association.proofs.Known.{still_none, unmoved_then}
 use Rattle.sctp_association.proofs.Others.{beats_same, beats_then, due_others, due_then, once_puts, others_then, skip_kept, timed_then}
 use Rattle.sctp_association.proofs.Putting.{adds_then}
 use Rattle.sctp_association.proofs.association.Association.put_control.Goals as goal
 use Rattle.sctp_association.specs.Idle.{sack_delay}
+use Rattle.sctp_association.proofs.Requesting.{asks_none, keeps_then, once_keep, others_keep, puts_later, puts_none}
 
 pub returns-in_err-put_heartbeats-clause-made : goal.returns-in_err-put_heartbeats-clause-made
 returns-in_err-put_heartbeats-clause-made c = due_then c.args.now c.args.self.now c.put_shutdown.new.self c.put_heartbeats.new.self
@@ -211,3 +212,54 @@ pub returns-clause-skip : goal.returns-clause-skip
 returns-clause-skip c = ap (λ (p : Path). p.skip) c.put_resets.ensures.halves.path ∙ ap (λ (p : Path). p.skip) c.put_report.ensures.others.halves.path
     ∙ ap (λ (p : Path). p.skip) c.put_unknown_stream.ensures.others.halves.path ∙ ap (λ (p : Path). p.skip) c.put_heartbeats.ensures.halves.path
     ∙ c.put_shutdown.ensures.skip
+
+-- ## A RE-CONFIG
+
+pub returns-in_err-put_heartbeats-clause-resets : goal.returns-in_err-put_heartbeats-clause-resets
+returns-in_err-put_heartbeats-clause-resets c p draft = puts_none c.args.now c.args.self.now c.put_heartbeats.new.self (
+    keeps_then c.args.self.now c.put_shutdown.new.self c.put_heartbeats.new.self
+    (once_keep c.args.self.now c.put_shutdown.new.self c.put_shutdown.ensures.made c.put_shutdown.ensures.timed) c.put_heartbeats.ensures.resets
+    )
+
+pub returns-in_err-put_unknown_stream-clause-resets : goal.returns-in_err-put_unknown_stream-clause-resets
+returns-in_err-put_unknown_stream-clause-resets c p draft =
+    let beaten = keeps_then c.args.self.now c.put_shutdown.new.self c.put_heartbeats.new.self
+    (once_keep c.args.self.now c.put_shutdown.new.self c.put_shutdown.ensures.made c.put_shutdown.ensures.timed) c.put_heartbeats.ensures.resets in
+    puts_none c.args.now c.args.self.now c.put_unknown_stream.new.self (
+    keeps_then c.args.self.now c.put_heartbeats.new.self c.put_unknown_stream.new.self beaten
+    (others_keep c.put_heartbeats.new.self c.put_unknown_stream.new.self c.put_unknown_stream.ensures.others)
+    )
+
+pub returns-in_err-put_report-clause-resets : goal.returns-in_err-put_report-clause-resets
+returns-in_err-put_report-clause-resets c p draft =
+    let beaten = keeps_then c.args.self.now c.put_shutdown.new.self c.put_heartbeats.new.self
+    (once_keep c.args.self.now c.put_shutdown.new.self c.put_shutdown.ensures.made c.put_shutdown.ensures.timed) c.put_heartbeats.ensures.resets in
+    puts_none c.args.now c.args.self.now c.put_report.new.self (
+    keeps_then c.args.self.now c.put_heartbeats.new.self c.put_report.new.self beaten
+    (others_keep c.put_heartbeats.new.self c.put_report.new.self
+    (others_then _ c.put_unknown_stream.new.self _ c.put_unknown_stream.ensures.others c.put_report.ensures.others))
+    )
+
+pub returns-clause-resets : goal.returns-clause-resets
+returns-clause-resets c p draft =
+    let near = others_then _ c.put_unknown_stream.new.self _ c.put_unknown_stream.ensures.others c.put_report.ensures.others in
+    let beaten = keeps_then c.args.self.now c.put_shutdown.new.self c.put_heartbeats.new.self
+    (once_keep c.args.self.now c.put_shutdown.new.self c.put_shutdown.ensures.made c.put_shutdown.ensures.timed) c.put_heartbeats.ensures.resets in
+    let told = keeps_then c.args.self.now c.put_heartbeats.new.self c.put_report.new.self beaten
+    (others_keep c.put_heartbeats.new.self c.put_report.new.self near) in
+    let longer = added_longer _ _ _ _ told.added draft in
+    puts_later c.args.now c.args.self.now c.put_report.new.self c.put_resets.new.self told
+    (ap (λ (p : Path). p.sender) (near.halves.path ∙ c.put_heartbeats.ensures.halves.path ∙ c.put_shutdown.ensures.full.path))
+    (near.kept.rto ∙ c.put_heartbeats.ensures.kept.rto ∙ c.put_shutdown.ensures.full.rto) (c.put_resets.ensures.resets (omega (arith, longer)))
+
+pub returns-clause-unasked : goal.returns-clause-unasked
+returns-clause-unasked c = on_ok_so c.put_resets.result (λ none p draft short.
+    let near = others_then _ c.put_unknown_stream.new.self _ c.put_unknown_stream.ensures.others c.put_report.ensures.others in
+    let beaten = keeps_then c.args.self.now c.put_shutdown.new.self c.put_heartbeats.new.self
+    (once_keep c.args.self.now c.put_shutdown.new.self c.put_shutdown.ensures.made c.put_shutdown.ensures.timed) c.put_heartbeats.ensures.resets in
+    let told = keeps_then c.args.self.now c.put_heartbeats.new.self c.put_report.new.self beaten
+    (others_keep c.put_heartbeats.new.self c.put_report.new.self near) in
+    let longer = added_longer _ _ _ _ told.added draft in
+    asks_none c.args.now c.args.self.now c.put_report.new.self told.same
+    (ap (λ (p : Path). p.sender) (near.halves.path ∙ c.put_heartbeats.ensures.halves.path ∙ c.put_shutdown.ensures.full.path))
+    (none (omega (arith, longer)) short)) c.put_resets.ensures.none

@@ -6,6 +6,7 @@ use Rattle.sctp_association.proofs.Leaving.{into_kept}
 use Rattle.sctp_association.proofs.Owing.{later_not_due}
 use Rattle.sctp_path.specs.Timers.{is_due}
 use Rattle.sctp_association.proofs.association.Association.put_heartbeats.Goals as goal
+use Rattle.sctp_association.proofs.Requesting.{keeps_then, others_keep}
 
 pub returns-in-Some-clause-leaves : goal.returns-in-Some-clause-leaves
 returns-in-Some-clause-leaves c = into_kept c.args.self.now c.put_heartbeat_ack.new.self c.put_heartbeat.new.self [] _
@@ -63,3 +64,18 @@ returns-in-Some-clause-halves c = alike_then _ _ _ c.put_heartbeat_ack.ensures.o
 
 pub returns-in-Some-clause-kept : goal.returns-in-Some-clause-kept
 returns-in-Some-clause-kept c = unmoved_then _ _ _ c.put_heartbeat_ack.ensures.others.kept c.put_heartbeat.ensures.kept
+
+-- ## No RE-CONFIG
+
+pub returns-in_err-put_heartbeat_ack-clause-resets : goal.returns-in_err-put_heartbeat_ack-clause-resets
+returns-in_err-put_heartbeat_ack-clause-resets c = others_keep c.args.self.now c.put_heartbeat_ack.new.self c.put_heartbeat_ack.ensures.others
+
+pub returns-in_default-clause-resets : goal.returns-in_default-clause-resets
+returns-in_default-clause-resets c = others_keep c.args.self.now c.put_heartbeat_ack.new.self c.put_heartbeat_ack.ensures.others
+
+pub returns-in_default-2-clause-resets : goal.returns-in_default-2-clause-resets
+returns-in_default-2-clause-resets c = others_keep c.args.self.now c.put_heartbeat_ack.new.self c.put_heartbeat_ack.ensures.others
+
+pub returns-in-Some-clause-resets : goal.returns-in-Some-clause-resets
+returns-in-Some-clause-resets c = keeps_then c.args.self.now c.put_heartbeat_ack.new.self c.put_heartbeat.new.self
+    (others_keep c.args.self.now c.put_heartbeat_ack.new.self c.put_heartbeat_ack.ensures.others) c.put_heartbeat.ensures.resets

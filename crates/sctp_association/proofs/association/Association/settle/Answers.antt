@@ -14,6 +14,7 @@ use Rattle.sctp_association.specs.Leaving.{AsksNoMore}
 use Rattle.sctp_association.specs.Still.{heartbeat_time}
 use Rattle.sctp_association.proofs.association.Association.settle.Goals as goal
 use Rattle.sctp_association.proofs.association.Association.settle.Goals.{else-self, else-self-via-else-self, else-self-via-then-self+else-eq, then-self+then-eq}
+use Rattle.sctp_association.specs.Requesting.{resets_of}
 
 pub returns-clause-peer : goal.returns-clause-peer
 returns-clause-peer c =
@@ -93,3 +94,9 @@ returns-clause-settles c =
       ])
     ] in
     settles_by c.args.now old c.if-self.self c.note_drained.new.self asked noted.waits noted.drained noted.due noted.over noted.sending noted.wants noted.timers
+
+pub returns-clause-resets : goal.returns-clause-resets
+returns-clause-resets c = c.note_drained.ensures.resets ∙ elim c.if-self.branch [
+  | then-self+then-eq w ↦ ap resets_of w.self-is
+  | else-self w ↦ ap resets_of w.self-is
+]
