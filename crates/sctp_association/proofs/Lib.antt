@@ -29,6 +29,7 @@ pub mod Reconfigs
 pub mod Resetting
 pub mod Requesting
 pub mod PuttingResets
+pub mod Probing
 pub mod Lows
 pub mod Making
 pub mod Sessions

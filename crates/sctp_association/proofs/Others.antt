@@ -49,10 +49,10 @@ alike_same a = record { sender = refl; receiver = refl; path = refl }
 
 -- the same is due at the same moment
 pub timed_same : (a : Association) → IsAsTimed a a
-timed_same a = record { heartbeat = refl; requests = refl; peer = refl }
+timed_same a = record { heartbeat = refl; idle = refl; requests = refl; peer = refl }
 
 pub timed_then : (a b c : Association) → IsAsTimed a b → IsAsTimed b c → IsAsTimed a c
-timed_then a b c t s = record { heartbeat = s.heartbeat ∙ t.heartbeat; requests = s.requests ∙ t.requests; peer = s.peer ∙ t.peer }
+timed_then a b c t s = record { heartbeat = s.heartbeat ∙ t.heartbeat; idle = s.idle ∙ t.idle; requests = s.requests ∙ t.requests; peer = s.peer ∙ t.peer }
 
 pub others_none : (a b : Association) → HalvesAlike a b → IsUnmoved a b → IsAsTimed a b → b.draft.bytes ≡ a.draft.bytes → PutsOthers a b
 others_none a b h u t e = record {

@@ -46,6 +46,7 @@ pub mod Openings
 pub mod Packets
 pub mod Pairs
 pub mod Paths
+pub mod Probing
 pub mod Reached
 pub mod Reads
 pub mod Reconfigs

@@ -321,7 +321,9 @@ impl Outbound {
     }
 
     /// Whether DATA left at this moment.
-    pub(crate) fn was_used(&self, now: u64) -> bool {
+    pub(crate) fn was_used(&self, now: u64) -> bool
+        ensures { result ≡ true → self.now.used ≡ now }
+    {
         self.used == now && self.is_in_flight()
     }
 

@@ -14,6 +14,7 @@ ghost use Rattle.sctp_association.specs.Most.{FewerWherePut, most_data, most_pac
 ghost use Rattle.sctp_association.specs.Offering.{IsReplyOf, OffersAsDue, PutsReply, answered, init_with};
 ghost use Rattle.sctp_association.specs.declared.due.AloneKind.{AloneKind};
 ghost use Rattle.sctp_association.specs.declared.inbound.Inbound.{Inbound};
+ghost use Rattle.sctp_association.specs.Probing.{LeavesBeat, PutsBeat, Waits, WaitsIdle};
 ghost use Rattle.sctp_association.specs.Reads.{IsSameBeside};
 ghost use Rattle.sctp_association.specs.Replying.{AddsReply, IsReply, LeavesAlone, PutsOne, header_to, host_name_causes};
 ghost use Rattle.sctp_association.specs.Reports.{one_cause, unrecognized_in};
@@ -119,6 +120,9 @@ impl Association {
         // A RE-CONFIG has the response that is due, and the request whose moment has come, which may begin now (RFC 6525 5.1, 5.2.1). One that does
         // not leave stays due; where there is no datagram none is.
         ensures resets { LeavesResetBy now result self.old self.new }
+        // A HEARTBEAT leaves only where one is due, and one at most: its answer is to have this moment in it. Else the one that is awaited stays, and when
+        // the next one is due, but where DATA leaves now (8.3).
+        ensures beats { LeavesBeat now (is_sent result) self.old self.new }
         // Nothing else comes to be due, but a SHUTDOWN or SHUTDOWN-ACK where nothing waits or is in flight; no HEARTBEAT or RE-CONFIG (`moments`).
         ensures asks { OwesNothingNew (owed_of self.old) (owed_of self.new) }
         ensures moments { AsksNoMore now self.old self.new }
@@ -168,6 +172,7 @@ impl Association {
             self.new.outbound.is_skip_due }
         ensures resets { LeavesResetIn now (is_sent result) self.old.outbound.sender
             self.old self.new }
+        ensures beats { LeavesBeat now (is_sent result) self.old self.new }
         ensures unasked { result ≡ Ok false → self.new.machine.state ≢ CookieEchoed
             → OwesNoReset now self.old.outbound.sender (resets_of self.old) }
         ensures fewer { result ≡ Ok true
@@ -413,6 +418,7 @@ impl Association {
             self.old.outbound.sender self.old.outbound.is_skip_due self.new.outbound.is_skip_due }
         ensures resets { (p : Parts) → IsDraft p self.old.draft.bytes
             → PutsReset now self.old self.new }
+        ensures beats { PutsBeat (WaitsIdle now) now self.old self.new }
         ensures unasked { OnOk result (self.new.machine.state ≢ CookieEchoed
             → IfNoneAdded self.old.draft.bytes self.new.draft.bytes
             (OwesNoReset now self.old.outbound.sender (resets_of self.old))) }
@@ -447,6 +453,7 @@ impl Association {
         ensures skip { self.new.outbound.is_skip_due ≡ self.old.outbound.is_skip_due }
         ensures resets { (p : Parts) → IsDraft p self.old.draft.bytes
             → PutsReset now self.old self.new }
+        ensures beats { PutsBeat Waits now self.old self.new }
         ensures unasked { OnOk result (IfNoneAdded self.old.draft.bytes self.new.draft.bytes
             (OwesNoReset now self.old.outbound.sender (resets_of self.old))) }
     {
@@ -476,6 +483,7 @@ impl Association {
             → LeavesSkip (Stands self.old.draft.bytes self.new.draft.bytes) self.old.draft.limit
             self.old.outbound.sender self.old.outbound.is_skip_due self.new.outbound.is_skip_due }
         ensures resets { resets_of self.new ≡ resets_of self.old }
+        ensures beats { WaitsIdle now self.old self.new }
         ensures fewer { FewerWherePut (most_data self.old.outbound) (most_data self.new.outbound)
             self.old.draft.bytes self.new.draft.bytes }
     {
@@ -492,6 +500,7 @@ impl Association {
     fn note_use(&mut self, now: u64)
         ensures rest { self.new ≡ record self.old { heartbeat = self.new.heartbeat } }
         ensures moments { AsksNoMore now self.old self.new }
+        ensures beats { WaitsIdle now self.old self.new }
     {
         if let Some(heartbeat) = &mut self.heartbeat {
             if self.outbound.was_used(now) {
@@ -633,6 +642,7 @@ impl Association {
         ensures acks { sack_delay self.new ≡ sack_delay self.old }
         ensures leaves { LeavesInto self.old self.new }
         ensures resets { KeepsResets self.old self.new }
+        ensures beats { PutsBeat Waits now self.old self.new }
     {
         self.put_heartbeat_ack()?;
         match self.next_heartbeat() {
@@ -678,6 +688,7 @@ impl Association {
             (beats now self.new ≡ false)) }
         ensures replies { replies_of self.new ≡ replies_of self.old }
         ensures resets { KeepsResets self.old self.new }
+        ensures beats { PutsBeat Waits now self.old self.new }
     {
         let Some(heartbeat) = &mut self.heartbeat else {
             return Ok(());

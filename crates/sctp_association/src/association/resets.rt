@@ -12,6 +12,7 @@ ghost use Rattle.sctp_association.specs.Filled.{IfNonePut};
 ghost use Rattle.sctp_association.specs.Idle.{sack_delay};
 ghost use Rattle.sctp_association.specs.Leaving.{AsksNoMore, IsReconfigOf, PutsReconfig, replies_of, requests_due, responses_due};
 ghost use Rattle.sctp_association.specs.Reconfigs.{FollowsBytes, ParamOn, ReconfigOn, RequestOn, ResetsEach, ResetsListed, ResetsStream, answered, denied_by, inbound_agreed, number_at, numbers_from};
+ghost use Rattle.sctp_association.specs.Probing.{KeepsBeat};
 ghost use Rattle.sctp_association.specs.Requesting.{HasRoom, IsFewOf, OwesNoReset, PutsExact, PutsReset, begun, due_of, first_response, last_asked, reconfig_with, request_wire, resets_of, sent_where};
 ghost use Rattle.sctp_association.specs.Telling.{Tells, TellsEnd};
 ghost use Rattle.sctp_association.specs.declared.fault.Fault.TheVariants.{NoSuchStream, OutOfMemory};
@@ -119,6 +120,7 @@ impl Association {
         ensures acks { sack_delay self.new ≡ sack_delay self.old }
         ensures replies { replies_of self.new ≡ replies_of self.old }
         ensures resets { 12 ≤ length self.old.draft.bytes → PutsReset now self.old self.new }
+        ensures beats { KeepsBeat self.old self.new }
         ensures none { OnOk result (IfNonePut self.old.draft.bytes self.new.draft.bytes
             (OwesNoReset now self.old.outbound.sender (resets_of self.old))) }
     {

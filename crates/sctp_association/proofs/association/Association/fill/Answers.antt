@@ -13,6 +13,7 @@ use Rattle.sctp_association.proofs.Others.{beats_same, beats_then, due_then, onc
 use Rattle.sctp_association.proofs.Others.{data_then, due_data}
 use Rattle.sctp_association.proofs.association.Association.fill.Goals as goal
 use Rattle.sctp_association.proofs.Requesting.{asks_none, keeps_then, once_keep, others_keep, puts_first, puts_later, puts_none, sent_keep}
+use Rattle.sctp_association.proofs.Probing as probe
 
 pub returns-in_err-put_sack-clause-made : goal.returns-in_err-put_sack-clause-made
 returns-in_err-put_sack-clause-made c = due_data c.args.self.now c.put_sack.new.self c.args.now (
@@ -326,3 +327,46 @@ returns-clause-unasked c = on_ok c.put_data.result (λ state p draft short.
     asks_none c.args.now c.args.self.now c.put_sack.new.self acked.same
     (ap (λ (p : Path). p.sender) (c.put_sack.ensures.full.path ∙ c.put_cookies.ensures.others.halves.path))
     (c.in_ok-put_control.ensures.unasked _ two (omega (arith, short, last.1))))
+
+-- ## Which HEARTBEAT
+
+pub returns-then-is_empty-clause-beats : goal.returns-then-is_empty-clause-beats
+returns-then-is_empty-clause-beats c = probe.puts_idle c.args.now c.args.self.now c.put_cookies.new.self
+    (probe.puts_none c.args.now c.args.self.now c.put_cookies.new.self
+    (probe.others_keep c.args.self.now c.put_cookies.new.self c.put_cookies.ensures.others))
+
+pub returns-else-is_empty-clause-beats : goal.returns-else-is_empty-clause-beats
+returns-else-is_empty-clause-beats c = probe.puts_idle c.args.now c.args.self.now c.put_report.new.self (
+    probe.puts_none c.args.now c.args.self.now c.put_report.new.self (
+    probe.others_keep c.args.self.now c.put_report.new.self
+    (others_then _ c.put_cookies.new.self _ c.put_cookies.ensures.others c.put_report.ensures.others)
+    )
+    )
+
+pub returns-in_err-put_sack-clause-beats : goal.returns-in_err-put_sack-clause-beats
+returns-in_err-put_sack-clause-beats c = probe.puts_idle c.args.now c.args.self.now c.put_sack.new.self (
+    probe.puts_none c.args.now c.args.self.now c.put_sack.new.self (
+    probe.keeps_then c.args.self.now c.put_cookies.new.self c.put_sack.new.self
+    (probe.others_keep c.args.self.now c.put_cookies.new.self c.put_cookies.ensures.others)
+    (probe.once_keep c.put_cookies.new.self c.put_sack.new.self c.put_sack.ensures.made c.put_sack.ensures.timed)
+    )
+    )
+
+pub returns-in_err-put_control-clause-beats : goal.returns-in_err-put_control-clause-beats
+returns-in_err-put_control-clause-beats c =
+    let acked = probe.keeps_then c.args.self.now c.put_cookies.new.self c.put_sack.new.self
+    (probe.others_keep c.args.self.now c.put_cookies.new.self c.put_cookies.ensures.others)
+    (probe.once_keep c.put_cookies.new.self c.put_sack.new.self c.put_sack.ensures.made c.put_sack.ensures.timed) in
+    probe.puts_idle c.args.now c.args.self.now c.put_control.new.self (
+    probe.puts_later c.args.now c.args.self.now c.put_sack.new.self c.put_control.new.self acked
+    (beats_same c.args.now _ _ (timed_then _ _ _ c.put_cookies.ensures.others.timed c.put_sack.ensures.timed)) c.put_control.ensures.beats
+    )
+
+pub returns-clause-beats : goal.returns-clause-beats
+returns-clause-beats c =
+    let acked = probe.keeps_then c.args.self.now c.put_cookies.new.self c.put_sack.new.self
+    (probe.others_keep c.args.self.now c.put_cookies.new.self c.put_cookies.ensures.others)
+    (probe.once_keep c.put_cookies.new.self c.put_sack.new.self c.put_sack.ensures.made c.put_sack.ensures.timed) in
+    let controlled = probe.puts_later c.args.now c.args.self.now c.put_sack.new.self c.put_control.new.self acked
+    (beats_same c.args.now _ _ (timed_then _ _ _ c.put_cookies.ensures.others.timed c.put_sack.ensures.timed)) c.put_control.ensures.beats in
+    probe.puts_data c.args.now c.args.self.now c.put_control.new.self c.put_data.new.self controlled c.put_data.ensures.made c.put_data.ensures.beats

@@ -30,6 +30,7 @@ use Rattle.sctp_handshake.specs.declared.machine.Machine.{Machine}
 use Rattle.std.proofs.lemmas.Bool.{false≢true}
 use Rattle.sctp_association.proofs.Requesting.{not_ok, reset_alone, reset_from, reset_kept, reset_none_so, timed_resets}
 use Rattle.sctp_association.specs.Requesting.{OwesNoReset, Resets}
+use Rattle.sctp_association.proofs.Probing as probe
 
 pub returns-in_err-put_alone-clause-made : goal.returns-in_err-put_alone-clause-made
 returns-in_err-put_alone-clause-made c =
@@ -505,3 +506,28 @@ returns-clause-resets c = record {
   owes = λ is may. subst (λ (r : Resets). OwesNoReset c.args.now c.settle.new.self.outbound.sender r) c.settle.ensures.resets
       (c.put_packet.ensures.unasked is may.state);
 }
+
+-- ## Which HEARTBEAT
+
+pub returns-in_err-put_alone-clause-beats : goal.returns-in_err-put_alone-clause-beats
+returns-in_err-put_alone-clause-beats c = probe.beat_none_so c.args.now _ c.args.self.now c.put_alone.new.self c.from_residual.ensures.0
+    (probe.beat_kept c.args.now c.args.self.now c.put_alone.new.self c.put_alone.ensures.timed.idle)
+
+pub returns-in-Some-clause-beats : goal.returns-in-Some-clause-beats
+returns-in-Some-clause-beats c = probe.beat_alone c.args.now c.in-Some.alone c.args.self.now _ c.in_ok-put_alone.ensures.reply c.put_alone.ensures.timed.idle
+
+pub returns-then-self-clause-beats : goal.returns-then-self-clause-beats
+returns-then-self-clause-beats c = probe.beat_kept c.args.now c.args.self.now c.args.self.now refl
+
+pub returns-in_err-abandon-clause-beats : goal.returns-in_err-abandon-clause-beats
+returns-in_err-abandon-clause-beats c = probe.beat_none_so c.args.now _ c.args.self.now _ c.from_residual-in_err-abandon.ensures.0
+    (probe.beat_kept c.args.now c.args.self.now _ refl)
+
+pub returns-in_default-peer-clause-beats : goal.returns-in_default-peer-clause-beats
+returns-in_default-peer-clause-beats c = probe.beat_kept c.args.now c.args.self.now c.settle.new.self c.settle.ensures.heartbeat
+
+pub returns-clause-beats : goal.returns-clause-beats
+returns-clause-beats c = probe.beat_from c.args.now _ c.args.self.now c.settle.new.self c.put_packet.new.self c.settle.ensures.heartbeat
+    (at_then _ _ _
+    (rto_asks c.args.now c.args.self.now c.abandon.new.self (ap (λ (o : Outbound). o.rto) c.abandon.ensures.rest)) c.settle.ensures.moments)
+    c.put_packet.ensures.beats

@@ -9,6 +9,7 @@ use Rattle.sctp_association.proofs.Putting.{adds_then}
 use Rattle.sctp_association.proofs.association.Association.put_control.Goals as goal
 use Rattle.sctp_association.specs.Idle.{sack_delay}
 use Rattle.sctp_association.proofs.Requesting.{asks_none, keeps_then, once_keep, others_keep, puts_later, puts_none}
+use Rattle.sctp_association.proofs.Probing as probe
 
 pub returns-in_err-put_heartbeats-clause-made : goal.returns-in_err-put_heartbeats-clause-made
 returns-in_err-put_heartbeats-clause-made c = due_then c.args.now c.args.self.now c.put_shutdown.new.self c.put_heartbeats.new.self
@@ -263,3 +264,37 @@ returns-clause-unasked c = on_ok_so c.put_resets.result (λ none p draft short.
     asks_none c.args.now c.args.self.now c.put_report.new.self told.same
     (ap (λ (p : Path). p.sender) (near.halves.path ∙ c.put_heartbeats.ensures.halves.path ∙ c.put_shutdown.ensures.full.path))
     (none (omega (arith, longer)) short)) c.put_resets.ensures.none
+
+-- ## Which HEARTBEAT
+
+pub returns-in_err-put_heartbeats-clause-beats : goal.returns-in_err-put_heartbeats-clause-beats
+returns-in_err-put_heartbeats-clause-beats c = probe.puts_later c.args.now c.args.self.now c.put_shutdown.new.self c.put_heartbeats.new.self
+    (probe.once_keep c.args.self.now c.put_shutdown.new.self c.put_shutdown.ensures.made c.put_shutdown.ensures.timed)
+    (beats_same c.args.now _ _ c.put_shutdown.ensures.timed) c.put_heartbeats.ensures.beats
+
+pub returns-in_err-put_unknown_stream-clause-beats : goal.returns-in_err-put_unknown_stream-clause-beats
+returns-in_err-put_unknown_stream-clause-beats c =
+    let beaten = probe.puts_later c.args.now c.args.self.now c.put_shutdown.new.self c.put_heartbeats.new.self
+    (probe.once_keep c.args.self.now c.put_shutdown.new.self c.put_shutdown.ensures.made c.put_shutdown.ensures.timed)
+    (beats_same c.args.now _ _ c.put_shutdown.ensures.timed) c.put_heartbeats.ensures.beats in
+    probe.puts_first c.args.now c.args.self.now c.put_heartbeats.new.self c.put_unknown_stream.new.self beaten
+    (probe.others_keep c.put_heartbeats.new.self c.put_unknown_stream.new.self c.put_unknown_stream.ensures.others)
+
+pub returns-in_err-put_report-clause-beats : goal.returns-in_err-put_report-clause-beats
+returns-in_err-put_report-clause-beats c =
+    let beaten = probe.puts_later c.args.now c.args.self.now c.put_shutdown.new.self c.put_heartbeats.new.self
+    (probe.once_keep c.args.self.now c.put_shutdown.new.self c.put_shutdown.ensures.made c.put_shutdown.ensures.timed)
+    (beats_same c.args.now _ _ c.put_shutdown.ensures.timed) c.put_heartbeats.ensures.beats in
+    probe.puts_first c.args.now c.args.self.now c.put_heartbeats.new.self c.put_report.new.self beaten
+    (probe.others_keep c.put_heartbeats.new.self c.put_report.new.self
+    (others_then _ c.put_unknown_stream.new.self _ c.put_unknown_stream.ensures.others c.put_report.ensures.others))
+
+pub returns-clause-beats : goal.returns-clause-beats
+returns-clause-beats c =
+    let beaten = probe.puts_later c.args.now c.args.self.now c.put_shutdown.new.self c.put_heartbeats.new.self
+    (probe.once_keep c.args.self.now c.put_shutdown.new.self c.put_shutdown.ensures.made c.put_shutdown.ensures.timed)
+    (beats_same c.args.now _ _ c.put_shutdown.ensures.timed) c.put_heartbeats.ensures.beats in
+    let told = probe.others_keep c.put_heartbeats.new.self c.put_report.new.self
+    (others_then _ c.put_unknown_stream.new.self _ c.put_unknown_stream.ensures.others c.put_report.ensures.others) in
+    probe.puts_first c.args.now c.args.self.now c.put_heartbeats.new.self c.put_resets.new.self beaten
+    (probe.keeps_then c.put_heartbeats.new.self c.put_report.new.self c.put_resets.new.self told c.put_resets.ensures.beats)

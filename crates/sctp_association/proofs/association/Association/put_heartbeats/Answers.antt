@@ -7,6 +7,7 @@ use Rattle.sctp_association.proofs.Owing.{later_not_due}
 use Rattle.sctp_path.specs.Timers.{is_due}
 use Rattle.sctp_association.proofs.association.Association.put_heartbeats.Goals as goal
 use Rattle.sctp_association.proofs.Requesting.{keeps_then, others_keep}
+use Rattle.sctp_association.proofs.Probing as probe
 
 pub returns-in-Some-clause-leaves : goal.returns-in-Some-clause-leaves
 returns-in-Some-clause-leaves c = into_kept c.args.self.now c.put_heartbeat_ack.new.self c.put_heartbeat.new.self [] _
@@ -79,3 +80,22 @@ returns-in_default-2-clause-resets c = others_keep c.args.self.now c.put_heartbe
 pub returns-in-Some-clause-resets : goal.returns-in-Some-clause-resets
 returns-in-Some-clause-resets c = keeps_then c.args.self.now c.put_heartbeat_ack.new.self c.put_heartbeat.new.self
     (others_keep c.args.self.now c.put_heartbeat_ack.new.self c.put_heartbeat_ack.ensures.others) c.put_heartbeat.ensures.resets
+
+-- ## Which HEARTBEAT
+
+pub returns-in_err-put_heartbeat_ack-clause-beats : goal.returns-in_err-put_heartbeat_ack-clause-beats
+returns-in_err-put_heartbeat_ack-clause-beats c = probe.puts_none c.args.now c.args.self.now c.put_heartbeat_ack.new.self
+    (probe.others_keep c.args.self.now c.put_heartbeat_ack.new.self c.put_heartbeat_ack.ensures.others)
+
+pub returns-in_default-clause-beats : goal.returns-in_default-clause-beats
+returns-in_default-clause-beats c = probe.puts_none c.args.now c.args.self.now c.put_heartbeat_ack.new.self
+    (probe.others_keep c.args.self.now c.put_heartbeat_ack.new.self c.put_heartbeat_ack.ensures.others)
+
+pub returns-in_default-2-clause-beats : goal.returns-in_default-2-clause-beats
+returns-in_default-2-clause-beats c = probe.puts_none c.args.now c.args.self.now c.put_heartbeat_ack.new.self
+    (probe.others_keep c.args.self.now c.put_heartbeat_ack.new.self c.put_heartbeat_ack.ensures.others)
+
+pub returns-in-Some-clause-beats : goal.returns-in-Some-clause-beats
+returns-in-Some-clause-beats c = probe.puts_later c.args.now c.args.self.now c.put_heartbeat_ack.new.self c.put_heartbeat.new.self
+    (probe.others_keep c.args.self.now c.put_heartbeat_ack.new.self c.put_heartbeat_ack.ensures.others)
+    (beats_same c.args.now _ _ c.put_heartbeat_ack.ensures.others.timed) c.put_heartbeat.ensures.beats

@@ -16,6 +16,7 @@ use Rattle.sctp_association.specs.Idle.{WaitsForSacks, in_flight}
 use Rattle.sctp_association.specs.Sending.{IsTimed}
 use Rattle.sctp_packets.specs.Draft.{headed}
 use Rattle.sctp_association.proofs.Requesting.{reset_kept, reset_none_so, reset_sealed, reset_unsent}
+use Rattle.sctp_association.proofs.Probing as probe
 
 pub returns-in_err-begin-clause-made : goal.returns-in_err-begin-clause-made
 returns-in_err-begin-clause-made c = none_sent_so _ _ _ c.from_residual.ensures.0 (unsent_alike c.args.self.now c.args.self.now (alike_same c.args.self.now) _)
@@ -202,3 +203,33 @@ pub returns-then-is_empty-clause-unasked : goal.returns-then-is_empty-clause-una
 returns-then-is_empty-clause-unasked c _ state =
     let short = leb-true _ 12 (sym c.is_empty.ensures ∙ c.if-is_empty.true) in
     c.in_ok-filled.ensures.unasked state (headed c.args.header) c.in_ok-begin.ensures.begun short
+
+-- ## Which HEARTBEAT
+
+pub returns-in_err-begin-clause-beats : goal.returns-in_err-begin-clause-beats
+returns-in_err-begin-clause-beats c = probe.beat_none_so c.args.now _ c.args.self.now _ c.from_residual.ensures.0
+    (probe.beat_kept c.args.now c.args.self.now _ refl)
+
+pub returns-in_err-filled-clause-beats : goal.returns-in_err-filled-clause-beats
+returns-in_err-filled-clause-beats c =
+    let short = leb-true _ 12 (sym c.is_empty.ensures ∙ c.if-is_empty.true) in
+    let put = c.fill-filled.ensures.beats in
+    probe.beat_none_so c.args.now _ c.args.self.now _ c.from_residual-in_err-filled.ensures.0 (
+    probe.beat_unsent c.args.now c.args.self.now _ c.args.header _ _ c.in_ok-begin.ensures.begun put.chunks put.asks put.added put.each
+    (probe.probes_paused c.args.now _ _ c.args.self.now c.fill-filled.new.self put.asks put.probes refl refl refl refl) short
+    )
+
+pub returns-then-is_empty-clause-beats : goal.returns-then-is_empty-clause-beats
+returns-then-is_empty-clause-beats c =
+    let short = leb-true _ 12 (sym c.is_empty.ensures ∙ c.if-is_empty.true) in
+    let put = c.fill-filled.ensures.beats in
+    probe.beat_unsent c.args.now c.args.self.now _ c.args.header _ _ c.in_ok-begin.ensures.begun put.chunks put.asks put.added put.each
+    (probe.probes_paused c.args.now _ c.fill-filled.new.self c.args.self.now _ put.asks put.probes refl refl
+    (ap (λ (o : Outbound). o.used) c.pause.ensures) refl) short
+
+pub returns-clause-beats : goal.returns-clause-beats
+returns-clause-beats c =
+    let put = c.fill-filled.ensures.beats in
+    probe.beat_sealed c.args.now c.args.self.now _ c.args.header _ _ c.in_ok-begin.ensures.begun put.chunks put.asks put.added put.each
+    (probe.probes_paused c.args.now _ c.fill-filled.new.self c.args.self.now _ put.asks put.probes refl refl refl refl) c.args.is_zero
+    c.seal.ensures.sealed

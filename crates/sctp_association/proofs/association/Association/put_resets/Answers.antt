@@ -15,6 +15,7 @@ use Rattle.sctp_association.specs.Requesting.{HasRoom}
 use Rattle.sctp_params.specs.ResetRequest.{reset_request_of}
 use Rattle.std.specs.Prelude.{option_map}
 use Rattle.sctp_association.proofs.Requesting.{keeps_same, puts_none}
+use Rattle.sctp_association.proofs.Probing as probe
 
 pub returns-then-is_some-clause-halves : goal.returns-then-is_some-clause-halves
 returns-then-is_some-clause-halves c = reset_alike c.args.now c.args.self.now c.put_reconfig.new.self
@@ -127,3 +128,33 @@ returns-then-is_some-clause-none c head short =
       | then-is_some-via-else-is_some+then-is_some-2 w ↦ inr (sym w.is_some-else-is_some.ensures ∙ w.if-is_some-2.true)
     ]) in
     absurd (omega (arith, short, put.longer some))
+
+-- ## No HEARTBEAT
+
+pub returns-then-room-lt-MOST_BYTES-clause-beats : goal.returns-then-room-lt-MOST_BYTES-clause-beats
+returns-then-room-lt-MOST_BYTES-clause-beats c = probe.keeps_same c.args.self.now c.args.self.now refl refl
+
+pub returns-in_err-request-clause-beats : goal.returns-in_err-request-clause-beats
+returns-in_err-request-clause-beats c = probe.keeps_same c.args.self.now c.next_request.new.self
+    (ap (λ (x : Association). x.draft.bytes) c.next_request.ensures.rest) (ap (λ (x : Association). x.heartbeat) c.next_request.ensures.rest)
+
+pub returns-else-is_some-2-clause-beats : goal.returns-else-is_some-2-clause-beats
+returns-else-is_some-2-clause-beats c =
+    let rest = response_rest c.args.self.now c.next_request.new.self c.next_response-response.new.self c.next_request.ensures.rest
+    c.next_response-response.ensures.rest in
+    probe.keeps_same c.args.self.now c.next_response-response.new.self
+    (ap (λ (x : Association). x.draft.bytes) c.next_response-response.ensures.rest ∙ ap (λ (x : Association). x.draft.bytes) c.next_request.ensures.rest)
+    (ap (λ (x : Association). x.heartbeat) rest)
+
+pub returns-then-is_some-clause-beats : goal.returns-then-is_some-clause-beats
+returns-then-is_some-clause-beats c =
+    let draft = reset_draft c.args.self.now c.next_request.new.self c.next_response-response.new.self c.put_reconfig.new.self
+    c.next_request.ensures.rest c.next_response-response.ensures.rest c.put_reconfig.ensures.rest in
+    let P : Draft → Type 0 = λ d.
+    PutsReconfig (is_some c.next_response-response.result) (is_some c.in_ok-request.request) d c.put_reconfig.new.self.draft in
+    let puts = subst P draft c.put_reconfig.ensures.puts in
+    probe.keeps_put puts.is_put _ c.args.self.now c.put_reconfig.new.self puts.added refl (
+    ap (λ (x : Association). x.heartbeat)
+    (reset_rest c.args.self.now c.next_request.new.self c.next_response-response.new.self c.put_reconfig.new.self
+    c.next_request.ensures.rest c.next_response-response.ensures.rest c.put_reconfig.ensures.rest)
+    )

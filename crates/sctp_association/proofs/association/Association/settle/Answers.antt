@@ -49,6 +49,7 @@ returns-clause-moments c =
           (ap (λ (x : Association). x.peer_requests) w.self-is) w.shutdown_asked-answer.ensures
       | else-self w ↦ beats_same c.args.now c.args.self.now c.if-self.self (record {
         heartbeat = ap heartbeat_time w.self-is;
+        idle = ap (λ (x : Association). x.heartbeat) w.self-is;
         requests = ap (λ (x : Association). x.requests) w.self-is;
         peer = ap (λ (x : Association). x.peer_requests) w.self-is;
       })
