@@ -30,6 +30,7 @@ pub mod Resetting
 pub mod Requesting
 pub mod PuttingResets
 pub mod Probing
+pub mod Ordered
 pub mod Lows
 pub mod Making
 pub mod Sessions

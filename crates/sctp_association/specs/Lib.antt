@@ -43,6 +43,7 @@ pub mod Offering
 pub mod Once
 pub mod OneLife
 pub mod Openings
+pub mod Ordered
 pub mod Packets
 pub mod Pairs
 pub mod Paths

@@ -1,8 +1,9 @@
 //! What comes of the peer's messages, and when it is acknowledged (RFC 9260 6.2, 6.5; RFC 3758 3.6).
 
-ghost use Rattle.std.specs.Prelude.{◌≡◌, ◌==◌, ◌<◌, ◌≤◌, ℕ, Ok, IfOk, IsOk, OnErr, OnOk, Some, ◌||◌, length, option_map, is_some, true, false, ◌⊎◌};
+ghost use Rattle.std.specs.Prelude.{◌≡◌, ◌==◌, ◌<◌, ◌≤◌, ℕ, Ok, IfOk, IsOk, OnErr, OnOk, Some, ◌||◌, length, option_map, is_some, true, false, ◌⊎◌, ◌∷◌, []};
 ghost use Rattle.sctp_association.specs.Arrivals.{AsksFor, IsOpening, IsOpeningNamed, IsReset, Received};
 ghost use Rattle.sctp_association.specs.Filled.{IfNonePut};
+ghost use Rattle.sctp_association.specs.Ordered.{PutsTypes};
 ghost use Rattle.sctp_association.specs.Packets.{IsSackOnce, PutsIn, Stands};
 ghost use Rattle.sctp_association.specs.Reached.{IsLimited, most_user_data};
 ghost use Rattle.sctp_association.specs.StreamSet.{is_in};
@@ -566,7 +567,7 @@ impl Inbound {
     }
 
     /// Puts the SACK that is due, or one that waits where DATA goes with it.
-    #[tactic(auto, using(crate::proofs::Reaching::reported))]
+    #[tactic(auto, using(crate::proofs::Ordered::order_one, crate::proofs::Ordered::order_none, crate::proofs::Reaching::reported))]
     pub(crate) fn put_sack(
         &mut self,
         packet: &mut Draft,
@@ -593,6 +594,7 @@ impl Inbound {
         ensures usable { (n : ℕ) → is_usable n self.new ≡ is_usable n self.old }
         ensures cumulative { self.new.receiver.cumulative_tsn ≡ self.old.receiver.cumulative_tsn }
         ensures limit { packet.new.limit ≡ packet.old.limit }
+        ensures order { PutsTypes (3 ∷ []) packet.old.bytes packet.new.bytes }
     {
         let is_waiting = has_data && self.delay.at().is_some();
         if !is_waiting && !self.delay.is_due(now) {

@@ -14,6 +14,7 @@ ghost use Rattle.sctp_association.specs.Most.{FewerWherePut, most_data, most_pac
 ghost use Rattle.sctp_association.specs.Offering.{IsReplyOf, OffersAsDue, PutsReply, answered, init_with};
 ghost use Rattle.sctp_association.specs.declared.due.AloneKind.{AloneKind};
 ghost use Rattle.sctp_association.specs.declared.inbound.Inbound.{Inbound};
+ghost use Rattle.sctp_association.specs.Ordered.{IsInOrder, PutsInOrder, PutsTypes, control_order};
 ghost use Rattle.sctp_association.specs.Probing.{LeavesBeat, PutsBeat, Waits, WaitsIdle};
 ghost use Rattle.sctp_association.specs.Reads.{IsSameBeside};
 ghost use Rattle.sctp_association.specs.Replying.{AddsReply, IsReply, LeavesAlone, PutsOne, header_to, host_name_causes};
@@ -123,6 +124,9 @@ impl Association {
         // A HEARTBEAT leaves only where one is due, and one at most: its answer is to have this moment in it. Else the one that is awaited stays, and when
         // the next one is due, but where DATA leaves now (8.3).
         ensures beats { LeavesBeat now (is_sent result) self.old self.new }
+        // Its control chunks stand in one order, with one of each type at most, but two ERRORs; behind them stands DATA (6.10).
+        ensures order { is_sent result ≡ true → self.old.due.alone ≡ None
+            → IsInOrder self.new.draft.bytes }
         // Nothing else comes to be due, but a SHUTDOWN or SHUTDOWN-ACK where nothing waits or is in flight; no HEARTBEAT or RE-CONFIG (`moments`).
         ensures asks { OwesNothingNew (owed_of self.old) (owed_of self.new) }
         ensures moments { AsksNoMore now self.old self.new }
@@ -177,6 +181,7 @@ impl Association {
             → OwesNoReset now self.old.outbound.sender (resets_of self.old) }
         ensures fewer { result ≡ Ok true
             → most_packets now self.new < most_packets now self.old }
+        ensures order { is_sent result ≡ true → IsInOrder self.new.draft.bytes }
     {
         self.draft.begin(header)?;
         let filled = self.fill(now);
@@ -425,6 +430,8 @@ impl Association {
         ensures fewer { (p : Parts) → IsDraft p self.old.draft.bytes
             → FewerWherePut (most_packets now self.old) (most_packets now self.new)
             self.old.draft.bytes self.new.draft.bytes }
+        ensures order { PutsInOrder control_order
+            self.old.draft.bytes self.new.draft.bytes }
     {
         self.put_cookies();
         if self.machine.state() == State::CookieEchoed {
@@ -456,6 +463,8 @@ impl Association {
         ensures beats { PutsBeat Waits now self.old self.new }
         ensures unasked { OnOk result (IfNoneAdded self.old.draft.bytes self.new.draft.bytes
             (OwesNoReset now self.old.outbound.sender (resets_of self.old))) }
+        ensures order { PutsTypes (7 ∷ 8 ∷ 5 ∷ 4 ∷ 9 ∷ 9 ∷ 130 ∷ [])
+            self.old.draft.bytes self.new.draft.bytes }
     {
         self.put_shutdown();
         self.put_heartbeats(now)?;
@@ -486,6 +495,8 @@ impl Association {
         ensures beats { WaitsIdle now self.old self.new }
         ensures fewer { FewerWherePut (most_data self.old.outbound) (most_data self.new.outbound)
             self.old.draft.bytes self.new.draft.bytes }
+        ensures order { PutsInOrder (192 ∷ [])
+            self.old.draft.bytes self.new.draft.bytes }
     {
         if !self.machine.state().sends_data() {
             return Ok(());
@@ -515,16 +526,20 @@ impl Association {
         ensures owes { IfNoneAdded self.old.draft.bytes self.new.draft.bytes
             (self.new.due.cookie_ack ≡ false) }
         ensures leaves { LeavesInto self.old self.new }
+        ensures order { PutsTypes (10 ∷ 11 ∷ [])
+            self.old.draft.bytes self.new.draft.bytes }
     {
         self.put_cookie_echo();
         self.put_cookie_ack();
     }
 
     // The cookie stays, since its COOKIE-ECHO may be lost.
-    #[tactic(auto, using(crate::proofs::Others::others_one, crate::proofs::Others::others_none, crate::proofs::Others::others_then))]
+    #[tactic(auto, using(crate::proofs::Ordered::order_one, crate::proofs::Ordered::order_none, crate::proofs::Others::others_one, crate::proofs::Others::others_none, crate::proofs::Others::others_then))]
     fn put_cookie_echo(&mut self)
         ensures others { PutsOthers self.old self.new }
         ensures leaves { LeavesInto self.old self.new }
+        ensures order { PutsTypes (10 ∷ [])
+            self.old.draft.bytes self.new.draft.bytes }
     {
         if !self.due.cookie_echo {
             return;
@@ -541,12 +556,14 @@ impl Association {
     }
 
     // Puts the COOKIE-ACK that is due.
-    #[tactic(auto, using(crate::proofs::Others::others_one, crate::proofs::Others::others_none, crate::proofs::Others::others_then))]
+    #[tactic(auto, using(crate::proofs::Ordered::order_one, crate::proofs::Ordered::order_none, crate::proofs::Others::others_one, crate::proofs::Others::others_none, crate::proofs::Others::others_then))]
     fn put_cookie_ack(&mut self)
         ensures others { PutsOthers self.old self.new }
         ensures owes { IfNonePut self.old.draft.bytes self.new.draft.bytes
             (self.new.due.cookie_ack ≡ false) }
         ensures leaves { LeavesInto self.old self.new }
+        ensures order { PutsTypes (11 ∷ [])
+            self.old.draft.bytes self.new.draft.bytes }
     {
         if self.due.cookie_ack && self.draft.put(&ChunkCookieAck) {
             self.due.cookie_ack = false;
@@ -554,7 +571,7 @@ impl Association {
     }
 
     // Puts the SACK that is due, or one that waits where DATA goes with it (RFC 9260 6.1).
-    #[tactic(auto, using(crate::proofs::Others::same_puts))]
+    #[tactic(auto, using(crate::proofs::Ordered::order_one, crate::proofs::Ordered::order_none, crate::proofs::Others::same_puts))]
     fn put_sack(&mut self, now: u64) -> Result<(), Fault>
         ensures made { PutsOnce self.old self.new }
         ensures kept { IsUnmoved self.old self.new }
@@ -564,6 +581,8 @@ impl Association {
         ensures full { IsAsFull self.old.outbound self.new.outbound }
         ensures leaves { LeavesInto self.old self.new }
         ensures skip { self.new.outbound.is_skip_due ≡ self.old.outbound.is_skip_due }
+        ensures order { PutsTypes (3 ∷ [])
+            self.old.draft.bytes self.new.draft.bytes }
     {
         let has_data = self.outbound.has_data() && self.machine.state().sends_data();
         match &mut self.inbound {
@@ -584,13 +603,15 @@ impl Association {
         ensures full { IsAsFull self.old.outbound self.new.outbound }
         ensures leaves { LeavesInto self.old self.new }
         ensures skip { self.new.outbound.is_skip_due ≡ self.old.outbound.is_skip_due }
+        ensures order { PutsTypes (7 ∷ 8 ∷ [])
+            self.old.draft.bytes self.new.draft.bytes }
     {
         self.put_shutdown_asked();
         self.put_shutdown_ack();
     }
 
     // Puts the SHUTDOWN that is due: it acknowledges what a SACK would.
-    #[tactic(auto, using(crate::proofs::Others::same_puts))]
+    #[tactic(auto, using(crate::proofs::Ordered::order_one, crate::proofs::Ordered::order_none, crate::proofs::Others::same_puts))]
     fn put_shutdown_asked(&mut self)
         ensures made { PutsOnce self.old self.new }
         ensures kept { IsUnmoved self.old self.new }
@@ -601,6 +622,8 @@ impl Association {
         ensures full { IsAsFull self.old.outbound self.new.outbound }
         ensures leaves { LeavesInto self.old self.new }
         ensures skip { self.new.outbound.is_skip_due ≡ self.old.outbound.is_skip_due }
+        ensures order { PutsTypes (7 ∷ [])
+            self.old.draft.bytes self.new.draft.bytes }
     {
         if !self.due.shutdown {
             return;
@@ -617,7 +640,7 @@ impl Association {
     }
 
     // Puts the SHUTDOWN-ACK that is due.
-    #[tactic(auto, using(crate::proofs::Others::others_one, crate::proofs::Others::others_none, crate::proofs::Others::others_then))]
+    #[tactic(auto, using(crate::proofs::Ordered::order_one, crate::proofs::Ordered::order_none, crate::proofs::Others::others_one, crate::proofs::Others::others_none, crate::proofs::Others::others_then))]
     fn put_shutdown_ack(&mut self)
         ensures others { PutsOthers self.old self.new }
         ensures owes { IfNonePut self.old.draft.bytes self.new.draft.bytes
@@ -625,6 +648,8 @@ impl Association {
         ensures asked { self.new.due.shutdown ≡ self.old.due.shutdown }
         ensures acks { sack_delay self.new ≡ sack_delay self.old }
         ensures leaves { LeavesInto self.old self.new }
+        ensures order { PutsTypes (8 ∷ [])
+            self.old.draft.bytes self.new.draft.bytes }
     {
         if self.due.shutdown_ack && self.draft.put(&ChunkShutdownAck) {
             self.due.shutdown_ack = false;
@@ -643,6 +668,8 @@ impl Association {
         ensures leaves { LeavesInto self.old self.new }
         ensures resets { KeepsResets self.old self.new }
         ensures beats { PutsBeat Waits now self.old self.new }
+        ensures order { PutsTypes (5 ∷ 4 ∷ [])
+            self.old.draft.bytes self.new.draft.bytes }
     {
         self.put_heartbeat_ack()?;
         match self.next_heartbeat() {
@@ -653,7 +680,7 @@ impl Association {
 
     // Puts the answer to a HEARTBEAT. It waits for a packet that is empty, where one has no room for it; one that is too long for that is
     // dropped, since no control chunk is cut (RFC 9260 6.10, 8.3).
-    #[tactic(auto, using(crate::proofs::Others::others_one, crate::proofs::Others::others_none, crate::proofs::Others::others_then))]
+    #[tactic(auto, using(crate::proofs::Ordered::order_one, crate::proofs::Ordered::order_none, crate::proofs::Others::others_one, crate::proofs::Others::others_none, crate::proofs::Others::others_then))]
     #[inline(never)]
     fn put_heartbeat_ack(&mut self) -> Result<(), Fault>
         ensures others { PutsOthers self.old self.new }
@@ -661,6 +688,8 @@ impl Association {
             (self.new.due.heartbeat ≡ None)) }
         ensures acks { sack_delay self.new ≡ sack_delay self.old }
         ensures leaves { LeavesInto self.old self.new }
+        ensures order { PutsTypes (5 ∷ [])
+            self.old.draft.bytes self.new.draft.bytes }
     {
         let Some(info) = &self.due.heartbeat else {
             return Ok(());
@@ -673,7 +702,7 @@ impl Association {
     }
 
     // Puts a HEARTBEAT with this time. The next one is later.
-    #[tactic(auto, using(crate::proofs::Owing::used_later, crate::proofs::Others::same_puts, crate::proofs::Requesting::keeps_same))]
+    #[tactic(auto, using(crate::proofs::Ordered::order_one, crate::proofs::Ordered::order_none, crate::proofs::Owing::used_later, crate::proofs::Others::same_puts, crate::proofs::Requesting::keeps_same))]
     #[inline(never)]
     fn put_heartbeat(&mut self, now: u64) -> Result<(), Fault>
         requires due { beats now self.old ≡ true }
@@ -689,6 +718,8 @@ impl Association {
         ensures replies { replies_of self.new ≡ replies_of self.old }
         ensures resets { KeepsResets self.old self.new }
         ensures beats { PutsBeat Waits now self.old self.new }
+        ensures order { PutsTypes (4 ∷ [])
+            self.old.draft.bytes self.new.draft.bytes }
     {
         let Some(heartbeat) = &mut self.heartbeat else {
             return Ok(());
@@ -706,7 +737,7 @@ impl Association {
 
     // Puts the ERROR about a chunk of no such stream (RFC 9260 6.5, 3.3.10.1), if it fits: it waits for a packet that is empty, into which it
     // always fits. Refuses only for memory, and nothing has changed then.
-    #[tactic(auto, using(crate::proofs::Others::others_one, crate::proofs::Others::others_none, crate::proofs::Others::others_then))]
+    #[tactic(auto, using(crate::proofs::Ordered::order_one, crate::proofs::Ordered::order_none, crate::proofs::Others::others_one, crate::proofs::Others::others_none, crate::proofs::Others::others_then))]
     fn put_unknown_stream(&mut self) -> Result<(), Fault>
         ensures others { PutsOthers self.old self.new }
         ensures acks { sack_delay self.new ≡ sack_delay self.old }
@@ -714,6 +745,8 @@ impl Association {
         ensures owes { OnOk result (IfNonePut self.old.draft.bytes self.new.draft.bytes
             (unknown_in self.new.inbound ≡ None)) }
         ensures err { OnErr result (self.new ≡ self.old) }
+        ensures order { PutsTypes (9 ∷ [])
+            self.old.draft.bytes self.new.draft.bytes }
     {
         let Some(inbound) = &self.inbound else {
             return Ok(());

@@ -1,6 +1,6 @@
 //! Streams that are reset (RFC 6525; RFC 8831 6.7).
 
-ghost use Rattle.std.specs.Prelude.{◌≡◌, ◌⊎◌, ◌<◌, ◌≤◌, max, true, false, Ok, Err, IfErr, IfOk, IfSome, IsOk, OnOk, OnErr, drop, is_some, length};
+ghost use Rattle.std.specs.Prelude.{◌≡◌, ◌⊎◌, ◌<◌, ◌≤◌, max, true, false, Ok, Err, IfErr, IfOk, IfSome, IsOk, OnOk, OnErr, drop, is_some, length, ◌∷◌, []};
 ghost use Rattle.std.specs.Option.{option_map};
 ghost use Rattle.sctp_association.specs.Arrivals.{CallsArrive, HearsBy, Does, Follows, IsReset, IsResetAt, IsRestart, ParamAsks, ParamAsksIn, ReceivedIn};
 ghost use Rattle.sctp_association.specs.Kept.{IsKept, IsUnmoved, RestStays};
@@ -12,6 +12,7 @@ ghost use Rattle.sctp_association.specs.Filled.{IfNonePut};
 ghost use Rattle.sctp_association.specs.Idle.{sack_delay};
 ghost use Rattle.sctp_association.specs.Leaving.{AsksNoMore, IsReconfigOf, PutsReconfig, replies_of, requests_due, responses_due};
 ghost use Rattle.sctp_association.specs.Reconfigs.{FollowsBytes, ParamOn, ReconfigOn, RequestOn, ResetsEach, ResetsListed, ResetsStream, answered, denied_by, inbound_agreed, number_at, numbers_from};
+ghost use Rattle.sctp_association.specs.Ordered.{PutsTypes};
 ghost use Rattle.sctp_association.specs.Probing.{KeepsBeat};
 ghost use Rattle.sctp_association.specs.Requesting.{HasRoom, IsFewOf, OwesNoReset, PutsExact, PutsReset, begun, due_of, first_response, last_asked, reconfig_with, request_wire, resets_of, sent_where};
 ghost use Rattle.sctp_association.specs.Telling.{Tells, TellsEnd};
@@ -112,6 +113,7 @@ impl Association {
     }
 
     /// Puts the RE-CONFIG chunk that is due, where there is room for it (RFC 6525 5.1, 5.2): a packet has one.
+    #[tactic(auto, using(crate::proofs::Ordered::order_one, crate::proofs::Ordered::order_none))]
     pub(super) fn put_resets(&mut self, now: u64) -> Result<(), Fault>
         ensures made { PutsDue now self.old self.new }
         ensures halves { HalvesAlike self.old self.new }
@@ -123,6 +125,8 @@ impl Association {
         ensures beats { KeepsBeat self.old self.new }
         ensures none { OnOk result (IfNonePut self.old.draft.bytes self.new.draft.bytes
             (OwesNoReset now self.old.outbound.sender (resets_of self.old))) }
+        ensures order { PutsTypes (130 ∷ [])
+            self.old.draft.bytes self.new.draft.bytes }
     {
         if self.draft.room() < MOST_BYTES {
             return Ok(());

@@ -14,6 +14,9 @@ use Rattle.sctp_association.proofs.Others.{data_then, due_data}
 use Rattle.sctp_association.proofs.association.Association.fill.Goals as goal
 use Rattle.sctp_association.proofs.Requesting.{asks_none, keeps_then, once_keep, others_keep, puts_first, puts_later, puts_none, sent_keep}
 use Rattle.sctp_association.proofs.Probing as probe
+use Rattle.sctp_association.proofs.Ordered as ordered
+use Rattle.sctp_association.specs.Ordered.{control_order}
+use Rattle.std.proofs.Common.{◌∷◌}
 
 pub returns-in_err-put_sack-clause-made : goal.returns-in_err-put_sack-clause-made
 returns-in_err-put_sack-clause-made c = due_data c.args.self.now c.put_sack.new.self c.args.now (
@@ -370,3 +373,31 @@ returns-clause-beats c =
     let controlled = probe.puts_later c.args.now c.args.self.now c.put_sack.new.self c.put_control.new.self acked
     (beats_same c.args.now _ _ (timed_then _ _ _ c.put_cookies.ensures.others.timed c.put_sack.ensures.timed)) c.put_control.ensures.beats in
     probe.puts_data c.args.now c.args.self.now c.put_control.new.self c.put_data.new.self controlled c.put_data.ensures.made c.put_data.ensures.beats
+
+-- ## In their order
+
+pub returns-then-is_empty-clause-order : goal.returns-then-is_empty-clause-order
+returns-then-is_empty-clause-order c = ordered.order_data control_order _ _
+    (ordered.order_more (10 ∷ 11 ∷ []) (3 ∷ 7 ∷ 8 ∷ 5 ∷ 4 ∷ 9 ∷ 9 ∷ 130 ∷ 192 ∷ []) _ _ c.put_cookies.ensures.order)
+
+pub returns-else-is_empty-clause-order : goal.returns-else-is_empty-clause-order
+returns-else-is_empty-clause-order c = ordered.order_data control_order _ _
+    (ordered.order_then (10 ∷ 11 ∷ []) (3 ∷ 7 ∷ 8 ∷ 5 ∷ 4 ∷ 9 ∷ 9 ∷ 130 ∷ 192 ∷ []) _ _ _ c.put_cookies.ensures.order
+    (ordered.order_late (3 ∷ 7 ∷ 8 ∷ 5 ∷ 4 ∷ []) (9 ∷ 9 ∷ 130 ∷ 192 ∷ []) _ _
+    (ordered.order_more (9 ∷ []) (9 ∷ 130 ∷ 192 ∷ []) _ _ c.put_report.ensures.order)))
+
+pub returns-in_err-put_sack-clause-order : goal.returns-in_err-put_sack-clause-order
+returns-in_err-put_sack-clause-order c = ordered.order_data control_order _ _
+    (ordered.order_then (10 ∷ 11 ∷ []) (3 ∷ 7 ∷ 8 ∷ 5 ∷ 4 ∷ 9 ∷ 9 ∷ 130 ∷ 192 ∷ []) _ _ _ c.put_cookies.ensures.order
+    (ordered.order_more (3 ∷ []) (7 ∷ 8 ∷ 5 ∷ 4 ∷ 9 ∷ 9 ∷ 130 ∷ 192 ∷ []) _ _ c.put_sack.ensures.order))
+
+pub returns-in_err-put_control-clause-order : goal.returns-in_err-put_control-clause-order
+returns-in_err-put_control-clause-order c = ordered.order_data control_order _ _
+    (ordered.order_then (10 ∷ 11 ∷ []) (3 ∷ 7 ∷ 8 ∷ 5 ∷ 4 ∷ 9 ∷ 9 ∷ 130 ∷ 192 ∷ []) _ _ _ c.put_cookies.ensures.order
+    (ordered.order_then (3 ∷ []) (7 ∷ 8 ∷ 5 ∷ 4 ∷ 9 ∷ 9 ∷ 130 ∷ 192 ∷ []) _ _ _ c.put_sack.ensures.order
+    (ordered.order_more (7 ∷ 8 ∷ 5 ∷ 4 ∷ 9 ∷ 9 ∷ 130 ∷ []) (192 ∷ []) _ _ c.put_control.ensures.order)))
+
+pub returns-clause-order : goal.returns-clause-order
+returns-clause-order c = ordered.order_before (10 ∷ 11 ∷ []) (3 ∷ 7 ∷ 8 ∷ 5 ∷ 4 ∷ 9 ∷ 9 ∷ 130 ∷ 192 ∷ []) _ _ _ c.put_cookies.ensures.order
+    (ordered.order_before (3 ∷ []) (7 ∷ 8 ∷ 5 ∷ 4 ∷ 9 ∷ 9 ∷ 130 ∷ 192 ∷ []) _ _ _ c.put_sack.ensures.order
+    (ordered.order_before (7 ∷ 8 ∷ 5 ∷ 4 ∷ 9 ∷ 9 ∷ 130 ∷ []) (192 ∷ []) _ _ _ c.put_control.ensures.order c.put_data.ensures.order))

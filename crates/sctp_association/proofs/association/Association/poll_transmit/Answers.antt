@@ -531,3 +531,17 @@ returns-clause-beats c = probe.beat_from c.args.now _ c.args.self.now c.settle.n
     (at_then _ _ _
     (rto_asks c.args.now c.args.self.now c.abandon.new.self (ap (λ (o : Outbound). o.rto) c.abandon.ensures.rest)) c.settle.ensures.moments)
     c.put_packet.ensures.beats
+
+-- ## In their order
+
+pub returns-in_err-put_alone-clause-order : goal.returns-in_err-put_alone-clause-order
+returns-in_err-put_alone-clause-order c = unsent_err _ c.from_residual.ensures.0
+
+pub returns-in-Some-clause-order : goal.returns-in-Some-clause-order
+returns-in-Some-clause-order c _ none = absurd (none-some c.in-Some.alone (sym none ∙ c.in-Some.is))
+
+pub returns-in_err-abandon-clause-order : goal.returns-in_err-abandon-clause-order
+returns-in_err-abandon-clause-order c = unsent_err _ c.from_residual-in_err-abandon.ensures.0
+
+pub returns-clause-order : goal.returns-clause-order
+returns-clause-order c sent _ = c.put_packet.ensures.order sent

@@ -10,6 +10,8 @@ use Rattle.sctp_association.proofs.association.Association.put_control.Goals as 
 use Rattle.sctp_association.specs.Idle.{sack_delay}
 use Rattle.sctp_association.proofs.Requesting.{asks_none, keeps_then, once_keep, others_keep, puts_later, puts_none}
 use Rattle.sctp_association.proofs.Probing as probe
+use Rattle.sctp_association.proofs.Ordered as ordered
+use Rattle.std.proofs.Common.{◌∷◌}
 
 pub returns-in_err-put_heartbeats-clause-made : goal.returns-in_err-put_heartbeats-clause-made
 returns-in_err-put_heartbeats-clause-made c = due_then c.args.now c.args.self.now c.put_shutdown.new.self c.put_heartbeats.new.self
@@ -298,3 +300,26 @@ returns-clause-beats c =
     (others_then _ c.put_unknown_stream.new.self _ c.put_unknown_stream.ensures.others c.put_report.ensures.others) in
     probe.puts_first c.args.now c.args.self.now c.put_heartbeats.new.self c.put_resets.new.self beaten
     (probe.keeps_then c.put_heartbeats.new.self c.put_report.new.self c.put_resets.new.self told c.put_resets.ensures.beats)
+
+-- ## In their order
+
+pub returns-in_err-put_heartbeats-clause-order : goal.returns-in_err-put_heartbeats-clause-order
+returns-in_err-put_heartbeats-clause-order c = ordered.order_then (7 ∷ 8 ∷ []) (5 ∷ 4 ∷ 9 ∷ 9 ∷ 130 ∷ []) _ _ _ c.put_shutdown.ensures.order
+    (ordered.order_more (5 ∷ 4 ∷ []) (9 ∷ 9 ∷ 130 ∷ []) _ _ c.put_heartbeats.ensures.order)
+
+pub returns-in_err-put_unknown_stream-clause-order : goal.returns-in_err-put_unknown_stream-clause-order
+returns-in_err-put_unknown_stream-clause-order c = ordered.order_then (7 ∷ 8 ∷ []) (5 ∷ 4 ∷ 9 ∷ 9 ∷ 130 ∷ []) _ _ _ c.put_shutdown.ensures.order
+    (ordered.order_then (5 ∷ 4 ∷ []) (9 ∷ 9 ∷ 130 ∷ []) _ _ _ c.put_heartbeats.ensures.order
+    (ordered.order_more (9 ∷ []) (9 ∷ 130 ∷ []) _ _ c.put_unknown_stream.ensures.order))
+
+pub returns-in_err-put_report-clause-order : goal.returns-in_err-put_report-clause-order
+returns-in_err-put_report-clause-order c = ordered.order_then (7 ∷ 8 ∷ []) (5 ∷ 4 ∷ 9 ∷ 9 ∷ 130 ∷ []) _ _ _ c.put_shutdown.ensures.order
+    (ordered.order_then (5 ∷ 4 ∷ []) (9 ∷ 9 ∷ 130 ∷ []) _ _ _ c.put_heartbeats.ensures.order
+    (ordered.order_then (9 ∷ []) (9 ∷ 130 ∷ []) _ _ _ c.put_unknown_stream.ensures.order
+    (ordered.order_more (9 ∷ []) (130 ∷ []) _ _ c.put_report.ensures.order)))
+
+pub returns-clause-order : goal.returns-clause-order
+returns-clause-order c = ordered.order_then (7 ∷ 8 ∷ []) (5 ∷ 4 ∷ 9 ∷ 9 ∷ 130 ∷ []) _ _ _ c.put_shutdown.ensures.order
+    (ordered.order_then (5 ∷ 4 ∷ []) (9 ∷ 9 ∷ 130 ∷ []) _ _ _ c.put_heartbeats.ensures.order
+    (ordered.order_then (9 ∷ []) (9 ∷ 130 ∷ []) _ _ _ c.put_unknown_stream.ensures.order
+    (ordered.order_then (9 ∷ []) (130 ∷ []) _ _ _ c.put_report.ensures.order c.put_resets.ensures.order)))

@@ -17,6 +17,7 @@ use Rattle.sctp_association.specs.Sending.{IsTimed}
 use Rattle.sctp_packets.specs.Draft.{headed}
 use Rattle.sctp_association.proofs.Requesting.{reset_kept, reset_none_so, reset_sealed, reset_unsent}
 use Rattle.sctp_association.proofs.Probing as probe
+use Rattle.sctp_association.proofs.Ordered as ordered
 
 pub returns-in_err-begin-clause-made : goal.returns-in_err-begin-clause-made
 returns-in_err-begin-clause-made c = none_sent_so _ _ _ c.from_residual.ensures.0 (unsent_alike c.args.self.now c.args.self.now (alike_same c.args.self.now) _)
@@ -233,3 +234,15 @@ returns-clause-beats c =
     probe.beat_sealed c.args.now c.args.self.now _ c.args.header _ _ c.in_ok-begin.ensures.begun put.chunks put.asks put.added put.each
     (probe.probes_paused c.args.now _ c.fill-filled.new.self c.args.self.now _ put.asks put.probes refl refl refl refl) c.args.is_zero
     c.seal.ensures.sealed
+
+-- ## In their order
+
+pub returns-in_err-begin-clause-order : goal.returns-in_err-begin-clause-order
+returns-in_err-begin-clause-order c = unsent_err _ c.from_residual.ensures.0
+
+pub returns-in_err-filled-clause-order : goal.returns-in_err-filled-clause-order
+returns-in_err-filled-clause-order c = unsent_err _ c.from_residual-in_err-filled.ensures.0
+
+pub returns-clause-order : goal.returns-clause-order
+returns-clause-order c _ =
+    ordered.order_sealed c.args.header _ _ _ c.args.is_zero c.in_ok-begin.ensures.begun c.fill-filled.ensures.order c.seal.ensures.sealed
