@@ -443,10 +443,20 @@ module _ (raw : List ℕ) (at : ℕ) where
   pub number_short : length raw < at + 8 → number_at raw at ≡ None
   number_short lt =
       let off : nat_le (at + 8) (length raw) ≡ false = grind (arith, nat_tests) in
-      ap (λ (b : Bool). if b then Some (u32_at (drop (at + 4) raw) 0) else None) off
+      ap (λ (b : Bool). if b && nat_le 8 (param_declared_length (drop at raw)) then Some (u32_at (drop (at + 4) raw) 0) else None) off
 
-  pub number_there : at + 8 ≤ length raw → number_at raw at ≡ Some (u32_at (drop (at + 4) raw) 0)
-  number_there le = ap (λ (b : Bool). if b then Some (u32_at (drop (at + 4) raw) 0) else None) (le-leb (at + 8) (length raw) le)
+  -- a parameter that has no room for a number
+  pub number_brief : at + 8 ≤ length raw → param_declared_length (drop at raw) < 8 → number_at raw at ≡ None
+  number_brief le lt =
+      let off : nat_le 8 (param_declared_length (drop at raw)) ≡ false = grind (arith, nat_tests) in
+      ap (λ (b : Bool). if b && nat_le 8 (param_declared_length (drop at raw)) then Some (u32_at (drop (at + 4) raw) 0) else None)
+      (le-leb (at + 8) (length raw) le) ∙ ap (λ (b : Bool). if b then Some (u32_at (drop (at + 4) raw) 0) else None) off
+
+  pub number_there : at + 8 ≤ length raw → 8 ≤ param_declared_length (drop at raw) → number_at raw at ≡ Some (u32_at (drop (at + 4) raw) 0)
+  number_there le long =
+      ap (λ (b : Bool). if b && nat_le 8 (param_declared_length (drop at raw)) then Some (u32_at (drop (at + 4) raw) 0) else None)
+      (le-leb (at + 8) (length raw) le)
+      ∙ ap (λ (b : Bool). if b then Some (u32_at (drop (at + 4) raw) 0) else None) (le-leb 8 (param_declared_length (drop at raw)) long)
 
 -- the expected one, and any other one
 pub denied_expected : (n : ℕ) (p q : PeerRequests) → q ≡ after_request n p → due_for n p ≡ Perform → after_answer Denied q ≡ denied n p

@@ -408,6 +408,10 @@ impl Association {
         if start.saturating_add(4) > raw.len() {
             return;
         }
+        // A shorter one has no number (RFC 6525 4).
+        if sctp_util::field::read_u16(&raw[at..], 2) < 8 {
+            return;
+        }
         let number = sctp_util::field::read_u32(&raw[start..], 0);
         if let Due::Perform = peer.request(number) {
             peer.answered(ReconfigResult::Denied);
