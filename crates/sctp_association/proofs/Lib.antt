@@ -29,6 +29,7 @@ pub mod Reconfigs
 pub mod Resetting
 pub mod Requesting
 pub mod PuttingResets
+pub mod Settled
 pub mod Probing
 pub mod Ordered
 pub mod Lows

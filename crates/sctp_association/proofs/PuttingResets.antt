@@ -9,7 +9,8 @@ use Rattle.sctp_association.proofs.Putting.{adds_none}
 use Rattle.sctp_association.proofs.Requesting.{answers_by, left_in}
 use Rattle.sctp_association.specs.declared.association.Association.{Association}
 use Rattle.sctp_association.specs.Packets.{Adds, put_where}
-use Rattle.sctp_association.specs.Requesting.{Asks, HasRoom, IsFewOf, LeavesReset, OwesNoReset, PutsExact, PutsReset, Resets, at_most_one, begun, due_of, first_response}
+use Rattle.sctp_association.specs.Requesting.{Asks, HasRoom, IsFewOf, LeavesReset, OwesNoReset, PutsExact, PutsReset, Resets, at_most_one, begun, due_of}
+use Rattle.sctp_association.specs.Requesting.{first_response}
 use Rattle.sctp_association.specs.Requesting.{last_asked, reconfig_with, reconfigs_in, request_wire, resets_of, sent_where}
 use Rattle.sctp_chunks.proofs.ParamsEncoding.{length_padded_param}
 use Rattle.sctp_chunks.specs.Params.{gap, padded_param}

@@ -61,6 +61,7 @@ pub mod Sacks
 pub mod Sending
 pub mod Served
 pub mod Sessions
+pub mod Settled
 pub mod Setups
 pub mod Shutting
 pub mod Silence

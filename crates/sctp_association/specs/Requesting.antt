@@ -1,5 +1,6 @@
 -- Which RE-CONFIG leaves, and what that makes of the requests of both sides (RFC 6525 3.1, 4.1, 4.4, 5.1, 5.2.1). Moments are nanoseconds.
-use Rattle.std.specs.Prelude.{◌≡◌, ◌⊎◌, ℕ, ◌+◌, ◌-◌, ◌%◌, ◌^◌, ◌<◌, ◌≤◌, ⊤, max, length, is_some, Bool, true, false, if◌then◌else◌, List, [], ◌∷◌, Option, None, Some, Result, Ok}
+use Rattle.std.specs.Prelude.{◌≡◌, ◌⊎◌, ℕ, ◌+◌, ◌-◌, ◌%◌, ◌^◌, ◌<◌, ◌≤◌, ⊤, max, length, is_some, Bool, true, false, if◌then◌else◌, List, [], ◌∷◌, Option, None}
+use Rattle.std.specs.Prelude.{Some, Result, Ok}
 use Rattle.std.specs.Option.{option_map}
 use Rattle.sctp_association.specs.declared.association.Association.{Association}
 use Rattle.sctp_association.specs.declared.fault.Fault.{Fault}

@@ -22,6 +22,7 @@ ghost use Rattle.sctp_association.specs.Reports.{one_cause, unrecognized_in};
 ghost use Rattle.sctp_association.specs.Requesting.{KeepsResets, LeavesResetBy, LeavesResetIn, OwesNoReset, PutsReset, resets_of};
 ghost use Rattle.sctp_association.specs.Rows.{SettlesToSend};
 ghost use Rattle.sctp_association.specs.Sending.{IsTimed};
+ghost use Rattle.sctp_association.specs.Settled.{LeavesSettled};
 ghost use Rattle.sctp_association.specs.Skips.{LeavesSkip, LeavesSkipBy};
 ghost use Rattle.sctp_association.specs.Still.{IsLater, heartbeat_time};
 ghost use Rattle.sctp_association.specs.Telling.{Tells};
@@ -95,6 +96,9 @@ impl Association {
         // The shutdown that was asked for begins, and goes on where nothing waits or is in flight (RFC 9260 9.2).
         ensures settles { self.old.due.alone ≡ None → self.old.is_over ≡ false
             → OnOk result (SettlesToSend now self.old self.new) }
+        // So the SHUTDOWN or SHUTDOWN-ACK is due as its state is entered, and leaves or stays due.
+        ensures enters { self.old.due.alone ≡ None → self.old.is_over ≡ false
+            → OnOk result (LeavesSettled (is_sent result) self.old self.new) }
         // T2-shutdown, and T5-shutdown-guard, begin as its state is entered, whatever is answered.
         ensures timers { EntersTimers now self.old self.new }
         // The one reply that is due leaves first, in a packet of its own, with exactly its chunks.

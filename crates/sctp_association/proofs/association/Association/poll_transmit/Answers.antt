@@ -22,7 +22,7 @@ use Rattle.sctp_association.specs.Congested.{PausesWithin}
 use Rattle.sctp_association.specs.Entering.{usable_in}
 use Rattle.sctp_association.specs.Halves.{is_sent, receiver_of, sides_of}
 use Rattle.sctp_association.specs.declared.inbound.Inbound.{Inbound}
-use Rattle.sctp_association.specs.Leaving.{IsSentIn, owed_of}
+use Rattle.sctp_association.specs.Leaving.{IsSentIn, owed_of, replies_of}
 use Rattle.sctp_association.specs.declared.outbound.Outbound.{Outbound}
 use Rattle.sctp_association.specs.Runs.{Sends}
 use Rattle.sctp_association.specs.Skips.{LeavesSkip}
@@ -31,6 +31,7 @@ use Rattle.std.proofs.lemmas.Bool.{false≢true}
 use Rattle.sctp_association.proofs.Requesting.{not_ok, reset_alone, reset_from, reset_kept, reset_none_so, timed_resets}
 use Rattle.sctp_association.specs.Requesting.{OwesNoReset, Resets}
 use Rattle.sctp_association.proofs.Probing as probe
+use Rattle.sctp_association.proofs.Settled.{settled_leaves}
 
 pub returns-in_err-put_alone-clause-made : goal.returns-in_err-put_alone-clause-made
 returns-in_err-put_alone-clause-made c =
@@ -545,3 +546,26 @@ returns-in_err-abandon-clause-order c = unsent_err _ c.from_residual-in_err-aban
 
 pub returns-clause-order : goal.returns-clause-order
 returns-clause-order c sent _ = c.put_packet.ensures.order sent
+
+-- ## As a shutdown goes on
+
+pub returns-in-Some-clause-enters : goal.returns-in-Some-clause-enters
+returns-in-Some-clause-enters c none = absurd (none-some c.in-Some.alone (sym none ∙ c.in-Some.is))
+
+pub returns-in_default-peer-clause-enters : goal.returns-in_default-peer-clause-enters
+returns-in_default-peer-clause-enters c none going =
+    let new = c.settle.new.self in
+    record {
+      kept = c.abandon.new.self.sender;
+      dropped = c.abandon.ensures.dropped;
+      leaves = settled_leaves c.args.self.now new _ c.settle.ensures.settles.due c.settle.ensures.stays.cookie c.settle.ensures.inbound
+          c.settle.ensures.stays.limit false new.draft.bytes (replies_of new) (leaves_same _ _ (replies_of new) (replies_of new) refl);
+    }
+
+pub returns-clause-enters : goal.returns-clause-enters
+returns-clause-enters c none going = on_ok c.put_packet.result (record {
+  kept = c.abandon.new.self.sender;
+  dropped = c.abandon.ensures.dropped;
+  leaves = settled_leaves c.args.self.now c.settle.new.self _ c.settle.ensures.settles.due c.settle.ensures.stays.cookie c.settle.ensures.inbound
+      c.settle.ensures.stays.limit _ _ (replies_of c.put_packet.new.self) c.put_packet.ensures.leaves;
+})
