@@ -1,9 +1,9 @@
 -- Chunks are put in their order.
-use Rattle.std.proofs.Common.{◌≡◌, ◌⊎◌, inl, inr, ℕ, List, [], ◌∷◌, ◌++◌, Bool, true, false, refl, ap, sym, subst, ◌∙◌, append_assoc}
+use Rattle.std.proofs.Common.{◌≡◌, inl, inr, ℕ, List, [], ◌∷◌, ◌++◌, Bool, true, false, refl, ap, sym, subst, ◌∙◌, append_assoc}
 use Rattle.std.proofs.lemmas.List.{append-nil}
 use Rattle.std.specs.List.{AllByRecursion}
 use Rattle.sctp_association.proofs.Putting.{adds_none, adds_then, all_append}
-use Rattle.sctp_association.specs.Ordered.{AreOf, Begins, IsInOrder, PutsInOrder, PutsTypes, StandInOrder, control_order}
+use Rattle.sctp_association.specs.Ordered.{AreOf, IsInOrder, PutsInOrder, PutsTypes, control_order}
 use Rattle.sctp_association.specs.Packets.{Adds, IsData, put_where, sum_of, with_chunks}
 use Rattle.sctp_chunks.specs.Wire.{Wire, type_of}
 use Rattle.sctp_packets.specs.declared.packet.CommonHeader.{CommonHeader}

@@ -4,7 +4,7 @@ use Rattle.std.proofs.Common.{arith, refl, ap, sym, subst, ◌∙◌}
 use Rattle.std.proofs.lemmas.Bool.{false≢true}
 use Rattle.std.proofs.lemmas.List.{append-nil}
 use Rattle.std.proofs.lemmas.Option.{none-some}
-use Rattle.std.specs.Prelude.{nat_le, ◌==◌, ◌&&◌, ◌%◌, not, max, if◌then◌else◌, is_some, option_map}
+use Rattle.std.specs.Prelude.{nat_le, ◌==◌, ◌%◌, max, if◌then◌else◌, is_some, option_map}
 use Rattle.std.specs.List.{AllByRecursion, filter}
 use Rattle.std.specs.Prelude.{Result, Ok, Err, OnErr, OnOk}
 use Rattle.std.specs.Result.{IsErr}
@@ -35,8 +35,8 @@ use Rattle.sctp_params.specs.declared.param.param_reconfig_response.ReconfigResu
 use Rattle.sctp_params.specs.declared.param.param_reconfig_response.ReconfigResult.TheVariants.{InProgress}
 use Rattle.sctp_path.specs.Rto.{Timeout}
 use Rattle.sctp_path.specs.Timers.{is_due}
-use Rattle.sctp_reset.specs.Own.{after_ask, after_begin, after_failed, after_response, after_sent, begin_with, counted, due_at, has_failed, is_asked, is_idle}
-use Rattle.sctp_reset.specs.Own.{is_none_of, left_after, left_of, picked, unpicked}
+use Rattle.sctp_reset.specs.Own.{after_ask, after_begin, after_failed, after_response, after_sent, begin_with, counted, due_at, has_failed, is_asked}
+use Rattle.sctp_reset.specs.Own.{left_after, left_of, picked, unpicked}
 use Rattle.sctp_reset.specs.Peer.{older_of, without_first}
 use Rattle.sctp_reset.specs.Requests.{Request, Requests, streams_of}
 use Rattle.sctp_reset.specs.declared.peer_requests.PeerRequests.{PeerRequests}
@@ -155,29 +155,6 @@ late-if now q false le e = le
 pub due_none : (now : ℕ) (u : Option Request) → None ≡ due_at now u → due_of now u ≡ None
 due_none now None e = refl
 due_none now (Some q) e = late-not now q (q.at == 2 ^ 64 - 1) (late-if now q (nat_le q.at now) refl e)
-
--- ## Where nothing begins
-
-begun-idle : (d : ℕ → Bool) (last now : ℕ) (o : Requests) (w : List ℕ) (u : Option Request) → (not (is_some u) && is_none_of w) ≡ true
-    → after_begin d 64 last now (record o { waiting = w; under_way = u }) ≡ record o { waiting = w; under_way = u }
-begun-idle d last now o [] None idle = refl
-begun-idle d last now o (x ∷ xs) None idle = absurd (false≢true idle)
-begun-idle d last now o w (Some r) idle = absurd (false≢true idle)
-
-pub idle_begun : (now : ℕ) (t : Transmission) (o : Requests) → is_idle o ≡ true → begun now t o ≡ o
-idle_begun now t o idle = begun-idle (λ s. is_drained s t) ((t.flight.next_tsn + (2 ^ 32 - 1)) % 2 ^ 32) now o o.waiting o.under_way idle
-
-none-idle : (now : ℕ) (w : List ℕ) (u : Option Request) → (not (is_some u) && is_none_of w) ≡ true → due_of now u ≡ None
-none-idle now w None idle = refl
-none-idle now w (Some r) idle = absurd (false≢true idle)
-
-pub idle_none : (now : ℕ) (o : Requests) → is_idle o ≡ true → due_of now o.under_way ≡ None
-idle_none now o idle = none-idle now o.waiting o.under_way idle
-
--- nor where a request is under way
-pub under_begun : (now : ℕ) (t : Transmission) (o : Requests) → is_some o.under_way ≡ true → begun now t o ≡ o
-under_begun now t o under = ap (λ (b : Bool). if b then o else begin_with (picked (λ s. is_drained s t) 64 o.waiting)
-    (unpicked (λ s. is_drained s t) 64 o.waiting) ((t.flight.next_tsn + (2 ^ 32 - 1)) % 2 ^ 32) now o) under
 
 -- a request that is due is under way
 due-some : (now : ℕ) (w : List ℕ) (q r : Request) (b : Bool) → is_due now (comes q.at) ≡ b → (if b then Some q else None) ≡ Some r
