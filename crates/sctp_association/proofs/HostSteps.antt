@@ -39,7 +39,7 @@ bytes-of ws = sum_by (λ w. length w.bytes) ws
 
 -- ## What calls do not change
 
-none-written : (c : SenderCall) (ws : List Write) → is_sending c ≡ true → written_after c ws ≡ ws
+pub none-written : (c : SenderCall) (ws : List Write) → is_sending c ≡ true → written_after c ws ≡ ws
 none-written (sends now) ws e = refl
 none-written (resends tsn now c) ws e = refl
 none-written (forwards_within bytes f) ws e = refl
@@ -79,7 +79,7 @@ plain-sack k back gone t u h = record {
 }
 
 -- a call that most sessions do not have hands out no message
-none-read : (call : ReceiverOther) (r : Reception) (ms : List Message) → messages_after (as_receiver_run call) r ms ≡ ms
+pub none-read : (call : ReceiverOther) (r : Reception) (ms : List Message) → messages_after (as_receiver_run call) r ms ≡ ms
 none-read (discards c) r ms = refl
 none-read (closes_incoming stream) r ms = refl
 none-read (resets_incoming stream last) r ms = refl

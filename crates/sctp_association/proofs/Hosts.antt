@@ -55,7 +55,7 @@ Fits P Q w (begins tsn max limits) h = IsPlain w (begins tsn max limits) h
 Fits P Q w (renews tsn size max) h = ⊥
 
 -- a chunk that says this, and of which a sender noted nothing
-abbrev chunk-of : Data → ChunkPayloadData
+abbrev pub chunk-of : Data → ChunkPayloadData
 chunk-of d = record (placeholder d.tsn) {
   unordered = d.unordered;
   beginning_fragment = d.beginning_fragment;
@@ -439,7 +439,7 @@ module _ (P Q : AnyCall → Type 0) (f b : Way) (x y z : Host) (j : Joined P Q f
 
 -- ## A move
 
-none-reported : (call : SenderCall) (s : Session) → is_asking call ≡ true → IsReported call s
+pub none-reported : (call : SenderCall) (s : Session) → is_asking call ≡ true → IsReported call s
 none-reported (outgoing.opens stream) s e = tt
 none-reported (outgoing.sets_mode stream unordered reliability value) s e = tt
 none-reported (outgoing.writes stream ppi bytes) s e = tt
@@ -458,7 +458,7 @@ by-act P Q f b (handles datagram) x y z h fits j few = by-handles P Q f b x y z 
 -- ## What is few in the end was few before
 
 -- so many fragments more, and no fewer bytes
-more-bytes : (call : SenderCall) (t : Transmission) (ws : List Write) → is_asking call ≡ true
+pub more-bytes : (call : SenderCall) (t : Transmission) (ws : List Write) → is_asking call ≡ true
     → fragments_by call t + bytes_of ws ≤ bytes_of (written_after call ws)
 more-bytes (outgoing.opens stream) t ws e = omega arith
 more-bytes (outgoing.sets_mode stream unordered reliability value) t ws e = omega arith

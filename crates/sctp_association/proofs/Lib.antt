@@ -70,6 +70,12 @@ pub mod Single
 pub mod Rules
 pub mod PlainHosts
 pub mod OneLife
+pub mod Raises
+pub mod Long
+pub mod LongCalls
+pub mod LongSteps
+pub mod LongHosts
+pub mod YoungLife
 pub mod Lives
 pub mod Links
 pub mod Setups

@@ -8,7 +8,8 @@ use Rattle.sctp_association.proofs.Rules.{moves-both, moves-in}
 use Rattle.sctp_association.specs.Arrivals.{Arrival, Halves, begins, hears, receives, renews, restarts}
 use Rattle.sctp_association.specs.Hosts.{Host, IsPlain, NamesOpen, Way, first_host, hosts}
 use Rattle.sctp_association.specs.Links.{Party, host_at}
-use Rattle.sctp_association.specs.OneLife.{AreOfTheirOwn, AreSingleOnSteady, AreWritesOnSteady, Brought, Came, CamePastClosed, DeliversAny, EachDeliversAny}
+use Rattle.sctp_association.specs.OneLife.{AreOfTheirOwn, AreSingleOnSteady, AreWritesOnSteady, Brought, Came, CamePastClosed, DeliversAny, DeliversIn}
+use Rattle.sctp_association.specs.OneLife.{EachDeliversAny}
 use Rattle.sctp_association.specs.OneLife.{EachPlainIsOneLife}
 use Rattle.sctp_association.specs.OneLife.{EachLinkDeliversAny, IsOneLife, NoneWasDropped, IsReadAsWrittenAny, IsSteady, IsUntouched, WasBrought, brought}
 use Rattle.sctp_association.specs.OneLife.{brought_to_one, brought_to_other, others_of}
@@ -23,7 +24,6 @@ use Rattle.sctp_delivery.specs.EveryEnd.{dropped_any}
 use Rattle.sctp_delivery.specs.EveryOrder.{goes_on, opens_incoming}
 use Rattle.sctp_delivery.specs.SenderCalls.{Write}
 use Rattle.sctp_delivery.specs.Session.{Session}
-use Rattle.sctp_delivery.specs.StandAny.{StandAny}
 use Rattle.sctp_receiver.specs.Receiver.{Reception}
 use Rattle.sctp_receiver.specs.ReceiverRuns as runs
 use Rattle.sctp_receiver.specs.ReceiverRuns.{Message}
@@ -43,7 +43,7 @@ module _ (ones others : List Brought) where
       by true e = inr (h, c, λ named. not_both (sym (subst (NamesOpen f) is named) ∙ e))
       by false e = inl e
 
-  fits : (w : Way) (a : Arrival) (h : Halves) → IsOneLife w a h → Contains ones (brought a h) → Fits (WasBrought ones others) (WasBrought others ones) w a h
+  pub fits : (w : Way) (a : Arrival) (h : Halves) → IsOneLife w a h → Contains ones (brought a h) → Fits (WasBrought ones others) (WasBrought others ones) w a h
   fits w (receives (runs.discards tsn)) h p c = λ d same. (h, subst (λ n. Contains ones (brought (receives (runs.discards n)) h)) (sym same) c)
   fits w (receives (runs.closes stream)) h p c = (h, c)
   fits w (receives (runs.resets stream last)) h p c = (h, c)
@@ -55,7 +55,7 @@ module _ (ones others : List Brought) where
   fits w (renews tsn size max) h p c = absurd p
 
   -- where no datagram had the sender begin the stream again, no call of the session did
-  steady-calls : (cs : List AnyCall) (s : ℕ) → Every (WasBrought ones others) (others_of cs) → IsSteady ones s → list_any (renewed s) cs ≡ false
+  pub steady-calls : (cs : List AnyCall) (s : ℕ) → Every (WasBrought ones others) (others_of cs) → IsSteady ones s → list_any (renewed s) cs ≡ false
   steady-calls [] s e n = refl
   steady-calls (makes call ∷ cs) s e n = steady-calls cs s e n
   steady-calls (of_sending (takes_back sack back) ∷ cs) s e n = steady-calls cs s e n
@@ -74,7 +74,7 @@ module _ (ones others : List Brought) where
       let is : stream ≡ s = grind (arith, nat_tests, same) in absurd (n (subst P is p))
   elsewhere P stream s false same p n rest on = on
 
-  unbroken-calls : (cs : List AnyCall) (opened : Bool) (s : ℕ) → Every (WasBrought ones others) (others_of cs) → IsUntouched ones others s
+  pub unbroken-calls : (cs : List AnyCall) (opened : Bool) (s : ℕ) → Every (WasBrought ones others) (others_of cs) → IsUntouched ones others s
       → goes_on opened s cs ≡ true
   unbroken-calls [] opened s e n = refl
   unbroken-calls (makes call ∷ cs) opened s e n = unbroken-calls cs (opened || opens_incoming s (makes call)) s e n
@@ -115,24 +115,26 @@ module _ (ones others : List Brought) where
       (ap not (steady-calls st.calls _ j.goes.only n)) in
       record {
         stand = st;
-        sends = j.goes.sends;
-        receives = j.goes.receives;
-        written = j.goes.written;
-        read = j.goes.read;
-        others = all-of-every (WasBrought ones others) (others_of st.calls) j.goes.only;
-        bytes = every.accounted st.reported st.tsn st.size st.max st.most st.limits st.calls st.session st.run;
-        made = every.made st.reported st.tsn st.size st.max st.most st.limits st.calls st.session st.run;
-        whole = every.messages st.reported st.tsn st.size st.max st.most st.limits st.calls st.session st.run;
-        parts = messages.parts st.reported st.tsn st.size st.max st.most st.limits st.calls st.session st.run st.small st.some st.few st.short;
+        delivers = record {
+          sends = j.goes.sends;
+          receives = j.goes.receives;
+          written = j.goes.written;
+          read = j.goes.read;
+          others = all-of-every (WasBrought ones others) (others_of st.calls) j.goes.only;
+          bytes = every.accounted st.reported st.tsn st.size st.max st.most st.limits st.calls st.session st.run;
+          made = every.made st.reported st.tsn st.size st.max st.most st.limits st.calls st.session st.run;
+          whole = every.messages st.reported st.tsn st.size st.max st.most st.limits st.calls st.session st.run;
+          parts = messages.parts st.reported st.tsn st.size st.max st.most st.limits st.calls st.session st.run st.small st.some st.few st.short;
+          writes = messages.are-writes st.reported st.tsn st.size st.max st.most st.limits st.calls st.session st.run st.small st.some st.few st.short;
+          own = messages.of-their-own st.reported st.tsn st.size st.max st.most st.limits st.calls st.session st.run st.small st.some st.few st.short;
+          steady = subst (AreSingleOnSteady ones) j.goes.read single;
+          apart = messages.told-apart st.reported st.tsn st.size st.max st.most st.limits st.calls st.session st.run;
+          unbroken = λ s n. unbroken-calls st.calls false s j.goes.only n;
+          order = messages.in-order st.reported st.tsn st.size st.max st.most st.limits st.calls st.session st.run st.small st.some st.few st.short;
+          modes = messages.as-written st.reported st.tsn st.size st.max st.most st.limits st.calls st.session st.run st.small st.some st.few st.short;
+          turn = in_order.in-turn-any st.reported st.tsn st.size st.max st.most st.limits st.calls st.session st.run st.small st.some st.few st.short;
+        };
         once = every.none-read-twice st.reported st.tsn st.size st.max st.most st.limits st.calls st.session st.run st.small st.few;
-        writes = messages.are-writes st.reported st.tsn st.size st.max st.most st.limits st.calls st.session st.run st.small st.some st.few st.short;
-        own = messages.of-their-own st.reported st.tsn st.size st.max st.most st.limits st.calls st.session st.run st.small st.some st.few st.short;
-        steady = subst (AreSingleOnSteady ones) j.goes.read single;
-        apart = messages.told-apart st.reported st.tsn st.size st.max st.most st.limits st.calls st.session st.run;
-        unbroken = λ s n. unbroken-calls st.calls false s j.goes.only n;
-        order = messages.in-order st.reported st.tsn st.size st.max st.most st.limits st.calls st.session st.run st.small st.some st.few st.short;
-        modes = messages.as-written st.reported st.tsn st.size st.max st.most st.limits st.calls st.session st.run st.small st.some st.few st.short;
-        turn = in_order.in-turn-any st.reported st.tsn st.size st.max st.most st.limits st.calls st.session st.run st.small st.some st.few st.short;
         end = messages.ordered-read st.reported st.tsn st.size st.max st.most st.limits st.calls st.session st.run st.small st.some st.few st.short;
         chunks = messages.sent-read st.reported st.tsn st.size st.max st.most st.limits st.calls st.session st.run st.small st.some st.few st.short;
         unordered = messages.unordered-written-read st.reported st.tsn st.size st.max st.most st.limits st.calls st.session st.run st.small st.some st.few
@@ -167,24 +169,28 @@ each-plain f b old moves new run plain =
 
 -- ## As a caller has them
 
-module _ (ones others : List Brought) (w : Way) (x z : Party) (d : DeliversAny w ones others (host_at x) (host_at z)) where
-  abbrev it : StandAny
-  it = d.stand
-
-  on-steady : AreWritesOnSteady ones x.log.written z.log.read
+module _ (ones others : List Brought) (w : Way) (x z : Party) (calls : List AnyCall) (s : Session)
+    (d : DeliversIn w ones others (host_at x) (host_at z) calls s) where
+  pub on-steady : AreWritesOnSteady ones x.log.written z.log.read
   on-steady =
-      let steady : AreSingleOnSteady ones it.session.receiving.read = subst (AreSingleOnSteady ones) (sym d.read) d.steady in
-      let all : AreWritesOnSteady ones it.session.written it.session.receiving.read = λ k m lt n. d.writes k m lt (steady k m lt n) in
+      let steady : AreSingleOnSteady ones s.receiving.read = subst (AreSingleOnSteady ones) (sym d.read) d.steady in
+      let all : AreWritesOnSteady ones s.written s.receiving.read = λ k m lt n. d.writes k m lt (steady k m lt n) in
       subst (λ (ws : List Write). AreWritesOnSteady ones ws z.log.read) d.written
-      (subst (λ (ms : List Message). AreWritesOnSteady ones it.session.written ms) d.read all)
+      (subst (λ (ms : List Message). AreWritesOnSteady ones s.written ms) d.read all)
 
-  of-their-own : AreOfTheirOwn x.log.written z.log.read
+  pub of-their-own : AreOfTheirOwn x.log.written z.log.read
   of-their-own =
-      subst (λ (ws : List Write). AreOfTheirOwn ws z.log.read) d.written
-      (subst (λ (ms : List Message). AreOfTheirOwn it.session.written ms) d.read d.own)
+      subst (λ (ws : List Write). AreOfTheirOwn ws z.log.read) d.written (subst (λ (ms : List Message). AreOfTheirOwn s.written ms) d.read d.own)
 
-  as-written : IsReadAsWrittenAny w ones others x z
-  as-written = record { delivers = d; writes = on-steady; own = of-their-own }
+as-written : (ones others : List Brought) (w : Way) (x z : Party) → DeliversAny w ones others (host_at x) (host_at z) → IsReadAsWrittenAny w ones others x z
+as-written ones others w x z d =
+    let calls = d.stand.calls in
+    let s = d.stand.session in
+    record {
+      delivers = d;
+      writes = on-steady ones others w x z calls s d.delivers;
+      own = of-their-own ones others w x z calls s d.delivers;
+    }
 
 pub each-link-delivers-any : EachLinkDeliversAny
 each-link-delivers-any f b x z link once fit other one-few other-few =

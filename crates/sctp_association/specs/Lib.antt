@@ -73,3 +73,4 @@ pub mod Timers
 pub mod Told
 pub mod Waiting
 pub mod Walks
+pub mod Young

@@ -13,6 +13,7 @@ ghost use Rattle.sctp_association.specs.Sessions.{EachIsSent};
 ghost use Rattle.sctp_association.specs.Setups.{EachDatagramKeeps, EachQuietCallKeeps, EachSetUpDelivers, EachSetUpTurns, EachTwoAreSetUp, EachWrittenKeeps};
 ghost use Rattle.sctp_association.specs.Sized.{EachAskIsCut, EachChunkFits, EachDatagramIsCut, EachIsCutFirst, EachOtherIsCut, EachPollIsCut, EachSizeIsCut, EachTimeoutIsCut};
 ghost use Rattle.sctp_association.specs.Told.{EachLosesNone};
+ghost use Rattle.sctp_association.specs.Young.{EachDeliversYoung, EachLinkDeliversYoung};
 
 /// Whatever a peer sends, and whatever calls an association had, what it holds of the peer's messages is within its `Config`. By 400 a
 /// chunk, the chunks count for no more than `window` and one chunk for each TSN within `reach`; with their bytes, for no more than
@@ -53,12 +54,14 @@ pub fn what_is_read_was_written()
 {}
 
 /// Two associations as above, whatever datagrams bring: streams are reset or closed, TSNs come without their chunks, names of streams that are
-/// not open are passed over. Only each receiver begins once, with the peer's first TSN, and no sender again. What is read on a stream that its
-/// sender did not begin again is what was written, no write twice; and in order, and in the end, on an untouched stream (`IsUntouched`).
+/// not open are passed over. Each receiver begins once. What is read on a stream that its sender did not begin again was written, no write twice;
+/// and in order, and in the end, on an untouched stream. In a whole life, too, but for the end, while nothing that comes is 2^31 TSNs old.
 pub fn whatever_is_reset_what_is_read_was_written()
     ensures hosts { EachDeliversAny }
     ensures linked { EachLinkDeliversAny }
     ensures weaker { EachPlainIsOneLife }
+    ensures hosts_recent { EachDeliversYoung }
+    ensures linked_recent { EachLinkDeliversYoung }
 {}
 
 /// What the clauses of a call ensure of an association is what these acts of a `Host` do: of such acts `what_is_read_was_written` speaks, and

@@ -1,0 +1,561 @@
+-- Two associations stand in two sessions in which nothing is old, one for each way.
+use Rattle.std.proofs.Common.{◌≡◌, ◌<◌, ◌^◌, ℕ, Bool, true, false, List, [], ◌∷◌, Option, Some, None, refl, ap, sym, subst, ◌∙◌, arith}
+use Rattle.std.proofs.lemmas.Bool.{false≢true}
+use Rattle.std.proofs.lemmas.List.Elements.{All-contains, All-from_recursion, Contains-append_cases}
+use Rattle.std.specs.Prelude.{Contains, if◌then◌else◌}
+use Rattle.sctp_association.proofs.Delivered.{carries-only, of-call}
+use Rattle.sctp_association.proofs.Hosts.{Fits, chunk-of, more-bytes, none-reported}
+use Rattle.sctp_association.proofs.HostSteps.{IsThere, Only, contains-none, either, plain-sack}
+use Rattle.sctp_association.proofs.Long.{Long, ages-of, begins as long-begins, near-of}
+use Rattle.sctp_association.proofs.LongCalls.{Covers, aged-made}
+use Rattle.sctp_association.proofs.LongSteps.{Later, Reach, ask-call, hear-sack, later-same, later-then, other-call, pass-call, receive-call}
+use Rattle.sctp_association.proofs.LongSteps.{report-each, restart-call, send-each, there-later}
+use Rattle.sctp_association.proofs.Raises.{AreBefore, ask-next, misses-long, misses-next}
+use Rattle.sctp_association.specs.Acks.{without_blocks}
+use Rattle.sctp_association.specs.Arrivals.{Arrival, Does, Halves, Hearing, Hears, IsBrought, Receives, ReceivesIn, Steps, halves, without_gaps}
+use Rattle.sctp_association.specs.Arrivals.{acks, begins, counts, hears, passes, receives, renews, restarts}
+use Rattle.sctp_association.specs.Delivered.{IsFor, IsForMade}
+use Rattle.sctp_association.specs.Hosts.{Act, Acts, AreByRule, AreMovesByRule, Asks, Handles, Host, Hosts, IsActByRule, IsFit}
+use Rattle.sctp_association.specs.Hosts.{IsReceiver, Move, MovesTo, Polls, ReadsOn, Way, asks, bytes_of, first_host, handles}
+use Rattle.sctp_association.specs.Hosts.{hosts, is_asking, one_acts, other_acts, polls, reads_on}
+use Rattle.sctp_association.specs.Packets.{IsWritten}
+use Rattle.sctp_association.specs.Runs.{AcksBy, ReportsIn, Runs, reported_by}
+use Rattle.sctp_association.specs.Young.{AreYoungMoves, HoldsYoung, IsBounded, IsYoungCall, IsYoungData, aged_by, aged_over}
+use Rattle.sctp_data.specs.PayloadData.{Data, data_of}
+use Rattle.sctp_data.specs.SelectiveAck.{Sack}
+use Rattle.sctp_delivery.proofs.Every.{every-contained}
+use Rattle.sctp_delivery.specs.EveryCall.{AnyCall, closes_incoming, discards, of_receiving, passes_over, resets_incoming}
+use Rattle.sctp_delivery.specs.Complete.{fragments_held}
+use Rattle.sctp_delivery.specs.ReceiverCalls as incoming
+use Rattle.sctp_delivery.specs.ReceiverCalls.{ReceiverMakes}
+use Rattle.sctp_delivery.specs.Recent.{Aged, IsAmongYoung, IsRecent}
+use Rattle.sctp_delivery.specs.SenderCalls as outgoing
+use Rattle.sctp_delivery.specs.SenderCalls.{Made, SenderCall, SenderMakes, TakesBackAndSack, Write, data_chunk, forward_tsn, written_after}
+use Rattle.sctp_delivery.specs.Session.{Session, of_sender}
+use Rattle.sctp_receiver.specs.Receiver.{Reception, after_read, at_first, discard_refusal, message_on}
+use Rattle.sctp_receiver.specs.ReceiverRuns as runs
+use Rattle.sctp_receiver.specs.ReceiverRuns.{Message, messages_after, with_message}
+use Rattle.sctp_receiver.specs.Resets.{reset_refusal}
+use Rattle.sctp_receiver.specs.Skips.{names_closed, past_closed_refusal}
+use Rattle.sctp_receiver.specs.declared.receiver.refusal.ReceiverRefusal.TheVariants.{NamedStreamUnknown}
+use Rattle.sctp_sender.specs.Sender.{Transmission}
+use Rattle.sctp_sender.specs.declared.sender.Reported.TheVariants.{Keep}
+use Rattle.sctp_util.specs.Serial.{at_or_before, comes_before}
+
+-- ## The receiver, where there is one
+
+-- calls lead from this session to one where the sender and what was written are the same, and the receiver is this one
+module _ (P : AnyCall → Type 0) (w : Way) where
+  pub record Led (st : Long) (new : Option Reception) (ms : List Message) (hs : List Aged) : Type 0 where
+    pub next : Long
+    pub sends : next.ran.session.sending.sender ≡ st.ran.session.sending.sender
+    pub receives : IsReceiver w new next.ran.session.receiving.receiver
+    pub written : next.ran.session.written ≡ st.ran.session.written
+    pub read : next.ran.session.receiving.read ≡ ms
+    pub aged : Covers hs (ages-of next)
+    pub later : Later P st next
+
+  led-same : (st : Long) (o : Option Reception) (hs : List Aged) → IsReceiver w o st.ran.session.receiving.receiver → Covers hs (ages-of st)
+      → Led st o st.ran.session.receiving.read hs
+  led-same st o hs is aged =
+      record { next = st; sends = refl; receives = is; written = refl; read = refl; aged = aged; later = later-same P st }
+
+  abbrev led-by : (st : Long) (new : Reception) (ms : List Message) (hs : List Aged)
+      → Reach P st st.ran.session.sending.sender new st.ran.session.written ms hs → Led st (Some new) ms hs
+  led-by st new ms hs x = record {
+    next = x.next;
+    sends = x.sends;
+    receives = x.receives;
+    written = x.written;
+    read = x.read;
+    aged = x.aged;
+    later = x.later;
+  }
+
+  -- or where the receiver is the same, and the sender this one
+  pub record Sent (st : Long) (ws : List Write) (new : Transmission) (hs : List Aged) : Type 0 where
+    pub next : Long
+    pub sends : next.ran.session.sending.sender ≡ new
+    pub receives : next.ran.session.receiving.receiver ≡ st.ran.session.receiving.receiver
+    pub written : next.ran.session.written ≡ ws
+    pub read : next.ran.session.receiving.read ≡ st.ran.session.receiving.read
+    pub aged : Covers hs (ages-of next)
+    pub later : Later P st next
+
+  sent-same : (st : Long) (new : Transmission) (hs : List Aged) → st.ran.session.sending.sender ≡ new → Covers hs (ages-of st)
+      → Sent st st.ran.session.written new hs
+  sent-same st new hs is aged =
+      record { next = st; sends = is; receives = refl; written = refl; read = refl; aged = aged; later = later-same P st }
+
+  abbrev sent-by : (st : Long) (new : Transmission) (ws : List Write) (hs : List Aged)
+      → Reach P st new st.ran.session.receiving.receiver ws st.ran.session.receiving.read hs → Sent st ws new hs
+  sent-by st new ws hs x = record {
+    next = x.next;
+    sends = x.sends;
+    receives = x.receives;
+    written = x.written;
+    read = x.read;
+    aged = x.aged;
+    later = x.later;
+  }
+
+-- ## A call that a datagram brings
+
+-- the host receives on the way w, and out is the way to the peer, which is so and made these chunks
+module _ (P Q : AnyCall → Type 0) (w out : Way) (peer : Host) (hs gs : List Aged) where
+  record Came (forth back : Long) (new : Halves) : Type 0 where
+    sent : Sent P w forth forth.ran.session.written new.sender hs
+    led : Led Q w back new.receiver back.ran.session.receiving.read gs
+
+  module _ (ms : List Made) (ks : List Sack) where
+    record Ready (forth back : Long) (old : Halves) : Type 0 where
+      sends : forth.ran.session.sending.sender ≡ old.sender
+      receives : IsReceiver w old.receiver back.ran.session.receiving.receiver
+      beyond : IsReceiver out peer.receiver forth.ran.session.receiving.receiver
+      from' : back.ran.session.sending.sender ≡ peer.sender
+      made : (m : Made) → Contains ms m → Contains back.ran.session.made m
+      sacks : (k : Sack) → Contains ks k → IsThere forth.ran.session k
+      aged : Covers hs (ages-of forth)
+      ages : Covers gs (ages-of back)
+
+    -- it is among these of the session, too
+    among : (st : Long) → Covers gs (ages-of st) → (m : Made) → IsAmongYoung m gs → IsAmongYoung m (ages-of st)
+    among st c m h = (h.0, h.1, every-contained (λ (a : Aged). Contains (ages-of st) a) gs (record { chunk = m; age = h.0 }) h.2 c)
+
+    abbrev Next : ℕ
+    Next = peer.sender.flight.next_tsn
+
+    module _ (t : Transmission) (r s : Reception) (st : Long) (is : st.ran.session.receiving.receiver ≡ r) (from' : st.ran.session.sending.sender ≡ peer.sender)
+        (made : (m : Made) → Contains ms m → Contains st.ran.session.made m) (c : Covers gs (ages-of st)) where
+      abbrev Here : Type 0
+      Here = Led Q w st (Some s) st.ran.session.receiving.read gs
+
+      before : (n : ℕ) → comes_before n Next ≡ true → comes_before n st.ran.session.sending.sender.flight.next_tsn ≡ true
+      before n e = subst (λ (u : Transmission). comes_before n u.flight.next_tsn ≡ true) (sym from') e
+
+      drop-one : (d : Data) (tsn : ℕ) → d.tsn ≡ tsn → IsYoungData gs Next d → Receives (runs.discards tsn) r s → Q (of_receiving (discards (chunk-of d))) → Here
+      drop-one d tsn same y h q =
+          let young = among st c (data_chunk d) y.0 in
+          led-by Q w st s st.ran.session.receiving.read gs
+          (other-call Q st gs c (discards (chunk-of d)) s
+          (subst (λ x. runs.Makes (runs.discards d.tsn) x s) (sym is) (subst (λ n. runs.Makes (runs.discards n) r s) (sym same) h.makes))
+          (subst (λ x. discard_refusal d.tsn x ≡ None) (sym is) (subst (λ n. discard_refusal n r ≡ None) (sym same) h.unrefused.1))
+          (aged-made st (record { chunk = data_chunk d; age = young.0 }) young.2) (before d.tsn y.1) young q)
+
+      receive-one : (call : runs.Call) → Receives call r s → Fits P Q w (receives call) (halves t (Some r))
+          → IsYoungCall out gs peer (receives call) (halves t (Some r)) → IsForMade ms call → Here
+      receive-one (runs.takes x a) h fits y of =
+          led-by Q w st s st.ran.session.receiving.read gs
+          (receive-call Q st gs c (incoming.takes x a) s (subst (λ q. ReceiverMakes (incoming.takes x a) q s) (sym is) (h.makes, h.accepted)) (made _ of)
+          (before x.tsn y.1) (among st c (data_chunk (data_of x)) y.0) tt)
+      receive-one (runs.opens stream) h fits y of =
+          led-by Q w st s st.ran.session.receiving.read gs
+          (receive-call Q st gs c (incoming.opens stream) s (subst (λ q. ReceiverMakes (incoming.opens stream) q s) (sym is) (h.makes, tt)) tt tt tt tt)
+      receive-one (runs.forwards f) h fits y of =
+          either
+          (λ (named : names_closed f r ≡ false).
+          let none = ap (λ b. if b then Some NamedStreamUnknown else past_closed_refusal f r) named ∙ h.accepted in
+          led-by Q w st s st.ran.session.receiving.read gs
+          (receive-call Q st gs c (incoming.follows f) s (subst (λ q. ReceiverMakes (incoming.follows f) q s) (sym is) (h.makes, none)) (made _ of)
+          (before f.new_cumulative_tsn y.1) tt (among st c (forward_tsn f) y.0)))
+          (λ (q : Q (of_receiving (passes_over f))).
+          led-by Q w st s st.ran.session.receiving.read gs
+          (other-call Q st gs c (passes_over f) s (subst (λ x. runs.Makes (runs.forwards f) x s) (sym is) h.makes)
+          (subst (λ x. past_closed_refusal f x ≡ None) (sym is) h.accepted) (made _ of) (before f.new_cumulative_tsn y.1)
+          (among st c (forward_tsn f) y.0) q))
+          fits
+      receive-one (runs.closes stream) h fits y of =
+          led-by Q w st s st.ran.session.receiving.read gs
+          (other-call Q st gs c (closes_incoming stream) s (subst (λ x. runs.Makes (runs.closes stream) x s) (sym is) h.makes) tt tt tt tt fits)
+      receive-one (runs.resets stream last) h fits y of =
+          led-by Q w st s st.ran.session.receiving.read gs
+          (other-call Q st gs c (resets_incoming stream last) s (subst (λ x. runs.Makes (runs.resets stream last) x s) (sym is) h.makes)
+          (subst (λ x. reset_refusal stream last x ≡ None) (sym is) h.unrefused) tt tt tt fits)
+      receive-one (runs.discards tsn) h fits y of = drop-one y.0 tsn y.1 y.2 h (fits (chunk-of y.0) y.1)
+      receive-one _ h fits y of = absurd of
+
+    receive-in : (call : runs.Call) (t : Transmission) (o p : Option Reception) (st : Long) → ReceivesIn call o p
+        → Fits P Q w (receives call) (halves t o) → IsYoungCall out gs peer (receives call) (halves t o) → IsForMade ms call
+        → IsReceiver w o st.ran.session.receiving.receiver → st.ran.session.sending.sender ≡ peer.sender
+        → ((m : Made) → Contains ms m → Contains st.ran.session.made m) → Covers gs (ages-of st) → Led Q w st p st.ran.session.receiving.read gs
+    receive-in call t (Some r) (Some s) st h fits y of is from' made c = receive-one t r s st is from' made c call h fits y of
+    receive-in call t (Some r) None st h fits y of is from' made c = absurd h
+    receive-in call t None p st h fits y of is from' made c = absurd h
+
+    acknowledge : (h : Hearing) (old new : Halves) (st : Long) → Hears h st.ran.session.sending.sender new.sender → Fits P Q w (hears h) old
+        → IsYoungCall out gs peer (hears h) old → IsFor ms ks (hears h) → IsReceiver out peer.receiver st.ran.session.receiving.receiver
+        → ((k : Sack) → Contains ks k → IsThere st.ran.session k) → Covers hs (ages-of st)
+        → Sent P w st st.ran.session.written new.sender hs
+    acknowledge (acks k back gone) old new st x fits y of beyond there c =
+        sent-by P w st new.sender st.ran.session.written hs
+        (either
+        (λ (e : k ≡ of.sack).
+        hear-sack P st hs c k back gone new.sender x (subst (λ (j : Sack). Contains st.ran.session.sacks j) (sym e) (there of.sack of.own).own)
+        (y st.ran.session.receiving.receiver beyond))
+        (λ (e : k ≡ without_gaps of.sack).
+        hear-sack P st hs c (without_blocks of.sack.cumulative_tsn_ack) back gone new.sender
+        (plain-sack of.sack back gone st.ran.session.sending.sender new.sender
+        (subst (λ (j : Sack). TakesBackAndSack j back gone st.ran.session.sending.sender new.sender) e x)) (there of.sack of.own).plain
+        (subst (λ (j : Sack). at_or_before j.cumulative_tsn_ack st.ran.session.receiving.receiver.cumulative_tsn ≡ true) e
+        (y st.ran.session.receiving.receiver beyond)))
+        of.is)
+    acknowledge (passes tsn gone) old new st x fits y of beyond there c =
+        sent-by P w st new.sender st.ran.session.written hs
+        (pass-call P st hs c (without_blocks tsn) gone new.sender x
+        (subst (λ (n : ℕ). Contains st.ran.session.sacks (without_blocks n)) of.cumulative (there of.sack of.own).plain)
+        (y st.ran.session.receiving.receiver beyond))
+    acknowledge (counts count) old new st x fits y of beyond there c =
+        let t = st.ran.session.sending.sender in
+        let long = misses-long count t new.sender x in
+        let few = (near-of st).few in
+        sent-by P w st new.sender st.ran.session.written hs
+        (ask-call P st hs c (outgoing.misses count) new.sender x tt tt (misses-next count t new.sender x) (omega (arith, long, few)) st.short)
+    acknowledge (restarts stream) old new st x fits y of beyond there c =
+        sent-by P w st new.sender st.ran.session.written hs (restart-call P st hs c stream new.sender x.0 x.1 fits)
+
+    take-one : (a : Arrival) (old new : Halves) (forth back : Long) → Does a old new → Fits P Q w a old → IsYoungCall out gs peer a old → IsFor ms ks a
+        → Ready forth back old → Came forth back new
+    take-one (receives call) old new forth back d fits y of z = record {
+      sent = sent-same P w forth new.sender hs (z.sends ∙ sym d.0) z.aged;
+      led = receive-in call old.sender old.receiver new.receiver back d.1 fits y of z.receives z.from' z.made z.ages;
+    }
+    take-one (hears h) old new forth back d fits y of z = record {
+      sent = acknowledge h old new forth (subst (λ t. Hears h t new.sender) (sym z.sends) d.1) fits y of z.beyond z.sacks z.aged;
+      led = led-same Q w back new.receiver gs (subst (λ o. IsReceiver w o back.ran.session.receiving.receiver) (sym d.0) z.receives) z.ages;
+    }
+    take-one (begins tsn max limits) old new forth back d fits y of z =
+        let first = subst (λ o. IsReceiver w o back.ran.session.receiving.receiver) fits.0 z.receives in
+        let same = ap (λ (n : ℕ). at_first n w.most (Some w.limits)) (sym fits.1.0) ∙ ap (λ (n : ℕ). at_first tsn n (Some w.limits)) (sym fits.1.1.0)
+        ∙ ap (λ l. at_first tsn max (Some l)) (sym fits.1.1.1) in
+        record {
+          sent = sent-same P w forth new.sender hs (z.sends ∙ sym d.1.0) z.aged;
+          led = led-same Q w back new.receiver gs (subst (λ o. IsReceiver w o back.ran.session.receiving.receiver) (sym d.1.1) (first ∙ same)) z.ages;
+        }
+    take-one (renews tsn size max) old new forth back d fits y of z = absurd fits
+
+    take-each : (datagram : List ℕ) (calls : List Arrival) (old new : Halves) (forth back : Long) (r : Steps (IsBrought datagram) Does calls old new)
+        → AreByRule (Fits P Q w) datagram calls old new r → AreByRule (IsYoungCall out gs peer) datagram calls old new r
+        → ((a : Arrival) → IsBrought datagram a → IsFor ms ks a) → Ready forth back old → Came forth back new
+    take-each datagram [] old new forth back r fits y for z = record {
+      sent = sent-same P w forth new.sender hs (z.sends ∙ sym (ap (λ (h : Halves). h.sender) r)) z.aged;
+      led = led-same Q w back new.receiver gs
+          (subst (λ o. IsReceiver w o back.ran.session.receiving.receiver) (sym (ap (λ (h : Halves). h.receiver) r)) z.receives) z.ages;
+    }
+    take-each datagram (a ∷ calls) old new forth back r fits y for z =
+        let x = take-one a old r.0 forth back r.1.0.does fits.0 y.0 (for a r.1.0.asked) z in
+        let s = x.sent in
+        let k = x.led in
+        let ready : Ready s.next k.next r.0 = record {
+          sends = s.sends;
+          receives = k.receives;
+          beyond = subst (λ q. IsReceiver out peer.receiver q) (sym s.receives) z.beyond;
+          from' = k.sends ∙ z.from';
+          made = λ m c. k.later.made m (z.made m c);
+          sacks = λ j c. there-later P forth s.next s.later j (z.sacks j c);
+          aged = s.aged;
+          ages = k.aged;
+        } in
+        let g = take-each datagram calls r.0 new s.next k.next r.1.1 fits.1 y.1 for ready in
+        record {
+          sent = record {
+            next = g.sent.next;
+            sends = g.sent.sends;
+            receives = g.sent.receives ∙ s.receives;
+            written = g.sent.written ∙ s.written;
+            read = g.sent.read ∙ s.read;
+            aged = g.sent.aged;
+            later = later-then P forth s.next g.sent.next s.later g.sent.later;
+          };
+          led = record {
+            next = g.led.next;
+            sends = g.led.sends ∙ k.sends;
+            receives = g.led.receives;
+            written = g.led.written ∙ k.written;
+            read = g.led.read ∙ k.read;
+            aged = g.led.aged;
+            later = later-then Q back k.next g.led.next k.later g.led.later;
+          };
+        }
+
+-- ## Two associations
+
+-- the sender of the one and the receiver of the other stand there, and the one made these chunks
+pub record IsIn (P : AnyCall → Type 0) (w : Way) (a b : Host) (ages : List Aged) (st : Long) : Type 0 where
+  pub sends : st.ran.session.sending.sender ≡ a.sender
+  pub receives : IsReceiver w b.receiver st.ran.session.receiving.receiver
+  pub written : st.ran.session.written ≡ a.written
+  pub read : st.ran.session.receiving.read ≡ b.read
+  pub only : Only P st.ran.calls
+  pub aged : Covers ages (ages-of st)
+
+-- the datagram is of what was made in the one session and reported in the other
+record WasPolled (forth back : Long) (d : List ℕ) : Type 0 where
+  ms : List Made
+  ks : List Sack
+  written : IsWritten ms ks d
+  made : (m : Made) → Contains ms m → Contains forth.ran.session.made m
+  sacks : (k : Sack) → Contains ks k → IsThere back.ran.session k
+
+polled-later : (P Q : AnyCall → Type 0) (f b g c : Long) → Later P f g → Later Q b c → (d : List ℕ) → WasPolled f b d → WasPolled g c d
+polled-later P Q f b g c m n d h = record {
+  ms = h.ms;
+  ks = h.ks;
+  written = h.written;
+  made = λ x y. m.made x (h.made x y);
+  sacks = λ k y. there-later Q b c n k (h.sacks k y);
+}
+
+-- P of the session forth, and Q of that back
+pub record Joined (P Q : AnyCall → Type 0) (f b : Way) (ones others : List Aged) (one other : Host) : Type 0 where
+  pub forth : Long
+  pub back : Long
+  pub goes : IsIn P f one other ones forth
+  pub comes : IsIn Q b other one others back
+  one-sent : (d : List ℕ) → Contains one.sent d → WasPolled forth back d
+  other-sent : (d : List ℕ) → Contains other.sent d → WasPolled back forth d
+
+pub turned : (P Q : AnyCall → Type 0) (f b : Way) (ones others : List Aged) (x z : Host) → Joined P Q f b ones others x z
+    → Joined Q P b f others ones z x
+turned P Q f b ones others x z j =
+    record { forth = j.back; back = j.forth; goes = j.comes; comes = j.goes; one-sent = j.other-sent; other-sent = j.one-sent }
+
+asked-recent : (call : SenderCall) (s : Session) → is_asking call ≡ true → IsRecent (of_sender call) s
+asked-recent (outgoing.takes_sack k gone) s e = absurd (false≢true e)
+asked-recent call s e = tt
+
+-- what the receiver of a host holds is what that of the session does
+holds-in : (w : Way) (n : ℕ) (o : Option Reception) (r : Reception) → HoldsYoung n o → IsReceiver w o r → (stream : ℕ)
+    → AreBefore n (fragments_held stream r)
+holds-in w n None r h is stream = subst (λ (q : Reception). AreBefore n (fragments_held stream q)) (sym is) refl
+holds-in w n (Some s) r h is stream = subst (λ (q : Reception). AreBefore n (fragments_held stream q)) (sym is) (h stream)
+
+module _ (P Q : AnyCall → Type 0) (f b : Way) (ones others : List Aged) (x y z : Host) (j : Joined P Q f b ones others x z) where
+  abbrev there : Reception
+  there = j.forth.ran.session.receiving.receiver
+
+  joins : (hs : List Aged) (ws : List Write) (rs : List Message) (s : Sent P b j.forth ws y.sender hs) (k : Led Q b j.back y.receiver rs others)
+      → ws ≡ y.written → rs ≡ y.read → ((d : List ℕ) → Contains y.sent d → WasPolled s.next k.next d) → Joined P Q f b hs others y z
+  joins hs ws rs s k written read sent = record {
+    forth = s.next;
+    back = k.next;
+    goes = record {
+      sends = s.sends;
+      receives = subst (λ q. IsReceiver f z.receiver q) (sym s.receives) j.goes.receives;
+      written = s.written ∙ written;
+      read = s.read ∙ j.goes.read;
+      only = s.later.only j.goes.only;
+      aged = s.aged;
+    };
+    comes = record {
+      sends = k.sends ∙ j.comes.sends;
+      receives = k.receives;
+      written = k.written ∙ j.comes.written;
+      read = k.read ∙ read;
+      only = k.later.only j.comes.only;
+      aged = k.aged;
+    };
+    one-sent = sent;
+    other-sent = λ d c. polled-later Q P j.back j.forth k.next s.next k.later s.later d (j.other-sent d c);
+  }
+
+  -- what was sent before is there still
+  sent-still : (s g : Long) → Later P j.forth s → Later Q j.back g → y.sent ≡ x.sent → (d : List ℕ) → Contains y.sent d → WasPolled s g d
+  sent-still s g m n same d c =
+      polled-later P Q j.forth j.back s g m n d (j.one-sent d (subst (λ (l : List (List ℕ)). Contains l d) same c))
+
+  led-still : y.receiver ≡ x.receiver → Led Q b j.back y.receiver j.back.ran.session.receiving.read others
+  led-still same =
+      led-same Q b j.back y.receiver others (subst (λ o. IsReceiver b o j.back.ran.session.receiving.receiver) (sym same) j.comes.receives) j.comes.aged
+
+  by-asks : (call : SenderCall) → Asks call x y → IsBounded y z → bytes_of y.written < 2 ^ 64 → Joined P Q f b ones others y z
+  by-asks call h bounded short =
+      let t = j.forth.ran.session.sending.sender in
+      let m = subst (λ u. SenderMakes call u y.sender) (sym j.goes.sends) h.makes in
+      let same = ap (written_after call) j.goes.written ∙ sym (ap (λ (i : Host). i.written) h.after) in
+      let s = sent-by P b j.forth y.sender (written_after call j.forth.ran.session.written) ones
+      (ask-call P j.forth ones j.goes.aged call y.sender m (none-reported call j.forth.ran.session h.asking)
+      (asked-recent call j.forth.ran.session h.asking) (ask-next call t y.sender h.asking m) bounded.0
+      (subst (λ (ws : List Write). bytes_of ws < 2 ^ 64) (sym same) short)) in
+      let k = led-still (ap (λ (i : Host). i.receiver) h.after) in
+      joins ones (written_after call j.forth.ran.session.written) j.back.ran.session.receiving.read s k same
+      (j.comes.read ∙ sym (ap (λ (i : Host). i.read) h.after)) (sent-still s.next k.next s.later k.later (ap (λ (i : Host). i.sent) h.after))
+
+  sent-unchanged : y.sender ≡ x.sender → Sent P b j.forth j.forth.ran.session.written y.sender ones
+  sent-unchanged same = sent-same P b j.forth y.sender ones (j.goes.sends ∙ sym same) j.goes.aged
+
+  by-reads : (stream : ℕ) → ReadsOn stream x y → Joined P Q f b ones others y z
+  by-reads stream h =
+      let back = j.back.ran.session in
+      let is : back.receiving.receiver ≡ h.receiver = subst (λ o. IsReceiver b o back.receiving.receiver) h.there j.comes.receives in
+      let rs = messages_after (runs.reads stream) back.receiving.receiver back.receiving.read in
+      let k = led-by Q b j.back (after_read stream h.receiver) rs others
+      (receive-call Q j.back others j.comes.aged (incoming.reads stream) (after_read stream h.receiver)
+      (subst (λ q. ReceiverMakes (incoming.reads stream) q (after_read stream h.receiver)) (sym is) (refl, h.is)) tt tt tt tt) in
+      let m : Led Q b j.back y.receiver rs others =
+      subst (λ o. Led Q b j.back o rs others) (sym (ap (λ (i : Host). i.receiver) h.after)) k in
+      let s = sent-unchanged (ap (λ (i : Host). i.sender) h.after) in
+      joins ones j.forth.ran.session.written rs s m (j.goes.written ∙ sym (ap (λ (i : Host). i.written) h.after))
+      (ap (λ q. with_message stream (message_on stream q) back.receiving.read) is
+      ∙ ap (λ l. with_message stream (message_on stream h.receiver) l) j.comes.read ∙ sym (ap (λ (i : Host). i.read) h.after))
+      (sent-still s.next m.next s.later m.later (ap (λ (i : Host). i.sent) h.after))
+
+  -- the receiver reports, where there is one
+  record ReportedIn (ks : List Sack) (new : Option Reception) : Type 0 where
+    led : Led Q b j.back new j.back.ran.session.receiving.read others
+    own : (k : Sack) → Contains ks k → IsThere led.next.ran.session k
+
+  report-in : (ks : List Sack) (o p : Option Reception) → ReportsIn ks o p → IsReceiver b o j.back.ran.session.receiving.receiver → ReportedIn ks p
+  report-in ks None None h is = record {
+    led = led-same Q b j.back None others is j.comes.aged;
+    own = λ k c. absurd (contains-none k (subst (λ (l : List Sack). Contains l k) h c));
+  }
+  report-in ks (Some r) (Some s) h is =
+      let g = report-each Q h.calls ks s j.back others j.comes.aged (subst (λ q. Runs AcksBy reported_by h.calls ks q s) (sym is) h.run) in
+      record { led = led-by Q b j.back s j.back.ran.session.receiving.read others g.reach; own = g.own }
+  report-in ks None (Some s) h is = absurd h
+  report-in ks (Some r) None h is = absurd h
+
+  by-polls : (is_sent : Bool) (datagram : List ℕ) (h : Polls is_sent datagram x y) → IsBounded y z
+      → Joined P Q f b (aged_over ones h.transmits.sent.calls h.transmits.made x.sender y.sender h.transmits.sent.run) others y z
+  by-polls is_sent datagram h bounded =
+      let t = h.transmits in
+      let hs = aged_over ones t.sent.calls t.made x.sender y.sender t.sent.run in
+      let g = send-each P t.sent.calls t.made x.sender y.sender j.forth ones j.goes.aged j.goes.sends t.sent.run bounded.0
+      (holds-in f y.sender.flight.next_tsn z.receiver j.forth.ran.session.receiving.receiver bounded.1 j.goes.receives) in
+      let s = sent-by P b j.forth y.sender j.forth.ran.session.written hs g.reach in
+      let k = report-in t.sacks x.receiver y.receiver t.reported j.comes.receives in
+      let new : is_sent ≡ true → WasPolled s.next k.led.next datagram = λ e. record {
+        ms = t.made;
+        ks = t.sacks;
+        written = t.written e;
+        made = g.own;
+        sacks = k.own;
+      } in
+      joins hs j.forth.ran.session.written j.back.ran.session.receiving.read s k.led
+      (j.goes.written ∙ sym (ap (λ (i : Host). i.written) h.after)) (j.comes.read ∙ sym (ap (λ (i : Host). i.read) h.after))
+      (λ d c. by is_sent s.next k.led.next s.later k.led.later new d (subst (λ (l : List (List ℕ)). Contains l d) (ap (λ (i : Host). i.sent) h.after) c))
+    where
+      by : (e : Bool) (s g : Long) → Later P j.forth s → Later Q j.back g → (e ≡ true → WasPolled s g datagram) → (d : List ℕ)
+          → Contains (if e then datagram ∷ x.sent else x.sent) d → WasPolled s g d
+      by true s g m n new d c =
+          either (All-contains (WasPolled s g) (datagram ∷ []) d (All-from_recursion (WasPolled s g) (datagram ∷ []) (new refl, tt)))
+          (λ (old : Contains x.sent d). polled-later P Q j.forth j.back s g m n d (j.one-sent d old)) (Contains-append_cases (datagram ∷ []) x.sent d c)
+      by false s g m n new d c = polled-later P Q j.forth j.back s g m n d (j.one-sent d c)
+
+  by-handles : (datagram : List ℕ) (h : Handles z.sent datagram x y) → IsActByRule (Fits P Q b) z.sent (handles datagram) x y h
+      → IsActByRule (IsYoungCall f others z) z.sent (handles datagram) x y h → Joined P Q f b ones others y z
+  by-handles datagram h fits young =
+      let p = j.other-sent datagram h.handed in
+      let c = take-each P Q b f z ones others p.ms p.ks datagram h.arrives.calls (halves x.sender x.receiver) (halves y.sender y.receiver) j.forth j.back
+      h.arrives.run fits young (of-call p.ms p.ks datagram (carries-only p.ms p.ks datagram p.written))
+      (record {
+        sends = j.goes.sends;
+        receives = j.comes.receives;
+        beyond = j.goes.receives;
+        from' = j.comes.sends;
+        made = p.made;
+        sacks = p.sacks;
+        aged = j.goes.aged;
+        ages = j.comes.aged;
+      }) in
+      joins ones j.forth.ran.session.written j.back.ran.session.receiving.read c.sent c.led
+      (j.goes.written ∙ sym (ap (λ (i : Host). i.written) h.after)) (j.comes.read ∙ sym (ap (λ (i : Host). i.read) h.after))
+      (sent-still c.sent.next c.led.next c.sent.later c.led.later (ap (λ (i : Host). i.sent) h.after))
+
+-- ## A move
+
+by-act : (P Q : AnyCall → Type 0) (f b : Way) (ones others : List Aged) (act : Act) (x y z : Host) (h : Acts z.sent act x y)
+    → IsActByRule (Fits P Q b) z.sent act x y h → IsActByRule (IsYoungCall f others z) z.sent act x y h → IsBounded y z → bytes_of y.written < 2 ^ 64
+    → Joined P Q f b ones others x z → Joined P Q f b (aged_by ones z.sent act x y h) others y z
+by-act P Q f b ones others (asks call) x y z h fits young bounded short j = by-asks P Q f b ones others x y z j call h bounded short
+by-act P Q f b ones others (reads_on stream) x y z h fits young bounded short j = by-reads P Q f b ones others x y z j stream h
+by-act P Q f b ones others (polls is_sent datagram) x y z h fits young bounded short j = by-polls P Q f b ones others x y z j is_sent datagram h bounded
+by-act P Q f b ones others (handles datagram) x y z h fits young bounded short j = by-handles P Q f b ones others x y z j datagram h fits young
+
+-- ## What is few in the end was few before
+
+abbrev pub IsShort : Host → Type 0
+IsShort h = bytes_of h.written < 2 ^ 64
+
+short-as : (x y : Host) → y.written ≡ x.written → IsShort y → IsShort x
+short-as x y same h = subst (λ (ws : List Write). bytes_of ws < 2 ^ 64) same h
+
+short-before : (peer : List (List ℕ)) (act : Act) (x y : Host) → Acts peer act x y → IsShort y → IsShort x
+short-before peer (asks call) x y h short =
+    let written = ap (λ (i : Host). bytes_of i.written) h.after in
+    let more = more-bytes call x.sender x.written h.asking in
+    omega (arith, written, more, short)
+short-before peer (reads_on stream) x y h short = short-as x y (ap (λ (i : Host). i.written) h.after) short
+short-before peer (polls is_sent datagram) x y h short = short-as x y (ap (λ (i : Host). i.written) h.after) short
+short-before peer (handles datagram) x y h short = short-as x y (ap (λ (i : Host). i.written) h.after) short
+
+both-short : (ms : List Move) (h new : Hosts) → MovesTo h ms new → IsShort new.one → IsShort new.other → IsShort h.one × IsShort h.other
+both-short [] h new r one other = (subst (λ (k : Hosts). IsShort k.one) r one, subst (λ (k : Hosts). IsShort k.other) r other)
+both-short (one_acts act ∷ ms) h new r one other =
+    let k = both-short ms r.0 new r.1.1 one other in
+    (short-before h.other.sent act h.one r.0.one r.1.0.0 k.0, subst IsShort r.1.0.1 k.1)
+both-short (other_acts act ∷ ms) h new r one other =
+    let k = both-short ms r.0 new r.1.1 one other in
+    (subst IsShort r.1.0.1 k.0, short-before h.one.sent act h.other r.0.other r.1.0.0 k.1)
+
+module _ (P Q : AnyCall → Type 0) (f b : Way) where
+  -- whatever they made
+  pub record JoinedSome (one other : Host) : Type 0 where
+    pub ones : List Aged
+    pub others : List Aged
+    pub joined' : Joined P Q f b ones others one other
+
+  joined : (ms : List Move) (ones others : List Aged) (h new : Hosts) (r : MovesTo h ms new) → AreMovesByRule (Fits P Q b) (Fits Q P f) h ms new r
+      → AreYoungMoves f b ones others h ms new r → Joined P Q f b ones others h.one h.other → IsShort new.one → IsShort new.other
+      → JoinedSome new.one new.other
+  joined [] ones others h new r fits young j one other =
+      record { ones = ones; others = others; joined' = subst (λ (k : Hosts). Joined P Q f b ones others k.one k.other) (sym r) j }
+  joined (one_acts act ∷ ms) ones others h new r fits young j one other =
+      let short = both-short ms r.0 new r.1.1 one other in
+      let hs = aged_by ones h.other.sent act h.one r.0.one r.1.0.0 in
+      let k = by-act P Q f b ones others act h.one r.0.one h.other r.1.0.0 fits.0 young.0
+      (subst (λ z. IsBounded r.0.one z) r.1.0.1 young.1.0) short.0 j in
+      joined ms hs others r.0 new r.1.1 fits.1 young.2 (subst (λ z. Joined P Q f b hs others r.0.one z) (sym r.1.0.1) k) one other
+  joined (other_acts act ∷ ms) ones others h new r fits young j one other =
+      let short = both-short ms r.0 new r.1.1 one other in
+      let hs = aged_by others h.one.sent act h.other r.0.other r.1.0.0 in
+      let k = by-act Q P b f others ones act h.other r.0.other h.one r.1.0.0 fits.0 young.0
+      (subst (λ z. IsBounded r.0.other z) r.1.0.1 young.1.1) short.1 (turned P Q f b ones others h.one h.other j) in
+      joined ms ones hs r.0 new r.1.1 fits.1 young.2
+      (subst (λ z. Joined P Q f b ones hs z r.0.other) (sym r.1.0.1) (turned Q P b f hs ones r.0.other h.one k)) one other
+
+-- ## From `new` on
+
+begun : (P Q : AnyCall → Type 0) (f b : Way) → IsFit f → IsFit b → Joined P Q f b [] [] (first_host f) (first_host b)
+begun P Q f b fit other =
+    let x = long-begins Keep f.tsn f.size f.max f.most (Some f.limits) fit.0 fit.1 in
+    let y = long-begins Keep b.tsn b.size b.max b.most (Some b.limits) other.0 other.1 in
+    record {
+      forth = x.st;
+      back = y.st;
+      goes = record {
+        sends = ap (λ (s : Session). s.sending.sender) x.there;
+        receives = ap (λ (s : Session). s.receiving.receiver) x.there;
+        written = ap (λ (s : Session). s.written) x.there;
+        read = ap (λ (s : Session). s.receiving.read) x.there;
+        only = subst (Only P) (sym x.calls) tt;
+        aged = tt;
+      };
+      comes = record {
+        sends = ap (λ (s : Session). s.sending.sender) y.there;
+        receives = ap (λ (s : Session). s.receiving.receiver) y.there;
+        written = ap (λ (s : Session). s.written) y.there;
+        read = ap (λ (s : Session). s.receiving.read) y.there;
+        only = subst (Only Q) (sym y.calls) tt;
+        aged = tt;
+      };
+      one-sent = λ d c. absurd (contains-none d c);
+      other-sent = λ d c. absurd (contains-none d c);
+    }
+
+pub each-joined : (P Q : AnyCall → Type 0) (f b : Way) (moves : List Move) (new : Hosts) (run : MovesTo (hosts (first_host f) (first_host b)) moves new)
+    → AreMovesByRule (Fits P Q b) (Fits Q P f) (hosts (first_host f) (first_host b)) moves new run
+    → AreYoungMoves f b [] [] (hosts (first_host f) (first_host b)) moves new run → IsFit f → IsFit b → IsShort new.one → IsShort new.other
+    → JoinedSome P Q f b new.one new.other
+each-joined P Q f b moves new run fits young fit other one-short other-short =
+    joined P Q f b moves [] [] (hosts (first_host f) (first_host b)) new run fits young (begun P Q f b fit other) one-short other-short
