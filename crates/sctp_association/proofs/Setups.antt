@@ -9,6 +9,7 @@ use Rattle.sctp_association.proofs.HostCalls.{each-datagram-brings}
 use Rattle.sctp_association.proofs.Links.{each-one-life-begins, each-one-life-goes-on, each-one-life-turns}
 use Rattle.sctp_association.proofs.Lives.{ack_read, deed_is_known, first_or_not, init_read, life_begins, sealed_of}
 use Rattle.sctp_association.proofs.OneLife.{each-link-delivers-any}
+use Rattle.sctp_association.proofs.YoungLife.{each-link-delivers-young}
 use Rattle.sctp_association.proofs.Rules.{brought-steps, calls-by}
 use Rattle.sctp_association.specs.Arrivals.{Arrival, Does, Halves, IsBroughtAs, Steps, begins, hears, receives, renews}
 use Rattle.sctp_association.specs.Beginnings.{AnswersInit, ArrivesAsOffered, BeginsToAsk, HasAsked, IsBegunBy, IsEchoed, IsKeptButMtu, IsOffered, IsOwnOffer}
@@ -27,7 +28,8 @@ use Rattle.sctp_association.specs.Offering.{OffersAsDue}
 use Rattle.sctp_association.specs.OneLife.{Brought, IsOneLife, brought_each, brought_in, came_to_one}
 use Rattle.sctp_association.specs.Reached.{limits_of}
 use Rattle.sctp_association.specs.Setups.{AreQuiet, AreSetUp, AreSetUpBy, BringsOwnCookies, CameFrom, EachDatagramKeeps, EachQuietCallKeeps}
-use Rattle.sctp_association.specs.Setups.{EachSetUpDelivers, EachSetUpTurns, EachTwoAreSetUp, EachWrittenKeeps, IsSetUp, OfferTsn, ReceivesBy}
+use Rattle.sctp_association.specs.Setups.{EachSetUpDelivers, EachSetUpDeliversYoung, EachSetUpTurns, EachTwoAreSetUp, EachWrittenKeeps, IsSetUp, OfferTsn}
+use Rattle.sctp_association.specs.Setups.{ReceivesBy}
 use Rattle.sctp_association.specs.Setups.{is_silent}
 use Rattle.sctp_handshake.specs.declared.machine.Machine.{Machine}
 use Rattle.sctp_handshake.specs.declared.offer.Offer.{Offer}
@@ -295,3 +297,7 @@ each-set-up-turns f b x z set =
 
 pub each-set-up-delivers : EachSetUpDelivers
 each-set-up-delivers f b x z set fit other few other-few = each-link-delivers-any f b x z set.link set.once fit other few other-few
+
+pub each-set-up-delivers-young : EachSetUpDeliversYoung
+each-set-up-delivers-young f b x z set young fit other short other-short =
+    each-link-delivers-young f b x z set.link set.once young fit other short other-short

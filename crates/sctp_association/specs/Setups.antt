@@ -1,16 +1,17 @@
 -- Two associations from `new` on, as each knows the other: by INITs, INIT ACKs and cookies (RFC 9260 5.1).
-use Rattle.std.specs.Prelude.{◌≡◌, ◌⊎◌, ℕ, ◌++◌, Bool, true, false, not, List, [], ◌∷◌, Contains, Some}
+use Rattle.std.specs.Prelude.{◌≡◌, ◌⊎◌, ℕ, ◌^◌, ◌<◌, ◌++◌, Bool, true, false, not, List, [], ◌∷◌, Contains, Some}
 use Rattle.std.specs.List.{AllByRecursion}
 use Rattle.sctp_association.specs.Arrivals.{Arrival, Does, IsBrought, Steps}
 use Rattle.sctp_association.specs.Beginnings.{AnswersInit, ArrivesAsOffered, IsEchoed, IsMadeOf, OffersInit}
 use Rattle.sctp_association.specs.Halves.{halves_of}
 use Rattle.sctp_association.specs.HostCalls.{ActsEach, Log}
-use Rattle.sctp_association.specs.Hosts.{Act, IsFit, Way, WroteFew, asks, first_host, handles as hands, polls, reads_on}
+use Rattle.sctp_association.specs.Hosts.{Act, IsFit, Way, WroteFew, asks, bytes_of, first_host, handles as hands, polls, reads_on}
 use Rattle.sctp_association.specs.Kept.{OwesTicket}
 use Rattle.sctp_association.specs.Links.{AreLinked, Party, host_at, party}
 use Rattle.sctp_association.specs.Lives.{Deed, DoesDeed, Knows, Life, handles, life_after, writes}
 use Rattle.sctp_association.specs.OneLife.{Brought, IsOneLifeLink, IsReadAsWrittenAny, brought_in, came_to_one, came_to_other}
 use Rattle.sctp_association.specs.Reached.{limits_of}
+use Rattle.sctp_association.specs.Young.{IsReadAsWrittenYoung, IsYoungLink}
 use Rattle.sctp_association.specs.declared.association.Association.{Association}
 use Rattle.sctp_association.specs.declared.config.Config.{Config}
 use Rattle.sctp_handshake.specs.declared.offer.Offer.{Offer}
@@ -151,4 +152,15 @@ EachSetUpDelivers =
     → IsReadAsWrittenAny forth (came_to_one forth back one other set.link)
     (came_to_other forth back one other set.link) one other
     × IsReadAsWrittenAny back (came_to_other forth back one other set.link)
+    (came_to_one forth back one other set.link) other one
+
+-- and in a whole life, while nothing that datagrams bring is old
+abbrev pub EachSetUpDeliversYoung : Type 0
+EachSetUpDeliversYoung =
+    (forth back : Way) (one other : Party) (set : AreSetUp forth back one other)
+    → IsYoungLink forth back one other set.link → IsFit forth → IsFit back
+    → bytes_of one.log.written < 2 ^ 64 → bytes_of other.log.written < 2 ^ 64
+    → IsReadAsWrittenYoung forth (came_to_one forth back one other set.link)
+    (came_to_other forth back one other set.link) one other
+    × IsReadAsWrittenYoung back (came_to_other forth back one other set.link)
     (came_to_one forth back one other set.link) other one

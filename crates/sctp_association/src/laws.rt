@@ -10,7 +10,7 @@ ghost use Rattle.sctp_association.specs.Links.{EachLinkDelivers, EachLinkGoesOn,
 ghost use Rattle.sctp_association.specs.Lives.{EachBeginningCame, EachDeedIsKnown, EachLifeBegins, EachOfferIsRead, EachUnforgedCame};
 ghost use Rattle.sctp_association.specs.OneLife.{EachDatagramBrings, EachDeliversAny, EachLinkDeliversAny, EachOneLifeBegins, EachOneLifeGoesOn, EachOneLifeTurns, EachOfferedIsBrought, EachPlainIsOneLife};
 ghost use Rattle.sctp_association.specs.Sessions.{EachIsSent};
-ghost use Rattle.sctp_association.specs.Setups.{EachDatagramKeeps, EachQuietCallKeeps, EachSetUpDelivers, EachSetUpTurns, EachTwoAreSetUp, EachWrittenKeeps};
+ghost use Rattle.sctp_association.specs.Setups.{EachDatagramKeeps, EachQuietCallKeeps, EachSetUpDelivers, EachSetUpDeliversYoung, EachSetUpTurns, EachTwoAreSetUp, EachWrittenKeeps};
 ghost use Rattle.sctp_association.specs.Sized.{EachAskIsCut, EachChunkFits, EachDatagramIsCut, EachIsCutFirst, EachOtherIsCut, EachPollIsCut, EachSizeIsCut, EachTimeoutIsCut};
 ghost use Rattle.sctp_association.specs.Told.{EachLosesNone};
 ghost use Rattle.sctp_association.specs.Young.{EachDeliversYoung, EachLinkDeliversYoung};
@@ -115,6 +115,7 @@ pub fn two_associations_begin_once()
     ensures handled { EachDatagramKeeps }
     ensures turned { EachSetUpTurns }
     ensures delivered { EachSetUpDelivers }
+    ensures delivered_recent { EachSetUpDeliversYoung }
 {}
 
 /// No event is lost, along any calls that ensure `tells`, with `poll` between them. Each event that waited is given or waits. So it is where the
