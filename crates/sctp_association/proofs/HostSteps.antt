@@ -50,7 +50,7 @@ none-written (expires_late now gone) ws e = refl
 none-written (expires_rexmit gone) ws e = refl
 none-written _ ws e = absurd (false≢true e)
 
-none-cut : (c : SenderCall) (t : Transmission) → is_sending c ≡ true → fragments_by c t ≡ 0
+pub none-cut : (c : SenderCall) (t : Transmission) → is_sending c ≡ true → fragments_by c t ≡ 0
 none-cut (sends now) t e = refl
 none-cut (resends tsn now c) t e = refl
 none-cut (forwards_within bytes f) t e = refl

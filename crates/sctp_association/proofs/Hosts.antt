@@ -477,7 +477,7 @@ few-as x y cut written few =
     let room = few.0 in
     (omega (arith, cut, room), subst (λ (ws : List Write). bytes_of ws < 2 ^ 64) written few.1)
 
-few-before : (peer : List (List ℕ)) (act : Act) (x y : Host) → Acts peer act x y → WroteFew y → WroteFew x
+pub few-before : (peer : List (List ℕ)) (act : Act) (x y : Host) → Acts peer act x y → WroteFew y → WroteFew x
 few-before peer (asks call) x y h few =
     let cut = ap (λ (i : Host). i.fragments) h.after in
     let written = ap (λ (i : Host). bytes_of i.written) h.after in
@@ -490,7 +490,7 @@ few-before peer (polls is_sent datagram) x y h few =
     few-as x y (ap (λ (i : Host). i.fragments) h.after) (ap (λ (i : Host). i.written) h.after) few
 few-before peer (handles datagram) x y h few = few-as x y (ap (λ (i : Host). i.fragments) h.after) (ap (λ (i : Host). i.written) h.after) few
 
-both-few : (ms : List Move) (h new : Hosts) → MovesTo h ms new → WroteFew new.one → WroteFew new.other → WroteFew h.one × WroteFew h.other
+pub both-few : (ms : List Move) (h new : Hosts) → MovesTo h ms new → WroteFew new.one → WroteFew new.other → WroteFew h.one × WroteFew h.other
 both-few [] h new r one other = (subst (λ (k : Hosts). WroteFew k.one) r one, subst (λ (k : Hosts). WroteFew k.other) r other)
 both-few (one_acts act ∷ ms) h new r one other =
     let k = both-few ms r.0 new r.1.1 one other in

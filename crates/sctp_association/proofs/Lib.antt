@@ -76,6 +76,8 @@ pub mod LongCalls
 pub mod LongSteps
 pub mod LongHosts
 pub mod YoungLife
+pub mod FewYoung
+pub mod FewHosts
 pub mod Lives
 pub mod Links
 pub mod Setups

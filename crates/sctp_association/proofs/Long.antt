@@ -1,18 +1,23 @@
 -- A session of every call in which nothing is old, and the next one.
-use Rattle.std.proofs.Common.{◌≡◌, ◌<◌, ◌^◌, ℕ, Bool, true, false, List, [], ◌∷◌, ◌++◌, Option, refl, ap, sym, subst}
+use Rattle.std.proofs.Common.{◌≡◌, ◌+◌, ◌<◌, ◌^◌, ℕ, Bool, true, false, List, [], ◌∷◌, ◌++◌, Option, refl, ap, sym, subst}
 use Rattle.std.proofs.Common.{arith}
 use Rattle.std.specs.Prelude.{⊤}
+use Rattle.sctp_association.proofs.Tsns.{waiting_in}
 use Rattle.sctp_association.specs.Young.{Ran}
 use Rattle.sctp_delivery.proofs.EveryHolds.{HasBeside}
 use Rattle.sctp_delivery.proofs.EveryRuns.{grows}
 use Rattle.sctp_delivery.proofs.EveryYoung.{AreBacked, Then, after, all-backed, start}
+use Rattle.sctp_delivery.proofs.Numbers.{number_of}
+use Rattle.sctp_delivery.proofs.Queues.{started}
 use Rattle.sctp_delivery.proofs.Recent.{IsNear}
-use Rattle.sctp_delivery.proofs.StandsAny.{run-then}
-use Rattle.sctp_delivery.specs.EveryCall.{AnyCall, FollowsAny, RunsAny}
+use Rattle.sctp_delivery.proofs.StandsAny.{given-then, run-then}
+use Rattle.sctp_delivery.specs.EveryCall.{AnyCall, FollowsAny, RunsAny, tsns_given_any}
 use Rattle.sctp_delivery.specs.EveryRecent.{ArePassedYoung, AreRecentAny, AreYoungAny, IsPassedYoung, IsRecentAny, IsYoungAny, aged_any}
 use Rattle.sctp_delivery.specs.Recent.{Aged, HoldsRecent}
 use Rattle.sctp_delivery.specs.Returns.{at_start_with}
 use Rattle.sctp_delivery.specs.Session.{Session, bytes_written, count_in_flight}
+use Rattle.sctp_outbound.specs.outbound_queue.OutboundQueue.{all_started}
+use Rattle.sctp_outbound.specs.pending_queue.Whole.{IsSendable}
 use Rattle.sctp_receiver.proofs.StreamCosts.{are_apart}
 use Rattle.sctp_receiver.specs.Inbound.{numbers_of}
 use Rattle.sctp_receiver.specs.declared.receiver.limits.Limits.{Limits}
@@ -39,6 +44,13 @@ pub record Long : Type 0 where
 
 abbrev pub ages-of : Long → List Aged
 ages-of st = ages-in [] (first-of st.ran) st.ran.calls st.ran.session st.ran.run
+
+-- how many TSNs were given out, and how many fragments wait
+abbrev pub given-of : Long → ℕ
+given-of st = tsns_given_any (first-of st.ran) st.ran.calls st.ran.session st.ran.run
+
+abbrev pub used-of : Long → ℕ
+used-of st = given-of st + waiting_in st.ran.session.sending.sender.flight
 
 -- ## One call more
 
@@ -82,6 +94,7 @@ pub record LeadsTo (st : Long) (c : AnyCall) (t : Session) : Type 0 where
   pub there : next.ran.session ≡ t
   pub calls : next.ran.calls ≡ st.ran.calls ++ c ∷ []
   pub ages : ages-of next ≡ aged_any c st.ran.session t (ages-of st)
+  pub given : given-of next ≡ given-of st + distance st.ran.session.sending.sender.flight.next_tsn t.sending.sender.flight.next_tsn
 
 pub leads-to : (st : Long) (c : AnyCall) (t : Session) → FollowsAny c st.ran.session t → Allows st c t → LeadsTo st c t
 leads-to st c t f a =
@@ -110,6 +123,7 @@ leads-to st c t f a =
       there = refl;
       calls = refl;
       ages = ages-then [] x.calls c begin x.session t x.run f;
+      given = given-then x.calls c begin x.session t x.run f;
     }
 
 -- ## What is so of it
@@ -148,6 +162,15 @@ module _ (st : Long) where
   pub next-small : st.ran.session.sending.sender.flight.next_tsn < 2 ^ 32
   next-small = let e = near-of.regular.regular.numbered.next_is in omega (arith, e)
 
+  -- what waits can be sent
+  pub ready-of : (now : ℕ) → IsSendable (all_started now st.ran.session.sending.sender.flight.queue).pending
+      (all_started now st.ran.session.sending.sender.flight.queue).inflight.chunks
+      (all_started now st.ran.session.sending.sender.flight.queue).next_message_id
+  ready-of now =
+      let t = st.ran.session.sending.sender in
+      let k = known.1 in
+      (started nowhere k.numbered st.ran.tsn (λ s. number_of s t.streams) now t.flight.queue t.flight.next_tsn k.sent k.now.young.holds.held.stands).sendable
+
   -- no way from the TSN that is next to itself
   pub same-way : distance st.ran.session.sending.sender.flight.next_tsn st.ran.session.sending.sender.flight.next_tsn ≡ 0
   unfolding distance
@@ -159,6 +182,8 @@ pub record Begins (reported : Reported) (tsn size max most : ℕ) (limits : Opti
   pub st : Long
   pub there : st.ran.session ≡ at_start_with reported tsn size max most limits
   pub calls : st.ran.calls ≡ []
+  pub ages : [] ≡ ages-of st
+  pub given : given-of st ≡ 0
 
 pub begins : (reported : Reported) (tsn size max most : ℕ) (limits : Option Limits) → tsn < 2 ^ 32 → 0 < size → Begins reported tsn size max most limits
 begins reported tsn size max most limits small some = record {
@@ -183,4 +208,6 @@ begins reported tsn size max most limits small some = record {
   };
   there = refl;
   calls = refl;
+  ages = refl;
+  given = refl;
 }

@@ -235,45 +235,11 @@ aged-made st a c =
     every-contained (λ (x : Aged). Contains st.ran.session.made x.chunk) (ages-of st) a c
     (made-in [] (first-of st.ran) st.ran.calls st.ran.session st.ran.run tt)
 
--- ## These are among those
+-- ## Where no TSN is given out, nothing grows older
 
-abbrev pub Covers : List Aged → List Aged → Type 0
-Covers hs gs = Every (λ (a : Aged). Contains gs a) hs
-
-pub mapped-there : (g : ℕ) (gs : List Aged) (a : Aged) → Contains gs a → Contains (map (older g) gs) (older g a)
-mapped-there g gs a c = by gs c.0 c.1 c.2
-  where
-    by : (xs : List Aged) (k : ℕ) → k < length xs → slice_index_or xs k a ≡ a → Contains (map (older g) xs) (older g a)
-    by [] k lt e = absurd (omega (arith, lt))
-    by (x ∷ xs) zero lt e = (0, omega arith, ap (older g) e)
-    by (x ∷ xs) (suc k) lt e =
-        let h = by xs k (omega (arith, lt)) e in
-        let le = h.1 in
-        (suc h.0, omega (arith, le), h.2)
-
-pub covers-older : (g : ℕ) (hs gs : List Aged) → g ≡ 0 → Covers hs gs → Covers hs (map (older g) gs)
-covers-older g hs gs none h = every-of (λ (a : Aged). Contains gs a) (λ (a : Aged). Contains (map (older g) gs) a) (still g gs none) hs h
-  where
-    still : (g : ℕ) (gs : List Aged) → g ≡ 0 → (a : Aged) → Contains gs a → Contains (map (older g) gs) a
-    still g gs none a c =
-        let same : a.age + g ≡ a.age = omega (arith, none) in
-        subst (λ (n : ℕ). Contains (map (older g) gs) (record a { age = n })) same (mapped-there g gs a c)
-
-pub covers-more : (xs hs gs : List Aged) → Covers hs gs → Covers hs (xs ++ gs)
-covers-more xs hs gs h =
-    every-of (λ (a : Aged). Contains gs a) (λ (a : Aged). Contains (xs ++ gs) a) (λ a c. Contains-append_right xs gs a c) hs h
-
-own-there : (xs gs : List Aged) → Covers xs (xs ++ gs)
-own-there [] gs = tt
-own-there (x ∷ xs) gs = (
-  (0, omega arith, refl),
-  every-of (λ (a : Aged). Contains (xs ++ gs) a) (λ (a : Aged). Contains (x ∷ xs ++ gs) a)
-      (λ a c. contains-more a x (xs ++ gs) c) xs (own-there xs gs),
-)
-
--- after a call by which the sender sends
-pub covers-sent : (xs : List Aged) (g : ℕ) (hs gs : List Aged) → Covers hs gs → Covers (xs ++ map (older g) hs) (xs ++ map (older g) gs)
-covers-sent xs g hs gs h =
-    every-joined (λ (a : Aged). Contains (xs ++ map (older g) gs) a) xs (map (older g) hs) (own-there xs (map (older g) gs))
-    (covers-more xs (map (older g) hs) (map (older g) gs)
-    (every-mapped (λ (a : Aged). Contains gs a) (λ (a : Aged). Contains (map (older g) gs) a) (older g) (λ a c. mapped-there g gs a c) hs h))
+pub older-none : (g : ℕ) → g ≡ 0 → (ages : List Aged) → map (older g) ages ≡ ages
+older-none g none [] = refl
+older-none g none (a ∷ ages) =
+    let same : a.age + g ≡ a.age = omega (arith, none) in
+    let one : older g a ≡ a = ap (λ (n : ℕ). record a { age = n }) same in
+    ap (λ (x : Aged). x ∷ map (older g) ages) one ∙ ap (λ (xs : List Aged). a ∷ xs) (older-none g none ages)

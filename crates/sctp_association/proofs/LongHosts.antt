@@ -1,22 +1,23 @@
 -- Two associations stand in two sessions in which nothing is old, one for each way.
-use Rattle.std.proofs.Common.{◌≡◌, ◌<◌, ◌^◌, ℕ, Bool, true, false, List, [], ◌∷◌, Option, Some, None, refl, ap, sym, subst, ◌∙◌, arith}
+use Rattle.std.proofs.Common.{◌≡◌, ◌+◌, ◌≤◌, ◌<◌, ◌^◌, ℕ, Bool, true, false, List, [], ◌∷◌, length, Option, Some, None, refl, ap, sym, subst, ◌∙◌, arith}
 use Rattle.std.proofs.lemmas.Bool.{false≢true}
 use Rattle.std.proofs.lemmas.List.Elements.{All-contains, All-from_recursion, Contains-append_cases}
 use Rattle.std.specs.Prelude.{Contains, if◌then◌else◌}
 use Rattle.sctp_association.proofs.Delivered.{carries-only, of-call}
 use Rattle.sctp_association.proofs.Hosts.{Fits, chunk-of, more-bytes, none-reported}
 use Rattle.sctp_association.proofs.HostSteps.{IsThere, Only, contains-none, either, plain-sack}
-use Rattle.sctp_association.proofs.Long.{Long, ages-of, begins as long-begins, near-of}
-use Rattle.sctp_association.proofs.LongCalls.{Covers, aged-made}
+use Rattle.sctp_association.proofs.Long.{Long, ages-of, begins as long-begins, near-of, used-of}
+use Rattle.sctp_association.proofs.LongCalls.{aged-made}
 use Rattle.sctp_association.proofs.LongSteps.{Later, Reach, ask-call, hear-sack, later-same, later-then, other-call, pass-call, receive-call}
 use Rattle.sctp_association.proofs.LongSteps.{report-each, restart-call, send-each, there-later}
+use Rattle.sctp_association.proofs.Tsns.{waiting_in}
 use Rattle.sctp_association.proofs.Raises.{AreBefore, ask-next, misses-long, misses-next}
 use Rattle.sctp_association.specs.Acks.{without_blocks}
 use Rattle.sctp_association.specs.Arrivals.{Arrival, Does, Halves, Hearing, Hears, IsBrought, Receives, ReceivesIn, Steps, halves, without_gaps}
 use Rattle.sctp_association.specs.Arrivals.{acks, begins, counts, hears, passes, receives, renews, restarts}
 use Rattle.sctp_association.specs.Delivered.{IsFor, IsForMade}
 use Rattle.sctp_association.specs.Hosts.{Act, Acts, AreByRule, AreMovesByRule, Asks, Handles, Host, Hosts, IsActByRule, IsFit}
-use Rattle.sctp_association.specs.Hosts.{IsReceiver, Move, MovesTo, Polls, ReadsOn, Way, asks, bytes_of, first_host, handles}
+use Rattle.sctp_association.specs.Hosts.{IsReceiver, Move, MovesTo, Polls, ReadsOn, Way, asks, bytes_of, first_host, fragments_by, handles}
 use Rattle.sctp_association.specs.Hosts.{hosts, is_asking, one_acts, other_acts, polls, reads_on}
 use Rattle.sctp_association.specs.Packets.{IsWritten}
 use Rattle.sctp_association.specs.Runs.{AcksBy, ReportsIn, Runs, reported_by}
@@ -28,6 +29,7 @@ use Rattle.sctp_delivery.specs.EveryCall.{AnyCall, closes_incoming, discards, of
 use Rattle.sctp_delivery.specs.Complete.{fragments_held}
 use Rattle.sctp_delivery.specs.ReceiverCalls as incoming
 use Rattle.sctp_delivery.specs.ReceiverCalls.{ReceiverMakes}
+use Rattle.sctp_delivery.specs.Recent.{new_chunks}
 use Rattle.sctp_delivery.specs.Recent.{Aged, IsAmongYoung, IsRecent}
 use Rattle.sctp_delivery.specs.SenderCalls as outgoing
 use Rattle.sctp_delivery.specs.SenderCalls.{Made, SenderCall, SenderMakes, TakesBackAndSack, Write, data_chunk, forward_tsn, written_after}
@@ -52,16 +54,17 @@ module _ (P : AnyCall → Type 0) (w : Way) where
     pub receives : IsReceiver w new next.ran.session.receiving.receiver
     pub written : next.ran.session.written ≡ st.ran.session.written
     pub read : next.ran.session.receiving.read ≡ ms
-    pub aged : Covers hs (ages-of next)
+    pub aged : hs ≡ ages-of next
+    pub given : used-of next ≤ used-of st
     pub later : Later P st next
 
-  led-same : (st : Long) (o : Option Reception) (hs : List Aged) → IsReceiver w o st.ran.session.receiving.receiver → Covers hs (ages-of st)
+  led-same : (st : Long) (o : Option Reception) (hs : List Aged) → IsReceiver w o st.ran.session.receiving.receiver → hs ≡ ages-of st
       → Led st o st.ran.session.receiving.read hs
   led-same st o hs is aged =
-      record { next = st; sends = refl; receives = is; written = refl; read = refl; aged = aged; later = later-same P st }
+      record { next = st; sends = refl; receives = is; written = refl; read = refl; aged = aged; given = omega arith; later = later-same P st }
 
   abbrev led-by : (st : Long) (new : Reception) (ms : List Message) (hs : List Aged)
-      → Reach P st st.ran.session.sending.sender new st.ran.session.written ms hs → Led st (Some new) ms hs
+      → Reach P 0 st st.ran.session.sending.sender new st.ran.session.written ms hs → Led st (Some new) ms hs
   led-by st new ms hs x = record {
     next = x.next;
     sends = x.sends;
@@ -69,33 +72,36 @@ module _ (P : AnyCall → Type 0) (w : Way) where
     written = x.written;
     read = x.read;
     aged = x.aged;
+    given = (let le = x.given in omega (arith, le));
     later = x.later;
   }
 
   -- or where the receiver is the same, and the sender this one
-  pub record Sent (st : Long) (ws : List Write) (new : Transmission) (hs : List Aged) : Type 0 where
+  pub record Sent (n : ℕ) (st : Long) (ws : List Write) (new : Transmission) (hs : List Aged) : Type 0 where
     pub next : Long
     pub sends : next.ran.session.sending.sender ≡ new
     pub receives : next.ran.session.receiving.receiver ≡ st.ran.session.receiving.receiver
     pub written : next.ran.session.written ≡ ws
     pub read : next.ran.session.receiving.read ≡ st.ran.session.receiving.read
-    pub aged : Covers hs (ages-of next)
+    pub aged : hs ≡ ages-of next
+    pub given : used-of next ≤ used-of st + n
     pub later : Later P st next
 
-  sent-same : (st : Long) (new : Transmission) (hs : List Aged) → st.ran.session.sending.sender ≡ new → Covers hs (ages-of st)
-      → Sent st st.ran.session.written new hs
+  sent-same : (st : Long) (new : Transmission) (hs : List Aged) → st.ran.session.sending.sender ≡ new → hs ≡ ages-of st
+      → Sent 0 st st.ran.session.written new hs
   sent-same st new hs is aged =
-      record { next = st; sends = is; receives = refl; written = refl; read = refl; aged = aged; later = later-same P st }
+      record { next = st; sends = is; receives = refl; written = refl; read = refl; aged = aged; given = omega arith; later = later-same P st }
 
-  abbrev sent-by : (st : Long) (new : Transmission) (ws : List Write) (hs : List Aged)
-      → Reach P st new st.ran.session.receiving.receiver ws st.ran.session.receiving.read hs → Sent st ws new hs
-  sent-by st new ws hs x = record {
+  abbrev sent-by : (n : ℕ) (st : Long) (new : Transmission) (ws : List Write) (hs : List Aged)
+      → Reach P n st new st.ran.session.receiving.receiver ws st.ran.session.receiving.read hs → Sent n st ws new hs
+  sent-by n st new ws hs x = record {
     next = x.next;
     sends = x.sends;
     receives = x.receives;
     written = x.written;
     read = x.read;
     aged = x.aged;
+    given = x.given;
     later = x.later;
   }
 
@@ -103,30 +109,30 @@ module _ (P : AnyCall → Type 0) (w : Way) where
 
 -- the host receives on the way w, and out is the way to the peer, which is so and made these chunks
 module _ (P Q : AnyCall → Type 0) (w out : Way) (peer : Host) (hs gs : List Aged) where
-  record Came (forth back : Long) (new : Halves) : Type 0 where
-    sent : Sent P w forth forth.ran.session.written new.sender hs
-    led : Led Q w back new.receiver back.ran.session.receiving.read gs
+  pub record Came (forth back : Long) (new : Halves) : Type 0 where
+    pub sent : Sent P w 0 forth forth.ran.session.written new.sender hs
+    pub led : Led Q w back new.receiver back.ran.session.receiving.read gs
 
   module _ (ms : List Made) (ks : List Sack) where
-    record Ready (forth back : Long) (old : Halves) : Type 0 where
-      sends : forth.ran.session.sending.sender ≡ old.sender
-      receives : IsReceiver w old.receiver back.ran.session.receiving.receiver
-      beyond : IsReceiver out peer.receiver forth.ran.session.receiving.receiver
-      from' : back.ran.session.sending.sender ≡ peer.sender
-      made : (m : Made) → Contains ms m → Contains back.ran.session.made m
-      sacks : (k : Sack) → Contains ks k → IsThere forth.ran.session k
-      aged : Covers hs (ages-of forth)
-      ages : Covers gs (ages-of back)
+    pub record Ready (forth back : Long) (old : Halves) : Type 0 where
+      pub sends : forth.ran.session.sending.sender ≡ old.sender
+      pub receives : IsReceiver w old.receiver back.ran.session.receiving.receiver
+      pub beyond : IsReceiver out peer.receiver forth.ran.session.receiving.receiver
+      pub from' : back.ran.session.sending.sender ≡ peer.sender
+      pub made : (m : Made) → Contains ms m → Contains back.ran.session.made m
+      pub sacks : (k : Sack) → Contains ks k → IsThere forth.ran.session k
+      pub aged : hs ≡ ages-of forth
+      pub ages : gs ≡ ages-of back
 
     -- it is among these of the session, too
-    among : (st : Long) → Covers gs (ages-of st) → (m : Made) → IsAmongYoung m gs → IsAmongYoung m (ages-of st)
-    among st c m h = (h.0, h.1, every-contained (λ (a : Aged). Contains (ages-of st) a) gs (record { chunk = m; age = h.0 }) h.2 c)
+    among : (st : Long) → gs ≡ ages-of st → (m : Made) → IsAmongYoung m gs → IsAmongYoung m (ages-of st)
+    among st c m h = subst (IsAmongYoung m) c h
 
     abbrev Next : ℕ
     Next = peer.sender.flight.next_tsn
 
     module _ (t : Transmission) (r s : Reception) (st : Long) (is : st.ran.session.receiving.receiver ≡ r) (from' : st.ran.session.sending.sender ≡ peer.sender)
-        (made : (m : Made) → Contains ms m → Contains st.ran.session.made m) (c : Covers gs (ages-of st)) where
+        (made : (m : Made) → Contains ms m → Contains st.ran.session.made m) (c : gs ≡ ages-of st) where
       abbrev Here : Type 0
       Here = Led Q w st (Some s) st.ran.session.receiving.read gs
 
@@ -177,17 +183,17 @@ module _ (P Q : AnyCall → Type 0) (w out : Way) (peer : Host) (hs gs : List Ag
     receive-in : (call : runs.Call) (t : Transmission) (o p : Option Reception) (st : Long) → ReceivesIn call o p
         → Fits P Q w (receives call) (halves t o) → IsYoungCall out gs peer (receives call) (halves t o) → IsForMade ms call
         → IsReceiver w o st.ran.session.receiving.receiver → st.ran.session.sending.sender ≡ peer.sender
-        → ((m : Made) → Contains ms m → Contains st.ran.session.made m) → Covers gs (ages-of st) → Led Q w st p st.ran.session.receiving.read gs
+        → ((m : Made) → Contains ms m → Contains st.ran.session.made m) → gs ≡ ages-of st → Led Q w st p st.ran.session.receiving.read gs
     receive-in call t (Some r) (Some s) st h fits y of is from' made c = receive-one t r s st is from' made c call h fits y of
     receive-in call t (Some r) None st h fits y of is from' made c = absurd h
     receive-in call t None p st h fits y of is from' made c = absurd h
 
     acknowledge : (h : Hearing) (old new : Halves) (st : Long) → Hears h st.ran.session.sending.sender new.sender → Fits P Q w (hears h) old
         → IsYoungCall out gs peer (hears h) old → IsFor ms ks (hears h) → IsReceiver out peer.receiver st.ran.session.receiving.receiver
-        → ((k : Sack) → Contains ks k → IsThere st.ran.session k) → Covers hs (ages-of st)
-        → Sent P w st st.ran.session.written new.sender hs
+        → ((k : Sack) → Contains ks k → IsThere st.ran.session k) → hs ≡ ages-of st
+        → Sent P w 0 st st.ran.session.written new.sender hs
     acknowledge (acks k back gone) old new st x fits y of beyond there c =
-        sent-by P w st new.sender st.ran.session.written hs
+        sent-by P w 0 st new.sender st.ran.session.written hs
         (either
         (λ (e : k ≡ of.sack).
         hear-sack P st hs c k back gone new.sender x (subst (λ (j : Sack). Contains st.ran.session.sacks j) (sym e) (there of.sack of.own).own)
@@ -200,7 +206,7 @@ module _ (P Q : AnyCall → Type 0) (w out : Way) (peer : Host) (hs gs : List Ag
         (y st.ran.session.receiving.receiver beyond)))
         of.is)
     acknowledge (passes tsn gone) old new st x fits y of beyond there c =
-        sent-by P w st new.sender st.ran.session.written hs
+        sent-by P w 0 st new.sender st.ran.session.written hs
         (pass-call P st hs c (without_blocks tsn) gone new.sender x
         (subst (λ (n : ℕ). Contains st.ran.session.sacks (without_blocks n)) of.cumulative (there of.sack of.own).plain)
         (y st.ran.session.receiving.receiver beyond))
@@ -208,12 +214,12 @@ module _ (P Q : AnyCall → Type 0) (w out : Way) (peer : Host) (hs gs : List Ag
         let t = st.ran.session.sending.sender in
         let long = misses-long count t new.sender x in
         let few = (near-of st).few in
-        sent-by P w st new.sender st.ran.session.written hs
-        (ask-call P st hs c (outgoing.misses count) new.sender x tt tt (misses-next count t new.sender x) (omega (arith, long, few)) st.short)
+        sent-by P w 0 st new.sender st.ran.session.written hs
+        (ask-call P st hs c (outgoing.misses count) new.sender x tt tt (misses-next count t new.sender x) refl (omega (arith, long, few)) st.short)
     acknowledge (restarts stream) old new st x fits y of beyond there c =
-        sent-by P w st new.sender st.ran.session.written hs (restart-call P st hs c stream new.sender x.0 x.1 fits)
+        sent-by P w 0 st new.sender st.ran.session.written hs (restart-call P st hs c stream new.sender x.0 x.1 fits)
 
-    take-one : (a : Arrival) (old new : Halves) (forth back : Long) → Does a old new → Fits P Q w a old → IsYoungCall out gs peer a old → IsFor ms ks a
+    pub take-one : (a : Arrival) (old new : Halves) (forth back : Long) → Does a old new → Fits P Q w a old → IsYoungCall out gs peer a old → IsFor ms ks a
         → Ready forth back old → Came forth back new
     take-one (receives call) old new forth back d fits y of z = record {
       sent = sent-same P w forth new.sender hs (z.sends ∙ sym d.0) z.aged;
@@ -233,6 +239,21 @@ module _ (P Q : AnyCall → Type 0) (w out : Way) (peer : Host) (hs gs : List Ag
         }
     take-one (renews tsn size max) old new forth back d fits y of z = absurd fits
 
+    pub ready-then : (old new : Halves) (forth back : Long) → Ready forth back old → (x : Came forth back new) → Ready x.sent.next x.led.next new
+    ready-then old new forth back z x =
+        let s = x.sent in
+        let k = x.led in
+        record {
+          sends = s.sends;
+          receives = k.receives;
+          beyond = subst (λ q. IsReceiver out peer.receiver q) (sym s.receives) z.beyond;
+          from' = k.sends ∙ z.from';
+          made = λ m c. k.later.made m (z.made m c);
+          sacks = λ j c. there-later P forth s.next s.later j (z.sacks j c);
+          aged = s.aged;
+          ages = k.aged;
+        }
+
     take-each : (datagram : List ℕ) (calls : List Arrival) (old new : Halves) (forth back : Long) (r : Steps (IsBrought datagram) Does calls old new)
         → AreByRule (Fits P Q w) datagram calls old new r → AreByRule (IsYoungCall out gs peer) datagram calls old new r
         → ((a : Arrival) → IsBrought datagram a → IsFor ms ks a) → Ready forth back old → Came forth back new
@@ -245,16 +266,7 @@ module _ (P Q : AnyCall → Type 0) (w out : Way) (peer : Host) (hs gs : List Ag
         let x = take-one a old r.0 forth back r.1.0.does fits.0 y.0 (for a r.1.0.asked) z in
         let s = x.sent in
         let k = x.led in
-        let ready : Ready s.next k.next r.0 = record {
-          sends = s.sends;
-          receives = k.receives;
-          beyond = subst (λ q. IsReceiver out peer.receiver q) (sym s.receives) z.beyond;
-          from' = k.sends ∙ z.from';
-          made = λ m c. k.later.made m (z.made m c);
-          sacks = λ j c. there-later P forth s.next s.later j (z.sacks j c);
-          aged = s.aged;
-          ages = k.aged;
-        } in
+        let ready = ready-then old r.0 forth back z x in
         let g = take-each datagram calls r.0 new s.next k.next r.1.1 fits.1 y.1 for ready in
         record {
           sent = record {
@@ -264,6 +276,7 @@ module _ (P Q : AnyCall → Type 0) (w out : Way) (peer : Host) (hs gs : List Ag
             written = g.sent.written ∙ s.written;
             read = g.sent.read ∙ s.read;
             aged = g.sent.aged;
+            given = (let first = s.given in let second = g.sent.given in omega (arith, first, second));
             later = later-then P forth s.next g.sent.next s.later g.sent.later;
           };
           led = record {
@@ -273,6 +286,7 @@ module _ (P Q : AnyCall → Type 0) (w out : Way) (peer : Host) (hs gs : List Ag
             written = g.led.written ∙ k.written;
             read = g.led.read ∙ k.read;
             aged = g.led.aged;
+            given = (let first = k.given in let second = g.led.given in omega (arith, first, second));
             later = later-then Q back k.next g.led.next k.later g.led.later;
           };
         }
@@ -285,16 +299,17 @@ pub record IsIn (P : AnyCall → Type 0) (w : Way) (a b : Host) (ages : List Age
   pub receives : IsReceiver w b.receiver st.ran.session.receiving.receiver
   pub written : st.ran.session.written ≡ a.written
   pub read : st.ran.session.receiving.read ≡ b.read
+  pub given : used-of st ≤ a.fragments
   pub only : Only P st.ran.calls
-  pub aged : Covers ages (ages-of st)
+  pub aged : ages ≡ ages-of st
 
 -- the datagram is of what was made in the one session and reported in the other
-record WasPolled (forth back : Long) (d : List ℕ) : Type 0 where
-  ms : List Made
-  ks : List Sack
-  written : IsWritten ms ks d
-  made : (m : Made) → Contains ms m → Contains forth.ran.session.made m
-  sacks : (k : Sack) → Contains ks k → IsThere back.ran.session k
+pub record WasPolled (forth back : Long) (d : List ℕ) : Type 0 where
+  pub ms : List Made
+  pub ks : List Sack
+  pub written : IsWritten ms ks d
+  pub made : (m : Made) → Contains ms m → Contains forth.ran.session.made m
+  pub sacks : (k : Sack) → Contains ks k → IsThere back.ran.session k
 
 polled-later : (P Q : AnyCall → Type 0) (f b g c : Long) → Later P f g → Later Q b c → (d : List ℕ) → WasPolled f b d → WasPolled g c d
 polled-later P Q f b g c m n d h = record {
@@ -311,17 +326,23 @@ pub record Joined (P Q : AnyCall → Type 0) (f b : Way) (ones others : List Age
   pub back : Long
   pub goes : IsIn P f one other ones forth
   pub comes : IsIn Q b other one others back
-  one-sent : (d : List ℕ) → Contains one.sent d → WasPolled forth back d
-  other-sent : (d : List ℕ) → Contains other.sent d → WasPolled back forth d
+  pub one-sent : (d : List ℕ) → Contains one.sent d → WasPolled forth back d
+  pub other-sent : (d : List ℕ) → Contains other.sent d → WasPolled back forth d
 
 pub turned : (P Q : AnyCall → Type 0) (f b : Way) (ones others : List Aged) (x z : Host) → Joined P Q f b ones others x z
     → Joined Q P b f others ones z x
 turned P Q f b ones others x z j =
     record { forth = j.back; back = j.forth; goes = j.comes; comes = j.goes; one-sent = j.other-sent; other-sent = j.one-sent }
 
-asked-recent : (call : SenderCall) (s : Session) → is_asking call ≡ true → IsRecent (of_sender call) s
+pub asked-recent : (call : SenderCall) (s : Session) → is_asking call ≡ true → IsRecent (of_sender call) s
 asked-recent (outgoing.takes_sack k gone) s e = absurd (false≢true e)
 asked-recent call s e = tt
+
+none-new : (call : SenderCall) (s : Session) → is_asking call ≡ true → new_chunks (of_sender call) s ≡ []
+none-new (outgoing.sends now) s e = absurd (false≢true e)
+none-new (outgoing.forwards tsn f) s e = absurd (false≢true e)
+none-new (outgoing.forwards_within bytes f) s e = absurd (false≢true e)
+none-new call s e = refl
 
 -- what the receiver of a host holds is what that of the session does
 holds-in : (w : Way) (n : ℕ) (o : Option Reception) (r : Reception) → HoldsYoung n o → IsReceiver w o r → (stream : ℕ)
@@ -333,9 +354,9 @@ module _ (P Q : AnyCall → Type 0) (f b : Way) (ones others : List Aged) (x y z
   abbrev there : Reception
   there = j.forth.ran.session.receiving.receiver
 
-  joins : (hs : List Aged) (ws : List Write) (rs : List Message) (s : Sent P b j.forth ws y.sender hs) (k : Led Q b j.back y.receiver rs others)
-      → ws ≡ y.written → rs ≡ y.read → ((d : List ℕ) → Contains y.sent d → WasPolled s.next k.next d) → Joined P Q f b hs others y z
-  joins hs ws rs s k written read sent = record {
+  joins : (n : ℕ) (hs : List Aged) (ws : List Write) (rs : List Message) (s : Sent P b n j.forth ws y.sender hs) (k : Led Q b j.back y.receiver rs others)
+      → ws ≡ y.written → rs ≡ y.read → used-of j.forth + n ≤ y.fragments → ((d : List ℕ) → Contains y.sent d → WasPolled s.next k.next d) → Joined P Q f b hs others y z
+  joins n hs ws rs s k written read cut sent = record {
     forth = s.next;
     back = k.next;
     goes = record {
@@ -343,6 +364,7 @@ module _ (P Q : AnyCall → Type 0) (f b : Way) (ones others : List Aged) (x y z
       receives = subst (λ q. IsReceiver f z.receiver q) (sym s.receives) j.goes.receives;
       written = s.written ∙ written;
       read = s.read ∙ j.goes.read;
+      given = (let given = s.given in omega (arith, given, cut));
       only = s.later.only j.goes.only;
       aged = s.aged;
     };
@@ -351,6 +373,7 @@ module _ (P Q : AnyCall → Type 0) (f b : Way) (ones others : List Aged) (x y z
       receives = k.receives;
       written = k.written ∙ j.comes.written;
       read = k.read ∙ read;
+      given = (let given = k.given in let before = j.comes.given in omega (arith, given, before));
       only = k.later.only j.comes.only;
       aged = k.aged;
     };
@@ -367,23 +390,27 @@ module _ (P Q : AnyCall → Type 0) (f b : Way) (ones others : List Aged) (x y z
   led-still same =
       led-same Q b j.back y.receiver others (subst (λ o. IsReceiver b o j.back.ran.session.receiving.receiver) (sym same) j.comes.receives) j.comes.aged
 
-  by-asks : (call : SenderCall) → Asks call x y → IsBounded y z → bytes_of y.written < 2 ^ 64 → Joined P Q f b ones others y z
-  by-asks call h bounded short =
+  pub by-asks : (call : SenderCall) → Asks call x y → length y.sender.flight.queue.inflight.chunks < 2 ^ 31 → bytes_of y.written < 2 ^ 64 → Joined P Q f b ones others y z
+  by-asks call h few short =
       let t = j.forth.ran.session.sending.sender in
       let m = subst (λ u. SenderMakes call u y.sender) (sym j.goes.sends) h.makes in
       let same = ap (written_after call) j.goes.written ∙ sym (ap (λ (i : Host). i.written) h.after) in
-      let s = sent-by P b j.forth y.sender (written_after call j.forth.ran.session.written) ones
+      let s = sent-by P b (fragments_by call t) j.forth y.sender (written_after call j.forth.ran.session.written) ones
       (ask-call P j.forth ones j.goes.aged call y.sender m (none-reported call j.forth.ran.session h.asking)
-      (asked-recent call j.forth.ran.session h.asking) (ask-next call t y.sender h.asking m) bounded.0
+      (asked-recent call j.forth.ran.session h.asking) (ask-next call t y.sender h.asking m) (none-new call j.forth.ran.session h.asking) few
       (subst (λ (ws : List Write). bytes_of ws < 2 ^ 64) (sym same) short)) in
       let k = led-still (ap (λ (i : Host). i.receiver) h.after) in
-      joins ones (written_after call j.forth.ran.session.written) j.back.ran.session.receiving.read s k same
-      (j.comes.read ∙ sym (ap (λ (i : Host). i.read) h.after)) (sent-still s.next k.next s.later k.later (ap (λ (i : Host). i.sent) h.after))
+      let cut = ap (λ (i : Host). i.fragments) h.after in
+      let cuts = ap (fragments_by call) j.goes.sends in
+      let before = j.goes.given in
+      joins (fragments_by call t) ones (written_after call j.forth.ran.session.written) j.back.ran.session.receiving.read s k same
+      (j.comes.read ∙ sym (ap (λ (i : Host). i.read) h.after)) (omega (arith, cut, before, cuts))
+      (sent-still s.next k.next s.later k.later (ap (λ (i : Host). i.sent) h.after))
 
-  sent-unchanged : y.sender ≡ x.sender → Sent P b j.forth j.forth.ran.session.written y.sender ones
+  sent-unchanged : y.sender ≡ x.sender → Sent P b 0 j.forth j.forth.ran.session.written y.sender ones
   sent-unchanged same = sent-same P b j.forth y.sender ones (j.goes.sends ∙ sym same) j.goes.aged
 
-  by-reads : (stream : ℕ) → ReadsOn stream x y → Joined P Q f b ones others y z
+  pub by-reads : (stream : ℕ) → ReadsOn stream x y → Joined P Q f b ones others y z
   by-reads stream h =
       let back = j.back.ran.session in
       let is : back.receiving.receiver ≡ h.receiver = subst (λ o. IsReceiver b o back.receiving.receiver) h.there j.comes.receives in
@@ -394,9 +421,11 @@ module _ (P Q : AnyCall → Type 0) (f b : Way) (ones others : List Aged) (x y z
       let m : Led Q b j.back y.receiver rs others =
       subst (λ o. Led Q b j.back o rs others) (sym (ap (λ (i : Host). i.receiver) h.after)) k in
       let s = sent-unchanged (ap (λ (i : Host). i.sender) h.after) in
-      joins ones j.forth.ran.session.written rs s m (j.goes.written ∙ sym (ap (λ (i : Host). i.written) h.after))
+      let cut = ap (λ (i : Host). i.fragments) h.after in
+      let before = j.goes.given in
+      joins 0 ones j.forth.ran.session.written rs s m (j.goes.written ∙ sym (ap (λ (i : Host). i.written) h.after))
       (ap (λ q. with_message stream (message_on stream q) back.receiving.read) is
-      ∙ ap (λ l. with_message stream (message_on stream h.receiver) l) j.comes.read ∙ sym (ap (λ (i : Host). i.read) h.after))
+      ∙ ap (λ l. with_message stream (message_on stream h.receiver) l) j.comes.read ∙ sym (ap (λ (i : Host). i.read) h.after)) (omega (arith, cut, before))
       (sent-still s.next m.next s.later m.later (ap (λ (i : Host). i.sent) h.after))
 
   -- the receiver reports, where there is one
@@ -415,14 +444,14 @@ module _ (P Q : AnyCall → Type 0) (f b : Way) (ones others : List Aged) (x y z
   report-in ks None (Some s) h is = absurd h
   report-in ks (Some r) None h is = absurd h
 
-  by-polls : (is_sent : Bool) (datagram : List ℕ) (h : Polls is_sent datagram x y) → IsBounded y z
+  pub by-polls : (is_sent : Bool) (datagram : List ℕ) (h : Polls is_sent datagram x y) → IsBounded y z
       → Joined P Q f b (aged_over ones h.transmits.sent.calls h.transmits.made x.sender y.sender h.transmits.sent.run) others y z
   by-polls is_sent datagram h bounded =
       let t = h.transmits in
       let hs = aged_over ones t.sent.calls t.made x.sender y.sender t.sent.run in
       let g = send-each P t.sent.calls t.made x.sender y.sender j.forth ones j.goes.aged j.goes.sends t.sent.run bounded.0
       (holds-in f y.sender.flight.next_tsn z.receiver j.forth.ran.session.receiving.receiver bounded.1 j.goes.receives) in
-      let s = sent-by P b j.forth y.sender j.forth.ran.session.written hs g.reach in
+      let s = sent-by P b 0 j.forth y.sender j.forth.ran.session.written hs g.reach in
       let k = report-in t.sacks x.receiver y.receiver t.reported j.comes.receives in
       let new : is_sent ≡ true → WasPolled s.next k.led.next datagram = λ e. record {
         ms = t.made;
@@ -431,8 +460,10 @@ module _ (P Q : AnyCall → Type 0) (f b : Way) (ones others : List Aged) (x y z
         made = g.own;
         sacks = k.own;
       } in
-      joins hs j.forth.ran.session.written j.back.ran.session.receiving.read s k.led
-      (j.goes.written ∙ sym (ap (λ (i : Host). i.written) h.after)) (j.comes.read ∙ sym (ap (λ (i : Host). i.read) h.after))
+      let cut = ap (λ (i : Host). i.fragments) h.after in
+      let before = j.goes.given in
+      joins 0 hs j.forth.ran.session.written j.back.ran.session.receiving.read s k.led
+      (j.goes.written ∙ sym (ap (λ (i : Host). i.written) h.after)) (j.comes.read ∙ sym (ap (λ (i : Host). i.read) h.after)) (omega (arith, cut, before))
       (λ d c. by is_sent s.next k.led.next s.later k.led.later new d (subst (λ (l : List (List ℕ)). Contains l d) (ap (λ (i : Host). i.sent) h.after) c))
     where
       by : (e : Bool) (s g : Long) → Later P j.forth s → Later Q j.back g → (e ≡ true → WasPolled s g datagram) → (d : List ℕ)
@@ -442,7 +473,7 @@ module _ (P Q : AnyCall → Type 0) (f b : Way) (ones others : List Aged) (x y z
           (λ (old : Contains x.sent d). polled-later P Q j.forth j.back s g m n d (j.one-sent d old)) (Contains-append_cases (datagram ∷ []) x.sent d c)
       by false s g m n new d c = polled-later P Q j.forth j.back s g m n d (j.one-sent d c)
 
-  by-handles : (datagram : List ℕ) (h : Handles z.sent datagram x y) → IsActByRule (Fits P Q b) z.sent (handles datagram) x y h
+  pub by-handles : (datagram : List ℕ) (h : Handles z.sent datagram x y) → IsActByRule (Fits P Q b) z.sent (handles datagram) x y h
       → IsActByRule (IsYoungCall f others z) z.sent (handles datagram) x y h → Joined P Q f b ones others y z
   by-handles datagram h fits young =
       let p = j.other-sent datagram h.handed in
@@ -458,8 +489,10 @@ module _ (P Q : AnyCall → Type 0) (f b : Way) (ones others : List Aged) (x y z
         aged = j.goes.aged;
         ages = j.comes.aged;
       }) in
-      joins ones j.forth.ran.session.written j.back.ran.session.receiving.read c.sent c.led
-      (j.goes.written ∙ sym (ap (λ (i : Host). i.written) h.after)) (j.comes.read ∙ sym (ap (λ (i : Host). i.read) h.after))
+      let cut = ap (λ (i : Host). i.fragments) h.after in
+      let before = j.goes.given in
+      joins 0 ones j.forth.ran.session.written j.back.ran.session.receiving.read c.sent c.led
+      (j.goes.written ∙ sym (ap (λ (i : Host). i.written) h.after)) (j.comes.read ∙ sym (ap (λ (i : Host). i.read) h.after)) (omega (arith, cut, before))
       (sent-still c.sent.next c.led.next c.sent.later c.led.later (ap (λ (i : Host). i.sent) h.after))
 
 -- ## A move
@@ -467,7 +500,7 @@ module _ (P Q : AnyCall → Type 0) (f b : Way) (ones others : List Aged) (x y z
 by-act : (P Q : AnyCall → Type 0) (f b : Way) (ones others : List Aged) (act : Act) (x y z : Host) (h : Acts z.sent act x y)
     → IsActByRule (Fits P Q b) z.sent act x y h → IsActByRule (IsYoungCall f others z) z.sent act x y h → IsBounded y z → bytes_of y.written < 2 ^ 64
     → Joined P Q f b ones others x z → Joined P Q f b (aged_by ones z.sent act x y h) others y z
-by-act P Q f b ones others (asks call) x y z h fits young bounded short j = by-asks P Q f b ones others x y z j call h bounded short
+by-act P Q f b ones others (asks call) x y z h fits young bounded short j = by-asks P Q f b ones others x y z j call h bounded.0 short
 by-act P Q f b ones others (reads_on stream) x y z h fits young bounded short j = by-reads P Q f b ones others x y z j stream h
 by-act P Q f b ones others (polls is_sent datagram) x y z h fits young bounded short j = by-polls P Q f b ones others x y z j is_sent datagram h bounded
 by-act P Q f b ones others (handles datagram) x y z h fits young bounded short j = by-handles P Q f b ones others x y z j datagram h fits young
@@ -526,7 +559,7 @@ module _ (P Q : AnyCall → Type 0) (f b : Way) where
 
 -- ## From `new` on
 
-begun : (P Q : AnyCall → Type 0) (f b : Way) → IsFit f → IsFit b → Joined P Q f b [] [] (first_host f) (first_host b)
+pub begun : (P Q : AnyCall → Type 0) (f b : Way) → IsFit f → IsFit b → Joined P Q f b [] [] (first_host f) (first_host b)
 begun P Q f b fit other =
     let x = long-begins Keep f.tsn f.size f.max f.most (Some f.limits) fit.0 fit.1 in
     let y = long-begins Keep b.tsn b.size b.max b.most (Some b.limits) other.0 other.1 in
@@ -538,16 +571,18 @@ begun P Q f b fit other =
         receives = ap (λ (s : Session). s.receiving.receiver) x.there;
         written = ap (λ (s : Session). s.written) x.there;
         read = ap (λ (s : Session). s.receiving.read) x.there;
+        given = (let none = x.given in let waits = ap (λ (s : Session). waiting_in s.sending.sender.flight) x.there in omega (arith, none, waits));
         only = subst (Only P) (sym x.calls) tt;
-        aged = tt;
+        aged = x.ages;
       };
       comes = record {
         sends = ap (λ (s : Session). s.sending.sender) y.there;
         receives = ap (λ (s : Session). s.receiving.receiver) y.there;
         written = ap (λ (s : Session). s.written) y.there;
         read = ap (λ (s : Session). s.receiving.read) y.there;
+        given = (let none = y.given in let waits = ap (λ (s : Session). waiting_in s.sending.sender.flight) y.there in omega (arith, none, waits));
         only = subst (Only Q) (sym y.calls) tt;
-        aged = tt;
+        aged = y.ages;
       };
       one-sent = λ d c. absurd (contains-none d c);
       other-sent = λ d c. absurd (contains-none d c);

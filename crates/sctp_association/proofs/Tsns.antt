@@ -83,7 +83,7 @@ pub record Uses (n : ℕ) (f g : Flight) : Type 0 where
   pub next : g.next_tsn ≡ (f.next_tsn + given) % 2 ^ 32
   pub fewer : given + waiting_in g ≤ waiting_in f + n
 
-uses-none : (n : ℕ) (f g : Flight) → f.next_tsn < 2 ^ 32 → g.next_tsn ≡ f.next_tsn → waiting_in g ≤ waiting_in f + n → Uses n f g
+pub uses-none : (n : ℕ) (f g : Flight) → f.next_tsn < 2 ^ 32 → g.next_tsn ≡ f.next_tsn → waiting_in g ≤ waiting_in f + n → Uses n f g
 uses-none n f g small next fewer = record { given = 0; next = omega (arith, small, next); fewer = omega (arith, fewer) }
 
 uses-then : (f g h : Flight) → Uses 0 f g → Uses 0 g h → Uses 0 f h
@@ -237,7 +237,7 @@ used st = given_any st + waiting_in st.session.sending.sender.flight
 abbrev next_in : Session → ℕ
 next_in s = s.sending.sender.flight.next_tsn
 
-no-further : (a k : ℕ) → a < 2 ^ 32 → distance a ((a + k) % 2 ^ 32) ≤ k
+pub no-further : (a k : ℕ) → a < 2 ^ 32 → distance a ((a + k) % 2 ^ 32) ≤ k
 unfolding distance
 no-further a k small = omega (arith, small)
 

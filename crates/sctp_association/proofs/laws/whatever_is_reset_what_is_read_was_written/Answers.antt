@@ -1,3 +1,4 @@
+use Rattle.sctp_association.proofs.FewHosts as few_hosts
 use Rattle.sctp_association.proofs.OneLife.{each-delivers-any, each-link-delivers-any, each-plain}
 use Rattle.sctp_association.proofs.YoungLife.{each-delivers-young, each-link-delivers-young}
 use Rattle.sctp_association.proofs.laws.whatever_is_reset_what_is_read_was_written.Goals as goal
