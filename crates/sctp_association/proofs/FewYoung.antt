@@ -1,38 +1,32 @@
 -- Where few fragments are written, nothing that datagrams bring is old, nor is what hosts hold.
-use Rattle.std.proofs.Common.{◌≡◌, ◌+◌, ◌≤◌, ◌<◌, ◌^◌, ℕ, Bool, true, false, List, [], ◌∷◌, ◌++◌, length, Option, Some, None, refl, ap, sym, subst, ◌∙◌}
+use Rattle.std.proofs.Common.{◌≡◌, ◌+◌, ◌≤◌, ◌<◌, ◌^◌, ℕ, true, false, List, [], ◌∷◌, ◌++◌, Option, Some, None, refl, ap, sym, subst, ◌∙◌}
 use Rattle.std.proofs.Common.{arith}
 use Rattle.std.specs.Prelude.{Contains, if◌then◌else◌}
-use Rattle.sctp_association.proofs.Delivered.{carries-only, of-call}
-use Rattle.sctp_association.proofs.Hosts.{Fits, chunk-of, few-before, none-reported}
-use Rattle.sctp_association.proofs.HostSteps.{IsThere, either, none-cut, none-written, plain-sack}
-use Rattle.sctp_association.proofs.Long.{Allows, Long, ages-in, ages-of, first-of, given-of, holds-of, near-of, next-small, ready-of, same-way, used-of}
+use Rattle.sctp_association.proofs.Hosts.{Fits, chunk-of}
+use Rattle.sctp_association.proofs.HostSteps.{IsThere, either, plain-sack}
+use Rattle.sctp_association.proofs.Long.{Allows, Long, ages-in, ages-of, first-of, given-of, next-small, ready-of, same-way, used-of}
 use Rattle.sctp_association.proofs.LongCalls.{sack-next}
-use Rattle.sctp_association.proofs.LongHosts.{Came, Joined, JoinedSome, Ready, WasPolled, begun, by-asks, by-handles, by-polls, by-reads, ready-then, take-one}
-use Rattle.sctp_association.proofs.LongHosts.{turned}
-use Rattle.sctp_association.proofs.LongSteps.{next-of, none-recent, other-follows, other_after, send-one, take-back}
-use Rattle.sctp_association.proofs.Raises.{AreBefore}
-use Rattle.sctp_association.proofs.Sessions.{none_taken}
-use Rattle.sctp_association.proofs.Tsns.{makes-uses, no-further, waiting_in}
+use Rattle.sctp_association.proofs.LongHosts.{Ready, ready-then, take-one}
+use Rattle.sctp_association.proofs.LongSteps.{next-of, other-follows, other_after, take-back}
+use Rattle.sctp_association.proofs.Tsns.{makes-uses, no-further}
 use Rattle.sctp_association.specs.Acks.{without_blocks}
 use Rattle.sctp_association.specs.Arrivals.{Arrival, Does, Halves, Hearing, Hears, IsBrought, Receives, ReceivesIn, Steps, halves, without_gaps}
 use Rattle.sctp_association.specs.Arrivals.{acks, begins, counts, hears, passes, receives, renews, restarts}
 use Rattle.sctp_association.specs.Delivered.{IsFor, IsForMade}
-use Rattle.sctp_association.specs.Hosts.{Act, Acts, AreByRule, AreMovesByRule, Asks, Handles, Host, Hosts, IsActByRule, IsFit, IsReceiver, Move, MovesTo, Polls}
-use Rattle.sctp_association.specs.Hosts.{Way, WroteFew, asks, bytes_of, first_host, fragments_by, handles, hosts, one_acts, other_acts, polls, reads_on}
-use Rattle.sctp_association.specs.Runs.{Runs, SendsBy, made_by}
-use Rattle.sctp_association.specs.Young.{AreBounded, AreYoungMoves, HoldsYoung, IsBounded, IsYoungCall, aged_by}
+use Rattle.sctp_association.specs.Hosts.{AreByRule, Host, IsReceiver}
+use Rattle.sctp_association.specs.Hosts.{Way, bytes_of, fragments_by}
+use Rattle.sctp_association.specs.Young.{IsYoungCall}
 use Rattle.sctp_data.specs.SelectiveAck.{Sack}
 use Rattle.sctp_delivery.proofs.EveryFewYoung.{few-young}
 use Rattle.sctp_delivery.proofs.StandsAny.{given-then, run-then}
 use Rattle.sctp_delivery.proofs.Stands.{receiver-follows, receiver_after, sender-follows, sender_after}
-use Rattle.sctp_delivery.specs.Complete.{fragments_held}
 use Rattle.sctp_delivery.specs.EveryCall.{AnyCall, FollowsAny, IsMadeChunk, IsReceiverTaken, ReceiverOther, RunsAny, as_receiver_run, discards, makes}
 use Rattle.sctp_delivery.specs.EveryCall.{of_receiving, passes_over}
 use Rattle.sctp_delivery.specs.EveryRecent.{ArePassedYoung, AreRecentAny, AreYoungAny, IsPassedYoung, IsRecentAny, IsYoungAny, aged_any}
 use Rattle.sctp_delivery.specs.ReceiverCalls as incoming
 use Rattle.sctp_delivery.specs.ReceiverCalls.{ReceiverCall, ReceiverMakes}
 use Rattle.sctp_delivery.specs.Recent.{Aged, HoldsRecent, IsAmongYoung}
-use Rattle.sctp_delivery.specs.SenderCalls.{Made, SenderCall, SenderMakes, TakesBackAndSack, Write, data_chunk, forward_tsn, takes_sack, written_after}
+use Rattle.sctp_delivery.specs.SenderCalls.{Made, SenderCall, SenderMakes, TakesBackAndSack, data_chunk, forward_tsn, takes_sack, written_after}
 use Rattle.sctp_delivery.specs.Session.{IsReported, IsSent, Session, bytes_written, count_in_flight, of_receiver, of_sender}
 use Rattle.sctp_receiver.specs.Receiver.{Reception, discard_refusal}
 use Rattle.sctp_receiver.specs.ReceiverRuns as runs

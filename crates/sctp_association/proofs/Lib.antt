@@ -75,7 +75,6 @@ pub mod Long
 pub mod LongCalls
 pub mod LongSteps
 pub mod LongHosts
-pub mod YoungLife
 pub mod FewYoung
 pub mod FewHosts
 pub mod Lives

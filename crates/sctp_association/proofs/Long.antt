@@ -16,6 +16,7 @@ use Rattle.sctp_delivery.specs.EveryRecent.{ArePassedYoung, AreRecentAny, AreYou
 use Rattle.sctp_delivery.specs.Recent.{Aged, HoldsRecent}
 use Rattle.sctp_delivery.specs.Returns.{at_start_with}
 use Rattle.sctp_delivery.specs.Session.{Session, bytes_written, count_in_flight}
+use Rattle.sctp_delivery.specs.StandAny.{StandAny}
 use Rattle.sctp_outbound.specs.outbound_queue.OutboundQueue.{all_started}
 use Rattle.sctp_outbound.specs.pending_queue.Whole.{IsSendable}
 use Rattle.sctp_receiver.proofs.StreamCosts.{are_apart}
@@ -210,4 +211,23 @@ begins reported tsn size max most limits small some = record {
   calls = refl;
   ages = refl;
   given = refl;
+}
+
+-- ## Where few TSNs were given out
+
+abbrev pub stand-of : (st : Long) → given-of st < 2 ^ 31 → StandAny
+stand-of st few = record {
+  reported = st.ran.reported;
+  tsn = st.ran.tsn;
+  size = st.ran.size;
+  max = st.ran.max;
+  most = st.ran.most;
+  limits = st.ran.limits;
+  calls = st.ran.calls;
+  session = st.ran.session;
+  run = st.ran.run;
+  small = st.small;
+  some = st.some;
+  few = few;
+  short = st.short;
 }

@@ -1,9 +1,8 @@
 -- What each call asks for, so that nothing is old in the session behind it.
-use Rattle.std.proofs.Common.{◌≡◌, ◌+◌, ◌<◌, ◌≤◌, ◌^◌, ℕ, zero, suc, Bool, true, false, List, [], ◌∷◌, ◌++◌, length, map, Option, Some, None, refl, ap, sym}
+use Rattle.std.proofs.Common.{◌≡◌, ◌+◌, ◌<◌, ◌≤◌, ◌^◌, ℕ, Bool, true, false, List, [], ◌∷◌, length, map, Option, Some, None, refl, ap, sym}
 use Rattle.std.proofs.Common.{subst}
 use Rattle.std.proofs.Common.{◌∙◌, arith}
-use Rattle.std.proofs.lemmas.List.Elements.{Contains-append_right}
-use Rattle.std.specs.Prelude.{Contains, if◌then◌else◌, slice_index_or}
+use Rattle.std.specs.Prelude.{Contains, if◌then◌else◌}
 use Rattle.std.specs.List.{list_all}
 use Rattle.sctp_association.proofs.Long.{Allows, Long, ages-in, ages-of, distinct-of, first-of, holds-of, near-of}
 use Rattle.sctp_association.specs.Hosts.{bytes_of}
@@ -19,7 +18,7 @@ use Rattle.sctp_delivery.proofs.HeldWeights.{weighs, weighs-so}
 use Rattle.sctp_delivery.proofs.Kept.{held-weighs}
 use Rattle.sctp_delivery.proofs.Names.{held_weight, is_on}
 use Rattle.sctp_delivery.proofs.Sessions.{all-pass, fails}
-use Rattle.sctp_delivery.proofs.Stands.{contains-more, more-made, more-reported}
+use Rattle.sctp_delivery.proofs.Stands.{more-made, more-reported}
 use Rattle.sctp_delivery.proofs.YoungReads.{none-fail}
 use Rattle.sctp_delivery.specs.Complete.{fragments_held, fragments_on}
 use Rattle.sctp_delivery.specs.EveryCall.{AnyCall, FollowsAny, ReceiverDoes, ReceiverOther, RunsAny, SenderDoes, makes, of_receiving, of_sending, resets}

@@ -24,7 +24,6 @@ use Rattle.sctp_association.specs.Runs.{AcksBy, ReportsIn, Runs, reported_by}
 use Rattle.sctp_association.specs.Young.{AreYoungMoves, HoldsYoung, IsBounded, IsYoungCall, IsYoungData, aged_by, aged_over}
 use Rattle.sctp_data.specs.PayloadData.{Data, data_of}
 use Rattle.sctp_data.specs.SelectiveAck.{Sack}
-use Rattle.sctp_delivery.proofs.Every.{every-contained}
 use Rattle.sctp_delivery.specs.EveryCall.{AnyCall, closes_incoming, discards, of_receiving, passes_over, resets_incoming}
 use Rattle.sctp_delivery.specs.Complete.{fragments_held}
 use Rattle.sctp_delivery.specs.ReceiverCalls as incoming

@@ -1,16 +1,20 @@
 -- Where each call that a datagram brings is plain, two associations stand in sessions of a sender that keeps what is reported.
 use Rattle.std.proofs.Common.{◌≡◌, ◌+◌, List, [], ◌∷◌, refl, ap, inl, arith}
-use Rattle.sctp_association.proofs.Hosts.{Fits, Joined, each-joined, turned}
+use Rattle.sctp_association.proofs.FewHosts.{each-few-joined}
+use Rattle.sctp_association.proofs.Hosts.{Fits}
+use Rattle.sctp_association.proofs.Long.{first-of, given-of}
+use Rattle.sctp_association.proofs.LongHosts.{Joined, turned}
 use Rattle.sctp_association.proofs.Rules.{moves-both}
 use Rattle.sctp_association.specs.Arrivals.{Arrival, Halves, acks, begins, counts, hears, passes, receives, renews, restarts}
-use Rattle.sctp_association.specs.Hosts.{Delivers, EachDelivers, Host, IsPlain, Way, first_host, hosts}
+use Rattle.sctp_association.specs.Hosts.{Delivers, EachDelivers, Host, IsPlain, Way, WroteFew, first_host, hosts}
 use Rattle.sctp_association.specs.OneLife.{others_of}
 use Rattle.sctp_delivery.proofs.Every.{Every}
 use Rattle.sctp_delivery.proofs.PlainRuns as laws
 use Rattle.sctp_delivery.specs.EveryCall as any
 use Rattle.sctp_delivery.specs.EveryCall.{AnyCall, RunsAny, SenderDoes, makes, of_receiving, of_sending, tsns_given_any}
+use Rattle.sctp_delivery.specs.Recent.{Aged}
 use Rattle.sctp_delivery.specs.Returns as so
-use Rattle.sctp_delivery.specs.Returns.{CallOrReturn, RunsWithReturns, TakesBack, at_start_with, tsns_given_so}
+use Rattle.sctp_delivery.specs.Returns.{CallOrReturn, RunsWithReturns, TakesBack, tsns_given_so}
 use Rattle.sctp_delivery.specs.Session.{Session}
 use Rattle.sctp_delivery.specs.Stand.{StandSo}
 use Rattle.sctp_receiver.specs.ReceiverRuns as runs
@@ -72,26 +76,27 @@ plainly (of_receiving call ∷ cs) old new r e = absurd e.0
 
 -- ## The law
 
-delivers : (f b : Way) (x z : Host) → Joined NoCall NoCall f b x z → Delivers f x z
-delivers f b x z j =
-    let a = j.forth in
-    let p = plainly a.calls (at_start_with a.reported a.tsn a.size a.max a.most a.limits) a.session a.run j.goes.only in
+delivers : (f b : Way) (made back : List Aged) (x z : Host) → Joined NoCall NoCall f b made back x z → WroteFew x → Delivers f x z
+delivers f b made back x z j wrote =
+    let r = j.forth.ran in
+    let p = plainly r.calls (first-of r) r.session r.run j.goes.only in
     let given = p.given in
-    let few = a.few in
+    let used = j.goes.given in
+    let cut = wrote.0 in
     let st : StandSo = record {
-      reported = a.reported;
-      tsn = a.tsn;
-      size = a.size;
-      max = a.max;
-      most = a.most;
-      limits = a.limits;
+      reported = r.reported;
+      tsn = r.tsn;
+      size = r.size;
+      max = r.max;
+      most = r.most;
+      limits = r.limits;
       calls = p.calls;
-      session = a.session;
+      session = r.session;
       run = p.run;
-      small = a.small;
-      some = a.some;
-      few = omega (arith, given, few);
-      short = a.short;
+      small = j.forth.small;
+      some = j.forth.some;
+      few = omega (arith, given, used, cut);
+      short = j.forth.short;
     } in
     record {
       stand = st;
@@ -109,5 +114,8 @@ pub each-delivers : EachDelivers
 each-delivers f b moves new run plain fit other one-few other-few =
     let rule = moves-both (IsPlain b) (IsPlain b) (Fits NoCall NoCall b) (fits b) (IsPlain f) (IsPlain f) (Fits NoCall NoCall f) (fits f) moves
     (hosts (first_host f) (first_host b)) new run plain plain in
-    let j = each-joined NoCall NoCall f b moves new run rule fit other one-few other-few in
-    (delivers f b new.one new.other j, delivers b f new.other new.one (turned NoCall NoCall f b new.one new.other j))
+    let x = (each-few-joined NoCall NoCall f b moves new run rule fit other one-few other-few).1 in
+    let j = x.joined' in (
+      delivers f b x.ones x.others new.one new.other j one-few,
+      delivers b f x.others x.ones new.other new.one (turned NoCall NoCall f b x.ones x.others new.one new.other j) other-few,
+    )

@@ -9,7 +9,7 @@ use Rattle.sctp_association.proofs.HostCalls.{each-datagram-brings}
 use Rattle.sctp_association.proofs.Links.{each-one-life-begins, each-one-life-goes-on, each-one-life-turns}
 use Rattle.sctp_association.proofs.Lives.{ack_read, deed_is_known, first_or_not, init_read, life_begins, sealed_of}
 use Rattle.sctp_association.proofs.OneLife.{each-link-delivers-any}
-use Rattle.sctp_association.proofs.YoungLife.{each-link-delivers-young}
+use Rattle.sctp_association.proofs.OneLife.{each-link-delivers-young}
 use Rattle.sctp_association.proofs.Rules.{brought-steps, calls-by}
 use Rattle.sctp_association.specs.Arrivals.{Arrival, Does, Halves, IsBroughtAs, Steps, begins, hears, receives, renews}
 use Rattle.sctp_association.specs.Beginnings.{AnswersInit, ArrivesAsOffered, BeginsToAsk, HasAsked, IsBegunBy, IsEchoed, IsKeptButMtu, IsOffered, IsOwnOffer}

@@ -2,7 +2,7 @@
 use Rattle.std.specs.Prelude.{◌≡◌, ⊤, ℕ, ◌^◌, ◌<◌, true, List, [], ◌∷◌, ◌++◌, length, map, Option, Some, None}
 use Rattle.std.specs.List.{list_all}
 use Rattle.sctp_association.specs.Arrivals.{Arrival, Halves, acks, begins, hears, passes, receives, renews}
-use Rattle.sctp_association.specs.Hosts.{Act, Acts, Host, Hosts, IsActByRule, IsFit, IsReceiver, Move, MovesTo, Way, asks, bytes_of, first_host, handles}
+use Rattle.sctp_association.specs.Hosts.{Act, Acts, Host, Hosts, IsActByRule, IsFit, IsReceiver, Move, MovesTo, Way, WroteFew, asks, bytes_of, first_host, handles}
 use Rattle.sctp_association.specs.Hosts.{hosts, one_acts, other_acts, polls, reads_on}
 use Rattle.sctp_association.specs.Links.{AreLinked, Party, host_at}
 use Rattle.sctp_association.specs.OneLife.{AreOfTheirOwn, AreOneLife, AreWritesOnSteady, Brought, DeliversIn, IsOneLifeLink, brought_to_one, brought_to_other}
@@ -152,6 +152,15 @@ EachDeliversYoung =
     × DeliversYoung back
     (brought_to_other (hosts (first_host forth) (first_host back)) moves new run)
     (brought_to_one (hosts (first_host forth) (first_host back)) moves new run) new.other new.one
+
+-- where each side writes few fragments, nothing is old: so `EachDeliversAny` is said of fewer than this
+abbrev pub EachFewIsYoung : Type 0
+EachFewIsYoung =
+    (forth back : Way) (moves : List Move) (new : Hosts)
+    (run : MovesTo (hosts (first_host forth) (first_host back)) moves new)
+    → AreOneLife forth back (hosts (first_host forth) (first_host back)) moves new run
+    → IsFit forth → IsFit back → WroteFew new.one → WroteFew new.other
+    → AreYoungMoves forth back [] [] (hosts (first_host forth) (first_host back)) moves new run
 
 -- ## Two of them, as a caller has them
 

@@ -13,7 +13,7 @@ ghost use Rattle.sctp_association.specs.Sessions.{EachIsSent};
 ghost use Rattle.sctp_association.specs.Setups.{EachDatagramKeeps, EachQuietCallKeeps, EachSetUpDelivers, EachSetUpDeliversYoung, EachSetUpTurns, EachTwoAreSetUp, EachWrittenKeeps};
 ghost use Rattle.sctp_association.specs.Sized.{EachAskIsCut, EachChunkFits, EachDatagramIsCut, EachIsCutFirst, EachOtherIsCut, EachPollIsCut, EachSizeIsCut, EachTimeoutIsCut};
 ghost use Rattle.sctp_association.specs.Told.{EachLosesNone};
-ghost use Rattle.sctp_association.specs.Young.{EachDeliversYoung, EachLinkDeliversYoung};
+ghost use Rattle.sctp_association.specs.Young.{EachDeliversYoung, EachFewIsYoung, EachLinkDeliversYoung};
 
 /// Whatever a peer sends, and whatever calls an association had, what it holds of the peer's messages is within its `Config`. By 400 a
 /// chunk, the chunks count for no more than `window` and one chunk for each TSN within `reach`; with their bytes, for no more than
@@ -62,6 +62,7 @@ pub fn whatever_is_reset_what_is_read_was_written()
     ensures weaker { EachPlainIsOneLife }
     ensures hosts_recent { EachDeliversYoung }
     ensures linked_recent { EachLinkDeliversYoung }
+    ensures few { EachFewIsYoung }
 {}
 
 /// What the clauses of a call ensure of an association is what these acts of a `Host` do: of such acts `what_is_read_was_written` speaks, and

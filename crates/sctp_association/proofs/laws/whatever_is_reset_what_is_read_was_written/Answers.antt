@@ -1,6 +1,5 @@
-use Rattle.sctp_association.proofs.FewHosts as few_hosts
-use Rattle.sctp_association.proofs.OneLife.{each-delivers-any, each-link-delivers-any, each-plain}
-use Rattle.sctp_association.proofs.YoungLife.{each-delivers-young, each-link-delivers-young}
+use Rattle.sctp_association.proofs.OneLife.{each-delivers-any, each-delivers-young, each-few-young, each-link-delivers-any, each-link-delivers-young}
+use Rattle.sctp_association.proofs.OneLife.{each-plain}
 use Rattle.sctp_association.proofs.laws.whatever_is_reset_what_is_read_was_written.Goals as goal
 
 pub returns : goal.returns
@@ -10,4 +9,5 @@ returns c = record {
   weaker = each-plain;
   hosts_recent = each-delivers-young;
   linked_recent = each-link-delivers-young;
+  few = each-few-young;
 }
