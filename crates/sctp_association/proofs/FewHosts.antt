@@ -13,7 +13,7 @@ use Rattle.sctp_association.specs.Arrivals.{halves}
 use Rattle.sctp_association.specs.Hosts.{Act, Acts, AreMovesByRule, Asks, Handles, Host, Hosts, IsActByRule, IsFit, IsReceiver, Move, MovesTo, Polls, Way}
 use Rattle.sctp_association.specs.Hosts.{WroteFew, asks, bytes_of, first_host, fragments_by, handles, hosts, one_acts, other_acts, polls, reads_on}
 use Rattle.sctp_association.specs.Runs.{Runs, SendsBy, made_by}
-use Rattle.sctp_association.specs.Young.{AreYoungMoves, HoldsYoung, IsBounded, IsYoungCall, aged_by}
+use Rattle.sctp_association.specs.Ages.{AreYoungMoves, HoldsYoung, IsBounded, IsYoungCall, aged_by}
 use Rattle.sctp_delivery.proofs.Stands.{sender_after}
 use Rattle.sctp_delivery.specs.Complete.{fragments_held}
 use Rattle.sctp_delivery.specs.EveryCall.{AnyCall, makes}

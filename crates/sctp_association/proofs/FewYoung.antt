@@ -15,7 +15,7 @@ use Rattle.sctp_association.specs.Arrivals.{acks, begins, counts, hears, passes,
 use Rattle.sctp_association.specs.Delivered.{IsFor, IsForMade}
 use Rattle.sctp_association.specs.Hosts.{AreByRule, Host, IsReceiver}
 use Rattle.sctp_association.specs.Hosts.{Way, bytes_of, fragments_by}
-use Rattle.sctp_association.specs.Young.{IsYoungCall}
+use Rattle.sctp_association.specs.Ages.{IsYoungCall}
 use Rattle.sctp_data.specs.SelectiveAck.{Sack}
 use Rattle.sctp_delivery.proofs.EveryFewYoung.{few-young}
 use Rattle.sctp_delivery.proofs.StandsAny.{given-then, run-then}

@@ -21,7 +21,7 @@ use Rattle.sctp_association.specs.Hosts.{IsReceiver, Move, MovesTo, Polls, Reads
 use Rattle.sctp_association.specs.Hosts.{hosts, is_asking, one_acts, other_acts, polls, reads_on}
 use Rattle.sctp_association.specs.Packets.{IsWritten}
 use Rattle.sctp_association.specs.Runs.{AcksBy, ReportsIn, Runs, reported_by}
-use Rattle.sctp_association.specs.Young.{AreYoungMoves, HoldsYoung, IsBounded, IsYoungCall, IsYoungData, aged_by, aged_over}
+use Rattle.sctp_association.specs.Ages.{AreYoungMoves, HoldsYoung, IsBounded, IsYoungCall, IsYoungData, aged_by, aged_over}
 use Rattle.sctp_data.specs.PayloadData.{Data, data_of}
 use Rattle.sctp_data.specs.SelectiveAck.{Sack}
 use Rattle.sctp_delivery.specs.EveryCall.{AnyCall, closes_incoming, discards, of_receiving, passes_over, resets_incoming}

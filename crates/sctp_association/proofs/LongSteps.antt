@@ -14,7 +14,7 @@ use Rattle.sctp_association.proofs.Tsns.{Uses, makes-uses, no-further, uses-none
 use Rattle.sctp_association.specs.Hosts.{bytes_of, fragments_by}
 use Rattle.sctp_association.specs.OneLife.{is_other, others_of}
 use Rattle.sctp_association.specs.Runs.{AcksBy, Runs, SendsBy, is_sending, made_by, reported_by}
-use Rattle.sctp_association.specs.Young.{aged_over, new_by}
+use Rattle.sctp_association.specs.Ages.{aged_over, new_by}
 use Rattle.sctp_data.specs.SelectiveAck.{Sack}
 use Rattle.sctp_delivery.proofs.Every.{Every, every-joined}
 use Rattle.sctp_delivery.proofs.EveryGoes.{run-accounted}

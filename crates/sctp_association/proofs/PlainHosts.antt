@@ -2,7 +2,7 @@
 use Rattle.std.proofs.Common.{◌≡◌, ◌+◌, List, [], ◌∷◌, refl, ap, inl, arith}
 use Rattle.sctp_association.proofs.FewHosts.{each-few-joined}
 use Rattle.sctp_association.proofs.Hosts.{Fits}
-use Rattle.sctp_association.proofs.Long.{first-of, given-of}
+use Rattle.sctp_association.proofs.Long.{first-of}
 use Rattle.sctp_association.proofs.LongHosts.{Joined, turned}
 use Rattle.sctp_association.proofs.Rules.{moves-both}
 use Rattle.sctp_association.specs.Arrivals.{Arrival, Halves, acks, begins, counts, hears, passes, receives, renews, restarts}

@@ -2,6 +2,7 @@ pub mod Acks
 pub mod AcksDue
 pub mod AcksOn
 pub mod Again
+pub mod Ages
 pub mod Arrivals
 pub mod Asked
 pub mod BackOff

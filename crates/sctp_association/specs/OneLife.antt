@@ -3,6 +3,7 @@
 use Rattle.std.specs.Prelude.{◌≡◌, ◌≢◌, All, AllPairs, ⊤, ℕ, Bool, true, false, List, [], ◌∷◌, ◌++◌, Contains}
 use Rattle.std.specs.List.{filter}
 use Rattle.sctp_association.specs.declared.association.Association.{Association}
+use Rattle.sctp_association.specs.Ages.{AreYoungActs, IsYoungCall, IsYoungLink, aged_each, made_by_one, made_by_other}
 use Rattle.sctp_association.specs.Arrivals.{Arrival, Arrives, Does, Halves, IsBrought, Steps, begins, halves, hears, receives, renews, restarts}
 use Rattle.sctp_association.specs.Beginnings.{ArrivesAsOffered, IsBegunBy}
 use Rattle.sctp_association.specs.Halves.{halves_of}
@@ -18,6 +19,7 @@ use Rattle.sctp_delivery.specs.EveryCall.{takes_back}
 use Rattle.sctp_delivery.specs.EveryEnd.{IsOrderedReadInTheEnd, IsSentReadInTheEnd, IsUnorderedReadInTheEnd, abandoned_any, dropped_any}
 use Rattle.sctp_delivery.specs.EveryOrder.{AreReadInTurnWhereUnbroken, AreSingleReadAsWritten, AreSingleReadInOrder, is_unbroken}
 use Rattle.sctp_delivery.specs.Messages.{AreParts, IsWrite, NoneIsReadTwice, StandAt}
+use Rattle.sctp_delivery.specs.Recent.{Aged}
 use Rattle.sctp_delivery.specs.Returns.{IsAccountedSo, at_start_with}
 use Rattle.sctp_delivery.specs.SenderCalls.{Write}
 use Rattle.sctp_delivery.specs.Session.{AreMade, AreMessages, Session}
@@ -266,7 +268,7 @@ EachLinkDeliversAny =
 
 -- ## What leads on
 
--- two that were made by `new`: no datagram came
+-- two that were made by `new`: no datagram came, and nothing was made
 abbrev pub EachOneLifeBegins : Type 0
 EachOneLifeBegins =
     (forth back : Way) (one other : Party) → host_at one ≡ first_host forth
@@ -274,6 +276,8 @@ EachOneLifeBegins =
     → (link : AreLinked forth back one other) × IsOneLifeLink forth back one other link
     × (came_to_one forth back one other link ≡ [])
     × (came_to_other forth back one other link ≡ [])
+    × IsYoungLink forth back one other link × (made_by_one forth back one other link ≡ [])
+    × (made_by_other forth back one other link ≡ [])
 
 -- acts of the one bring these calls
 abbrev pub brought_each : (peer : List (List ℕ)) (acts : List Act) (old new : Host)
@@ -296,6 +300,13 @@ EachOneLifeGoesOn =
     ≡ came_to_one forth back old other link
     ++ brought_each other.log.sent acts (host_at old) (host_at new) done)
     × (came_to_other forth back new other next ≡ came_to_other forth back old other link)
+    × (IsYoungLink forth back old other link
+    → AreYoungActs forth (made_by_other forth back old other link) (host_at other) acts
+    (host_at old) (host_at new) done → IsYoungLink forth back new other next)
+    × (made_by_one forth back new other next
+    ≡ aged_each (made_by_one forth back old other link) other.log.sent acts
+    (host_at old) (host_at new) done)
+    × (made_by_other forth back new other next ≡ made_by_other forth back old other link)
 
 -- the two change places
 abbrev pub EachOneLifeTurns : Type 0
@@ -305,6 +316,9 @@ EachOneLifeTurns =
     × (IsOneLifeLink forth back one other link → IsOneLifeLink back forth other one turned)
     × (came_to_one back forth other one turned ≡ came_to_other forth back one other link)
     × (came_to_other back forth other one turned ≡ came_to_one forth back one other link)
+    × (IsYoungLink forth back one other link → IsYoungLink back forth other one turned)
+    × (made_by_one back forth other one turned ≡ made_by_other forth back one other link)
+    × (made_by_other back forth other one turned ≡ made_by_one forth back one other link)
 
 -- `handle_datagram` of one that the peer wrote: it brings these calls
 abbrev pub EachDatagramBrings : Type 0
@@ -316,6 +330,9 @@ EachDatagramBrings =
     → IsActByRule (IsOneLife w) peer (handles datagram) (host_of a l) (host_of b l) done)
     × (brought_by peer (handles datagram) (host_of a l) (host_of b l) done
     ≡ brought_in datagram came.calls (halves_of a) (halves_of b) came.run)
+    × ((out : Way) (ages : List Aged) (z : Host)
+    → AreByRule (IsYoungCall out ages z) datagram came.calls (halves_of a) (halves_of b) came.run
+    → IsActByRule (IsYoungCall out ages z) peer (handles datagram) (host_of a l) (host_of b l) done)
 
 -- and by whose offers halves begin, `handle_datagram` says (`offered`)
 abbrev pub EachOfferedIsBrought : Type 0
