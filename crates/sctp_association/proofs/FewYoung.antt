@@ -133,7 +133,7 @@ module _ (P Q : AnyCall → Type 0) (w out : Way) (peer : Host) (hs gs : List Ag
         → IsYoungCall out gs peer (receives call) (halves t (Some r))
     receive-young (runs.takes x a) h fits of =
         let l = few-receive st few (incoming.takes x a) s (subst (λ q. ReceiverMakes (incoming.takes x a) q s) (sym is) (h.makes, h.accepted)) (made _ of) in
-        (among _ l.young, before x.tsn l.recent)
+        among _ l.young
     receive-young (runs.forwards f) h fits of =
         either
         (λ (named : names_closed f r ≡ false).
@@ -150,7 +150,7 @@ module _ (P Q : AnyCall → Type 0) (w out : Way) (peer : Host) (hs gs : List Ag
         let l = few-other st few (discards (chunk-of d)) s
         (subst (λ x. runs.Makes (runs.discards d.tsn) x s) (sym is) (subst (λ n. runs.Makes (runs.discards n) r s) of.is h.makes))
         (subst (λ x. discard_refusal d.tsn x ≡ None) (sym is) (subst (λ n. discard_refusal n r ≡ None) of.is h.unrefused.1)) (made _ of.own) in
-        (d, sym of.is, (among (data_chunk d) l.passed, before d.tsn l.recent))
+        (d, sym of.is, among (data_chunk d) l.passed)
     receive-young call h fits of = tt
 
   receive-in-young : (call : runs.Call) (t : Transmission) (o p : Option Reception) (st : Long) → used-of st < 2 ^ 31 → ReceivesIn call o p

@@ -73,6 +73,7 @@ pub mod OneLife
 pub mod Raises
 pub mod Long
 pub mod LongCalls
+pub mod AgedTsns
 pub mod LongSteps
 pub mod LongHosts
 pub mod FewYoung

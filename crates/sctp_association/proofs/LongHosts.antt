@@ -3,6 +3,7 @@ use Rattle.std.proofs.Common.{◌≡◌, ◌+◌, ◌≤◌, ◌<◌, ◌^◌, �
 use Rattle.std.proofs.lemmas.Bool.{false≢true}
 use Rattle.std.proofs.lemmas.List.Elements.{All-contains, All-from_recursion, Contains-append_cases}
 use Rattle.std.specs.Prelude.{Contains, if◌then◌else◌}
+use Rattle.sctp_association.proofs.AgedTsns.{young-before}
 use Rattle.sctp_association.proofs.Delivered.{carries-only, of-call}
 use Rattle.sctp_association.proofs.Hosts.{Fits, chunk-of, more-bytes, none-reported}
 use Rattle.sctp_association.proofs.HostSteps.{IsThere, Only, contains-none, either, plain-sack}
@@ -21,7 +22,7 @@ use Rattle.sctp_association.specs.Hosts.{IsReceiver, Move, MovesTo, Polls, Reads
 use Rattle.sctp_association.specs.Hosts.{hosts, is_asking, one_acts, other_acts, polls, reads_on}
 use Rattle.sctp_association.specs.Packets.{IsWritten}
 use Rattle.sctp_association.specs.Runs.{AcksBy, ReportsIn, Runs, reported_by}
-use Rattle.sctp_association.specs.Ages.{AreYoungMoves, HoldsYoung, IsBounded, IsYoungCall, IsYoungData, aged_by, aged_over}
+use Rattle.sctp_association.specs.Ages.{AreYoungMoves, HoldsYoung, IsBounded, IsYoungCall, aged_by, aged_over}
 use Rattle.sctp_data.specs.PayloadData.{Data, data_of}
 use Rattle.sctp_data.specs.SelectiveAck.{Sack}
 use Rattle.sctp_delivery.specs.EveryCall.{AnyCall, closes_incoming, discards, of_receiving, passes_over, resets_incoming}
@@ -138,21 +139,21 @@ module _ (P Q : AnyCall → Type 0) (w out : Way) (peer : Host) (hs gs : List Ag
       before : (n : ℕ) → comes_before n Next ≡ true → comes_before n st.ran.session.sending.sender.flight.next_tsn ≡ true
       before n e = subst (λ (u : Transmission). comes_before n u.flight.next_tsn ≡ true) (sym from') e
 
-      drop-one : (d : Data) (tsn : ℕ) → d.tsn ≡ tsn → IsYoungData gs Next d → Receives (runs.discards tsn) r s → Q (of_receiving (discards (chunk-of d))) → Here
+      drop-one : (d : Data) (tsn : ℕ) → d.tsn ≡ tsn → IsAmongYoung (data_chunk d) gs → Receives (runs.discards tsn) r s → Q (of_receiving (discards (chunk-of d))) → Here
       drop-one d tsn same y h q =
-          let young = among st c (data_chunk d) y.0 in
+          let young = among st c (data_chunk d) y in
           led-by Q w st s st.ran.session.receiving.read gs
           (other-call Q st gs c (discards (chunk-of d)) s
           (subst (λ x. runs.Makes (runs.discards d.tsn) x s) (sym is) (subst (λ n. runs.Makes (runs.discards n) r s) (sym same) h.makes))
           (subst (λ x. discard_refusal d.tsn x ≡ None) (sym is) (subst (λ n. discard_refusal n r ≡ None) (sym same) h.unrefused.1))
-          (aged-made st (record { chunk = data_chunk d; age = young.0 }) young.2) (before d.tsn y.1) young q)
+          (aged-made st (record { chunk = data_chunk d; age = young.0 }) young.2) (young-before st d young) young q)
 
       receive-one : (call : runs.Call) → Receives call r s → Fits P Q w (receives call) (halves t (Some r))
           → IsYoungCall out gs peer (receives call) (halves t (Some r)) → IsForMade ms call → Here
       receive-one (runs.takes x a) h fits y of =
           led-by Q w st s st.ran.session.receiving.read gs
           (receive-call Q st gs c (incoming.takes x a) s (subst (λ q. ReceiverMakes (incoming.takes x a) q s) (sym is) (h.makes, h.accepted)) (made _ of)
-          (before x.tsn y.1) (among st c (data_chunk (data_of x)) y.0) tt)
+          (young-before st (data_of x) (among st c (data_chunk (data_of x)) y)) (among st c (data_chunk (data_of x)) y) tt)
       receive-one (runs.opens stream) h fits y of =
           led-by Q w st s st.ran.session.receiving.read gs
           (receive-call Q st gs c (incoming.opens stream) s (subst (λ q. ReceiverMakes (incoming.opens stream) q s) (sym is) (h.makes, tt)) tt tt tt tt)

@@ -48,12 +48,7 @@ aged_by ages peer (handles datagram) old new done = ages
 
 -- ## What datagrams may bring
 
--- the DATA chunk is one of these, less than 2^31 TSNs old, and has a TSN before this one
-abbrev pub IsYoungData : List Aged → (next : ℕ) → Data → Type 0
-IsYoungData ages next d =
-    IsAmongYoung (data_chunk d) ages × (comes_before d.tsn next ≡ true)
-
--- so is the FORWARD-TSN, and goes to such a TSN
+-- the FORWARD-TSN is one of these, made fewer than 2^31 TSNs ago, and the TSN to which it goes is before this one
 abbrev pub IsYoungSkip : List Aged → (next : ℕ) → ForwardTsn → Type 0
 IsYoungSkip ages next f =
     IsAmongYoung (forward_tsn f) ages × (comes_before f.new_cumulative_tsn next ≡ true)
@@ -67,9 +62,9 @@ IsReached w o tsn =
 -- SACK or SHUTDOWN. These are of what the peer made, and out is the way to it
 abbrev pub IsYoungCall : (out : Way) (ages : List Aged) (peer : Host) → Arrival → Halves → Type 0
 IsYoungCall out ages peer (receives (runs.takes c arrival)) h =
-    IsYoungData ages peer.sender.flight.next_tsn (data_of c)
+    IsAmongYoung (data_chunk (data_of c)) ages
 IsYoungCall out ages peer (receives (runs.discards tsn)) h =
-    (d : Data) × (d.tsn ≡ tsn) × IsYoungData ages peer.sender.flight.next_tsn d
+    (d : Data) × (d.tsn ≡ tsn) × IsAmongYoung (data_chunk d) ages
 IsYoungCall out ages peer (receives (runs.forwards f)) h =
     IsYoungSkip ages peer.sender.flight.next_tsn f
 IsYoungCall out ages peer (receives _) h = ⊤
