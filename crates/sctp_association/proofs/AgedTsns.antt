@@ -1,12 +1,11 @@
 -- A DATA chunk that a sender made lies as many TSNs before the next one as it is old.
-use Rattle.std.proofs.Common.{◌≡◌, ◌+◌, ◌-◌, ◌%◌, ◌≤◌, ◌<◌, ◌^◌, ℕ, Bool, true, false, List, [], ◌∷◌, ◌++◌, length, map, Option, Some, None, refl, ap, sym}
-use Rattle.std.proofs.Common.{subst, ◌∙◌, arith}
+use Rattle.std.proofs.Common.{◌≡◌, ◌+◌, ◌-◌, ◌%◌, ◌<◌, ◌^◌, ℕ, Bool, true, false, List, [], ◌∷◌, map, Option, Some, None, ap, sym}
+use Rattle.std.proofs.Common.{subst, arith}
 use Rattle.std.proofs.lemmas.Bool.Decides.{nat_tests}
-use Rattle.std.specs.Prelude.{⊤, ◌&&◌, Contains, if◌then◌else◌, is_some, nat_lt}
+use Rattle.std.specs.Prelude.{⊤, if◌then◌else◌, is_some}
 use Rattle.sctp_association.proofs.Long.{Long, ages-in, ages-of, first-of}
-use Rattle.sctp_data.specs.PayloadData.{data_of}
 use Rattle.sctp_data.specs.declared.chunk.chunk_payload_data.ChunkPayloadData.{ChunkPayloadData}
-use Rattle.sctp_delivery.proofs.Every.{Every, every-contained, every-joined, every-mapped, every-of}
+use Rattle.sctp_delivery.proofs.Every.{Every, every-contained, every-joined, every-mapped}
 use Rattle.sctp_delivery.proofs.EveryRecent.{near-after, near-start}
 use Rattle.sctp_delivery.proofs.EveryRuns.{next-same}
 use Rattle.sctp_delivery.proofs.Recent.{IsNear}
@@ -15,7 +14,7 @@ use Rattle.sctp_delivery.specs.EveryRecent.{AreRecentAny, aged_any}
 use Rattle.sctp_delivery.specs.Recent.{Aged, IsAmongYoung, new_chunks, older}
 use Rattle.sctp_delivery.specs.SenderCalls as outgoing
 use Rattle.sctp_delivery.specs.SenderCalls.{Made, data_chunk, forward_tsn, next_chunk, with_chunk}
-use Rattle.sctp_delivery.specs.Session.{Call, Follows, Session, of_receiver, of_sender}
+use Rattle.sctp_delivery.specs.Session.{Call, Follows, Session, of_sender}
 use Rattle.sctp_data.specs.PayloadData.{Data}
 use Rattle.sctp_outbound.proofs.lemmas.outbound_queue.Outbounds.{peeked_all_started}
 use Rattle.sctp_outbound.specs.outbound_queue.OutboundQueue.{all_started, as_sent}

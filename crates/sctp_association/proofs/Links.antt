@@ -3,17 +3,19 @@ use Rattle.std.proofs.Common.{◌≡◌, List, [], ◌∷◌, ◌++◌, map, ref
 use Rattle.std.proofs.lemmas.List.{append-nil}
 use Rattle.std.specs.Prelude.{⊤}
 use Rattle.sctp_association.proofs.Hosts.{each-cut}
-use Rattle.sctp_association.proofs.PlainHosts.{each-delivers}
+use Rattle.sctp_association.proofs.PlainHosts.{each-delivers, each-plain-delivers-young}
 use Rattle.sctp_association.specs.Ages.{AreYoungActs, AreYoungMoves, aged_by, aged_each, aged_one, aged_other, made_by_one, made_by_other}
 use Rattle.sctp_association.specs.Arrivals.{Arrival, Halves}
 use Rattle.sctp_association.specs.HostCalls.{ActsEach}
-use Rattle.sctp_association.specs.Hosts.{Act, AreMovesByRule, Delivers, Host, Hosts, IsPlain, Move, MovesTo, Way, first_host, hosts, one_acts, other_acts}
+use Rattle.sctp_association.specs.Hosts.{Act, AreMovesByRule, Delivers, DeliversPlain, Host, Hosts, IsPlain, Move, MovesTo, Way, first_host, hosts, one_acts, other_acts}
 use Rattle.sctp_association.specs.Links.{AreActsByRule, AreInOrder, AreLinked, EachLinkDelivers, EachLinkGoesOn, EachLinkIsCut, EachLinkTurns, EachTwoBegin}
 use Rattle.sctp_association.specs.Links.{IsReadAsWritten, Party, host_at}
 use Rattle.sctp_association.specs.OneLife.{Brought, EachOneLifeBegins, EachOneLifeGoesOn, EachOneLifeTurns, IsOneLife, brought_by, brought_each}
 use Rattle.sctp_association.specs.OneLife.{brought_to_one, brought_to_other}
 use Rattle.sctp_delivery.specs.Recent.{Aged}
+use Rattle.sctp_association.specs.Young.{DeliversPlainYoung, EachPlainLinkDeliversYoung, IsReadPlainlyYoung}
 use Rattle.sctp_delivery.specs.SenderCalls.{Write}
+use Rattle.sctp_delivery.specs.Session.{Session}
 use Rattle.sctp_receiver.specs.ReceiverRuns.{Message}
 
 -- ## Moves one after another
@@ -199,17 +201,25 @@ each-one-life-turns f b x z link =
 
 -- ## What holds
 
-in-order : (w : Way) (x z : Party) → Delivers w (host_at x) (host_at z) → IsReadAsWritten w x z
-in-order w x z d = record {
-  delivers = d;
-  order = subst (λ (ws : List Write). AreInOrder ws z.log.read) d.written
-      (subst (λ (ms : List Message). AreInOrder d.stand.session.written ms) d.read d.order);
-}
+in-order : (w : Way) (x z : Party) (s : Session) → DeliversPlain w (host_at x) (host_at z) s → AreInOrder x.log.written z.log.read
+in-order w x z s d =
+    subst (λ (ws : List Write). AreInOrder ws z.log.read) d.written (subst (λ (ms : List Message). AreInOrder s.written ms) d.read d.order)
+
+as-written : (w : Way) (x z : Party) → Delivers w (host_at x) (host_at z) → IsReadAsWritten w x z
+as-written w x z d = record { delivers = d; order = in-order w x z d.stand.session d.delivers }
+
+as-written-young : (w : Way) (x z : Party) → DeliversPlainYoung w (host_at x) (host_at z) → IsReadPlainlyYoung w x z
+as-written-young w x z d = record { delivers = d; order = in-order w x z d.ran.session d.delivers }
 
 pub each-link-delivers : EachLinkDelivers
 each-link-delivers f b x z link plain fit other one-few other-few =
     let d = each-delivers f b link.moves (hosts (host_at x) (host_at z)) link.run plain fit other one-few other-few in
-    (in-order f x z d.0, in-order b z x d.1)
+    (as-written f x z d.0, as-written b z x d.1)
+
+pub each-plain-link-delivers-young : EachPlainLinkDeliversYoung
+each-plain-link-delivers-young f b x z link plain young fit other one-short other-short =
+    let d = each-plain-delivers-young f b link.moves (hosts (host_at x) (host_at z)) link.run plain young fit other one-short other-short in
+    (as-written-young f x z d.0, as-written-young b z x d.1)
 
 pub each-link-is-cut : EachLinkIsCut
 each-link-is-cut f b x z link = each-cut f b link.moves (hosts (host_at x) (host_at z)) link.run

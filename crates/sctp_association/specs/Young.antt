@@ -1,8 +1,8 @@
 -- Two associations in a whole life: nothing that datagrams bring is 2^31 TSNs old (RFC 1982 3.2), however many TSNs were given out.
 use Rattle.std.specs.Prelude.{ℕ, ◌^◌, ◌<◌, List, [], Option}
 use Rattle.sctp_association.specs.Ages.{AreYoungMoves, IsYoungLink}
-use Rattle.sctp_association.specs.Hosts.{Host, Hosts, IsFit, Move, MovesTo, Way, WroteFew, bytes_of, first_host, hosts}
-use Rattle.sctp_association.specs.Links.{AreLinked, Party, host_at}
+use Rattle.sctp_association.specs.Hosts.{ArePlainMoves, DeliversPlain, Host, Hosts, IsFit, Move, MovesTo, Way, WroteFew, bytes_of, first_host, hosts}
+use Rattle.sctp_association.specs.Links.{AreInOrder, AreLinked, IsPlainLink, Party, host_at}
 use Rattle.sctp_association.specs.OneLife.{AreOfTheirOwn, AreOneLife, AreWritesOnSteady, Brought, DeliversIn, IsOneLifeLink, brought_to_one, brought_to_other}
 use Rattle.sctp_association.specs.OneLife.{came_to_one, came_to_other}
 use Rattle.sctp_delivery.specs.EveryCall.{AnyCall, RunsAny}
@@ -74,3 +74,33 @@ EachLinkDeliversYoung =
     (came_to_other forth back one other link) one other
     × IsReadAsWrittenYoung back (came_to_other forth back one other link)
     (came_to_one forth back one other link) other one
+
+-- ## Plain calls
+
+-- where each call that a datagram brings is plain, too: so each message that was read was written, no write twice, and ordered ones in order
+pub record DeliversPlainYoung (w : Way) (a b : Host) : Type 0 where
+  pub ran : Ran
+  pub delivers : DeliversPlain w a b ran.session
+
+abbrev pub EachPlainDeliversYoung : Type 0
+EachPlainDeliversYoung =
+    (forth back : Way) (moves : List Move) (new : Hosts)
+    (run : MovesTo (hosts (first_host forth) (first_host back)) moves new)
+    → ArePlainMoves forth back (hosts (first_host forth) (first_host back)) moves new run
+    → AreYoungMoves forth back [] [] (hosts (first_host forth) (first_host back)) moves new run
+    → IsFit forth → IsFit back → bytes_of new.one.written < 2 ^ 64
+    → bytes_of new.other.written < 2 ^ 64
+    → DeliversPlainYoung forth new.one new.other × DeliversPlainYoung back new.other new.one
+
+-- what the other read the one wrote
+pub record IsReadPlainlyYoung (w : Way) (one other : Party) : Type 0 where
+  pub delivers : DeliversPlainYoung w (host_at one) (host_at other)
+  pub order : AreInOrder one.log.written other.log.read
+
+abbrev pub EachPlainLinkDeliversYoung : Type 0
+EachPlainLinkDeliversYoung =
+    (forth back : Way) (one other : Party) (link : AreLinked forth back one other)
+    → IsPlainLink forth back one other link → IsYoungLink forth back one other link
+    → IsFit forth → IsFit back → bytes_of one.log.written < 2 ^ 64
+    → bytes_of other.log.written < 2 ^ 64
+    → IsReadPlainlyYoung forth one other × IsReadPlainlyYoung back other one

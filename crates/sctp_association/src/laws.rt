@@ -13,7 +13,7 @@ ghost use Rattle.sctp_association.specs.Sessions.{EachIsSent};
 ghost use Rattle.sctp_association.specs.Setups.{EachDatagramKeeps, EachQuietCallKeeps, EachSetUpDelivers, EachSetUpDeliversYoung, EachSetUpTurns, EachTwoAreSetUp, EachWrittenKeeps};
 ghost use Rattle.sctp_association.specs.Sized.{EachAskIsCut, EachChunkFits, EachDatagramIsCut, EachIsCutFirst, EachOtherIsCut, EachPollIsCut, EachSizeIsCut, EachTimeoutIsCut};
 ghost use Rattle.sctp_association.specs.Told.{EachLosesNone};
-ghost use Rattle.sctp_association.specs.Young.{EachDeliversYoung, EachFewIsYoung, EachLinkDeliversYoung};
+ghost use Rattle.sctp_association.specs.Young.{EachDeliversYoung, EachFewIsYoung, EachLinkDeliversYoung, EachPlainDeliversYoung, EachPlainLinkDeliversYoung};
 
 /// Whatever a peer sends, and whatever calls an association had, what it holds of the peer's messages is within its `Config`. By 400 a
 /// chunk, the chunks count for no more than `window` and one chunk for each TSN within `reach`; with their bytes, for no more than
@@ -51,6 +51,8 @@ pub fn what_is_read_was_written()
     ensures cut { EachIsCut }
     ensures linked { EachLinkDelivers }
     ensures few { EachLinkIsCut }
+    ensures hosts_recent { EachPlainDeliversYoung }
+    ensures linked_recent { EachPlainLinkDeliversYoung }
 {}
 
 /// Two associations as above, whatever datagrams bring: streams are reset or closed, TSNs come without their chunks, names of streams that are
