@@ -6,7 +6,7 @@ use Rattle.sctp_association.proofs.Hosts.{Fits, chunk-of}
 use Rattle.sctp_association.proofs.HostSteps.{IsThere, either, plain-sack}
 use Rattle.sctp_association.proofs.Long.{Allows, Long, ages-in, ages-of, first-of, given-of, next-small, ready-of, same-way, used-of}
 use Rattle.sctp_association.proofs.LongCalls.{sack-next}
-use Rattle.sctp_association.proofs.LongHosts.{Ready, ready-then, take-one}
+use Rattle.sctp_association.proofs.LongArrivals.{Ready, ready-then, take-one}
 use Rattle.sctp_association.proofs.LongSteps.{next-of, other-follows, other_after, take-back}
 use Rattle.sctp_association.proofs.Tsns.{makes-uses, no-further}
 use Rattle.sctp_association.specs.Acks.{without_blocks}

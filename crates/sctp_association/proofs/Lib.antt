@@ -75,6 +75,7 @@ pub mod Long
 pub mod LongCalls
 pub mod AgedTsns
 pub mod LongSteps
+pub mod LongArrivals
 pub mod LongHosts
 pub mod FewYoung
 pub mod FewHosts

@@ -196,10 +196,6 @@ module _ (P : AnyCall → Type 0) where
 
     -- ## A call of the sender
 
-    -- the receiver holds none of these TSNs
-    abbrev IsFree : Transmission → Type 0
-    IsFree new = (stream : ℕ) → AreBefore (next-of new) (fragments_held stream st.ran.session.receiving.receiver)
-
     pub send-one : (call : SenderCall) (new : Transmission) (gs : List Aged) (m : SenderMakes call st.ran.session.sending.sender new)
         (h : IsReported call st.ran.session)
         → Allows st (makes (of_sender call)) (sender_after call st.ran.session new)

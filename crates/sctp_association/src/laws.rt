@@ -45,7 +45,8 @@ pub fn what_comes_was_made()
 
 /// Two associations, from `new` on: whatever their applications call, and whichever datagrams of the peer come, late, again, in another order or
 /// never. What one reads the other wrote, on that stream, with that payload type and those bytes, no write twice, and ordered ones in order.
-/// In the end each other write was read. It holds while they write fewer than 2^31 - 1 fragments: no more than bytes.
+/// In the end each other write was read. It holds while they write fewer than 2^31 - 1 fragments: no more than bytes. Without the end it holds in a
+/// whole life, while nothing that comes or is held is 2^31 TSNs old.
 pub fn what_is_read_was_written()
     ensures hosts { EachDelivers }
     ensures cut { EachIsCut }
@@ -87,8 +88,8 @@ pub fn two_associations_go_on()
     ensures turned { EachLinkTurns }
 {}
 
-/// As `two_associations_go_on`, for `whatever_is_reset_what_is_read_was_written`: it says too what datagrams brought to each meanwhile, and
-/// by whose offers halves began, where `offered` of `handle_datagram` says that.
+/// As `two_associations_go_on`, for `whatever_is_reset_what_is_read_was_written`: it says too what datagrams brought to each meanwhile, what each
+/// made, and when nothing old came; and by whose offers halves began, where `offered` of `handle_datagram` says that.
 pub fn two_associations_of_one_life_go_on()
     ensures begun { EachOneLifeBegins }
     ensures acts { EachOneLifeGoesOn }
@@ -110,7 +111,7 @@ pub fn each_receiver_begins_by_what_came()
 
 /// Two associations, from `new` on, whatever calls they have and whichever datagrams of the peer come: each receiver begins once, with the
 /// peer's first TSN, while no cookie is forged and no datagram brings a restart of the peer (RFC 9260 5.2.4 A). So
-/// `whatever_is_reset_what_is_read_was_written` holds of them.
+/// `whatever_is_reset_what_is_read_was_written` holds of them. It says too what each made, and when nothing old came.
 pub fn two_associations_begin_once()
     ensures begun { EachTwoAreSetUp }
     ensures quiet { EachQuietCallKeeps }
