@@ -7,7 +7,8 @@ use Rattle.sctp_association.proofs.PlainHosts.{each-delivers, each-plain-deliver
 use Rattle.sctp_association.specs.Ages.{AreYoungActs, AreYoungMoves, aged_by, aged_each, aged_one, aged_other, made_by_one, made_by_other}
 use Rattle.sctp_association.specs.Arrivals.{Arrival, Halves}
 use Rattle.sctp_association.specs.HostCalls.{ActsEach}
-use Rattle.sctp_association.specs.Hosts.{Act, AreMovesByRule, Delivers, DeliversPlain, Host, Hosts, IsPlain, Move, MovesTo, Way, first_host, hosts, one_acts, other_acts}
+use Rattle.sctp_association.specs.Hosts.{Act, AreMovesByRule, Delivers, DeliversPlain, Host, Hosts, IsPlain, Move, MovesTo, Way, first_host, hosts, one_acts}
+use Rattle.sctp_association.specs.Hosts.{other_acts}
 use Rattle.sctp_association.specs.Links.{AreActsByRule, AreInOrder, AreLinked, EachLinkDelivers, EachLinkGoesOn, EachLinkIsCut, EachLinkTurns, EachTwoBegin}
 use Rattle.sctp_association.specs.Links.{IsReadAsWritten, Party, host_at}
 use Rattle.sctp_association.specs.OneLife.{Brought, EachOneLifeBegins, EachOneLifeGoesOn, EachOneLifeTurns, IsOneLife, brought_by, brought_each}

@@ -128,7 +128,8 @@ module _ (P Q : AnyCall → Type 0) (w out : Way) (peer : Host) (hs gs : List Ag
       before : (n : ℕ) → comes_before n Next ≡ true → comes_before n st.ran.session.sending.sender.flight.next_tsn ≡ true
       before n e = subst (λ (u : Transmission). comes_before n u.flight.next_tsn ≡ true) (sym from') e
 
-      drop-one : (d : Data) (tsn : ℕ) → d.tsn ≡ tsn → IsAmongYoung (data_chunk d) gs → Receives (runs.discards tsn) r s → Q (of_receiving (discards (chunk-of d))) → Here
+      drop-one : (d : Data) (tsn : ℕ) → d.tsn ≡ tsn → IsAmongYoung (data_chunk d) gs → Receives (runs.discards tsn) r s
+          → Q (of_receiving (discards (chunk-of d))) → Here
       drop-one d tsn same y h q =
           let young = among st c (data_chunk d) y in
           led-by Q w st s st.ran.session.receiving.read gs

@@ -98,7 +98,8 @@ module _ (P Q : AnyCall → Type 0) (f b : Way) (ones others : List Aged) (x y z
   there = j.forth.ran.session.receiving.receiver
 
   joins : (n : ℕ) (hs : List Aged) (ws : List Write) (rs : List Message) (s : Sent P b n j.forth ws y.sender hs) (k : Led Q b j.back y.receiver rs others)
-      → ws ≡ y.written → rs ≡ y.read → used-of j.forth + n ≤ y.fragments → ((d : List ℕ) → Contains y.sent d → WasPolled s.next k.next d) → Joined P Q f b hs others y z
+      → ws ≡ y.written → rs ≡ y.read → used-of j.forth + n ≤ y.fragments → ((d : List ℕ) → Contains y.sent d → WasPolled s.next k.next d)
+      → Joined P Q f b hs others y z
   joins n hs ws rs s k written read cut sent = record {
     forth = s.next;
     back = k.next;
@@ -133,7 +134,8 @@ module _ (P Q : AnyCall → Type 0) (f b : Way) (ones others : List Aged) (x y z
   led-still same =
       led-same Q b j.back y.receiver others (subst (λ o. IsReceiver b o j.back.ran.session.receiving.receiver) (sym same) j.comes.receives) j.comes.aged
 
-  pub by-asks : (call : SenderCall) → Asks call x y → length y.sender.flight.queue.inflight.chunks < 2 ^ 31 → bytes_of y.written < 2 ^ 64 → Joined P Q f b ones others y z
+  pub by-asks : (call : SenderCall) → Asks call x y → length y.sender.flight.queue.inflight.chunks < 2 ^ 31 → bytes_of y.written < 2 ^ 64
+      → Joined P Q f b ones others y z
   by-asks call h few short =
       let t = j.forth.ran.session.sending.sender in
       let m = subst (λ u. SenderMakes call u y.sender) (sym j.goes.sends) h.makes in

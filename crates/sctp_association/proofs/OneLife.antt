@@ -12,7 +12,8 @@ use Rattle.sctp_association.specs.Arrivals.{Arrival, Halves, begins, hears, rece
 use Rattle.sctp_association.specs.Hosts.{AreMovesByRule, Host, Hosts, IsPlain, Move, MovesTo, NamesOpen, Way, WroteFew, first_host, hosts}
 use Rattle.sctp_association.specs.Young.{DeliversYoung, EachDeliversYoung, EachFewIsYoung, EachLinkDeliversYoung, IsReadAsWrittenYoung, Ran}
 use Rattle.sctp_association.specs.Links.{Party, host_at}
-use Rattle.sctp_association.specs.OneLife.{AreOfTheirOwn, AreOneLife, AreSingleOnSteady, AreWritesOnSteady, Brought, Came, CamePastClosed, DeliversAny, DeliversIn}
+use Rattle.sctp_association.specs.OneLife.{AreOfTheirOwn, AreOneLife, AreSingleOnSteady, AreWritesOnSteady, Brought, Came, CamePastClosed, DeliversAny}
+use Rattle.sctp_association.specs.OneLife.{DeliversIn}
 use Rattle.sctp_association.specs.OneLife.{EachDeliversAny}
 use Rattle.sctp_association.specs.OneLife.{EachPlainIsOneLife}
 use Rattle.sctp_association.specs.OneLife.{EachLinkDeliversAny, IsOneLife, NoneWasDropped, IsReadAsWrittenAny, IsSteady, IsUntouched, WasBrought, brought}
