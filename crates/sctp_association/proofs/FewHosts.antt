@@ -2,7 +2,7 @@
 use Rattle.std.proofs.Common.{◌≡◌, ◌+◌, ◌<◌, ◌^◌, ℕ, Bool, List, [], ◌∷◌, length, Option, Some, None, refl, ap, sym, subst, ◌∙◌, arith}
 use Rattle.sctp_association.proofs.Delivered.{carries-only, of-call}
 use Rattle.sctp_association.proofs.FewYoung.{each-young, few-send}
-use Rattle.sctp_association.proofs.Hosts.{Fits, both-few, none-reported}
+use Rattle.sctp_association.proofs.Hosts.{Fits, both-few}
 use Rattle.sctp_association.proofs.HostSteps.{none-cut, none-written}
 use Rattle.sctp_association.proofs.Long.{Long, ages-of, holds-of, near-of, used-of}
 use Rattle.sctp_association.proofs.LongHosts.{Joined, JoinedSome, begun, by-asks, by-handles, by-polls, by-reads, turned}
@@ -10,16 +10,16 @@ use Rattle.sctp_association.proofs.LongSteps.{next-of, send-one}
 use Rattle.sctp_association.proofs.Raises.{AreBefore}
 use Rattle.sctp_association.proofs.Sessions.{none_taken}
 use Rattle.sctp_association.specs.Arrivals.{halves}
-use Rattle.sctp_association.specs.Hosts.{Act, Acts, AreMovesByRule, Asks, Handles, Host, Hosts, IsActByRule, IsFit, IsReceiver, Move, MovesTo, Polls, Way}
-use Rattle.sctp_association.specs.Hosts.{WroteFew, asks, bytes_of, first_host, fragments_by, handles, hosts, one_acts, other_acts, polls, reads_on}
+use Rattle.sctp_association.specs.Hosts.{Act, Acts, AreMovesByRule, Handles, Host, Hosts, IsActByRule, IsFit, IsReceiver, Move, MovesTo, Polls, Way}
+use Rattle.sctp_association.specs.Hosts.{WroteFew, asks, bytes_of, first_host, handles, hosts, one_acts, other_acts, polls, reads_on}
 use Rattle.sctp_association.specs.Runs.{Runs, SendsBy, made_by}
-use Rattle.sctp_association.specs.Ages.{AreYoungMoves, HoldsYoung, IsBounded, IsYoungCall, aged_by}
+use Rattle.sctp_association.specs.Ages.{AreYoungMoves, HoldsYoung, IsBounded, IsBoundedBy, IsYoungCall, aged_by}
 use Rattle.sctp_delivery.proofs.Stands.{sender_after}
 use Rattle.sctp_delivery.specs.Complete.{fragments_held}
 use Rattle.sctp_delivery.specs.EveryCall.{AnyCall, makes}
 use Rattle.sctp_delivery.specs.EveryRecent.{aged_any}
 use Rattle.sctp_delivery.specs.Recent.{Aged}
-use Rattle.sctp_delivery.specs.SenderCalls.{Made, SenderCall, SenderMakes, Write, written_after}
+use Rattle.sctp_delivery.specs.SenderCalls.{Made, SenderCall, SenderMakes, Write}
 use Rattle.sctp_delivery.specs.Session.{Session, of_sender}
 use Rattle.sctp_receiver.specs.Receiver.{Reception}
 use Rattle.sctp_sender.specs.Sender.{Transmission}
@@ -58,35 +58,7 @@ held-in w n None r is h = tt
 held-in w n (Some s) r is h = λ stream. subst (λ (q : Reception). AreBefore n (fragments_held stream q)) is (h stream)
 
 module _ (P Q : AnyCall → Type 0) (f b : Way) where
-  -- where they stand in such sessions, neither is past its bounds
-  bounded : (ones others : List Aged) (x z : Host) → Joined P Q f b ones others x z → IsBounded x z × IsBounded z x
-  bounded ones others x z j = (
-    (
-      subst (λ (u : Transmission). length u.flight.queue.inflight.chunks < 2 ^ 31) j.goes.sends (near-of j.forth).few,
-      subst (λ (u : Transmission). HoldsYoung (next-of u) z.receiver) j.goes.sends
-          (held-in f (next-of j.forth.ran.session.sending.sender) z.receiver j.forth.ran.session.receiving.receiver j.goes.receives (holds-of j.forth)),
-    ),
-    (
-      subst (λ (u : Transmission). length u.flight.queue.inflight.chunks < 2 ^ 31) j.comes.sends (near-of j.back).few,
-      subst (λ (u : Transmission). HoldsYoung (next-of u) x.receiver) j.comes.sends
-          (held-in b (next-of j.back.ran.session.sending.sender) x.receiver j.back.ran.session.receiving.receiver j.comes.receives (holds-of j.back)),
-    ),
-  )
-
   module _ (ones others : List Aged) (x y z : Host) (j : Joined P Q f b ones others x z) (few : WroteFew y) (other : WroteFew z) where
-    ask-few : (call : SenderCall) → Asks call x y → Joined P Q f b ones others y z
-    ask-few call h =
-        let t = j.forth.ran.session.sending.sender in
-        let cut = ap (λ (i : Host). i.fragments) h.after in
-        let cuts = ap (fragments_by call) j.goes.sends in
-        let before = j.goes.given in
-        let room = few.0 in
-        let same = ap (written_after call) j.goes.written ∙ sym (ap (λ (i : Host). i.written) h.after) in
-        let a = few-send j.forth call y.sender (subst (λ u. SenderMakes call u y.sender) (sym j.goes.sends) h.makes)
-        (none-reported call j.forth.ran.session h.asking) (omega (arith, cut, cuts, before, room))
-        (subst (λ (ws : List Write). bytes_of ws < 2 ^ 64) (sym same) few.1) in
-        by-asks P Q f b ones others x y z j call h a.flying few.1
-
     poll-few : (is_sent : Bool) (datagram : List ℕ) → Polls is_sent datagram x y → IsBounded y z
     poll-few is_sent datagram h =
         let t = h.transmits in
@@ -120,12 +92,13 @@ module _ (P Q : AnyCall → Type 0) (f b : Way) where
 
     -- what the act brings is not old, and they stand in such sessions then
     act-few : (act : Act) (h : Acts z.sent act x y) → IsActByRule (Fits P Q b) z.sent act x y h
-        → IsActByRule (IsYoungCall f others z) z.sent act x y h × Joined P Q f b (aged_by ones z.sent act x y h) others y z
-    act-few (asks call) h fits = (tt, ask-few call h)
-    act-few (reads_on stream) h fits = (tt, by-reads P Q f b ones others x y z j stream h)
-    act-few (polls is_sent datagram) h fits = (tt, by-polls P Q f b ones others x y z j is_sent datagram h (poll-few is_sent datagram h))
+        → IsActByRule (IsYoungCall f others z) z.sent act x y h × IsBoundedBy act y z × Joined P Q f b (aged_by ones z.sent act x y h) others y z
+    act-few (asks call) h fits = (tt, tt, by-asks P Q f b ones others x y z j call h few.1)
+    act-few (reads_on stream) h fits = (tt, tt, by-reads P Q f b ones others x y z j stream h)
+    act-few (polls is_sent datagram) h fits =
+        let k = poll-few is_sent datagram h in (tt, k, by-polls P Q f b ones others x y z j is_sent datagram h k)
     act-few (handles datagram) h fits =
-        let y' = handle-few datagram h fits in (y', by-handles P Q f b ones others x y z j datagram h fits y')
+        let y' = handle-few datagram h fits in (y', tt, by-handles P Q f b ones others x y z j datagram h fits y')
 
 few-joined : (P Q : AnyCall → Type 0) (f b : Way) (ms : List Move) (ones others : List Aged) (h new : Hosts) (r : MovesTo h ms new)
     → AreMovesByRule (Fits P Q b) (Fits Q P f) h ms new r → Joined P Q f b ones others h.one h.other → WroteFew new.one → WroteFew new.other
@@ -136,17 +109,17 @@ few-joined P Q f b (one_acts act ∷ ms) ones others h new r fits j one other =
     let few = both-few ms r.0 new r.1.1 one other in
     let hs = aged_by ones h.other.sent act h.one r.0.one r.1.0.0 in
     let a = act-few P Q f b ones others h.one r.0.one h.other j few.0 (subst WroteFew r.1.0.1 few.1) act r.1.0.0 fits.0 in
-    let k = subst (λ z. Joined P Q f b hs others r.0.one z) (sym r.1.0.1) a.1 in
+    let k = subst (λ z. Joined P Q f b hs others r.0.one z) (sym r.1.0.1) a.2 in
     let rest = few-joined P Q f b ms hs others r.0 new r.1.1 fits.1 k one other in
-    ((a.0, bounded P Q f b hs others r.0.one r.0.other k, rest.0), rest.1)
+    ((a.0, subst (λ z. IsBoundedBy act r.0.one z) (sym r.1.0.1) a.1, rest.0), rest.1)
 few-joined P Q f b (other_acts act ∷ ms) ones others h new r fits j one other =
     let few = both-few ms r.0 new r.1.1 one other in
     let hs = aged_by others h.one.sent act h.other r.0.other r.1.0.0 in
     let a = act-few Q P b f others ones h.other r.0.other h.one (turned P Q f b ones others h.one h.other j) few.1 (subst WroteFew r.1.0.1 few.0) act
     r.1.0.0 fits.0 in
-    let k = subst (λ z. Joined P Q f b ones hs z r.0.other) (sym r.1.0.1) (turned Q P b f hs ones r.0.other h.one a.1) in
+    let k = subst (λ z. Joined P Q f b ones hs z r.0.other) (sym r.1.0.1) (turned Q P b f hs ones r.0.other h.one a.2) in
     let rest = few-joined P Q f b ms ones hs r.0 new r.1.1 fits.1 k one other in
-    ((a.0, bounded P Q f b ones hs r.0.one r.0.other k, rest.0), rest.1)
+    ((a.0, subst (λ z. IsBoundedBy act r.0.other z) (sym r.1.0.1) a.1, rest.0), rest.1)
 
 pub each-few-joined : (P Q : AnyCall → Type 0) (f b : Way) (moves : List Move) (new : Hosts)
     (run : MovesTo (hosts (first_host f) (first_host b)) moves new)

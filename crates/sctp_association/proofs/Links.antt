@@ -172,7 +172,7 @@ module _ (f b : Way) (A B : Arrival → Halves → Type 0) where
       record {
         run = (turned r.0, (r.1.0, g.run));
         rule = λ p. (p.0, g.rule p.1);
-        young = λ xs zs p. (p.0, (p.1.1, p.1.0), g.young xs (aged_by zs h.other.sent act h.one r.0.one r.1.0.0) p.2);
+        young = λ xs zs p. (p.0, p.1, g.young xs (aged_by zs h.other.sent act h.one r.0.one r.1.0.0) p.2);
         by-one = g.by-one;
         by-other = λ ages. g.by-other (aged_by ages h.other.sent act h.one r.0.one r.1.0.0);
         to-one = g.to-one;
@@ -183,7 +183,7 @@ module _ (f b : Way) (A B : Arrival → Halves → Type 0) where
       record {
         run = (turned r.0, (r.1.0, g.run));
         rule = λ p. (p.0, g.rule p.1);
-        young = λ xs zs p. (p.0, (p.1.1, p.1.0), g.young (aged_by xs h.one.sent act h.other r.0.other r.1.0.0) zs p.2);
+        young = λ xs zs p. (p.0, p.1, g.young (aged_by xs h.one.sent act h.other r.0.other r.1.0.0) zs p.2);
         by-one = λ ages. g.by-one (aged_by ages h.one.sent act h.other r.0.other r.1.0.0);
         by-other = g.by-other;
         to-one = ap (λ l. brought_by h.one.sent act h.other r.0.other r.1.0.0 ++ l) g.to-one;

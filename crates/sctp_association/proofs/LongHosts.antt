@@ -1,24 +1,24 @@
 -- Two associations stand in two sessions in which nothing is old, one for each way.
-use Rattle.std.proofs.Common.{◌≡◌, ◌+◌, ◌≤◌, ◌<◌, ◌^◌, ℕ, Bool, true, false, List, [], ◌∷◌, length, Option, Some, None, refl, ap, sym, subst, ◌∙◌, arith}
+use Rattle.std.proofs.Common.{◌≡◌, ◌+◌, ◌≤◌, ◌<◌, ◌^◌, ℕ, Bool, true, false, List, [], ◌∷◌, Option, Some, None, refl, ap, sym, subst, ◌∙◌, arith}
 use Rattle.std.proofs.lemmas.Bool.{false≢true}
 use Rattle.std.proofs.lemmas.List.Elements.{All-contains, All-from_recursion, Contains-append_cases}
 use Rattle.std.specs.Prelude.{Contains, if◌then◌else◌}
 use Rattle.sctp_association.proofs.Delivered.{carries-only, of-call}
 use Rattle.sctp_association.proofs.Hosts.{Fits, more-bytes, none-reported}
 use Rattle.sctp_association.proofs.HostSteps.{IsThere, Only, contains-none, either}
-use Rattle.sctp_association.proofs.Long.{Long, ages-of, begins as long-begins, used-of}
+use Rattle.sctp_association.proofs.Long.{Long, ages-of, begins as long-begins, near-of, used-of}
 use Rattle.sctp_association.proofs.LongArrivals.{Led, Sent, led-by, led-same, sent-by, sent-same, take-each}
 use Rattle.sctp_association.proofs.LongSteps.{Later, ask-call, receive-call}
 use Rattle.sctp_association.proofs.LongSteps.{report-each, send-each, there-later}
 use Rattle.sctp_association.proofs.Tsns.{waiting_in}
-use Rattle.sctp_association.proofs.Raises.{AreBefore, ask-next}
+use Rattle.sctp_association.proofs.Raises.{AreBefore, ask-long, ask-next}
 use Rattle.sctp_association.specs.Arrivals.{halves}
 use Rattle.sctp_association.specs.Hosts.{Act, Acts, AreMovesByRule, Asks, Handles, Host, Hosts, IsActByRule, IsFit}
 use Rattle.sctp_association.specs.Hosts.{IsReceiver, Move, MovesTo, Polls, ReadsOn, Way, asks, bytes_of, first_host, fragments_by, handles}
 use Rattle.sctp_association.specs.Hosts.{hosts, is_asking, one_acts, other_acts, polls, reads_on}
 use Rattle.sctp_association.specs.Packets.{IsWritten}
 use Rattle.sctp_association.specs.Runs.{AcksBy, ReportsIn, Runs, reported_by}
-use Rattle.sctp_association.specs.Ages.{AreYoungMoves, HoldsYoung, IsBounded, IsYoungCall, aged_by, aged_over}
+use Rattle.sctp_association.specs.Ages.{AreYoungMoves, HoldsYoung, IsBounded, IsBoundedBy, IsYoungCall, aged_by, aged_over}
 use Rattle.sctp_data.specs.SelectiveAck.{Sack}
 use Rattle.sctp_delivery.specs.EveryCall.{AnyCall}
 use Rattle.sctp_delivery.specs.Complete.{fragments_held}
@@ -134,15 +134,18 @@ module _ (P Q : AnyCall → Type 0) (f b : Way) (ones others : List Aged) (x y z
   led-still same =
       led-same Q b j.back y.receiver others (subst (λ o. IsReceiver b o j.back.ran.session.receiving.receiver) (sym same) j.comes.receives) j.comes.aged
 
-  pub by-asks : (call : SenderCall) → Asks call x y → length y.sender.flight.queue.inflight.chunks < 2 ^ 31 → bytes_of y.written < 2 ^ 64
+  pub by-asks : (call : SenderCall) → Asks call x y → bytes_of y.written < 2 ^ 64
       → Joined P Q f b ones others y z
-  by-asks call h few short =
+  by-asks call h short =
       let t = j.forth.ran.session.sending.sender in
       let m = subst (λ u. SenderMakes call u y.sender) (sym j.goes.sends) h.makes in
       let same = ap (written_after call) j.goes.written ∙ sym (ap (λ (i : Host). i.written) h.after) in
+      let long = ask-long call t y.sender h.asking m in
+      let few = (near-of j.forth).few in
       let s = sent-by P b (fragments_by call t) j.forth y.sender (written_after call j.forth.ran.session.written) ones
       (ask-call P j.forth ones j.goes.aged call y.sender m (none-reported call j.forth.ran.session h.asking)
-      (asked-recent call j.forth.ran.session h.asking) (ask-next call t y.sender h.asking m) (none-new call j.forth.ran.session h.asking) few
+      (asked-recent call j.forth.ran.session h.asking) (ask-next call t y.sender h.asking m) (none-new call j.forth.ran.session h.asking)
+      (omega (arith, long, few))
       (subst (λ (ws : List Write). bytes_of ws < 2 ^ 64) (sym same) short)) in
       let k = led-still (ap (λ (i : Host). i.receiver) h.after) in
       let cut = ap (λ (i : Host). i.fragments) h.after in
@@ -243,9 +246,9 @@ module _ (P Q : AnyCall → Type 0) (f b : Way) (ones others : List Aged) (x y z
 -- ## A move
 
 by-act : (P Q : AnyCall → Type 0) (f b : Way) (ones others : List Aged) (act : Act) (x y z : Host) (h : Acts z.sent act x y)
-    → IsActByRule (Fits P Q b) z.sent act x y h → IsActByRule (IsYoungCall f others z) z.sent act x y h → IsBounded y z → bytes_of y.written < 2 ^ 64
+    → IsActByRule (Fits P Q b) z.sent act x y h → IsActByRule (IsYoungCall f others z) z.sent act x y h → IsBoundedBy act y z → bytes_of y.written < 2 ^ 64
     → Joined P Q f b ones others x z → Joined P Q f b (aged_by ones z.sent act x y h) others y z
-by-act P Q f b ones others (asks call) x y z h fits young bounded short j = by-asks P Q f b ones others x y z j call h bounded.0 short
+by-act P Q f b ones others (asks call) x y z h fits young bounded short j = by-asks P Q f b ones others x y z j call h short
 by-act P Q f b ones others (reads_on stream) x y z h fits young bounded short j = by-reads P Q f b ones others x y z j stream h
 by-act P Q f b ones others (polls is_sent datagram) x y z h fits young bounded short j = by-polls P Q f b ones others x y z j is_sent datagram h bounded
 by-act P Q f b ones others (handles datagram) x y z h fits young bounded short j = by-handles P Q f b ones others x y z j datagram h fits young
@@ -292,13 +295,13 @@ module _ (P Q : AnyCall → Type 0) (f b : Way) where
       let short = both-short ms r.0 new r.1.1 one other in
       let hs = aged_by ones h.other.sent act h.one r.0.one r.1.0.0 in
       let k = by-act P Q f b ones others act h.one r.0.one h.other r.1.0.0 fits.0 young.0
-      (subst (λ z. IsBounded r.0.one z) r.1.0.1 young.1.0) short.0 j in
+      (subst (λ z. IsBoundedBy act r.0.one z) r.1.0.1 young.1) short.0 j in
       joined ms hs others r.0 new r.1.1 fits.1 young.2 (subst (λ z. Joined P Q f b hs others r.0.one z) (sym r.1.0.1) k) one other
   joined (other_acts act ∷ ms) ones others h new r fits young j one other =
       let short = both-short ms r.0 new r.1.1 one other in
       let hs = aged_by others h.one.sent act h.other r.0.other r.1.0.0 in
       let k = by-act Q P b f others ones act h.other r.0.other h.one r.1.0.0 fits.0 young.0
-      (subst (λ z. IsBounded r.0.other z) r.1.0.1 young.1.1) short.1 (turned P Q f b ones others h.one h.other j) in
+      (subst (λ z. IsBoundedBy act r.0.other z) r.1.0.1 young.1) short.1 (turned P Q f b ones others h.one h.other j) in
       joined ms ones hs r.0 new r.1.1 fits.1 young.2
       (subst (λ z. Joined P Q f b ones hs z r.0.other) (sym r.1.0.1) (turned Q P b f hs ones r.0.other h.one k)) one other
 

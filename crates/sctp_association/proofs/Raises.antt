@@ -12,6 +12,8 @@ use Rattle.sctp_delivery.proofs.Changes.{some_marked, some_missed}
 use Rattle.sctp_delivery.proofs.GivenTsns.{Raises, as-long, raises-abandoned, raises-each, raises-none, raises-sent}
 use Rattle.sctp_delivery.proofs.Names.{after_abandonment, after_misses, can_miss, change_where, changed-run, missed, started-inflight, tsns, with_inflight}
 use Rattle.sctp_delivery.proofs.Names.{with_room}
+use Rattle.sctp_delivery.proofs.Names.{fragments_with_mode, is_outstanding, with_retransmit}
+use Rattle.sctp_delivery.proofs.SackSteps.{message-inflight}
 use Rattle.sctp_delivery.proofs.Writing.{accepted-stream}
 use Rattle.sctp_delivery.proofs.YoungReads.{both-pass}
 use Rattle.sctp_delivery.specs.SenderCalls as outgoing
@@ -147,6 +149,24 @@ ask-next (outgoing.sets_low stream bytes) t u e m = ap (λ (v : Transmission). v
 ask-next (outgoing.sets_size size) t u e m = ap (λ (v : Transmission). v.flight.next_tsn) m.0
 ask-next outgoing.marks t u e m = ap (λ (v : Transmission). v.flight.next_tsn) m.0
 ask-next _ t u e m = absurd (false≢true e)
+
+-- and as many chunks are in flight
+pub ask-long : (call : SenderCall) (t u : Transmission) → is_asking call ≡ true → SenderMakes call t u
+    → length u.flight.queue.inflight.chunks ≡ length t.flight.queue.inflight.chunks
+ask-long (outgoing.opens stream) t u e m = ap (λ (v : Transmission). length v.flight.queue.inflight.chunks) m.0
+ask-long (outgoing.sets_mode stream unordered reliability value) t u e m = ap (λ (v : Transmission). length v.flight.queue.inflight.chunks) m.0
+ask-long (outgoing.writes stream ppi []) t u e m = ap (λ (v : Transmission). length v.flight.queue.inflight.chunks) (m.1.0.0 refl)
+ask-long (outgoing.writes stream ppi (b ∷ bytes)) t u e m =
+    let l = accepted-stream stream (length (b ∷ bytes)) t m.1.1.0 in
+    ap (λ (v : Transmission). length v.flight.queue.inflight.chunks) (m.1.0.1 (omega arith) l.0 l.1)
+    ∙ ap (λ (w : payload.Payload). length w.chunks) (message-inflight (fragments_with_mode l.0 ppi (b ∷ bytes)) t.flight.queue)
+ask-long (outgoing.sets_low stream bytes) t u e m = ap (λ (v : Transmission). length v.flight.queue.inflight.chunks) m.0
+ask-long (outgoing.sets_size size) t u e m = ap (λ (v : Transmission). length v.flight.queue.inflight.chunks) m.0
+ask-long outgoing.marks t u e m =
+    let cs = t.flight.queue.inflight.chunks in
+    ap (λ (v : Transmission). length v.flight.queue.inflight.chunks) m.0
+    ∙ as-long (change_where is_outstanding (with_retransmit true) cs) cs (changed-run is_outstanding (with_retransmit true) (λ c. refl) cs)
+ask-long _ t u e m = absurd (false≢true e)
 
 -- nor by counting misses, and as many chunks are in flight
 pub misses-next : (count : ℕ) (t u : Transmission) → SenderMakes (outgoing.misses count) t u → u.flight.next_tsn ≡ t.flight.next_tsn

@@ -255,7 +255,7 @@ each-datagram-keeps f b d a c l z set handed o own none =
         peer_life = by.peer_life;
         came = by.came;
         came_back = by.came_back;
-        young = λ before now. by.young before (done.3 f (made_by_other f b x z set.link) (host_at z) now.0, now.1, tt);
+        young = λ before now. by.young before (done.3 f (made_by_other f b x z set.link) (host_at z) now, tt, tt);
         made_then = by.made_then;
         made_back = by.made_back;
       },

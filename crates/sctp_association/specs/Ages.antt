@@ -89,21 +89,25 @@ IsBounded one other =
     (length one.sender.flight.queue.inflight.chunks < 2 ^ 31)
     × HoldsYoung one.sender.flight.next_tsn other.receiver
 
-abbrev pub AreBounded : Hosts → Type 0
-AreBounded h = IsBounded h.one h.other × IsBounded h.other h.one
+-- so it is after `poll_transmit` of the one: no other act gives out TSNs
+abbrev pub IsBoundedBy : Act → (one other : Host) → Type 0
+IsBoundedBy (asks call) one other = ⊤
+IsBoundedBy (reads_on stream) one other = ⊤
+IsBoundedBy (polls is_sent datagram) one other = IsBounded one other
+IsBoundedBy (handles datagram) one other = ⊤
 
--- so it is of each call that a datagram brings, and after each move. These are what the one made before, and those what the other made
+-- each call that a datagram brings is so, and what is held then. These are what the one made before, and those what the other made
 abbrev pub AreYoungMoves : (forth back : Way) (ones others : List Aged) (old : Hosts)
     (moves : List Move) (new : Hosts) → MovesTo old moves new → Type 0
 AreYoungMoves forth back ones others old [] new run = ⊤
 AreYoungMoves forth back ones others old (one_acts act ∷ ms) new run =
     IsActByRule (IsYoungCall forth others old.other) old.other.sent act old.one run.0.one run.1.0.0
-    × AreBounded run.0
+    × IsBoundedBy act run.0.one run.0.other
     × AreYoungMoves forth back
     (aged_by ones old.other.sent act old.one run.0.one run.1.0.0) others run.0 ms new run.1.1
 AreYoungMoves forth back ones others old (other_acts act ∷ ms) new run =
     IsActByRule (IsYoungCall back ones old.one) old.one.sent act old.other run.0.other run.1.0.0
-    × AreBounded run.0
+    × IsBoundedBy act run.0.other run.0.one
     × AreYoungMoves forth back ones
     (aged_by others old.one.sent act old.other run.0.other run.1.0.0) run.0 ms new run.1.1
 
@@ -151,7 +155,7 @@ abbrev pub AreYoungActs : (out : Way) (others : List Aged) (peer : Host) (acts :
 AreYoungActs out others peer [] old new done = ⊤
 AreYoungActs out others peer (act ∷ acts) old new done =
     IsActByRule (IsYoungCall out others peer) peer.sent act old done.0 done.1.0
-    × AreBounded (hosts done.0 peer) × AreYoungActs out others peer acts done.0 new done.1.1
+    × IsBoundedBy act done.0 peer × AreYoungActs out others peer acts done.0 new done.1.1
 
 -- what it made, after these
 abbrev pub aged_each : List Aged → (peer : List (List ℕ)) (acts : List Act) (old new : Host)

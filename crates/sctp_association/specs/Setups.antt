@@ -4,14 +4,14 @@ use Rattle.std.specs.List.{AllByRecursion}
 use Rattle.sctp_association.specs.Arrivals.{Arrival, Does, IsBrought, Steps}
 use Rattle.sctp_association.specs.Beginnings.{AnswersInit, ArrivesAsOffered, IsEchoed, IsMadeOf, OffersInit}
 use Rattle.sctp_association.specs.Halves.{halves_of}
-use Rattle.sctp_association.specs.HostCalls.{ActsEach, Log, host_of}
-use Rattle.sctp_association.specs.Hosts.{Act, AreByRule, IsFit, Way, WroteFew, asks, bytes_of, first_host, handles as hands, hosts, polls, reads_on}
+use Rattle.sctp_association.specs.HostCalls.{ActsEach, Log}
+use Rattle.sctp_association.specs.Hosts.{Act, AreByRule, IsFit, Way, WroteFew, asks, bytes_of, first_host, handles as hands, polls, reads_on}
 use Rattle.sctp_association.specs.Kept.{OwesTicket}
 use Rattle.sctp_association.specs.Links.{AreLinked, Party, host_at, party}
 use Rattle.sctp_association.specs.Lives.{Deed, DoesDeed, Knows, Life, handles, life_after, writes}
 use Rattle.sctp_association.specs.OneLife.{Brought, IsOneLifeLink, IsReadAsWrittenAny, brought_in, came_to_one, came_to_other}
 use Rattle.sctp_association.specs.Reached.{limits_of}
-use Rattle.sctp_association.specs.Ages.{AreBounded, AreYoungActs, IsYoungCall, IsYoungLink, aged_each, made_by_one, made_by_other}
+use Rattle.sctp_association.specs.Ages.{AreYoungActs, IsYoungCall, IsYoungLink, aged_each, made_by_one, made_by_other}
 use Rattle.sctp_association.specs.Young.{IsReadAsWrittenYoung}
 use Rattle.sctp_association.specs.declared.association.Association.{Association}
 use Rattle.sctp_association.specs.declared.config.Config.{Config}
@@ -145,14 +145,13 @@ abbrev pub brought_with : (d : List ℕ) (a b : Association) (calls : List Arriv
     → Steps (IsBrought d) Does calls (halves_of a) (halves_of b) → List Brought
 brought_with d a b calls run = brought_in d calls (halves_of a) (halves_of b) run
 
--- what the datagram brought is young, and so is what is held then
+-- what the datagram brought is young
 abbrev pub BringsYoung : (forth back : Way) (d : List ℕ) (a b : Association) (l : Log)
     (other : Party) (set : AreSetUp forth back (party a l) other) (calls : List Arrival)
     → Steps (IsBrought d) Does calls (halves_of a) (halves_of b) → Type 0
 BringsYoung forth back d a b l other set calls run =
     AreByRule (IsYoungCall forth (made_by_other forth back (party a l) other set.link) (host_at other)) d
     calls (halves_of a) (halves_of b) run
-    × AreBounded (hosts (host_of b l) (host_at other))
 
 -- `handle_datagram` of one that the peer wrote, where the peer has not begun again (RFC 9260 5.2.4 A)
 abbrev pub EachDatagramKeeps : Type 0
