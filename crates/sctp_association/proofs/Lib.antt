@@ -28,6 +28,7 @@ pub mod Owing
 pub mod Reconfigs
 pub mod Resetting
 pub mod Lows
+pub mod Falls
 pub mod Making
 pub mod Sessions
 pub mod Delivered

@@ -83,3 +83,11 @@ puts_same a b c l m same first s h lt =
 
 pub puts_none : (a : Transmission) (l m : List Bool) → PutsAll (λ s. fell s a a) l m
 puts_none a l m s h lt = absurd (never (is_above (stream_of s a)) h)
+
+-- where the streams are the same no amount falls
+pub fell_same : (s : ℕ) (a b : Transmission) → b.streams ≡ a.streams → fell s a b ≡ true → ⊥
+fell_same s a b same h = never (is_above (stream_of s a))
+    (ap (λ (ls : List OutboundStream). is_above (stream_of s a) && not (is_above (find (has_number s) ls))) (sym same) ∙ h)
+
+pub puts_alike : (a b : Transmission) (l : List Bool) → b.streams ≡ a.streams → PutsAll (λ s. fell s a b) l l
+puts_alike a b l same s h lt = absurd (fell_same s a b same h)

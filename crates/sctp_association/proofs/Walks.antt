@@ -13,6 +13,7 @@ use Rattle.sctp_association.specs.Rows.{has_row}
 use Rattle.sctp_association.specs.Single.{AloneOn}
 use Rattle.sctp_association.specs.Steps.{is_taken}
 use Rattle.sctp_association.specs.Tags.{has_tag, is_admitted, is_reflected}
+use Rattle.sctp_association.specs.ToldBy.{TellsBy, TellsByShutdown, TellsBySack}
 use Rattle.sctp_association.specs.Walks.{EndsUnread, FirstOn, OtherOn, PassesOver, TakesChunk, Walks, WalksOf, counts}
 use Rattle.sctp_association.specs.declared.association.Association.{Association}
 use Rattle.sctp_association.specs.declared.association.Reason.{Reason}
@@ -41,6 +42,11 @@ behind-init c tag m admitted is =
 still-reports : (with : Bool) (a b : Association) → StillAs with a b → (b.due.heartbeat ≡ a.due.heartbeat) × (b.due.report ≡ a.due.report)
 still-reports with a b h = (ap (λ (d : Due). d.heartbeat) h.due, ap (λ (d : Due). d.report) h.due)
 
+-- what it brings is told, by its type
+pub tells_by : (c : ChunkPlace) (d : List ℕ) (a b : Association) (r : Result Step Fault) → (c.typ ≡ 3 → r ≡ Ok Next → TellsBySack c d a b)
+    → (c.typ ≡ 7 → r ≡ Ok Next → TellsByShutdown a b) → r ≡ Ok Next → TellsBy c d a b
+tells_by c d a b r sack shutdown next = record { sack = λ e. sack e next; shutdown = λ e. shutdown e next }
+
 module _ (c : ChunkPlace) (tag count : ℕ) (d : List ℕ) (now : ℕ) (a b : Association) (r : Result Step Fault)
     (foreign : is_admitted c tag count a.machine ≡ false → r ≡ Ok (Refused Tag))
     (expected : is_admitted c tag count a.machine ≡ true → has_row c.typ ≡ true → IfOk r (λ s. AsExpected (is_expected c.typ a) s)) where
@@ -51,9 +57,10 @@ module _ (c : ChunkPlace) (tag count : ℕ) (d : List ℕ) (now : ℕ) (a b : As
   ]
 
   takes : (s : Step) → r ≡ Ok s → is_taken s ≡ true → AloneOn c tag d now s a b → (goes_on c.typ ≡ true → IfOk r (λ s. StillOn c d s a b))
-      → TakesChunk c tag count d now s a b
-  takes s is took by still = record {
+      → (r ≡ Ok Next → TellsBy c d a b) → TakesChunk c tag count d now s a b
+  takes s is took by still tells = record {
     admitted = may;
+    tells = λ next. tells (is ∙ ap Ok next);
     expected = λ row. taken_where (is_expected c.typ a) r (expected may row) s is took;
     by_type = by;
     beside = λ goes next. still-reports (c.typ == 0) a b (subst (λ (x : Step). StillOn c d x a b) next (if_ok (λ s. StillOn c d s a b) r s is (still goes)));
@@ -64,18 +71,18 @@ module _ (c : ChunkPlace) (tag count : ℕ) (d : List ℕ) (now : ℕ) (a b : As
 
   -- what is taken, or refused
   pub first_on : (s : Step) → r ≡ Ok s → AloneOn c tag d now s a b → (goes_on c.typ ≡ true → IfOk r (λ s. StillOn c d s a b))
-      → FirstOn c tag count d now s a b
-  first_on Next is by still = inl (takes Next is refl by still)
-  first_on Stop is by still = takes Stop is refl by still
-  first_on Cut is by still = tt
-  first_on (Refused k) is by still = tt
+      → (r ≡ Ok Next → TellsBy c d a b) → FirstOn c tag count d now s a b
+  first_on Next is by still tells = inl (takes Next is refl by still tells)
+  first_on Stop is by still tells = takes Stop is refl by still tells
+  first_on Cut is by still tells = tt
+  first_on (Refused k) is by still tells = tt
 
   pub other_on : count ≡ 2 → (s : Step) → r ≡ Ok s → ((k : Reason) → s ≡ Refused k → ⊥) → AloneOn c tag d now s a b
-      → (goes_on c.typ ≡ true → IfOk r (λ s. StillOn c d s a b)) → OtherOn c tag d now s a b
-  other_on two Next is taken by still = inl (subst (λ (n : ℕ). TakesChunk c tag n d now Next a b) two (takes Next is refl by still))
-  other_on two Stop is taken by still = subst (λ (n : ℕ). TakesChunk c tag n d now Stop a b) two (takes Stop is refl by still)
-  other_on two Cut is taken by still = tt
-  other_on two (Refused k) is taken by still = absurd (taken k refl)
+      → (goes_on c.typ ≡ true → IfOk r (λ s. StillOn c d s a b)) → (r ≡ Ok Next → TellsBy c d a b) → OtherOn c tag d now s a b
+  other_on two Next is taken by still tells = inl (subst (λ (n : ℕ). TakesChunk c tag n d now Next a b) two (takes Next is refl by still tells))
+  other_on two Stop is taken by still tells = subst (λ (n : ℕ). TakesChunk c tag n d now Stop a b) two (takes Stop is refl by still tells)
+  other_on two Cut is taken by still tells = tt
+  other_on two (Refused k) is taken by still tells = absurd (taken k refl)
 
   -- what is refused since it is not expected
   pub passes : (is_admitted c tag count a.machine ≡ true → IsExpected c tag d now a → (k : Reason) → r ≡ Ok (Refused k) → ⊥)

@@ -71,5 +71,6 @@ pub mod Tags
 pub mod Telling
 pub mod Timers
 pub mod Told
+pub mod ToldBy
 pub mod Waiting
 pub mod Walks

@@ -9,6 +9,7 @@ use Rattle.sctp_association.specs.Once.{has_seen, none_seen, seen}
 use Rattle.sctp_association.specs.Rows.{Settles, has_row}
 use Rattle.sctp_association.specs.Single.{AloneOn}
 use Rattle.sctp_association.specs.Tags.{is_admitted}
+use Rattle.sctp_association.specs.ToldBy.{TellsBy}
 use Rattle.sctp_association.specs.declared.association.Association.{Association}
 use Rattle.sctp_association.specs.declared.association.arrivals.Step.{Step}
 use Rattle.sctp_association.specs.declared.association.arrivals.Step.TheVariants.{Next, Stop, Cut, Refused}
@@ -19,13 +20,14 @@ use Rattle.sctp_util.specs.Field.{u32_at}
 
 -- ## A chunk
 
--- A chunk is taken: it may stand in a packet with this tag, of so many chunks. The state expects it, and what is said of its type is so. DATA, a SACK
--- and a FORWARD-TSN leave the HEARTBEAT-ACK and the ERROR that are due.
+-- A chunk is taken: it may stand in a packet with this tag, of so many chunks. The state expects it, and what is said of its type is so. What it
+-- brings waits to be told. DATA, a SACK and a FORWARD-TSN leave the HEARTBEAT-ACK and the ERROR that are due.
 pub record TakesChunk (c : ChunkPlace) (tag count : ℕ) (datagram : List ℕ) (now : ℕ) (s : Step)
     (old new : Association) : Type 0 where
   pub admitted : is_admitted c tag count old.machine ≡ true
   pub expected : has_row c.typ ≡ true → is_expected c.typ old ≡ true
   pub by_type : AloneOn c tag datagram now s old new
+  pub tells : s ≡ Next → TellsBy c datagram old new
   pub beside : goes_on c.typ ≡ true → s ≡ Next
       → (new.due.heartbeat ≡ old.due.heartbeat) × (new.due.report ≡ old.due.report)
 

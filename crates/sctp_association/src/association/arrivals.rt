@@ -24,6 +24,7 @@ ghost use Rattle.sctp_association.specs.Rows.{RowOn, Settles, has_row};
 ghost use Rattle.sctp_association.specs.Steps.{is_accepted, is_taken};
 ghost use Rattle.sctp_association.specs.Telling.{Tells, TellsEnd};
 ghost use Rattle.sctp_association.specs.Timers.{KeepsTimers};
+ghost use Rattle.sctp_association.specs.ToldBy.{TellsByShutdown, TellsBySack};
 ghost use Rattle.sctp_association.specs.Once.{none_seen, seen};
 ghost use Rattle.sctp_association.specs.Walks.{FirstOn, OtherOn, Walks, WalksOf};
 ghost use Rattle.sctp_association.specs.Tags.{AdmitsFirst, BeginsByCookie, EndsWithFirst, FirstIs, FirstIsAlive, IsFor, first_type, is_admitted, is_all_or_nothing};
@@ -578,6 +579,10 @@ impl Association {
             → IfOk result (λ s. AsExpected (is_expected chunk.typ self.old) s) }
         ensures alone { IfOk result
             (λ s. AloneOn chunk tag datagram.now now s self.old self.new) }
+        ensures by_sack { chunk.typ ≡ 3 → result ≡ Ok step.Next
+            → TellsBySack chunk datagram.now self.old self.new }
+        ensures by_shutdown { chunk.typ ≡ 7 → result ≡ Ok step.Next
+            → TellsByShutdown self.old self.new }
     {
         if !self.admits(chunk, tag, count) {
             return Ok(Step::Refused(Reason::Tag));
@@ -721,6 +726,7 @@ impl Association {
         ensures row { IfOk result (λ s. RowOn chunk datagram.now now s self.old self.new) }
         ensures acks { IfOk result (λ s. AcksOn chunk datagram.now now s self.old self.new) }
         ensures events { BringsOnly chunk datagram.now self.old self.new }
+        ensures lows { result ≡ Ok step.Next → TellsBySack chunk datagram.now self.old self.new }
     {
         if !self.machine.state().takes_sacks() {
             return Ok(Step::Refused(Reason::Unexpected));

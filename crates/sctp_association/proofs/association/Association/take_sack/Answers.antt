@@ -166,3 +166,10 @@ returns-clause-events c =
     (λ s w. low_sack c.args.chunk c.args.datagram.now c.args.self.now _ c.take_sack.new.low
     (sack_there c.args.chunk.at c.args.datagram.now _ c.bytes_of.result.now c.bytes_of.ensures c.in-Ok.ensures.found) c.take_sack.ensures.fell s
     (sym (ap (λ (e : Events). is_in s e.low) is) ∙ w))
+
+pub returns-in-Taken-clause-lows : goal.returns-in-Taken-clause-lows
+returns-in-Taken-clause-lows c next = record {
+  sack = _;
+  reads = sack_there c.args.chunk.at c.args.datagram.now _ c.bytes_of.result.now c.bytes_of.ensures c.in-Ok.ensures.found;
+  told = c.take_sack.ensures.told (search rules);
+}
