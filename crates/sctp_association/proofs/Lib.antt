@@ -50,6 +50,7 @@ pub mod Cut
 pub mod Named
 pub mod Fresh
 pub mod Fronts
+pub mod Rooms
 pub mod Noting
 pub mod Counted
 pub mod Idle

@@ -145,7 +145,7 @@ impl Association {
     ghost use Rattle.sctp_association.specs.Lasting.{BeginsWithin, LastsNoLonger};
     ghost use Rattle.sctp_association.specs.Made.{IsNew};
     ghost use Rattle.sctp_association.specs.Rows.{Settles, asking, wants_at};
-    ghost use Rattle.sctp_association.specs.Telling.{HasPlaces, Tells};
+    ghost use Rattle.sctp_association.specs.Telling.{HasPlaces, KeepsRooms, Tells};
     ghost use Rattle.sctp_association.specs.Timers.{StartsTimers, StopsTimers};
     ghost use Rattle.sctp_association.specs.declared.due.AloneKind.TheVariants.{Abort};
 
@@ -242,9 +242,10 @@ impl Association {
 
     /// The next event, if there is one: it waited, and is told once.
     pub fn poll(&mut self) -> Option<Event>
-        // Each stream that is open keeps its place among those with a message to read.
+        // Each stream that is open keeps its place in the sets of events, and each set its room.
         ensures places { HasPlaces self.old.inbound self.old.events
             → HasPlaces self.new.inbound self.new.events }
+        ensures rooms { KeepsRooms self.old.events self.new.events }
         // Each other event that waited waits still, and no other comes to wait.
         ensures others { KeepsOthers self.old.events self.new.events result }
         ensures adds { BringsNone self.old.events self.new.events }

@@ -450,6 +450,7 @@ impl Outbound {
     /// again, what is in flight may have come: it is not abandoned, unless more of the message in front waits than its last chunk.
     pub(crate) fn abandon(&mut self, low: &mut StreamSet, now: u64) -> Result<(), Fault>
         ensures low { Stays low.old low.new }
+        ensures room { length low.new ≡ length low.old }
         ensures told { PutsAll (λ s. fell s self.old.sender self.new.sender) low.old low.new }
         ensures dropped { Sends [] self.old.sender self.new.sender }
         ensures early { may_drop now self.old.sender ≡ false → self.new ≡ self.old

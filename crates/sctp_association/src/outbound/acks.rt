@@ -94,6 +94,7 @@ impl Outbound {
         now: u64,
     ) -> Result<SackTaken, Fault>
         ensures low { Stays low.old low.new }
+        ensures room { length low.new ≡ length low.old }
         ensures fell { AddsOnly (λ n. falls_at n (without_blocks tsn) self.old.sender ≡ true)
             low.old low.new }
         // Each stream is added whose buffered amount falls, if the set has room for it.
@@ -142,6 +143,7 @@ impl Outbound {
     ) -> Result<SackTaken, Fault>
         // Whatever it answers, the sender is called for this SACK alone.
         ensures low { Stays low.old low.new }
+        ensures room { length low.new ≡ length low.old }
         // Of streams only those are added whose buffered amount falls to the low threshold.
         ensures fell { AddsOnly (λ n. falls_by n (sack_of sack.old) self.old ≡ true)
             low.old low.new }

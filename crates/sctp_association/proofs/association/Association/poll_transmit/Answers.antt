@@ -129,17 +129,17 @@ returns-then-self-clause-tells c = tells_same _ _ refl
 
 pub returns-in_err-abandon-clause-tells : goal.returns-in_err-abandon-clause-tells
 returns-in_err-abandon-clause-tells c = tells_kept _ _ (knows_same _ _ refl)
-    (to_low c.args.self.now.inbound c.args.self.now.events c.args.self.now.is_over c.abandon.new.low c.abandon.ensures.low)
+    (to_low c.args.self.now.inbound c.args.self.now.events c.args.self.now.is_over c.abandon.new.low c.abandon.ensures.low (omega (arith, c.abandon.ensures.room)))
 
 pub returns-in_default-peer-clause-tells : goal.returns-in_default-peer-clause-tells
 returns-in_default-peer-clause-tells c = tells_kept _ _ c.settle.ensures.peer.machine (end_then
-    (to_low c.args.self.now.inbound c.args.self.now.events c.args.self.now.is_over c.abandon.new.low c.abandon.ensures.low) c.settle.ensures.tells)
+    (to_low c.args.self.now.inbound c.args.self.now.events c.args.self.now.is_over c.abandon.new.low c.abandon.ensures.low (omega (arith, c.abandon.ensures.room))) c.settle.ensures.tells)
 
 pub returns-clause-tells : goal.returns-clause-tells
 returns-clause-tells c =
     let put = c.put_packet.ensures in
     tells_then _ c.settle.new.self _ (tells_kept _ _ c.settle.ensures.peer.machine (end_then
-    (to_low c.args.self.now.inbound c.args.self.now.events c.args.self.now.is_over c.abandon.new.low c.abandon.ensures.low) c.settle.ensures.tells))
+    (to_low c.args.self.now.inbound c.args.self.now.events c.args.self.now.is_over c.abandon.new.low c.abandon.ensures.low (omega (arith, c.abandon.ensures.room))) c.settle.ensures.tells))
     (tells_peer _ _ (unmoved_keeps _ _ put.kept) (transmits_end _ _ _ put.made put.kept))
 
 -- a low buffered amount, and nothing else

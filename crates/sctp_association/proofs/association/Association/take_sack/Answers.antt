@@ -87,13 +87,13 @@ returns-clause-peer c =
     }
 
 pub returns-in_err-take_sack-clause-tells : goal.returns-in_err-take_sack-clause-tells
-returns-in_err-take_sack-clause-tells c = to_low _ _ _ _ c.take_sack.ensures.low
+returns-in_err-take_sack-clause-tells c = to_low _ _ _ _ c.take_sack.ensures.low (omega (arith, c.take_sack.ensures.room))
 
 pub returns-in-Taken-clause-tells : goal.returns-in-Taken-clause-tells
-returns-in-Taken-clause-tells c = to_low _ _ _ _ c.take_sack.ensures.low
+returns-in-Taken-clause-tells c = to_low _ _ _ _ c.take_sack.ensures.low (omega (arith, c.take_sack.ensures.room))
 
 pub returns-clause-tells : goal.returns-clause-tells
-returns-clause-tells c = end_then (to_low _ _ _ _ c.take_sack.ensures.low) c.end_with.ensures.tells
+returns-clause-tells c = end_then (to_low _ _ _ _ c.take_sack.ensures.low (omega (arith, c.take_sack.ensures.room))) c.end_with.ensures.tells
 
 pub returns-in-Taken-clause-path : goal.returns-in-Taken-clause-path
 returns-in-Taken-clause-path c = (

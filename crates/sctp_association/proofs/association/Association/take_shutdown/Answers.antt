@@ -1,4 +1,4 @@
-use Rattle.std.proofs.Common.{Ok, ap}
+use Rattle.std.proofs.Common.{Ok, ap, arith}
 use Rattle.sctp_association.proofs.Telling.{end_then, to_low}
 use Rattle.std.proofs.Common.{drop, refl, rules, ◌∙◌}
 use Rattle.sctp_chunks.specs.Wire.{shutdown_chunk}
@@ -50,10 +50,10 @@ returns-clause-peer c =
     (λ e. on.sending.0 (c.take_shutdown.ensures.limits.0 ∙ e), λ e. on.sending.1 (c.take_shutdown.ensures.limits.1 ∙ e))
 
 pub returns-clause-tells : goal.returns-clause-tells
-returns-clause-tells c = end_then (to_low _ _ _ _ c.take_shutdown.ensures.low) c.follow.ensures.tells.end
+returns-clause-tells c = end_then (to_low _ _ _ _ c.take_shutdown.ensures.low (omega (arith, c.take_shutdown.ensures.room))) c.follow.ensures.tells.end
 
 pub returns-in_err-_taken-clause-tells : goal.returns-in_err-_taken-clause-tells
-returns-in_err-_taken-clause-tells c = to_low _ _ _ _ c.take_shutdown.ensures.low
+returns-in_err-_taken-clause-tells c = to_low _ _ _ _ c.take_shutdown.ensures.low (omega (arith, c.take_shutdown.ensures.room))
 
 -- what follows leaves the sending half
 pub returns-clause-shuts : goal.returns-clause-shuts

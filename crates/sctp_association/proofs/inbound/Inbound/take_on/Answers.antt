@@ -106,7 +106,7 @@ returns-then-is_readable-clause-tells c =
     let e : Events = c.args.events.now in
     let put = c.insert.ensures in
     tells_in _ _ _ _ (tells_data c.args.chunk.now _ _ _ e _ _ c.data.ensures (ap (λ (i : Inbound). i.receiver) c.note_data.ensures)
-    (inbound_kept e c.insert.new.self e.too_long e.reset_by_peer (λ n h. h) (λ n h. h)) put.room
+    (inbound_kept e c.insert.new.self e.too_long e.reset_by_peer (λ n h. h) (λ n h. h) (omega (arith, put.room)) (omega arith) (omega arith)) put.room
     (stays_put s e.readable c.insert.new.self put.value put.full)
     (λ is m lt. put_there s e.readable c.insert.new.self put.value lt))
 

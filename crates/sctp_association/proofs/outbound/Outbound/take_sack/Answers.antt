@@ -20,6 +20,7 @@ returns-in-Err-OutOfMemory-clause-hearing c = acknowledged_sack _ _ c.pass_over_
 pub returns-in-Err : goal.returns-in-Err
 returns-in-Err c = record {
   low = λ s w. w;
+  room = refl;
   fell = adds_none _ _;
   told = search rules;
   hearing = acknowledged_sack _ _ c.pass_over_blocks.ensures.either _ _ _ c.acked.ensures;
