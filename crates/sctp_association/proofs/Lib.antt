@@ -68,6 +68,7 @@ pub mod Ends
 pub mod Expected
 pub mod Openings
 pub mod AcksOn
+pub mod TooLong
 pub mod Single
 pub mod Rules
 pub mod PlainHosts

@@ -13,7 +13,7 @@ use Rattle.sctp_association.specs.Rows.{has_row}
 use Rattle.sctp_association.specs.Single.{AloneOn}
 use Rattle.sctp_association.specs.Steps.{is_taken}
 use Rattle.sctp_association.specs.Tags.{has_tag, is_admitted, is_reflected}
-use Rattle.sctp_association.specs.ToldBy.{TellsBy, TellsByShutdown, TellsBySack}
+use Rattle.sctp_association.specs.ToldBy.{TellsBy, TellsByData, TellsByShutdown, TellsBySack}
 use Rattle.sctp_association.specs.Walks.{EndsUnread, FirstOn, OtherOn, PassesOver, TakesChunk, Walks, WalksOf, counts}
 use Rattle.sctp_association.specs.declared.association.Association.{Association}
 use Rattle.sctp_association.specs.declared.association.Reason.{Reason}
@@ -44,8 +44,9 @@ still-reports with a b h = (ap (λ (d : Due). d.heartbeat) h.due, ap (λ (d : Du
 
 -- what it brings is told, by its type
 pub tells_by : (c : ChunkPlace) (d : List ℕ) (a b : Association) (r : Result Step Fault) → (c.typ ≡ 3 → r ≡ Ok Next → TellsBySack c d a b)
-    → (c.typ ≡ 7 → r ≡ Ok Next → TellsByShutdown a b) → r ≡ Ok Next → TellsBy c d a b
-tells_by c d a b r sack shutdown next = record { sack = λ e. sack e next; shutdown = λ e. shutdown e next }
+    → (c.typ ≡ 7 → r ≡ Ok Next → TellsByShutdown a b) → (c.typ ≡ 0 → r ≡ Ok Next → TellsByData c d a b) → r ≡ Ok Next → TellsBy c d a b
+tells_by c d a b r sack shutdown long next =
+    record { sack = λ e. sack e next; shutdown = λ e. shutdown e next; long = λ e. long e next }
 
 module _ (c : ChunkPlace) (tag count : ℕ) (d : List ℕ) (now : ℕ) (a b : Association) (r : Result Step Fault)
     (foreign : is_admitted c tag count a.machine ≡ false → r ≡ Ok (Refused Tag))

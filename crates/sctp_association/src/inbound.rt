@@ -75,7 +75,7 @@ pub(crate) struct Inbound {
 }
 
 impl Inbound {
-    ghost use Rattle.sctp_association.specs.AcksDue.{AcksData, acks_by, acks_in, ended, is_at_once, no_acks, with_due};
+    ghost use Rattle.sctp_association.specs.AcksDue.{AcksData, acks_by, acks_in, ended, entered_on, is_at_once, no_acks, with_due};
     ghost use Rattle.sctp_association.specs.Brought.{AddsOnly, IsLargeOf, IsLongOf, IsReadOf, NotesOnly};
     ghost use Rattle.sctp_association.specs.Coming.{HasComeOrIsDropped};
     ghost use Rattle.sctp_association.specs.Ends.{EndsData, EndsSkip};
@@ -84,7 +84,7 @@ impl Inbound {
     ghost use Rattle.sctp_association.specs.Reads.{IsReadOff};
     ghost use Rattle.sctp_association.specs.Reconfigs.{ResetsOne};
     ghost use Rattle.sctp_association.specs.Served.{AreServed, IsServed, is_to_open, is_usable};
-    ghost use Rattle.sctp_association.specs.Telling.{KeepsEvents, Stays, TellsIn};
+    ghost use Rattle.sctp_association.specs.Telling.{HasPlaces, KeepsEvents, Stays, TellsIn};
     ghost use Rattle.sctp_association.specs.declared.event.Events.{Events};
 
     /// Nothing came. It takes no memory.
@@ -124,7 +124,7 @@ impl Inbound {
         ensures tells { TellsIn (Some self.old) events.old (Some self.new) events.new }
         // Of events it adds only that a message of its stream can be read, or is too long.
         ensures notes { NotesOnly (IsReadOf chunk.now self.new.receiver)
-            (IsLongOf chunk.now self.old.receiver) events.old events.new }
+            (IsLongOf chunk.now self.old) events.old events.new }
         // Whatever it answers, the receiver is called for this chunk alone.
         ensures received { Received (AsksFor (data_chunk (data_of chunk.now)))
             self.old.receiver self.new.receiver }
@@ -139,6 +139,10 @@ impl Inbound {
         ensures handles { result ≡ Ok Done → Handles chunk.now self.old self.new }
         // It is noted for the SACK of this datagram; or it is refused, and a SACK is due now.
         ensures acks { result ≡ Ok Done → AcksData chunk.now now self.old self.new }
+        // Where its message is too long that is told.
+        ensures told { HasPlaces (Some self.old) events.old → result ≡ Ok Done
+            → arrival_refusal chunk.now (entered_on chunk.now self.old) ≡ Some MessageTooLarge
+            → is_in chunk.now.stream_identifier events.new.too_long ≡ true }
         // It ends the association only without user data, or where it is refused for good.
         ensures ends { IfOk result (λ f. EndsData chunk.now f self.new.receiver) }
         ensures err { OnErr result ((self.new ≡ self.old) × (events.new ≡ events.old)) }
@@ -167,7 +171,7 @@ impl Inbound {
         ensures tells { TellsIn (Some self.old) events.old (Some self.new) events.new }
         ensures notes { is_to_open chunk.now.stream_identifier self.old ≡ true
             → NotesOnly (IsReadOf chunk.now self.new.receiver)
-            (IsLongOf chunk.now self.old.receiver) events.old events.new }
+            (IsLongOf chunk.now self.old) events.old events.new }
         ensures received { Received (AsksFor (data_chunk (data_of chunk.now)))
             self.old.receiver self.new.receiver }
         ensures limits { (self.new.receiver.limits ≡ self.old.receiver.limits)
@@ -177,6 +181,11 @@ impl Inbound {
             → result ≡ Ok Done → Handles chunk.now self.old self.new }
         ensures acks { is_to_open chunk.now.stream_identifier self.old ≡ true
             → result ≡ Ok Done → AcksData chunk.now now self.old self.new }
+        ensures told { is_to_open chunk.now.stream_identifier self.old ≡ true
+            → HasPlaces (Some self.old) events.old → result ≡ Ok Done
+            → arrival_refusal chunk.now (open_stream chunk.now.stream_identifier self.old.receiver)
+            ≡ Some MessageTooLarge
+            → is_in chunk.now.stream_identifier events.new.too_long ≡ true }
         ensures ends { IfOk result (λ f. EndsData chunk.now f self.new.receiver) }
     {
         self.open_agreed(chunk.stream_identifier, events)?;
@@ -205,6 +214,10 @@ impl Inbound {
         ensures acks { result ≡ Ok Done → acks_in self.new
             ≡ acks_by (arrival_refusal chunk.now self.old.receiver) chunk.now now
             self.old.receiver self.new.receiver (acks_in self.old) }
+        ensures told { result ≡ Ok Done
+            → arrival_refusal chunk.now self.old.receiver ≡ Some MessageTooLarge
+            → chunk.now.stream_identifier < length events.old.too_long
+            → is_in chunk.now.stream_identifier events.new.too_long ≡ true }
         ensures ends { IfOk result (λ f. EndsData chunk.now f self.new.receiver) }
         ensures err { OnErr result ((self.new ≡ self.old) × (events.new ≡ events.old)) }
     {

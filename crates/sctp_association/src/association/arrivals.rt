@@ -24,7 +24,7 @@ ghost use Rattle.sctp_association.specs.Rows.{RowOn, Settles, has_row};
 ghost use Rattle.sctp_association.specs.Steps.{is_accepted, is_taken};
 ghost use Rattle.sctp_association.specs.Telling.{Tells, TellsEnd};
 ghost use Rattle.sctp_association.specs.Timers.{KeepsTimers};
-ghost use Rattle.sctp_association.specs.ToldBy.{TellsByShutdown, TellsBySack};
+ghost use Rattle.sctp_association.specs.ToldBy.{TellsByData, TellsByShutdown, TellsBySack};
 ghost use Rattle.sctp_association.specs.Once.{none_seen, seen};
 ghost use Rattle.sctp_association.specs.Walks.{FirstOn, OtherOn, Walks, WalksOf};
 ghost use Rattle.sctp_association.specs.Tags.{AdmitsFirst, BeginsByCookie, EndsWithFirst, FirstIs, FirstIsAlive, IsFor, first_type, is_admitted, is_all_or_nothing};
@@ -583,6 +583,8 @@ impl Association {
             → TellsBySack chunk datagram.now self.old self.new }
         ensures by_shutdown { chunk.typ ≡ 7 → result ≡ Ok step.Next
             → TellsByShutdown self.old self.new }
+        ensures by_data { chunk.typ ≡ 0 → result ≡ Ok step.Next
+            → TellsByData chunk datagram.now self.old self.new }
     {
         if !self.admits(chunk, tag, count) {
             return Ok(Step::Refused(Reason::Tag));
@@ -624,6 +626,7 @@ impl Association {
         ensures row { IfOk result (λ s. RowOn chunk datagram.now now s self.old self.new) }
         ensures acks { IfOk result (λ s. AcksOn chunk datagram.now now s self.old self.new) }
         ensures events { BringsOnly chunk datagram.now self.old self.new }
+        ensures long { result ≡ Ok step.Next → TellsByData chunk datagram.now self.old self.new }
     {
         if !self.machine.state().takes_data() {
             return Ok(Step::Refused(Reason::Unexpected));

@@ -4,7 +4,9 @@ use Rattle.sctp_association.proofs.Entering.{handles_opened, to_use, usable_part
 use Rattle.sctp_association.proofs.Noting.{tells_after}
 use Rattle.sctp_data.specs.declared.chunk.chunk_payload_data.ChunkPayloadData.{ChunkPayloadData}
 use Rattle.sctp_association.proofs.Arriving.{opened_asked, received_then}
-use Rattle.std.proofs.Common.{ap, inr}
+use Rattle.std.proofs.Common.{ap}
+use Rattle.sctp_association.proofs.Named.{open_now}
+use Rattle.sctp_association.proofs.TooLong.{entered_opened}
 use Rattle.sctp_association.proofs.Brought.{notes_after, notes_more}
 use Rattle.sctp_receiver.specs.Receiver.{arrival_refusal}
 use Rattle.sctp_association.proofs.inbound.Inbound.open_and_take.Goals as goal
@@ -42,4 +44,14 @@ returns-clause-notes c to =
     let chunk : ChunkPayloadData = c.args.chunk.now in
     let opens = c.in_ok-open_agreed.ensures.opens refl (to_use chunk.stream_identifier c.args.self.now to) in
     notes_after _ _ _ _ _ c.in_ok-open_agreed.ensures.notes
-    (notes_more _ _ _ _ _ _ (λ s p. p) (λ s p. inr (p.0, sym (ap (arrival_refusal chunk) opens) ∙ p.1)) c.take_on.ensures.notes)
+    (notes_more _ _ _ _ _ _ (λ s p. p)
+    (λ s p. (p.0, ap (arrival_refusal chunk) (entered_opened chunk c.args.self.now c.open_agreed.new.self.receiver to opens) ∙ p.1)) c.take_on.ensures.notes)
+
+-- the stream has a place once it is open
+pub returns-clause-told : goal.returns-clause-told
+returns-clause-told c to places is large =
+    let s = c.args.chunk.now.stream_identifier in
+    let opened = c.in_ok-open_agreed.ensures in
+    let opens = opened.opens refl (to_use s c.args.self.now to) in
+    let there = opened.tells.readable.places places s (open_now s _ _ opens) in
+    c.take_on.ensures.told is (ap (arrival_refusal c.args.chunk.now) opens ∙ large) there.too_long
