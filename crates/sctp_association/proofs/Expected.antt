@@ -181,9 +181,9 @@ init-long value said reads short = by (nat_lt (length value) 16) (lt-ltb (length
     by false is e = false≢true is
 
 -- the value of a chunk that is there is found, where it says something
-pub value_found : (d : List ℕ) (c : ChunkPlace) → IsPlace d c → (c.typ ≡ 1) ⊎ (c.typ ≡ 2) → (said : Said) → init_in (value_in d c) ≡ Ok said
+pub value_long : (d : List ℕ) (c : ChunkPlace) → IsPlace d c → (c.typ ≡ 1) ⊎ (c.typ ≡ 2) → (length (value_in d c) < 16 → ⊥)
     → (bytes : List ℕ) → bytes ≡ drop c.at d → (e : Error) → NoInitFault e bytes → ⊥
-value_found d c place typ said reads bytes cut e fault =
+value_long d c place typ long bytes cut e fault =
     by (subst (NoInitFault e) cut fault)
   where
     is : type_at (drop c.at d) ≡ c.typ
@@ -195,7 +195,12 @@ value_found d c place typ said reads bytes cut e fault =
       | inl one ↦ other.2 (is ∙ one)
       | inr two ↦ other.3 (is ∙ two)
     ]
-    by (inr (inr short)) = init-long (value_in d c) said reads short.2
+    by (inr (inr short)) = long short.2
+
+pub value_found : (d : List ℕ) (c : ChunkPlace) → IsPlace d c → (c.typ ≡ 1) ⊎ (c.typ ≡ 2) → (said : Said) → init_in (value_in d c) ≡ Ok said
+    → (bytes : List ℕ) → bytes ≡ drop c.at d → (e : Error) → NoInitFault e bytes → ⊥
+value_found d c place typ said reads bytes cut e fault =
+    value_long d c place typ (init-long (value_in d c) said reads) bytes cut e fault
 
 -- an offer with a tag is answered
 row-answers : (s : State) (peer : Offer) (tag : ℕ) (m : Machine) → init_row s peer tag m ≡ None → ⊥

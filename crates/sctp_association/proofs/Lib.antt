@@ -67,6 +67,7 @@ pub mod Walks
 pub mod Ends
 pub mod Expected
 pub mod Openings
+pub mod InitAcks
 pub mod AcksOn
 pub mod TooLong
 pub mod Single

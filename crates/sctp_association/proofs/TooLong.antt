@@ -13,7 +13,8 @@ use Rattle.sctp_association.specs.declared.inbound.Inbound.{Inbound}
 use Rattle.sctp_datagram.specs.declared.datagram.ChunkPlace.{ChunkPlace}
 use Rattle.sctp_data.specs.declared.chunk.chunk_payload_data.ChunkPayloadData.{ChunkPayloadData}
 use Rattle.sctp_receiver.specs.Limits.{is_beyond_window, refusal_by}
-use Rattle.sctp_receiver.specs.Receiver.{Reception, arrival_refusal, filter_of, is_open, is_too_far_on, new_refusal, open_stream, stream_of, stream_refusal}
+use Rattle.sctp_receiver.specs.Receiver.{Reception, arrival_refusal, filter_of, is_open, new_refusal, open_stream, stream_of, stream_refusal}
+use Rattle.sctp_receiver.specs.Ssns.{is_too_far_on}
 use Rattle.sctp_receiver.specs.TsnFilter.{has_come, is_opposite}
 use Rattle.sctp_receiver.specs.declared.receiver.inbound_streams.InboundStream.{InboundStream}
 use Rattle.sctp_receiver.specs.declared.receiver.limits.Limits.{Limits}

@@ -7,14 +7,14 @@ use Rattle.sctp_association.proofs.Ends.{row_has}
 use Rattle.sctp_association.proofs.Expected.{taken_where}
 use Rattle.sctp_association.specs.Behind.{StillAs, StillOn}
 use Rattle.sctp_association.specs.Coming.{goes_on}
-use Rattle.sctp_association.specs.Expected.{AsExpected, BringsCookie, IsExpected, is_expected}
+use Rattle.sctp_association.specs.Expected.{AsExpected, IsExpected, is_expected}
 use Rattle.sctp_association.specs.Once.{has_seen, seen}
 use Rattle.sctp_association.specs.Rows.{has_row}
 use Rattle.sctp_association.specs.Single.{AloneOn}
 use Rattle.sctp_association.specs.Steps.{is_taken}
 use Rattle.sctp_association.specs.Tags.{has_tag, is_admitted, is_reflected}
 use Rattle.sctp_association.specs.ToldBy.{TellsBy, TellsByData, TellsByShutdown, TellsBySack}
-use Rattle.sctp_association.specs.Walks.{EndsUnread, FirstOn, OtherOn, PassesOver, TakesChunk, Walks, WalksOf, counts}
+use Rattle.sctp_association.specs.Walks.{EndsUnread, FirstOn, IsUnread, OtherOn, PassesOver, TakesChunk, Walks, WalksOf, counts}
 use Rattle.sctp_association.specs.declared.association.Association.{Association}
 use Rattle.sctp_association.specs.declared.association.Reason.{Reason}
 use Rattle.sctp_association.specs.declared.association.Reason.TheVariants.{Tag, Unexpected}
@@ -25,6 +25,7 @@ use Rattle.sctp_association.specs.declared.fault.Fault.{Fault}
 use Rattle.sctp_association.specs.declared.once.Once.{Once}
 use Rattle.sctp_datagram.specs.declared.datagram.ChunkPlace.{ChunkPlace}
 use Rattle.sctp_handshake.specs.declared.machine.Machine.{Machine}
+use Rattle.sctp_handshake.specs.declared.state.State.TheVariants.{CookieWait}
 
 -- ## A chunk
 
@@ -87,10 +88,12 @@ module _ (c : ChunkPlace) (tag count : ℕ) (d : List ℕ) (now : ℕ) (a b : As
 
   -- what is refused since it is not expected
   pub passes : (is_admitted c tag count a.machine ≡ true → IsExpected c tag d now a → (k : Reason) → r ≡ Ok (Refused k) → ⊥)
+      → (c.typ ≡ 2 → r ≡ Ok (Refused Unexpected) → a.machine.state ≡ CookieWait → ⊥)
       → r ≡ Ok (Refused Unexpected) → b ≡ a → PassesOver c tag count d now a b
-  passes due is same = record {
+  passes due ack is same = record {
     admitted = may;
     unexpected = λ expected. due may expected Unexpected is;
+    init_ack = λ typ. ack typ is;
     same = same;
   }
     where
@@ -103,19 +106,28 @@ module _ (c : ChunkPlace) (tag : ℕ) (d : List ℕ) (now : ℕ) (a b : Associat
     (foreign : is_admitted c tag 2 a.machine ≡ false → r ≡ Ok (Refused Tag))
     (expected : is_admitted c tag 2 a.machine ≡ true → has_row c.typ ≡ true → IfOk r (λ s. AsExpected (is_expected c.typ a) s))
     (due : is_admitted c tag 2 a.machine ≡ true → IsExpected c tag d now a → (k : Reason) → r ≡ Ok (Refused k) → ⊥)
-    (why : is_admitted c tag 2 a.machine ≡ true → c.typ ≡ 2 → BringsCookie c d → (k : Reason) → r ≡ Ok (Refused k) → k ≡ Unexpected)
+    (ack : c.typ ≡ 2 → r ≡ Ok (Refused Unexpected) → a.machine.state ≡ CookieWait → ⊥)
+    (waits : is_admitted c tag 2 a.machine ≡ true → c.typ ≡ 2 → (k : Reason) → r ≡ Ok (Refused k) → (k ≡ Unexpected → ⊥) → a.machine.state ≡ CookieWait)
     (counted : c.typ ≡ 10 → ⊥) (same : b ≡ a) where
   unread : (k : Reason) → r ≡ Ok (Refused k) → (k ≡ Unexpected → ⊥) → EndsUnread c tag d a b
   unread k is other = record { why = by (is_admitted c tag 2 a.machine) refl; same = same }
     where
-      typed : (two : Bool) → (c.typ == 2) ≡ two → is_admitted c tag 2 a.machine ≡ true → (c.typ ≡ 2) × (BringsCookie c d → ⊥)
-      typed true e may = (eqb-true c.typ 2 e, λ brings. other (why may (eqb-true c.typ 2 e) brings k is))
+      typed : (two : Bool) → (c.typ == 2) ≡ two → is_admitted c tag 2 a.machine ≡ true → IsUnread c d a
+      typed true e may =
+          let typ = eqb-true c.typ 2 e in
+          let there = waits may typ k is other in
+          record {
+            typ = typ;
+            waits = there;
+            cookie = λ brings. due may (inr (inr (inr (record { typ = typ; waits = there; brings = inl brings })))) k is;
+            end = λ brings. due may (inr (inr (inr (record { typ = typ; waits = there; brings = inr brings })))) k is;
+          }
       typed false e may =
           let row = row_has c.typ (behind-init c tag a.machine may) (λ two. false≢true (sym e ∙ ap (λ (n : ℕ). n == 2) two)) counted in
           absurd (other (if_ok (λ s. AsExpected (is_expected c.typ a) s) r (Refused k) is (expected may row)).0)
 
       by : (may : Bool) → is_admitted c tag 2 a.machine ≡ may
-          → (is_admitted c tag 2 a.machine ≡ false) ⊎ ((c.typ ≡ 2) × (BringsCookie c d → ⊥))
+          → (is_admitted c tag 2 a.machine ≡ false) ⊎ IsUnread c d a
       by true e = inr (typed (c.typ == 2) refl e)
       by false e = inl e
 
@@ -123,7 +135,7 @@ module _ (c : ChunkPlace) (tag : ℕ) (d : List ℕ) (now : ℕ) (a b : Associat
   pub other_past : (k : Reason) (s : Step) → r ≡ Ok (Refused k) → (k ≡ Unexpected → s ≡ Next) → ((k ≡ Unexpected → ⊥) → s ≡ Refused k)
       → OtherOn c tag d now s a b
   other_past Unexpected s is next end =
-      subst (λ (x : Step). OtherOn c tag d now x a b) (sym (next refl)) (inr (passes c tag 2 d now a b r foreign expected due is same))
+      subst (λ (x : Step). OtherOn c tag d now x a b) (sym (next refl)) (inr (passes c tag 2 d now a b r foreign expected due ack is same))
   other_past Tag s is next end = subst (λ (x : Step). OtherOn c tag d now x a b) (sym (end (λ e. cc))) (unread Tag is (λ e. cc))
   other_past k s is next end = subst (λ (x : Step). OtherOn c tag d now x a b) (sym (end (λ e. cc))) (unread k is (λ e. cc))
 

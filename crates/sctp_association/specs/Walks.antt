@@ -1,10 +1,11 @@
 -- What the chunks of a datagram make, one after the other (RFC 9260 4, 5, 6, 8.5, 9). Moments are nanoseconds.
-use Rattle.std.specs.Prelude.{◌≡◌, ◌⊎◌, ⊤, ℕ, ◌<◌, ◌==◌, ◌&&◌, Bool, true, false, not, List, [], ◌∷◌, length}
+use Rattle.std.specs.Prelude.{◌≡◌, ◌≢◌, ◌⊎◌, ⊤, ℕ, ◌<◌, ◌==◌, ◌&&◌, Bool, true, false, not, List, [], ◌∷◌, length}
 use Rattle.std.specs.Option.{option_map}
 use Rattle.sctp_association.specs.AcksDue.{acks_of, ended}
 use Rattle.sctp_association.specs.Coming.{goes_on}
 use Rattle.sctp_association.specs.Expected.{BringsCookie, IsExpected, is_expected}
 use Rattle.sctp_association.specs.Halves.{receiver_of}
+use Rattle.sctp_association.specs.Openings.{BringsEnd}
 use Rattle.sctp_association.specs.Once.{has_seen, none_seen, seen}
 use Rattle.sctp_association.specs.Rows.{Settles, has_row}
 use Rattle.sctp_association.specs.Single.{AloneOn}
@@ -15,7 +16,7 @@ use Rattle.sctp_association.specs.declared.association.arrivals.Step.{Step}
 use Rattle.sctp_association.specs.declared.association.arrivals.Step.TheVariants.{Next, Stop, Cut, Refused}
 use Rattle.sctp_association.specs.declared.once.Once.{Once}
 use Rattle.sctp_datagram.specs.declared.datagram.ChunkPlace.{ChunkPlace}
-use Rattle.sctp_handshake.specs.declared.state.State.TheVariants.{Closed}
+use Rattle.sctp_handshake.specs.declared.state.State.TheVariants.{Closed, CookieWait}
 use Rattle.sctp_util.specs.Field.{u32_at}
 
 -- ## A chunk
@@ -31,18 +32,26 @@ pub record TakesChunk (c : ChunkPlace) (tag count : ℕ) (datagram : List ℕ) (
   pub beside : goes_on c.typ ≡ true → s ≡ Next
       → (new.due.heartbeat ≡ old.due.heartbeat) × (new.due.report ≡ old.due.report)
 
--- A chunk is passed over: it may stand there, but the state does not expect it. Nothing changes.
+-- A chunk is passed over: it may stand there, but the state does not expect it. So is an INIT ACK that this side does not wait for (5.2.3). Nothing
+-- changes.
 pub record PassesOver (c : ChunkPlace) (tag count : ℕ) (datagram : List ℕ) (now : ℕ)
     (old new : Association) : Type 0 where
   pub admitted : is_admitted c tag count old.machine ≡ true
   pub unexpected : IsExpected c tag datagram now old → ⊥
+  pub init_ack : c.typ ≡ 2 → old.machine.state ≢ CookieWait
   pub same : new ≡ old
 
--- The datagram is read no further: behind the first chunk, this one may not stand there, or is an INIT ACK that brings no cookie. Nothing changes.
+-- it is an INIT ACK for which this side waits, and brings neither a cookie nor the end
+pub record IsUnread (c : ChunkPlace) (datagram : List ℕ) (a : Association) : Type 0 where
+  pub typ : c.typ ≡ 2
+  pub waits : a.machine.state ≡ CookieWait
+  pub cookie : BringsCookie c datagram → ⊥
+  pub end : BringsEnd c datagram → ⊥
+
+-- The datagram is read no further: behind the first chunk, this one may not stand there, or is such an INIT ACK. Nothing changes.
 pub record EndsUnread (c : ChunkPlace) (tag : ℕ) (datagram : List ℕ) (old new : Association)
     : Type 0 where
-  pub why : (is_admitted c tag 2 old.machine ≡ false)
-      ⊎ ((c.typ ≡ 2) × (BringsCookie c datagram → ⊥))
+  pub why : (is_admitted c tag 2 old.machine ≡ false) ⊎ IsUnread c datagram old
   pub same : new ≡ old
 
 -- ## Behind the first chunk

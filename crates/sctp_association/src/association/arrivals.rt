@@ -1,6 +1,6 @@
 //! What comes in a datagram (RFC 9260 5, 6, 8.5, 9).
 
-ghost use Rattle.std.specs.Prelude.{◌≡◌, ◌⊎◌, ◌<◌, ◌≤◌, ℕ, List, [], ◌∷◌, None, Some, Ok, IfOk, IfSome, OnErr, OnOk, true, false, drop, length, option_map};
+ghost use Rattle.std.specs.Prelude.{◌≡◌, ◌≢◌, ◌⊎◌, ◌<◌, ◌≤◌, ℕ, List, [], ◌∷◌, None, Some, Ok, IfOk, IfSome, OnErr, OnOk, true, false, drop, length, option_map};
 ghost use Rattle.std.specs.List.{AllByRecursion};
 ghost use Rattle.sctp_association.specs.Single.{AloneOn};
 ghost use Rattle.sctp_association.specs.AcksDue.{acks_of, ended};
@@ -15,7 +15,7 @@ ghost use Rattle.sctp_association.specs.Cookies.{IsAlive, IsSealed, cookie_in};
 ghost use Rattle.sctp_association.specs.Ends.{EndsIn, EndsOn, IsAborted, abort_for};
 ghost use Rattle.sctp_association.specs.Entering.{usable_in};
 ghost use Rattle.sctp_association.specs.Halves.{HalvesAlike, halves_of};
-ghost use Rattle.sctp_association.specs.Expected.{AsExpected, BringsCookie, IsDue, IsExpected, is_expected};
+ghost use Rattle.sctp_association.specs.Expected.{AsExpected, IsDue, IsExpected, is_expected};
 ghost use Rattle.sctp_association.specs.Lasting.{KeepsLimits};
 ghost use Rattle.sctp_association.specs.Sacks.{HearsFirstOf, HearsOn, TakesSacksOf};
 ghost use Rattle.sctp_association.specs.Paths.{MovesBehind, MovesByFirstOf, MovesOn, all_go_on};
@@ -40,7 +40,7 @@ ghost use Rattle.sctp_datagram.specs.Framing.{StartsWith};
 ghost use Rattle.sctp_datagram.specs.Places.{IsPlace, TellsAll, place_at};
 ghost use Rattle.sctp_datagram.specs.declared.datagram.ChunkPlace.{ChunkPlace};
 ghost use Rattle.sctp_handshake.specs.Answers.{silent};
-ghost use Rattle.sctp_handshake.specs.declared.state.State.TheVariants.{Closed};
+ghost use Rattle.sctp_handshake.specs.declared.state.State.TheVariants.{Closed, CookieWait};
 ghost use Rattle.sctp_util.specs.Field.{u32_at};
 ghost use Rattle.sctp_util.specs.declared.error.Error.TheVariants.{ErrOutOfMemory};
 
@@ -210,8 +210,8 @@ impl Association {
         // 3.3.10, 5.1, 6.2, 9).
         ensures over { EndsIn datagram.now self.old self.new }
         // Each of its chunks makes in its turn what RFC 9260 says of its type: `AloneOn` has a field for each. Or it is passed over, since the state
-        // does not expect it, or its kind came before. No more is read behind an INIT, a stale cookie or an ABORT of either side, and at a chunk that
-        // may not stand in the packet. Then a shutdown may go on (4, 5, 6, 8.3, 8.5, 9).
+        // does not expect it, or its kind came before. No more is read behind an INIT, a stale cookie or an ABORT of either side, at a chunk that may not
+        // stand in the packet, and at an INIT ACK that says nothing. Then a shutdown may go on (4, 5, 6, 8.3, 8.5, 9).
         ensures walks { result ≡ Ok Accepted → self.old.is_over ≡ false
             → (chunks : List ChunkPlace) → TellsAll place_at datagram.now chunks
             → WalksOf chunks datagram.now now self.old self.new }
@@ -571,9 +571,11 @@ impl Association {
         ensures over { IfOk result (λ s. EndsOn chunk datagram.now s self.old self.new) }
         ensures still { goes_on chunk.typ ≡ true
             → IfOk result (λ s. StillOn chunk datagram.now s self.old self.new) }
-        ensures why { is_admitted chunk tag count self.old.machine ≡ true
-            → chunk.typ ≡ 2 → BringsCookie chunk datagram.now
-            → (r : Reason) → result ≡ Ok (step.Refused r) → r ≡ Unexpected }
+        ensures unexpected { chunk.typ ≡ 2 → result ≡ Ok (step.Refused Unexpected)
+            → self.old.machine.state ≢ CookieWait }
+        ensures waits { is_admitted chunk tag count self.old.machine ≡ true → chunk.typ ≡ 2
+            → (r : Reason) → result ≡ Ok (step.Refused r) → (r ≡ Unexpected → ⊥)
+            → self.old.machine.state ≡ CookieWait }
         ensures expected { is_admitted chunk tag count self.old.machine ≡ true
             → has_row chunk.typ ≡ true
             → IfOk result (λ s. AsExpected (is_expected chunk.typ self.old) s) }

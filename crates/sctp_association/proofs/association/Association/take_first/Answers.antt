@@ -46,7 +46,8 @@ returns-in-Refused-Unexpected-clause-walks c =
     let is : c.take_chunk-2.result ≡ Ok (Refused Unexpected) = search rules in
     inr (record {
       passes = passes c.args.chunk c.args.tag c.args.count c.args.datagram.now c.args.now c.args.self.now c.take_chunk-2.new.self c.take_chunk-2.result
-          c.take_chunk-2.ensures.foreign c.take_chunk-2.ensures.expected c.take_chunk-2.ensures.due is (c.take_chunk-2.ensures.refused Unexpected is);
+          c.take_chunk-2.ensures.foreign c.take_chunk-2.ensures.expected c.take_chunk-2.ensures.due c.take_chunk-2.ensures.unexpected is
+          (c.take_chunk-2.ensures.refused Unexpected is);
       others = search rules;
       begun = search rules;
       init = search rules;

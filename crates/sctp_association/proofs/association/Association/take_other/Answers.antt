@@ -60,7 +60,8 @@ pub returns-in-Refused-clause-walks : goal.returns-in-Refused-clause-walks
 returns-in-Refused-clause-walks c =
     let is : c.take_chunk.result ≡ Ok (Refused c.in-Refused.reason) = search rules in
     other_past c.args.chunk c.args.tag c.args.datagram.now c.args.now c.args.self.now c.take_chunk.new.self c.take_chunk.result
-    c.take_chunk.ensures.foreign c.take_chunk.ensures.expected c.take_chunk.ensures.due c.take_chunk.ensures.why c.requires.counted
+    c.take_chunk.ensures.foreign c.take_chunk.ensures.expected c.take_chunk.ensures.due c.take_chunk.ensures.unexpected c.take_chunk.ensures.waits
+    c.requires.counted
     (c.take_chunk.ensures.refused c.in-Refused.reason is)
     c.in-Refused.reason c.past.result is c.past.ensures.unexpected c.past.ensures.other
 
