@@ -29,6 +29,7 @@ pub mod Reconfigs
 pub mod Resetting
 pub mod Lows
 pub mod Falls
+pub mod Above
 pub mod Making
 pub mod Sessions
 pub mod Delivered

@@ -10,6 +10,7 @@ ghost use Rattle.sctp_association.specs.Idle.{HasNoSackDue, IsIdle, MayReply, Ma
 ghost use Rattle.sctp_association.specs.Kept.{IsUnmoved, unknown_in};
 ghost use Rattle.sctp_association.specs.Lasting.{LastsNoLonger};
 ghost use Rattle.sctp_association.specs.Leaving.{AsksNoMore, IsDueOrData, IsSentIn, IsStreamTold, LeavesBy, LeavesInto, OwesNothingNew, beats, owed_at, owed_before, owed_of, replies_of};
+ghost use Rattle.sctp_association.specs.Lows.{AddsWhere};
 ghost use Rattle.sctp_association.specs.Most.{FewerWherePut, most_data, most_packets};
 ghost use Rattle.sctp_association.specs.Offering.{IsReplyOf, OffersAsDue, PutsReply, answered, init_with};
 ghost use Rattle.sctp_association.specs.declared.due.AloneKind.{AloneKind};
@@ -33,6 +34,7 @@ ghost use Rattle.sctp_handshake.specs.declared.state.State.TheVariants.{CookieEc
 ghost use Rattle.sctp_packets.specs.Draft.{IsDraft};
 ghost use Rattle.sctp_packets.specs.Packet.{Parts};
 ghost use Rattle.sctp_params.specs.Param.{heartbeat_info};
+ghost use Rattle.sctp_sender.specs.Thresholds.{fell};
 ghost use Rattle.sctp_params.specs.ParamKind.{parameter_of};
 
 use super::Association;
@@ -80,8 +82,11 @@ impl Association {
         ensures tells { Tells self.old self.new }
         ensures over { self.old.is_over ≡ true → self.old.due.alone ≡ None
             → (result ≡ Ok false) × (self.new ≡ self.old) }
-        // It tells no more than that a buffered amount fell to its low threshold.
+        // It tells no more than that a buffered amount fell to its low threshold: as messages are abandoned or expire, exactly of those streams, where
+        // there is room for them (`write` makes it).
         ensures quiet { self.new.events ≡ record self.old.events { low = self.new.events.low } }
+        ensures lows { AddsWhere (λ s. fell s self.old.outbound.sender self.new.outbound.sender)
+            self.old.events.low self.new.events.low }
         ensures made { Transmits (is_sent result) (sides_of self.old) (sides_of self.new) }
         // An INIT has the first TSN of this side; an INIT ACK has a cookie over the ticket that was due.
         ensures offers { is_sent result ≡ true → OffersAsDue self.old self.new.draft.bytes }

@@ -17,6 +17,10 @@ use Rattle.sctp_association.proofs.Rows.{settles_enters}
 use Rattle.sctp_association.proofs.Running.{none_sent}
 use Rattle.sctp_association.proofs.Timers.{enters_from, enters_same, enters_then}
 use Rattle.sctp_association.proofs.Others.{alike_same, at_then, beats_same, before_then, none_sent_so, sent_alone, unsent, unsent_alike, unsent_err}
+use Rattle.sctp_association.proofs.Above.{pauses_streams}
+use Rattle.sctp_association.proofs.Lows.{adds_where, where_same, where_then}
+use Rattle.sctp_association.specs.declared.event.Events.{Events}
+use Rattle.sctp_sender.specs.Sender.{Transmission}
 use Rattle.sctp_association.proofs.association.Association.poll_transmit.Goals as goal
 use Rattle.sctp_association.specs.Congested.{PausesWithin}
 use Rattle.sctp_association.specs.Entering.{usable_in}
@@ -154,6 +158,39 @@ returns-in_default-peer-clause-quiet c = low_only c.args.self.now.events _ c.aba
 
 pub returns-clause-quiet : goal.returns-clause-quiet
 returns-clause-quiet c = low_only c.args.self.now.events _ c.abandon.new.low (c.put_packet.ensures.kept.events ∙ c.settle.ensures.events)
+
+-- which amounts fell
+
+pub returns-in_err-put_alone-clause-lows : goal.returns-in_err-put_alone-clause-lows
+returns-in_err-put_alone-clause-lows c = where_same c.args.self.now.outbound.sender c.put_alone.new.self.outbound.sender _ _
+    (ap (λ (t : Transmission). t.streams) c.put_alone.ensures.halves.sender)
+    (ap (λ (e : Events). e.low) c.put_alone.ensures.kept.events)
+
+pub returns-in-Some-clause-lows : goal.returns-in-Some-clause-lows
+returns-in-Some-clause-lows c = where_same c.args.self.now.outbound.sender c.put_alone.new.self.outbound.sender _ _
+    (ap (λ (t : Transmission). t.streams) c.put_alone.ensures.halves.sender)
+    (ap (λ (e : Events). e.low) c.put_alone.ensures.kept.events)
+
+pub returns-then-self-clause-lows : goal.returns-then-self-clause-lows
+returns-then-self-clause-lows c = where_same c.args.self.now.outbound.sender c.args.self.now.outbound.sender _ _ refl refl
+
+pub returns-in_err-abandon-clause-lows : goal.returns-in_err-abandon-clause-lows
+returns-in_err-abandon-clause-lows c =
+    adds_where _ _ _ c.abandon.ensures.low c.abandon.ensures.room c.abandon.ensures.told c.abandon.ensures.only
+
+pub returns-in_default-peer-clause-lows : goal.returns-in_default-peer-clause-lows
+returns-in_default-peer-clause-lows c =
+    where_then c.args.self.now.outbound.sender c.abandon.new.self.sender c.settle.new.self.outbound.sender _ _ _ (ap (λ (o : Outbound). o.sender.streams) c.settle.ensures.sending)
+    (ap (λ (e : Events). e.low) c.settle.ensures.events)
+    (adds_where _ _ _ c.abandon.ensures.low c.abandon.ensures.room c.abandon.ensures.told c.abandon.ensures.only)
+
+-- what leaves leaves the streams
+pub returns-clause-lows : goal.returns-clause-lows
+returns-clause-lows c =
+    where_then c.args.self.now.outbound.sender c.abandon.new.self.sender c.put_packet.new.self.outbound.sender _ _ _
+    (pauses_streams _ _ _ _ _ c.put_packet.ensures.within.path ∙ ap (λ (o : Outbound). o.sender.streams) c.settle.ensures.sending)
+    (ap (λ (e : Events). e.low) (c.put_packet.ensures.kept.events ∙ c.settle.ensures.events))
+    (adds_where _ _ _ c.abandon.ensures.low c.abandon.ensures.room c.abandon.ensures.told c.abandon.ensures.only)
 
 -- ## What is left
 
