@@ -45,6 +45,7 @@ pub mod Coming
 pub mod Each
 pub mod Going
 pub mod Sacks
+pub mod Partly
 pub mod Paths
 pub mod Moving
 pub mod Cut

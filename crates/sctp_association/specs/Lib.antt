@@ -45,6 +45,8 @@ pub mod OneLife
 pub mod Openings
 pub mod Packets
 pub mod Pairs
+pub mod Partly
+pub mod Parts
 pub mod Paths
 pub mod Reached
 pub mod Reads

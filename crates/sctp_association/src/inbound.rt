@@ -81,6 +81,7 @@ impl Inbound {
     ghost use Rattle.sctp_association.specs.Ends.{EndsData, EndsSkip};
     ghost use Rattle.sctp_association.specs.Entering.{Handles, HandlesOpen, HandlesRefused};
     ghost use Rattle.sctp_association.specs.Events.{brought_at};
+    ghost use Rattle.sctp_association.specs.Partly.{OpensIn};
     ghost use Rattle.sctp_association.specs.Reads.{IsReadOff};
     ghost use Rattle.sctp_association.specs.Reconfigs.{ResetsOne};
     ghost use Rattle.sctp_association.specs.Served.{AreServed, IsServed, is_to_open, is_usable};
@@ -139,6 +140,9 @@ impl Inbound {
         ensures handles { result ≡ Ok Done → Handles chunk.now self.old self.new }
         // It is noted for the SACK of this datagram; or it is refused, and a SACK is due now.
         ensures acks { result ≡ Ok Done → AcksData chunk.now now self.old self.new }
+        // Where memory was wanting its stream may be open by that, and nothing else changed.
+        ensures cut { result ≡ Ok Wanting → OpensIn (IsOpening chunk.now.stream_identifier)
+            self.old events.old self.new events.new }
         // Where its message is too long that is told.
         ensures told { HasPlaces (Some self.old) events.old → result ≡ Ok Done
             → arrival_refusal chunk.now (entered_on chunk.now self.old) ≡ Some MessageTooLarge
@@ -181,6 +185,9 @@ impl Inbound {
             → result ≡ Ok Done → Handles chunk.now self.old self.new }
         ensures acks { is_to_open chunk.now.stream_identifier self.old ≡ true
             → result ≡ Ok Done → AcksData chunk.now now self.old self.new }
+        ensures cut { OnErr result (OpensIn (IsOpening chunk.now.stream_identifier)
+            self.old events.old self.new events.new) }
+        ensures whole { result ≡ Ok Wanting → ⊥ }
         ensures told { is_to_open chunk.now.stream_identifier self.old ≡ true
             → HasPlaces (Some self.old) events.old → result ≡ Ok Done
             → arrival_refusal chunk.now (open_stream chunk.now.stream_identifier self.old.receiver)
@@ -294,6 +301,7 @@ impl Inbound {
             → is_open n self.new.receiver ≡ true }
         ensures place { self.new.receiver.cumulative_tsn ≡ self.old.receiver.cumulative_tsn }
         ensures acks { acks_in self.new ≡ acks_in self.old }
+        ensures unknown { self.new.unknown_stream ≡ self.old.unknown_stream }
     {
         if self.receiver.stats(stream).is_some() {
             return Ok(());
@@ -319,6 +327,7 @@ impl Inbound {
             → is_open n self.new.receiver ≡ true }
         ensures place { self.new.receiver.cumulative_tsn ≡ self.old.receiver.cumulative_tsn }
         ensures acks { acks_in self.new ≡ acks_in self.old }
+        ensures unknown { self.new.unknown_stream ≡ self.old.unknown_stream }
     {
         if stream >= self.streams || self.discarded.contains(stream) {
             return Ok(());
@@ -397,6 +406,7 @@ impl Inbound {
             × (self.new.streams ≡ self.old.streams) }
         ensures place { self.new.receiver.cumulative_tsn ≡ self.old.receiver.cumulative_tsn }
         ensures acks { acks_in self.new ≡ acks_in self.old }
+        ensures unknown { self.new.unknown_stream ≡ self.old.unknown_stream }
         ensures same { (n : ℕ) → is_in n self.new.discarded ≡ is_in n self.old.discarded }
         ensures served { IsOk result
             → comes_before self.old.receiver.cumulative_tsn skip.now.new_cumulative_tsn ≡ true
@@ -435,6 +445,9 @@ impl Inbound {
             × (self.new.streams ≡ self.old.streams) }
         ensures same { (n : ℕ) → is_in n self.new.discarded ≡ is_in n self.old.discarded }
         ensures whole { result ≡ Ok Wanting → ⊥ }
+        // Where memory was wanting streams that it names may be open by that, and nothing else changed.
+        ensures cut { OnErr result (OpensIn (IsOpeningNamed (forward_tsn_of skip.now))
+            self.old events.old self.new events.new) }
         // A SACK is due now (RFC 3758 3.6).
         ensures acks { result ≡ Ok Done → acks_in self.new ≡ with_due now (acks_in self.old) }
         // It ends the association only where it is refused for good.

@@ -18,6 +18,8 @@ ghost use Rattle.sctp_association.specs.Halves.{HalvesAlike, halves_of};
 ghost use Rattle.sctp_association.specs.Expected.{AsExpected, IsDue, IsExpected, is_expected};
 ghost use Rattle.sctp_association.specs.Lasting.{KeepsLimits};
 ghost use Rattle.sctp_association.specs.Sacks.{HearsFirstOf, HearsOn, TakesSacksOf};
+ghost use Rattle.sctp_association.specs.Partly.{CutsData, CutsReconfig, CutsSkip};
+ghost use Rattle.sctp_association.specs.Parts.{PartOf, WalksTo};
 ghost use Rattle.sctp_association.specs.Paths.{MovesBehind, MovesByFirstOf, MovesOn, all_go_on};
 ghost use Rattle.sctp_association.specs.Reached.{most_user_data};
 ghost use Rattle.sctp_association.specs.Rows.{RowOn, Settles, has_row};
@@ -215,6 +217,11 @@ impl Association {
         ensures walks { result ≡ Ok Accepted → self.old.is_over ≡ false
             → (chunks : List ChunkPlace) → TellsAll place_at datagram.now chunks
             → WalksOf chunks datagram.now now self.old self.new }
+        // Where memory is wanting behind the first change, so do its chunks up to the one at which it is. That one changes nothing; or streams are open
+        // that DATA or a FORWARD-TSN names; or a RE-CONFIG is followed in part. Nothing behind it is read, and the SACK of what came before is due.
+        ensures in_part { result ≡ Ok Partly
+            → (chunks : List ChunkPlace) → TellsAll place_at datagram.now chunks
+            → PartOf chunks datagram.now now self.old self.new }
     {
         let zero = if self.config.zero_checksum {
             ZeroChecksum::Allowed
@@ -307,6 +314,8 @@ impl Association {
         ensures over { EndsIn datagram.now self.old self.new }
         ensures walks { result ≡ Ok Accepted
             → WalksOf chunks.entry.left datagram.now now self.old self.new }
+        ensures in_part { result ≡ Ok Partly
+            → PartOf chunks.entry.left datagram.now now self.old self.new }
     {
         let mut chunks = chunks;
         let tag = chunks.header().verification_tag;
@@ -445,6 +454,8 @@ impl Association {
             self.old.outbound self.new.outbound }
         ensures over { EndsIn datagram.now self.old self.new }
         ensures walks { result ≡ true → Walks (u32_at datagram.now 4) datagram.now now
+            (seen first none_seen) chunks.entry.left self.old self.new }
+        ensures in_part { result ≡ false → WalksTo (u32_at datagram.now 4) datagram.now now
             (seen first none_seen) chunks.entry.left self.old self.new }
     {
         let mut chunks = chunks;
@@ -587,6 +598,12 @@ impl Association {
             → TellsByShutdown self.old self.new }
         ensures by_data { chunk.typ ≡ 0 → result ≡ Ok step.Next
             → TellsByData chunk datagram.now self.old self.new }
+        ensures cut_data { chunk.typ ≡ 0 → result ≡ Ok step.Cut
+            → CutsData chunk datagram.now self.old self.new }
+        ensures cut_skip { chunk.typ ≡ 192 → result ≡ Ok step.Cut
+            → CutsSkip chunk datagram.now self.old self.new }
+        ensures cut_resets { chunk.typ ≡ 130 → result ≡ Ok step.Cut
+            → CutsReconfig datagram.now self.old self.new }
     {
         if !self.admits(chunk, tag, count) {
             return Ok(Step::Refused(Reason::Tag));
@@ -629,6 +646,7 @@ impl Association {
         ensures acks { IfOk result (λ s. AcksOn chunk datagram.now now s self.old self.new) }
         ensures events { BringsOnly chunk datagram.now self.old self.new }
         ensures long { result ≡ Ok step.Next → TellsByData chunk datagram.now self.old self.new }
+        ensures cut { result ≡ Ok step.Cut → CutsData chunk datagram.now self.old self.new }
     {
         if !self.machine.state().takes_data() {
             return Ok(Step::Refused(Reason::Unexpected));
@@ -668,6 +686,7 @@ impl Association {
         ensures row { IfOk result (λ s. RowOn chunk datagram.now now s self.old self.new) }
         ensures acks { IfOk result (λ s. AcksOn chunk datagram.now now s self.old self.new) }
         ensures events { BringsOnly chunk datagram.now self.old self.new }
+        ensures cut { result ≡ Ok step.Cut → CutsSkip chunk datagram.now self.old self.new }
     {
         if !self.machine.state().takes_data() {
             return Ok(Step::Refused(Reason::Unexpected));

@@ -41,6 +41,7 @@ use Rattle.sctp_association.proofs.TooLong.{tells_long}
 use Rattle.sctp_association.specs.StreamSet.{is_in}
 use Rattle.sctp_association.specs.Telling.{HasPlaces}
 use Rattle.sctp_association.specs.declared.association.arrivals.Step.TheVariants.{Next}
+use Rattle.sctp_association.proofs.Partly.{opens_only}
 use Rattle.sctp_association.proofs.association.Association.take_data.Goals as goal
 
 pub returns-then-not-takes_data-clause-came : goal.returns-then-not-takes_data-clause-came
@@ -290,3 +291,27 @@ returns-clause-long c next places =
       told = λ large. ap (is_in c.in_ok-data.data.stream_identifier) behind
           ∙ c.take_data.ensures.told (subst (λ (o : Option Inbound). HasPlaces o old.events) c.in-Some.is places) done large;
     })
+
+-- ## Where memory is wanting
+
+pub returns-in-Wanting-clause-cut : goal.returns-in-Wanting-clause-cut
+returns-in-Wanting-clause-cut c is = record {
+  chunk = c.in_ok-data.data;
+  reads = c.in_ok-data.ensures.found;
+  opens = opens_only _ c.args.self.now _ _ c.take_data.new.self c.in-Some.is refl (c.take_data.ensures.cut (search rules)) (record {
+    config = refl;
+    key = refl;
+    machine = refl;
+    is_over = refl;
+    wants_shutdown = refl;
+    outbound = refl;
+    requests = refl;
+    peer_requests = refl;
+    control = refl;
+    guard = refl;
+    heartbeat = refl;
+    cookie = refl;
+    due = refl;
+    draft = refl;
+  });
+}

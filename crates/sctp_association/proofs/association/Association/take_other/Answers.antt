@@ -74,3 +74,9 @@ returns-in_default-clause-walks c =
     c.take_chunk.ensures.still
     (tells_by c.args.chunk c.args.datagram.now c.args.self.now c.take_chunk.new.self c.take_chunk.result c.take_chunk.ensures.by_sack c.take_chunk.ensures.by_shutdown
     c.take_chunk.ensures.by_data)
+    (record {
+      part = c.take_chunk.ensures.cut;
+      of_data = c.take_chunk.ensures.cut_data;
+      of_skip = c.take_chunk.ensures.cut_skip;
+      of_reconfig = c.take_chunk.ensures.cut_resets;
+    })

@@ -9,6 +9,8 @@ use Rattle.sctp_association.proofs.Named.{open_now}
 use Rattle.sctp_association.proofs.TooLong.{entered_opened}
 use Rattle.sctp_association.proofs.Brought.{notes_after, notes_more}
 use Rattle.sctp_receiver.specs.Receiver.{arrival_refusal}
+use Rattle.sctp_association.proofs.First.{on_err}
+use Rattle.sctp_association.proofs.Partly.{opens_err, opens_from}
 use Rattle.sctp_association.proofs.inbound.Inbound.open_and_take.Goals as goal
 
 pub returns-in_err-open_agreed-clause-received : goal.returns-in_err-open_agreed-clause-received
@@ -55,3 +57,16 @@ returns-clause-told c to places is large =
     let opens = opened.opens refl (to_use s c.args.self.now to) in
     let there = opened.tells.readable.places places s (open_now s _ _ opens) in
     c.take_on.ensures.told is (ap (arrival_refusal c.args.chunk.now) opens ∙ large) there.too_long
+
+-- ## Where memory is wanting
+
+pub returns-in_err-open_agreed-clause-cut : goal.returns-in_err-open_agreed-clause-cut
+returns-in_err-open_agreed-clause-cut c = on_err _ (
+    let e = c.in_err-open_agreed.ensures in
+    opens_from _ _ _ _ _ e.received e.limits.1 e.same e.acks e.unknown e.tells e.notes)
+
+pub returns-clause-cut : goal.returns-clause-cut
+returns-clause-cut c =
+    let e = c.in_ok-open_agreed.ensures in
+    opens_err _ c.take_on.result c.args.self.now c.open_agreed.new.self _ c.args.events.now c.open_agreed.new.events _ c.take_on.ensures.err
+    (opens_from _ _ _ _ _ e.received e.limits.1 e.same e.acks e.unknown e.tells e.notes)
