@@ -133,6 +133,18 @@ pub record AnswersOffer (value : List ℕ) (now : ℕ) (old new : Association) :
       said.offer.tag old.due
       ) { unknown_params = params_told old.config.mtu value }
 
--- one without a Host Name Address (5.1.2)
+-- it has a Host Name Address: an ABORT is due, to its tag, which tells that, where it fits into a packet (5.1.2)
+abbrev pub RefusesHost : (value : List ℕ) → ParamPlace → (old new : Association) → Type 0
+RefusesHost value p old new = new.due ≡ record old.due {
+  alone = Some (to_tag alone.HostName (u32_at value 0));
+  unknown_params = host_name_told value p old.config.mtu;
+}
+
+-- so it is, by whether it has one
+abbrev pub OffersBy : Option ParamPlace → (value : List ℕ) → (now : ℕ) → (old new : Association)
+    → Type 0
+OffersBy None value now old new = AnswersOffer value now old new
+OffersBy (Some p) value now old new = RefusesHost value p old new
+
 abbrev pub OffersTo : (value : List ℕ) → (now : ℕ) → (old new : Association) → Type 0
-OffersTo value now old new = host_name_of value ≡ None → AnswersOffer value now old new
+OffersTo value now old new = OffersBy (host_name_of value) value now old new

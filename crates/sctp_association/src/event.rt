@@ -104,6 +104,7 @@ impl Events {
         ensures undo { IfOk result (λ rooms. without rooms self.new ≡ self.old) }
         ensures room { OnOk result ((stream < length self.new.reset_by_us)
             × (stream < length self.new.reset_refused)) }
+        ensures low_room { OnOk result (stream < length self.new.low) }
         ensures err { OnErr result (self.new ≡ self.old) }
     {
         let rooms = Rooms {
@@ -136,6 +137,7 @@ impl Events {
             ≡ self.old.reset_refused }
         ensures room { OnOk result ((stream < length self.new.reset_by_us)
             × (stream < length self.new.reset_refused)) }
+        ensures low_room { OnOk result (stream < length self.new.low) }
     {
         self.low.reserve(stream)?;
         self.reset_by_us.reserve(stream)?;
