@@ -4,8 +4,10 @@ use Rattle.std.proofs.lemmas.Bool.{false≢true}
 use Rattle.std.proofs.lemmas.Bool.Decides.{nat_tests}
 use Rattle.std.specs.Prelude.{◌==◌, find, nat_lt, if◌then◌else◌}
 use Rattle.sctp_delivery.proofs.Changes.{expired-one}
-use Rattle.sctp_delivery.specs.SenderCalls.{SenderCall, SenderMakes, expires, expires_late, expires_rexmit, expires_tail, forwards_within, resends, sends, starts}
-use Rattle.sctp_association.specs.Congested.{LeavesAgain, LeavesFrom, LeavesNew, Path, PausesFrom, Repeats, SendsNew, begun, ended, idle_at, idled, told_at, used_after, with_burst}
+use Rattle.sctp_delivery.specs.SenderCalls.{SenderCall, SenderMakes, expires, expires_late, expires_rexmit, expires_tail, forwards_within, resends, sends}
+use Rattle.sctp_delivery.specs.SenderCalls.{starts}
+use Rattle.sctp_association.specs.Congested.{LeavesAgain, LeavesFrom, LeavesNew, Path, PausesFrom, Repeats, SendsNew, begun, ended, idle_at, idled, told_at}
+use Rattle.sctp_association.specs.Congested.{used_after, with_burst}
 use Rattle.sctp_association.specs.Idle.{in_flight}
 use Rattle.sctp_association.specs.Runs.{Runs, Sends, SendsBy, is_sending, made_by}
 use Rattle.sctp_association.specs.Sending.{is_later, is_none_of, lowered_times}
@@ -64,7 +66,8 @@ module _ (s : ℕ) where
           → is_above (if has_number s (if b then f l else l) then Some (if b then f l else l) else find (has_number s) (change_where (has_number t) f ls))
           ≡ true → is_above (if has_number s l then Some l else find (has_number s) ls) ≡ true
       by rest b k e h = subst (λ x. is_above (if x then Some l else find (has_number s) ls) ≡ true) (sym e)
-          (at rest b k (same b ∙ e) (subst (λ x. is_above (if x then Some (if b then f l else l) else find (has_number s) (change_where (has_number t) f ls)) ≡ true)
+          (at rest b k (same b
+          ∙ e) (subst (λ x. is_above (if x then Some (if b then f l else l) else find (has_number s) (change_where (has_number t) f ls)) ≡ true)
           (same b ∙ e) h))
 
   left-above : (gs : List AbandonedMessage) (ls : List OutboundStream) → above (after_leaving gs ls) ≡ true → above ls ≡ true

@@ -22,7 +22,8 @@ use Rattle.sctp_util.specs.Field.{u32_at}
 no-param : (value : List ℕ) → length value < 16 → is_param value 16 ≡ false
 no-param value short =
     let few : length (drop 16 value) ≡ 0 = omega (arith, length-drop 16 value) in
-    ap (λ (n : ℕ). nat_le 4 n && nat_le 4 (param_declared_length (drop 16 value)) && nat_le (param_declared_length (drop 16 value)) (length (drop 16 value))) few
+    ap (λ (n : ℕ). nat_le 4 n && nat_le 4 (param_declared_length (drop 16 value))
+    && nat_le (param_declared_length (drop 16 value)) (length (drop 16 value))) few
 
 not-none : (b : Bool) (o : Option ParamPlace) → b ≡ false → (if not b then None else o) ≡ None
 not-none true o e = absurd (false≢true (sym e))

@@ -1,6 +1,8 @@
 -- What a chunk makes at which memory is wanting.
-use Rattle.std.proofs.Common.{◌≡◌, ℕ, Bool, true, List, Option, Some, Result, Ok, Err, ap, sym, subst, ◌∙◌, inl, inr}
-use Rattle.std.specs.Prelude.{OnErr, ◌&&◌, nat_lt, not}
+use Rattle.std.proofs.Common.{◌≡◌, ℕ, Bool, true, List, Option, Some, Result, Ok, Err, ap, sym, subst, ◌∙◌, inl, inr, ◌<◌, ◌≤◌, ◌+◌, ◌-◌, suc, arith, false, []}
+use Rattle.std.proofs.Common.{◌∷◌, length, drop, get_or}
+use Rattle.std.proofs.lemmas.List.{drop_more}
+use Rattle.std.specs.Prelude.{OnErr, ◌&&◌, nat_lt, not, ◌==◌, ◌||◌}
 use Rattle.sctp_association.specs.AcksDue.{Acks, acks_in, acks_of}
 use Rattle.sctp_association.specs.Arrivals.{Received, ReceivedIn}
 use Rattle.sctp_association.specs.Brought.{AddsOnly, NotesOnly}
@@ -8,16 +10,28 @@ use Rattle.sctp_association.specs.Entering.{usable_in}
 use Rattle.sctp_association.specs.Events.{BringsNone}
 use Rattle.sctp_association.specs.Halves.{receiver_of}
 use Rattle.sctp_association.specs.Kept.{unknown_in}
-use Rattle.sctp_association.specs.Partly.{OpensIn, OpensOnly}
-use Rattle.sctp_association.specs.Reconfigs.{OnlyReceives}
+use Rattle.sctp_association.specs.Partly.{OpensIn, OpensOnly, ParamPart, ParamsPart, RequestPart, ResetsPart, ResetsPartListed, StaysUnreset}
+use Rattle.sctp_association.proofs.Noting.{all_kept, later_peer}
+use Rattle.sctp_association.proofs.Reconfigs.{end_not}
+use Rattle.sctp_association.specs.Reconfigs.{OnlyReceives, ParamOn, ResetsStream, inbound_agreed, numbers_from, with_peer}
 use Rattle.sctp_association.specs.StreamSet.{is_in}
-use Rattle.sctp_association.specs.Telling.{TellsIn}
+use Rattle.sctp_association.specs.Telling.{KeepsEvents, Stays, TellsIn}
 use Rattle.sctp_association.specs.declared.association.Association.{Association}
 use Rattle.sctp_association.specs.declared.event.Event.TheVariants as event
 use Rattle.sctp_association.specs.declared.event.Events.{Events}
 use Rattle.sctp_association.specs.declared.inbound.Inbound.{Inbound}
 use Rattle.sctp_receiver.specs.Receiver.{Reception}
 use Rattle.sctp_receiver.specs.ReceiverRuns.{Call}
+use Rattle.sctp_datagram.specs.Params.{TellsParam}
+use Rattle.sctp_datagram.specs.declared.params.ParamPlace.{ParamPlace}
+use Rattle.sctp_handshake.specs.InitValues.{place}
+use Rattle.sctp_handshake.specs.Machines.{agreed}
+use Rattle.sctp_params.specs.ResetRequest.{ResetRequest}
+use Rattle.sctp_params.specs.declared.param.param_reconfig_response.ReconfigResult.{ReconfigResult}
+use Rattle.sctp_params.specs.declared.param.param_reconfig_response.ReconfigResult.TheVariants.{InProgress}
+use Rattle.sctp_reset.specs.Peer.{after_request, due_for}
+use Rattle.sctp_reset.specs.declared.peer_requests.Due.TheVariants.{Perform}
+use Rattle.sctp_reset.specs.declared.peer_requests.PeerRequests.{PeerRequests}
 
 -- where no stream is added to the sets no event comes
 added-none : (s : ℕ) (a b : List Bool) → AddsOnly (λ n. ⊥) a b → is_in s b ≡ true → is_in s a ≡ true
@@ -90,3 +104,119 @@ module _ (Opens : Call → Type 0) where
     none = o.none;
     rest = rest;
   }
+
+-- ## A RE-CONFIG
+
+-- there is more room in the set of streams that the peer has reset, and no other stream
+none-peer : (e : Events) (m : List Bool) → Stays m e.reset_by_peer → BringsNone e (record e { reset_by_peer = m })
+none-peer e m h event.Connected w = w
+none-peer e m h event.Restarted w = w
+none-peer e m h (event.Readable s) w = w
+none-peer e m h (event.BufferedAmountLow s) w = w
+none-peer e m h (event.ResetByUs s) w = w
+none-peer e m h (event.ResetRefused s) w = w
+none-peer e m h (event.ResetByPeer s) w = h s w
+none-peer e m h (event.TooLong s) w = w
+none-peer e m h (event.PeerError c) w = w
+none-peer e m h event.Shutdown w = w
+none-peer e m h (event.Closed x) w = w
+
+abbrev pub Grows : (e f : Events) → Type 0
+Grows e f = KeepsEvents e f × BringsNone e f
+
+pub grows_peer : (e : Events) (m : List Bool) → ((n : ℕ) → is_in n m ≡ is_in n e.reset_by_peer) → length e.reset_by_peer ≤ length m
+    → Grows e (record e { reset_by_peer = m })
+grows_peer e m same more = (
+  (later_peer e m (λ n h. same n ∙ h) more).kept,
+  none-peer e m (λ n h. sym (same n) ∙ h),
+)
+
+pub grows_same : (e f : Events) → f ≡ e → Grows e f
+grows_same e f is = subst (Grows e) (sym is) (all_kept e, λ v w. w)
+
+pub unreset_in : {X E : Type 0} (r : Result X E) (a b : Association) (i j : Inbound) → a.inbound ≡ Some i → b.inbound ≡ Some j
+    → OnErr r ((j ≡ i) × Grows a.events b.events) → OnlyReceives a b → OnErr r (StaysUnreset a b)
+unreset_in (Ok x) a b i j old new h rest = tt
+unreset_in (Err x) a b i j old new h rest = record {
+  inbound = new ∙ ap (λ (k : Inbound). let o : Option Inbound = Some k in o) h.0 ∙ sym old;
+  kept = h.1.0;
+  none = h.1.1;
+  rest = rest;
+}
+
+module _ (last : ℕ) (named : Bool) (ss : List ℕ) (i : ℕ) (lt : i < length ss) (a : Association) where
+  part-here : (new : Association) → ResetsPart last named (get_or ss i 0 ∷ drop (i + 1) ss) a new → ResetsPart last named (drop i ss) a new
+  part-here new h = subst (λ l. ResetsPart last named l a new) (sym (drop_more ss i 0 lt)) h
+
+  pub part_step : (one : ReconfigResult) (b : Association) → ResetsStream (get_or ss i 0) last named one a b → (one ≡ InProgress → ⊥)
+      → (new : Association) → ResetsPart last named (drop (i + 1) ss) b new → ResetsPart last named (drop i ss) a new
+  part_step one b reset goes new h = part-here new (inr (one, goes, (b, reset, h)))
+
+  pub part_stop : (b : Association) → StaysUnreset a b → ResetsPart last named (drop i ss) a b
+  part_stop b h = part-here b (inl h)
+
+module _ (last i left : ℕ) (a b : Association) where
+  part-numbered : (new : Association) (n : ℕ) → n ≡ suc left → ResetsPart last false (i ∷ numbers_from left (suc i)) a new
+      → ResetsPart last false (numbers_from n i) a new
+  part-numbered new n is h = subst (λ k. ResetsPart last false (numbers_from k i) a new) (sym is) h
+
+  pub part_all : (n : ℕ) → n ≡ left + 1 → (one : ReconfigResult) → ResetsStream i last false one a b → (one ≡ InProgress → ⊥) → (new : Association)
+      → ResetsPart last false (numbers_from left (i + 1)) b new → ResetsPart last false (numbers_from n i) a new
+  part_all n is one reset goes new h =
+      let one-more : n ≡ suc left = omega (arith, is) in
+      let next : i + 1 ≡ suc i = omega arith in
+      part-numbered new n one-more (inr (one, goes, (b, reset, subst (λ k. ResetsPart last false (numbers_from left k) b new) next h)))
+
+  pub part_last : (n : ℕ) → n ≡ left + 1 → StaysUnreset a b → ResetsPart last false (numbers_from n i) a b
+  part_last n is h =
+      let one-more : n ≡ suc left = omega (arith, is) in
+      part-numbered b n one-more (inl h)
+
+-- what is so where it is refused, and it is
+pub err_of : {X E A : Type 0} (r : Result X E) → ((x : X) → r ≡ Ok x → ⊥) → OnErr r A → A
+err_of (Ok x) off h = absurd (off x (λ i. Ok x))
+err_of (Err x) off h = h
+
+pub err_map : {X E A B : Type 0} (r : Result X E) → (A → B) → OnErr r A → OnErr r B
+err_map (Ok x) f h = tt
+err_map (Err x) f h = f h
+
+pub part_some : (last : ℕ) (ss : List ℕ) (a b : Association) → 0 < length ss → ResetsPart last true ss a b → ResetsPartListed last ss a b
+part_some last [] a b some h = absurd (omega (arith, some))
+part_some last (s ∷ ss) a b some h = h
+
+pub part_none : (last : ℕ) (ss : List ℕ) (a b : Association) → ss ≡ []
+    → ResetsPart last false (numbers_from (inbound_agreed (agreed a.machine)) 0) a b → ResetsPartListed last ss a b
+part_none last ss a b none h = subst (λ l. ResetsPartListed last l a b) (sym none) h
+
+pub part_request : (r : ResetRequest) (o : Option PeerRequests) (p q : PeerRequests) (a b : Association) → o ≡ Some p
+    → q ≡ after_request r.reconfig_request_sequence_number p → due_for r.reconfig_request_sequence_number p ≡ Perform
+    → ResetsPartListed r.sender_last_tsn r.stream_identifiers (with_peer q a) b → RequestPart r o a b
+part_request r o p q a b is came due h = subst (λ x. RequestPart r x a b) (sym is)
+    (due, subst (λ x. ResetsPartListed r.sender_last_tsn r.stream_identifiers (with_peer x a) b) came h)
+
+-- ## Its parameters
+
+module _ (raw : List ℕ) (at : ℕ) (has : Bool) (p : ParamPlace) (tells : TellsParam raw at p) (now most seen : ℕ) (lt : seen < most)
+    (goes : ((p.typ == 13) && has) ≡ false) (a b : Association) where
+  left-more : (new : Association) → ((left : ℕ) → ParamsPart (suc left) raw at has now a new) → ParamsPart (most - seen) raw at has now a new
+  left-more new h =
+      let left : most - seen ≡ suc (most - (seen + 1)) = omega (arith, lt) in
+      subst (λ n. ParamsPart n raw at has now a new) (sym left) (h (most - (seen + 1)))
+
+  pub param_part_next : ParamOn p.typ raw at now a b → (later : Bool) → later ≡ (has || (p.typ == 13)) → (new : Association)
+      → ParamsPart (most - (seen + 1)) raw p.next later now b new → ParamsPart (most - seen) raw at has now a new
+  param_part_next followed later is new h =
+      let left : most - seen ≡ suc (most - (seen + 1)) = omega (arith, lt) in
+      subst (λ n. ParamsPart n raw at has now a new) (sym left) (
+        end_not raw at has p tells goes,
+        inr (
+          b,
+          subst (λ t. ParamOn t raw at now a b) tells.typ followed,
+          subst (λ n. ParamsPart (most - (seen + 1)) raw n (has || ((place raw at).typ == 13)) now b new) tells.later
+              (subst (λ x. ParamsPart (most - (seen + 1)) raw p.next x now b new) (is ∙ ap (λ n. has || (n == 13)) tells.typ) h),
+        ),
+      )
+
+  pub param_part_stop : ParamPart (drop at raw) a b → ParamsPart (most - seen) raw at has now a b
+  param_part_stop h = left-more b (λ left. (end_not raw at has p tells goes, inl h))

@@ -19,7 +19,8 @@ use Rattle.sctp_receiver.specs.TsnFilter.{has_come, is_opposite}
 use Rattle.sctp_receiver.specs.declared.receiver.inbound_streams.InboundStream.{InboundStream}
 use Rattle.sctp_receiver.specs.declared.receiver.limits.Limits.{Limits}
 use Rattle.sctp_receiver.specs.declared.receiver.refusal.ReceiverRefusal.{ReceiverRefusal}
-use Rattle.sctp_receiver.specs.declared.receiver.refusal.ReceiverRefusal.TheVariants.{MessageTooLarge, SsnTooFar, StreamUnknown, TsnOpposite, TsnTooFar, WindowFull}
+use Rattle.sctp_receiver.specs.declared.receiver.refusal.ReceiverRefusal.TheVariants.{MessageTooLarge, SsnTooFar, StreamUnknown, TsnOpposite, TsnTooFar}
+use Rattle.sctp_receiver.specs.declared.receiver.refusal.ReceiverRefusal.TheVariants.{WindowFull}
 use Rattle.sctp_util.specs.Serial.{distance}
 
 -- the receiver that DATA comes to, where its stream opens first, and where it does not

@@ -46,11 +46,11 @@ still-reports : (with : Bool) (a b : Association) → StillAs with a b → (b.du
 still-reports with a b h = (ap (λ (d : Due). d.heartbeat) h.due, ap (λ (d : Due). d.report) h.due)
 
 -- at which chunks memory may be wanting
-pub record CutsBy (c : ChunkPlace) (d : List ℕ) (a b : Association) (r : Result Step Fault) : Type 0 where
+pub record CutsBy (c : ChunkPlace) (d : List ℕ) (now : ℕ) (a b : Association) (r : Result Step Fault) : Type 0 where
   pub part : r ≡ Ok Cut → is_all_or_nothing c.typ ≡ false
   pub of_data : c.typ ≡ 0 → r ≡ Ok Cut → CutsData c d a b
   pub of_skip : c.typ ≡ 192 → r ≡ Ok Cut → CutsSkip c d a b
-  pub of_reconfig : c.typ ≡ 130 → r ≡ Ok Cut → CutsReconfig d a b
+  pub of_reconfig : c.typ ≡ 130 → r ≡ Ok Cut → CutsReconfig c d now a b
 
 part-row : (typ : ℕ) → is_all_or_nothing typ ≡ false → has_row typ ≡ true
 part-row typ part = row_has typ (other 1 refl) (other 2 refl) (other 10 refl)
@@ -87,7 +87,7 @@ module _ (c : ChunkPlace) (tag count : ℕ) (d : List ℕ) (now : ℕ) (a b : As
       may = admitted-by s is (λ e. false≢true (sym (ap is_taken e) ∙ took))
 
   -- memory is wanting
-  cut : r ≡ Ok Cut → CutsBy c d a b r → CutsChunk c tag count d a b
+  cut : r ≡ Ok Cut → CutsBy c d now a b r → CutsChunk c tag count d now a b
   cut is cuts = record {
     admitted = may;
     expected = taken_where (is_expected c.typ a) r (expected may (part-row c.typ (cuts.part is))) Cut is refl;
@@ -98,7 +98,7 @@ module _ (c : ChunkPlace) (tag count : ℕ) (d : List ℕ) (now : ℕ) (a b : As
       may = admitted-by Cut is (λ e. cc)
 
       by : (x : Bool) → (c.typ == 0) ≡ x → (y : Bool) → (c.typ == 130) ≡ y → (z : Bool) → (c.typ == 192) ≡ z
-          → ((c.typ ≡ 0) × CutsData c d a b) ⊎ (((c.typ ≡ 192) × CutsSkip c d a b) ⊎ ((c.typ ≡ 130) × CutsReconfig d a b))
+          → ((c.typ ≡ 0) × CutsData c d a b) ⊎ (((c.typ ≡ 192) × CutsSkip c d a b) ⊎ ((c.typ ≡ 130) × CutsReconfig c d now a b))
       by true e y f z g = let typ = eqb-true c.typ 0 e in inl (typ, cuts.of_data typ is)
       by false e true f z g = let typ = eqb-true c.typ 130 f in inr (inr (typ, cuts.of_reconfig typ is))
       by false e false f true g = let typ = eqb-true c.typ 192 g in inr (inl (typ, cuts.of_skip typ is))
@@ -106,18 +106,18 @@ module _ (c : ChunkPlace) (tag count : ℕ) (d : List ℕ) (now : ℕ) (a b : As
 
   -- what is taken, or refused
   pub first_on : (s : Step) → r ≡ Ok s → AloneOn c tag d now s a b → (goes_on c.typ ≡ true → IfOk r (λ s. StillOn c d s a b))
-      → (r ≡ Ok Next → TellsBy c d a b) → CutsBy c d a b r → FirstOn c tag count d now s a b
+      → (r ≡ Ok Next → TellsBy c d a b) → CutsBy c d now a b r → FirstOn c tag count d now s a b
   first_on Next is by still tells cuts = inl (takes Next is refl by still tells)
   first_on Stop is by still tells cuts = takes Stop is refl by still tells
   first_on Cut is by still tells cuts = cut is cuts
   first_on (Refused k) is by still tells cuts = tt
 
   pub other_on : count ≡ 2 → (s : Step) → r ≡ Ok s → ((k : Reason) → s ≡ Refused k → ⊥) → AloneOn c tag d now s a b
-      → (goes_on c.typ ≡ true → IfOk r (λ s. StillOn c d s a b)) → (r ≡ Ok Next → TellsBy c d a b) → CutsBy c d a b r
+      → (goes_on c.typ ≡ true → IfOk r (λ s. StillOn c d s a b)) → (r ≡ Ok Next → TellsBy c d a b) → CutsBy c d now a b r
       → OtherOn c tag d now s a b
   other_on two Next is taken by still tells cuts = inl (subst (λ (n : ℕ). TakesChunk c tag n d now Next a b) two (takes Next is refl by still tells))
   other_on two Stop is taken by still tells cuts = subst (λ (n : ℕ). TakesChunk c tag n d now Stop a b) two (takes Stop is refl by still tells)
-  other_on two Cut is taken by still tells cuts = subst (λ (n : ℕ). CutsChunk c tag n d a b) two (cut is cuts)
+  other_on two Cut is taken by still tells cuts = subst (λ (n : ℕ). CutsChunk c tag n d now a b) two (cut is cuts)
   other_on two (Refused k) is taken by still tells cuts = absurd (taken k refl)
 
   -- what is refused since it is not expected
@@ -205,7 +205,7 @@ module _ (tag : ℕ) (d : List ℕ) (now : ℕ) (o : Once) (c : ChunkPlace) (cs 
   pub to_next : counts c.typ o ≡ true → OtherOn c tag d now Next a b → WalksTo tag d now (seen c.typ o) cs b e → WalksTo tag d now o l a e
   to_next on by h = to-here (inr (on, inl (b, by, h)))
 
-  pub to_cut : counts c.typ o ≡ true → CutsAt c tag d a e → WalksTo tag d now o l a e
+  pub to_cut : counts c.typ o ≡ true → CutsAt c tag d now a e → WalksTo tag d now o l a e
   to_cut on by = to-here (inr (on, inr by))
 
 pub to_seen : (tag : ℕ) (d : List ℕ) (now : ℕ) (x y : Once) (l : List ChunkPlace) (a e : Association) → x ≡ y → WalksTo tag d now x l a e

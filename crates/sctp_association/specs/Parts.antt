@@ -10,8 +10,8 @@ use Rattle.sctp_datagram.specs.declared.datagram.ChunkPlace.{ChunkPlace}
 use Rattle.sctp_util.specs.Field.{u32_at}
 
 -- behind the first one: nothing changes by the chunk, or it is taken in part
-abbrev pub CutsAt : ChunkPlace → (tag : ℕ) → List ℕ → (old new : Association) → Type 0
-CutsAt c tag datagram old new = (new ≡ old) ⊎ CutsChunk c tag 2 datagram old new
+abbrev pub CutsAt : ChunkPlace → (tag : ℕ) → List ℕ → (now : ℕ) → (old new : Association) → Type 0
+CutsAt c tag datagram now old new = (new ≡ old) ⊎ CutsChunk c tag 2 datagram now old new
 
 -- Chunks lead on so, each in its turn, up to one that counts and at which memory is wanting. Nothing behind it is looked at.
 abbrev pub WalksTo : (tag : ℕ) → List ℕ → (now : ℕ) → Once → List ChunkPlace
@@ -22,13 +22,13 @@ WalksTo tag datagram now o (c ∷ cs) old last =
     ⊎ ((counts c.typ o ≡ true)
     × (((mid : Association) × OtherOn c tag datagram now Next old mid
     × WalksTo tag datagram now (seen c.typ o) cs mid last)
-    ⊎ CutsAt c tag datagram old last))
+    ⊎ CutsAt c tag datagram now old last))
 
 -- the first chunk is taken in part, and the datagram ends
 pub record CutsFirst (c : ChunkPlace) (cs : List ChunkPlace) (datagram : List ℕ) (now : ℕ)
     (old new : Association) : Type 0 where
   pub last : Association
-  pub cut : CutsChunk c (u32_at datagram 4) (length (c ∷ cs)) datagram old last
+  pub cut : CutsChunk c (u32_at datagram 4) (length (c ∷ cs)) datagram now old last
   pub ends : EndsDatagram now last new
 
 -- or it leads on, then others do up to such a chunk, and the datagram ends

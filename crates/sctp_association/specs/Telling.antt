@@ -27,7 +27,8 @@ pub record KeepsRooms (old new : Events) : Type 0 where
   pub reset_by_peer : length old.reset_by_peer ≤ length new.reset_by_peer
   pub too_long : length old.too_long ≤ length new.too_long
 
--- Each event that waited waits still, and the room for more stays. Another end, or another error of the peer, may take the place of the one that waited. Of streams with a
+-- Each event that waited waits still, and the room for more stays. Another end, or another error of the peer, may take the place of the one that waited. Of
+-- streams with a
 -- message to read `NotesReadable` tells.
 pub record KeepsEvents (old new : Events) : Type 0 where
   pub connected : old.connected ≡ true → new.connected ≡ true

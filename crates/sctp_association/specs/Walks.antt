@@ -67,7 +67,7 @@ abbrev pub OtherOn : ChunkPlace → (tag : ℕ) → List ℕ → (now : ℕ) →
 OtherOn c tag datagram now Next old new =
     TakesChunk c tag 2 datagram now Next old new ⊎ PassesOver c tag 2 datagram now old new
 OtherOn c tag datagram now Stop old new = TakesChunk c tag 2 datagram now Stop old new
-OtherOn c tag datagram now Cut old new = CutsChunk c tag 2 datagram old new
+OtherOn c tag datagram now Cut old new = CutsChunk c tag 2 datagram now old new
 OtherOn c tag datagram now (Refused r) old new = EndsUnread c tag datagram old new
 
 -- Chunks lead on so, each in its turn, where these kinds came before: up to the last one, or up to one behind which nothing more is looked at. One that
@@ -100,7 +100,7 @@ FirstOn c tag count datagram now Next old new =
     TakesChunk c tag count datagram now Next old new
     ⊎ PassesFirst c tag count datagram now old new
 FirstOn c tag count datagram now Stop old new = TakesChunk c tag count datagram now Stop old new
-FirstOn c tag count datagram now Cut old new = CutsChunk c tag count datagram old new
+FirstOn c tag count datagram now Cut old new = CutsChunk c tag count datagram now old new
 FirstOn c tag count datagram now (Refused r) old new = ⊤
 
 -- The datagram ends: what follows from its chunks (9.2). Where DATA came in it, a SACK is due: now where it is to be at once, or one more packet waits for

@@ -80,7 +80,7 @@ impl Inbound {
     ghost use Rattle.sctp_association.specs.Coming.{HasComeOrIsDropped};
     ghost use Rattle.sctp_association.specs.Ends.{EndsData, EndsSkip};
     ghost use Rattle.sctp_association.specs.Entering.{Handles, HandlesOpen, HandlesRefused};
-    ghost use Rattle.sctp_association.specs.Events.{brought_at};
+    ghost use Rattle.sctp_association.specs.Events.{BringsNone, brought_at};
     ghost use Rattle.sctp_association.specs.Partly.{OpensIn};
     ghost use Rattle.sctp_association.specs.Reads.{IsReadOff};
     ghost use Rattle.sctp_association.specs.Reconfigs.{ResetsOne};
@@ -562,6 +562,9 @@ impl Inbound {
         ensures others { (n : ℕ) → (n == stream) ≡ false
             → is_in n self.new.discarded ≡ is_in n self.old.discarded }
         ensures acks { acks_in self.new ≡ acks_in self.old }
+        // Where memory was wanting there may be more room for its event, and nothing else changed.
+        ensures cut { OnErr result ((self.new ≡ self.old)
+            × (KeepsEvents events.old events.new × BringsNone events.old events.new)) }
         // It is performed, or in progress, or the number is wrong, and all that follows.
         ensures resets { IfOk result (λ r. ResetsOne stream last_tsn is_named r
             self.old events.old self.new events.new) }

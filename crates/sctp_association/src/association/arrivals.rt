@@ -603,7 +603,7 @@ impl Association {
         ensures cut_skip { chunk.typ ≡ 192 → result ≡ Ok step.Cut
             → CutsSkip chunk datagram.now self.old self.new }
         ensures cut_resets { chunk.typ ≡ 130 → result ≡ Ok step.Cut
-            → CutsReconfig datagram.now self.old self.new }
+            → CutsReconfig chunk datagram.now now self.old self.new }
     {
         if !self.admits(chunk, tag, count) {
             return Ok(Step::Refused(Reason::Tag));

@@ -1,6 +1,6 @@
 //! Streams that are reset (RFC 6525; RFC 8831 6.7).
 
-ghost use Rattle.std.specs.Prelude.{◌≡◌, ◌⊎◌, ◌<◌, ◌≤◌, true, false, Ok, Err, IfErr, IfOk, IfSome, IsOk, OnOk, OnErr, drop, is_some, length};
+ghost use Rattle.std.specs.Prelude.{◌≡◌, ◌⊎◌, ◌<◌, ◌≤◌, true, false, Ok, Err, IfErr, IfOk, IfSome, IsOk, OnOk, OnErr, drop, is_some, length, take};
 ghost use Rattle.sctp_association.specs.Arrivals.{CallsArrive, HearsBy, Does, Follows, IsReset, IsResetAt, IsRestart, ParamAsks, ParamAsksIn, ReceivedIn};
 ghost use Rattle.sctp_association.specs.Kept.{IsKept, IsUnmoved, RestStays};
 ghost use Rattle.sctp_association.specs.Calls.{is_resettable};
@@ -9,6 +9,7 @@ ghost use Rattle.sctp_association.specs.Expected.{AsExpected, takes_resets};
 ghost use Rattle.sctp_association.specs.Halves.{HalvesAlike, PutsDue, halves_of, receiver_of};
 ghost use Rattle.sctp_association.specs.Idle.{sack_delay};
 ghost use Rattle.sctp_association.specs.Leaving.{AsksNoMore, IsReconfigOf, PutsReconfig, replies_of, requests_due, responses_due};
+ghost use Rattle.sctp_association.specs.Partly.{ParamPart, ParamsPart, RequestPart, ResetsPart, ResetsPartListed, StaysUnreset};
 ghost use Rattle.sctp_association.specs.Reconfigs.{FollowsBytes, ParamOn, ReconfigOn, RequestOn, ResetsEach, ResetsListed, ResetsStream, answered, denied_by, inbound_agreed, number_at, numbers_from};
 ghost use Rattle.sctp_association.specs.Telling.{Tells, TellsEnd};
 ghost use Rattle.sctp_association.specs.declared.fault.Fault.TheVariants.{NoSuchStream, OutOfMemory};
@@ -290,6 +291,8 @@ impl Association {
             (λ s. AsExpected (takes_resets self.old.machine.state) s) }
         ensures reconfig { IfOk result
             (λ s. ReconfigOn chunk datagram.now now s self.old self.new) }
+        ensures part { result ≡ Ok step.Cut → ParamsPart 2
+            (take chunk.length (drop chunk.at datagram.now)) 4 false now self.old self.new }
     {
         if !self.machine.state().takes_data() && !self.machine.state().takes_sacks() {
             return Ok(Step::Refused(Reason::Unexpected));
@@ -329,6 +332,7 @@ impl Association {
         ensures kept { IsKept self.old self.new }
         ensures rest { RestStays self.old self.new }
         ensures made { OnOk result (ParamOn typ raw.now at now self.old self.new) }
+        ensures part { OnErr result (ParamPart (drop at raw.now) self.old self.new) }
     {
         match typ {
             13 | 16 => self.follow_param(raw, at, now),
@@ -345,6 +349,7 @@ impl Association {
         ensures kept { IsKept self.old self.new }
         ensures rest { RestStays self.old self.new }
         ensures made { OnOk result (FollowsBytes (drop at raw.now) now self.old self.new) }
+        ensures part { OnErr result (ParamPart (drop at raw.now) self.old self.new) }
     {
         if at > raw.len() {
             return Ok(());
@@ -391,6 +396,8 @@ impl Association {
         ensures rest { RestStays self.old self.new }
         ensures made { OnOk result (RequestOn (reset_request_of request.now)
             self.old.peer_requests self.old self.new) }
+        ensures part { OnErr result (RequestPart (reset_request_of request.now)
+            self.old.peer_requests self.old self.new) }
     {
         let Some(peer) = &mut self.peer_requests else {
             return Ok(());
@@ -416,6 +423,8 @@ impl Association {
         ensures rest { RestStays self.old self.new }
         ensures listed { IfOk result (λ r. ResetsListed request.now.sender_last_tsn
             request.now.stream_identifiers.items r self.old self.new) }
+        ensures part { OnErr result (ResetsPartListed request.now.sender_last_tsn
+            request.now.stream_identifiers.items self.old self.new) }
     {
         if request.stream_identifiers.is_empty() {
             return self.perform_all(request.sender_last_tsn);
@@ -442,6 +451,8 @@ impl Association {
         ensures each { IfOk result (λ r. ResetsEach last_tsn false
             (numbers_from (inbound_agreed (agreed self.old.machine)) 0)
             SuccessPerformed r self.old self.new) }
+        ensures part { OnErr result (ResetsPart last_tsn false
+            (numbers_from (inbound_agreed (agreed self.old.machine)) 0) self.old self.new) }
     {
         let streams = match self.machine.agreed() {
             Some(agreed) => agreed.inbound_streams,
@@ -470,6 +481,7 @@ impl Association {
         ensures rest { RestStays self.old self.new }
         ensures one { IfOk result
             (λ r. ResetsStream stream last_tsn is_named r self.old self.new) }
+        ensures cut { OnErr result (StaysUnreset self.old self.new) }
     {
         match &mut self.inbound {
             Some(inbound) => inbound.reset(stream, last_tsn, is_named, &mut self.events),

@@ -133,17 +133,20 @@ returns-then-self-clause-tells c = tells_same _ _ refl
 
 pub returns-in_err-abandon-clause-tells : goal.returns-in_err-abandon-clause-tells
 returns-in_err-abandon-clause-tells c = tells_kept _ _ (knows_same _ _ refl)
-    (to_low c.args.self.now.inbound c.args.self.now.events c.args.self.now.is_over c.abandon.new.low c.abandon.ensures.low (omega (arith, c.abandon.ensures.room)))
+    (to_low c.args.self.now.inbound c.args.self.now.events c.args.self.now.is_over c.abandon.new.low c.abandon.ensures.low
+    (omega (arith, c.abandon.ensures.room)))
 
 pub returns-in_default-peer-clause-tells : goal.returns-in_default-peer-clause-tells
 returns-in_default-peer-clause-tells c = tells_kept _ _ c.settle.ensures.peer.machine (end_then
-    (to_low c.args.self.now.inbound c.args.self.now.events c.args.self.now.is_over c.abandon.new.low c.abandon.ensures.low (omega (arith, c.abandon.ensures.room))) c.settle.ensures.tells)
+    (to_low c.args.self.now.inbound c.args.self.now.events c.args.self.now.is_over c.abandon.new.low c.abandon.ensures.low
+    (omega (arith, c.abandon.ensures.room))) c.settle.ensures.tells)
 
 pub returns-clause-tells : goal.returns-clause-tells
 returns-clause-tells c =
     let put = c.put_packet.ensures in
     tells_then _ c.settle.new.self _ (tells_kept _ _ c.settle.ensures.peer.machine (end_then
-    (to_low c.args.self.now.inbound c.args.self.now.events c.args.self.now.is_over c.abandon.new.low c.abandon.ensures.low (omega (arith, c.abandon.ensures.room))) c.settle.ensures.tells))
+    (to_low c.args.self.now.inbound c.args.self.now.events c.args.self.now.is_over c.abandon.new.low c.abandon.ensures.low
+    (omega (arith, c.abandon.ensures.room))) c.settle.ensures.tells))
     (tells_peer _ _ (unmoved_keeps _ _ put.kept) (transmits_end _ _ _ put.made put.kept))
 
 -- a low buffered amount, and nothing else
@@ -180,7 +183,8 @@ returns-in_err-abandon-clause-lows c =
 
 pub returns-in_default-peer-clause-lows : goal.returns-in_default-peer-clause-lows
 returns-in_default-peer-clause-lows c =
-    where_then c.args.self.now.outbound.sender c.abandon.new.self.sender c.settle.new.self.outbound.sender _ _ _ (ap (λ (o : Outbound). o.sender.streams) c.settle.ensures.sending)
+    where_then c.args.self.now.outbound.sender c.abandon.new.self.sender c.settle.new.self.outbound.sender _ _ _
+    (ap (λ (o : Outbound). o.sender.streams) c.settle.ensures.sending)
     (ap (λ (e : Events). e.low) c.settle.ensures.events)
     (adds_where _ _ _ c.abandon.ensures.low c.abandon.ensures.room c.abandon.ensures.told c.abandon.ensures.only)
 

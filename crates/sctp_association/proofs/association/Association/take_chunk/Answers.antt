@@ -337,6 +337,7 @@ returns-in-192-clause-still c going = c.take_skip.ensures.still
 
 pub returns-in-130-clause-cut_resets : goal.returns-in-130-clause-cut_resets
 returns-in-130-clause-cut_resets c typ is = record {
+  part = c.take_reconfig.ensures.part (search rules);
   calls = c.take_reconfig.ensures.came;
   machine = c.take_reconfig.ensures.kept.machine;
   rest = c.take_reconfig.ensures.rest;

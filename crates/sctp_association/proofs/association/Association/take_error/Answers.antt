@@ -88,12 +88,14 @@ returns-clause-row c =
           let follows = follows_step _ 0 c.args.now old w.follow.new.self _ _ takes.machine takes.answer w.follow.ensures.kept.machine (
           follows_from _ 0 old.machine.state _ c.args.now old _ w.follow.new.self w.follow.ensures.answer w.state-before.ensures refl refl refl refl refl refl
           ) in
-          subst (λ (b : Bool). FollowsStep (if b then on_stale_cookie fresh old.machine else dropped old.machine) 0 c.args.now old c.if-code-eq3.self) (sym stale)
+          subst (λ (b : Bool). FollowsStep (if b then on_stale_cookie fresh old.machine else dropped old.machine) 0 c.args.now old c.if-code-eq3.self)
+          (sym stale)
           (subst (λ n. FollowsStep (on_stale_cookie n old.machine) 0 c.args.now old c.if-code-eq3.self) tag
           (subst (λ (x : Association). FollowsStep (on_stale_cookie w.fresh_tag-tag.result old.machine) 0 c.args.now old x) (sym w.self-is) follows))
       | else-code-eq3 w ↦
           let other : (c.in-Some.code == 3) ≡ false = search rules in
-          subst (λ (b : Bool). FollowsStep (if b then on_stale_cookie fresh old.machine else dropped old.machine) 0 c.args.now old c.if-code-eq3.self) (sym other)
+          subst (λ (b : Bool). FollowsStep (if b then on_stale_cookie fresh old.machine else dropped old.machine) 0 c.args.now old c.if-code-eq3.self)
+          (sym other)
           (subst (λ (x : Association). FollowsStep (dropped old.machine) 0 c.args.now old x) (sym w.self-is)
           (follows_still 0 c.args.now old old refl refl refl refl refl refl refl))
     ] in

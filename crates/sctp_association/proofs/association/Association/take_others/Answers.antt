@@ -127,7 +127,8 @@ returns-in-Ok-Cut c = record {
   over = ended_same _ c.args.self.now c.loop.self c.take_other.new.self c.loop.invariant.over (if_ok
       (λ s. EndsOn c.in-Some.chunk c.args.datagram.now s c.loop.self c.take_other.new.self) c.take_other.result Cut (search rules) c.take_other.ensures.over);
   walks = λ is. absurd (false≢true is);
-  in_part = λ is. subst (λ (n : ℕ). WalksTo n c.args.datagram.now c.args.now (seen c.args.first none_seen) c.args.chunks.left c.args.self.now c.take_other.new.self)
+  in_part =
+      λ is. subst (λ (n : ℕ). WalksTo n c.args.datagram.now c.args.now (seen c.args.first none_seen) c.args.chunks.left c.args.self.now c.take_other.new.self)
       (c.header-tag.ensures.verification_tag ∙ ap (λ l. u32_at l 4) c.requires.whole)
       (c.loop.invariant.in_part c.take_other.new.self (to_cut c.header-tag.result.verification_tag c.args.datagram.now c.args.now c.loop.once
       c.in-Some.chunk c.next.new.self.left _ c.in-Some.ensures.place c.loop.self c.loop.self c.take_other.new.self (sym c.if-not-counts.ensures.value)

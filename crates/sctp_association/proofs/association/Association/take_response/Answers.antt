@@ -34,7 +34,8 @@ loop-stream-preserved c =
           (acknowledged_restart_by _ _ _ c.reset.result c.reset.ensures.ok c.reset.ensures.accepted c.reset.ensures.err),
       c.loop-stream.invariant.1,
       kept_by c.loop-stream.invariant.2 refl refl refl (λ t e. e) (λ e. e, λ e. e),
-      end_then c.loop-stream.invariant.3 (to_by_us _ _ _ _ (stays_insert _ _ _ c.insert.ensures.value c.insert.ensures.full) (omega (arith, c.insert.ensures.room))),
+      end_then c.loop-stream.invariant.3
+          (to_by_us _ _ _ _ (stays_insert _ _ _ c.insert.ensures.value c.insert.ensures.full) (omega (arith, c.insert.ensures.room))),
       record {
         due = c.loop-stream.invariant.4.due;
         control = c.loop-stream.invariant.4.control;

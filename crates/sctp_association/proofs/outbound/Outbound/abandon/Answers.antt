@@ -33,7 +33,8 @@ loop-preserved c =
     let all = dropped_in c.args.self.now c.loop.self c.note_dropped.new.self c.drop_expired.new.self _ c.loop.invariant.0 c.note_dropped.ensures.rest sent in
     let told = told_in c.args.now c.in_ok-dropped.field-0 c.in-Some.dropped c.in-Some.is c.loop.self.sender c.drop_expired.new.self
     c.in_ok-dropped.ensures.run c.in_ok-dropped.ensures.run_low c.in_ok-dropped.ensures.list_low in
-    let one = dropped_on c.args.now c.in_ok-dropped.field-0 c.loop.self.sender c.loop.self.sender c.drop_expired.new.self (none_sent c.loop.self.sender) drops in
+    let one =
+    dropped_on c.args.now c.in_ok-dropped.field-0 c.loop.self.sender c.loop.self.sender c.drop_expired.new.self (none_sent c.loop.self.sender) drops in
     let only = only_told c.in_ok-dropped.field-0 c.in-Some.dropped c.in-Some.is c.loop.self.sender c.drop_expired.new.self
     c.in_ok-dropped.ensures.run_low c.in_ok-dropped.ensures.list_low in
     let before = c.loop.invariant.3 in (
