@@ -19,13 +19,12 @@ use Rattle.sctp_datagram.proofs.Alone.{no-frame-fault}
 use Rattle.sctp_datagram.specs.InPlace.{NoInitFault}
 use Rattle.sctp_datagram.specs.Places.{IsPlace}
 use Rattle.sctp_datagram.specs.declared.datagram.ChunkPlace.{ChunkPlace}
-use Rattle.sctp_handshake.specs.Beginnings.{init_ack_checked, init_ack_row, init_checked, init_reply, init_row, on_init_ack}
+use Rattle.sctp_handshake.specs.Beginnings.{init_checked, init_reply, init_row}
 use Rattle.sctp_datagram.specs.declared.params.ParamPlace.{ParamPlace}
 use Rattle.sctp_handshake.specs.InitValues.{init_in, numbers_in, said_from}
 use Rattle.sctp_handshake.specs.InitValues as values
 use Rattle.sctp_handshake.specs.declared.init_value.InitFault.{InitFault}
 use Rattle.sctp_handshake.specs.Offers.{has_no_streams, offer_fault}
-use Rattle.sctp_handshake.specs.declared.answer.Answer.{Answer}
 use Rattle.sctp_handshake.specs.declared.init_value.InitFault.TheVariants.{ShortValue}
 use Rattle.sctp_handshake.specs.declared.init_value.Said.{Said}
 use Rattle.sctp_handshake.specs.declared.machine.Machine.{Machine}
@@ -225,20 +224,6 @@ offer_answered peer tag m tagged e = checked-answers (offer_fault peer) peer tag
 
     fault : offer_fault peer ≡ Some NoTag → ⊥
     fault f = by (peer.tag == 0) (has_no_streams peer) (nat_lt peer.window 1500) (ne_eqb peer.tag 0 tagged) f
-
--- where an INIT ACK is waited for the machine replies or tells
-ack-speaks : (f : Option OfferFault) (peer : Offer) (m : Machine) → (init_ack_checked f peer m).answer.reply ≡ None
-    → (init_ack_checked f peer m).answer.told ≡ None → ⊥
-ack-speaks None peer m e told = cc
-ack-speaks (Some NoTag) peer m e told = cc
-ack-speaks (Some NoStreams) peer m e told = cc
-ack-speaks (Some SmallWindow) peer m e told = cc
-
-pub init_ack_answered : (peer : Offer) (m : Machine) (a : Answer) → m.state ≡ CookieWait → a ≡ (on_init_ack peer m).answer → a.reply ≡ None
-    → a.told ≡ None → ⊥
-init_ack_answered peer m a waits is reply told =
-    let row : a ≡ (init_ack_checked (offer_fault peer) peer m).answer = is ∙ ap (λ (s : State). (init_ack_row s peer m).answer) waits in
-    ack-speaks (offer_fault peer) peer m (sym (ap (λ (k : Answer). k.reply) row) ∙ reply) (sym (ap (λ (k : Answer). k.told) row) ∙ told)
 
 -- an INIT ACK of which the cookie is found was read
 pub said_of : (r : Result Said InitFault) (x : Offer × ParamPlace) → values.cookie_in r ≡ Ok x → (said : Said) × (r ≡ Ok said)

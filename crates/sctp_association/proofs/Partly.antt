@@ -1,5 +1,5 @@
 -- What a chunk makes at which memory is wanting.
-use Rattle.std.proofs.Common.{◌≡◌, ℕ, Bool, true, List, Option, Some, Result, Ok, Err, ap, sym, subst, ◌∙◌, inl, inr, ◌<◌, ◌≤◌, ◌+◌, ◌-◌, suc, arith, false, []}
+use Rattle.std.proofs.Common.{◌≡◌, ℕ, Bool, true, List, Option, Some, Result, Ok, Err, ap, sym, subst, ◌∙◌, inl, inr, ◌<◌, ◌+◌, ◌-◌, suc, arith, false, []}
 use Rattle.std.proofs.Common.{◌∷◌, length, drop, get_or}
 use Rattle.std.proofs.lemmas.List.{drop_more}
 use Rattle.std.specs.Prelude.{OnErr, ◌&&◌, nat_lt, not, ◌==◌, ◌||◌}
@@ -11,11 +11,10 @@ use Rattle.sctp_association.specs.Events.{BringsNone}
 use Rattle.sctp_association.specs.Halves.{receiver_of}
 use Rattle.sctp_association.specs.Kept.{unknown_in}
 use Rattle.sctp_association.specs.Partly.{OpensIn, OpensOnly, ParamPart, ParamsPart, RequestPart, ResetsPart, ResetsPartListed, StaysUnreset}
-use Rattle.sctp_association.proofs.Noting.{all_kept, later_peer}
 use Rattle.sctp_association.proofs.Reconfigs.{end_not}
 use Rattle.sctp_association.specs.Reconfigs.{OnlyReceives, ParamOn, ResetsStream, inbound_agreed, numbers_from, with_peer}
 use Rattle.sctp_association.specs.StreamSet.{is_in}
-use Rattle.sctp_association.specs.Telling.{KeepsEvents, Stays, TellsIn}
+use Rattle.sctp_association.specs.Telling.{KeepsEvents, TellsIn}
 use Rattle.sctp_association.specs.declared.association.Association.{Association}
 use Rattle.sctp_association.specs.declared.event.Event.TheVariants as event
 use Rattle.sctp_association.specs.declared.event.Events.{Events}
@@ -107,32 +106,9 @@ module _ (Opens : Call → Type 0) where
 
 -- ## A RE-CONFIG
 
--- there is more room in the set of streams that the peer has reset, and no other stream
-none-peer : (e : Events) (m : List Bool) → Stays m e.reset_by_peer → BringsNone e (record e { reset_by_peer = m })
-none-peer e m h event.Connected w = w
-none-peer e m h event.Restarted w = w
-none-peer e m h (event.Readable s) w = w
-none-peer e m h (event.BufferedAmountLow s) w = w
-none-peer e m h (event.ResetByUs s) w = w
-none-peer e m h (event.ResetRefused s) w = w
-none-peer e m h (event.ResetByPeer s) w = h s w
-none-peer e m h (event.TooLong s) w = w
-none-peer e m h (event.PeerError c) w = w
-none-peer e m h event.Shutdown w = w
-none-peer e m h (event.Closed x) w = w
-
+-- there is more room for events, and nothing else
 abbrev pub Grows : (e f : Events) → Type 0
 Grows e f = KeepsEvents e f × BringsNone e f
-
-pub grows_peer : (e : Events) (m : List Bool) → ((n : ℕ) → is_in n m ≡ is_in n e.reset_by_peer) → length e.reset_by_peer ≤ length m
-    → Grows e (record e { reset_by_peer = m })
-grows_peer e m same more = (
-  (later_peer e m (λ n h. same n ∙ h) more).kept,
-  none-peer e m (λ n h. sym (same n) ∙ h),
-)
-
-pub grows_same : (e f : Events) → f ≡ e → Grows e f
-grows_same e f is = subst (Grows e) (sym is) (all_kept e, λ v w. w)
 
 pub unreset_in : {X E : Type 0} (r : Result X E) (a b : Association) (i j : Inbound) → a.inbound ≡ Some i → b.inbound ≡ Some j
     → OnErr r ((j ≡ i) × Grows a.events b.events) → OnlyReceives a b → OnErr r (StaysUnreset a b)
