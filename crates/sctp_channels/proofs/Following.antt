@@ -1,6 +1,6 @@
 -- Messages of RFC 8832 are taken out, one after the other.
 use Rattle.std.proofs.Common.{◌≡◌, ℕ, zero, suc, Bool, true, false, List, [], ◌∷◌, ◌++◌, Option, Some, None, refl, ap, sym, ◌∙◌, subst}
-use Rattle.std.specs.Prelude.{replicate}
+use Rattle.std.specs.Prelude.{not, replicate}
 use Rattle.sctp_association.specs.declared.association.Association.{Association}
 use Rattle.sctp_association.specs.Reads.{AreReadOff, length_of, message_in}
 use Rattle.sctp_channels.specs.Reading.{ReadsControl, TakesControl, TakesControlOf, is_control, is_data, is_dcep, tells_data}
@@ -44,6 +44,15 @@ of_read now s a b c h control read = record { count = suc h.count; reads = reads
 pub of_from : (now s : ℕ) (a b c : Association) → b.inbound ≡ a.inbound → TakesControlOf now s b c → TakesControlOf now s a c
 of_from now s a b c same h = record { count = h.count; reads = reads_from now (replicate h.count s) a b c same h.reads }
 
+of_joined : (now s n : ℕ) (a b c : Association) → ReadsControl now (replicate n s) a b → TakesControlOf now s b c → TakesControlOf now s a c
+of_joined now s zero a b c same k = record { count = k.count; reads = reads_from now (replicate k.count s) a b c same k.reads }
+of_joined now s (suc n) a b c (mid, control, read, rest) k =
+    let joined = of_joined now s n mid b c rest k in
+    record { count = suc joined.count; reads = (mid, control, read, joined.reads) }
+
+pub of_more : (now s : ℕ) (a b c : Association) → TakesControlOf now s a b → TakesControlOf now s b c → TakesControlOf now s a c
+of_more now s a b c h k = of_joined now s h.count a b c h.reads k
+
 -- ## Of some streams
 
 pub some_same : (now : ℕ) (a b : Association) → b.inbound ≡ a.inbound → TakesControl now a b
@@ -69,3 +78,12 @@ control_told (Some s) o is told = sym (ap tells_control is) ∙ told
 pub data_told : (b : Bool) (m : Option ChunkSet) (o : Option (ℕ × PayloadProtocolIdentifier)) → o ≡ length_of m → tells_data o ≡ b → is_data m ≡ b
 data_told b None o is told = sym (ap tells_data is) ∙ told
 data_told b (Some s) o is told = sym (ap tells_data is) ∙ told
+
+-- it is of none of both kinds
+pub none_next : (m : Option ChunkSet) → is_control m ≡ false → is_data m ≡ false → m ≡ None
+none_next None a b = refl
+none_next (Some s) a b = by (is_dcep s.ppi) a b
+  where
+    by : (d : Bool) → d ≡ false → not d ≡ false → Some s ≡ None
+    by true a b = cc
+    by false a b = cc

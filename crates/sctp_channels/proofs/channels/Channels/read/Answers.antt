@@ -1,5 +1,6 @@
-use Rattle.std.proofs.Common.{◌≡◌, ◌∙◌, true, Some, ap, sym, rules}
+use Rattle.std.proofs.Common.{◌≡◌, ◌∙◌, true, Some, ap, refl, sym, rules}
 use Rattle.sctp_channels.specs.Reading.{tells_data}
+use Rattle.sctp_channels.specs.Steps.{state_of}
 use Rattle.sctp_channels.proofs.Following.{data_told}
 use Rattle.sctp_channels.proofs.channels.Channels.read.Goals as goal
 
@@ -16,4 +17,16 @@ returns-in-Some c =
         c.read.ensures.taken,
       );
       err = tt;
+      reads = (
+        state_of c.follow_control.new.self c.follow_control.new.association,
+        c.follow_control.ensures.comes,
+        record {
+          application = data_told true _ _ c.next_len.ensures told;
+          message = ap Some c.new.ensures ∙ sym c.in-Some.is ∙ c.in_ok-chunks.ensures.message;
+          is = refl;
+          read = c.read.ensures.taken;
+          beside = c.read.ensures.rest;
+        },
+      );
+      comes = tt;
     }

@@ -1,0 +1,56 @@
+-- What calls of the association leave of it.
+use Rattle.std.proofs.Common.{◌≡◌, ℕ, Bool, Option, Some, None, ap, sym, ◌∙◌, subst}
+use Rattle.sctp_association.specs.Events.{BringsNone}
+use Rattle.sctp_association.specs.Telling.{KeepsEvents}
+use Rattle.sctp_association.specs.Waiting.{opened}
+use Rattle.sctp_association.specs.declared.association.Association.{Association}
+use Rattle.sctp_association.specs.declared.event.Events.{Events}
+use Rattle.sctp_association.specs.declared.fault.Fault.{Fault}
+use Rattle.sctp_association.specs.declared.outbound.Outbound.{Outbound}
+use Rattle.sctp_channels.specs.Sends.{IsModed, KeepsEach, ModesIf, SendsOnly}
+use Rattle.sctp_data.specs.declared.chunk.chunk_payload_data.ReliabilityType.{ReliabilityType}
+use Rattle.sctp_sender.specs.Sender.{Transmission, with_mode_on}
+
+pub kept_more : (a b c : Events) → KeepsEvents a b → KeepsEvents b c → KeepsEvents a c
+kept_more a b c x y = record {
+  connected = λ h. y.connected (x.connected h);
+  restarted = λ h. y.restarted (x.restarted h);
+  shutdown = λ h. y.shutdown (x.shutdown h);
+  closed = λ h. y.closed (x.closed h);
+  peer_error = λ h. y.peer_error (x.peer_error h);
+  low = λ s h. y.low s (x.low s h);
+  reset_by_us = λ s h. y.reset_by_us s (x.reset_by_us s h);
+  reset_refused = λ s h. y.reset_refused s (x.reset_refused s h);
+  reset_by_peer = λ s h. y.reset_by_peer s (x.reset_by_peer s h);
+  too_long = λ s h. y.too_long s (x.too_long s h);
+}
+
+pub each_more : (a b c : Events) → KeepsEach a b → KeepsEach b c → KeepsEach a c
+each_more a b c x y = record { kept = kept_more a b c x.kept y.kept; none = λ v h. x.none v (y.none v h) }
+
+pub sends_more : (a b c : Association) → SendsOnly a b → SendsOnly b c → SendsOnly a c
+sends_more a b c x y = record {
+  rest = y.rest ∙ ap (λ (z : Association). record z { outbound = c.outbound; events = c.events }) x.rest;
+  sender = y.sender ∙ ap (λ (z : Outbound). record z { sender = c.outbound.sender }) x.sender;
+  events = each_more a.events b.events c.events x.events y.events;
+}
+
+pub moded_of : (s : ℕ) (u : Bool) (r : ReliabilityType) (v : ℕ) (a b : Association)
+    → b.outbound ≡ record a.outbound { sender = with_mode_on s u r v (opened s a.outbound.sender) }
+    → b ≡ record a { outbound = b.outbound; events = b.events } → BringsNone a.events b.events → KeepsEvents a.events b.events → IsModed s u r v a b
+moded_of s u r v a b mode rest none kept = record {
+  mode = mode;
+  only = record {
+    rest = rest;
+    sender = mode ∙ ap (λ (z : Transmission). record a.outbound { sender = z }) (sym (ap (λ (o : Outbound). o.sender) mode));
+    events = record { kept = kept; none = none };
+  };
+}
+
+pub modes_none : (f : Option Fault) (s : ℕ) (u : Bool) (r : ReliabilityType) (v : ℕ) (a b : Association) → f ≡ None → IsModed s u r v a b
+    → ModesIf f s u r v a b
+modes_none f s u r v a b none is = subst (λ (o : Option Fault). ModesIf o s u r v a b) (sym none) is
+
+pub modes_some : (f : Option Fault) (e : Fault) (s : ℕ) (u : Bool) (r : ReliabilityType) (v : ℕ) (a b : Association) → f ≡ Some e → b ≡ a
+    → ModesIf f s u r v a b
+modes_some f e s u r v a b some same = subst (λ (o : Option Fault). ModesIf o s u r v a b) (sym some) same
