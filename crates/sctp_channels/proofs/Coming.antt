@@ -7,7 +7,7 @@ use Rattle.sctp_channels.specs.Dcep.{Knows}
 use Rattle.sctp_channels.specs.Reading.{is_control, is_data}
 use Rattle.sctp_channels.specs.Rest.{Keeps}
 use Rattle.sctp_channels.specs.Steps.{AreSteps, AsksOwed, Comes, FollowsHeld, IsBegun, IsStep, State, Step, held_of, state_of, taken_by, takes_one}
-use Rattle.sctp_channels.specs.Steps.{IsLooked, asks, begins, follows, hears, looks}
+use Rattle.sctp_channels.specs.Steps.{IsLooked, asks, begins, follows, learns, looks}
 use Rattle.sctp_channels.specs.declared.channel.Channel.{Channel}
 use Rattle.sctp_channels.specs.declared.channels.Channels.{Channels}
 
@@ -95,14 +95,14 @@ comes_followed now n (Ok x) s t u comes ok err = comes_then now n s t u comes (c
 comes_followed now n (Err e) s t u comes ok err = comes_then now n s t u comes (comes_begun now t u err)
 
 -- a message of the application was next
-pub comes_heard : {T E : Type 0} (now n stream : ℕ) (r : Result T E) (s : State) (c d : Channels) (a b : Association) → Comes now n s (state_of c a)
+pub comes_known : {T E : Type 0} (now n stream : ℕ) (r : Result T E) (s : State) (c d : Channels) (a b : Association) → Comes now n s (state_of c a)
     → is_data (message_in stream a.inbound) ≡ true → Keeps c d → OnOk r (Knows stream c.channels.items a d.channels.items b)
     → OnErr r ((d.channels.items ≡ c.channels.items) × (b ≡ a)) → Comes now n s (state_of d b)
-comes_heard now n stream (Ok x) s c d a b comes next keeps ok err =
+comes_known now n stream (Ok x) s c d a b comes next keeps ok err =
     comes_then now n s (state_of c a) (state_of d b) comes (
-    comes_by now (hears stream) (state_of c a) (state_of d b) (record { application = next; is = state_kept c d a b keeps; knows = ok })
+    comes_by now (learns stream) (state_of c a) (state_of d b) (record { application = next; is = state_kept c d a b keeps; knows = ok })
     )
-comes_heard now n stream (Err e) s c d a b comes next keeps ok (list, same) =
+comes_known now n stream (Err e) s c d a b comes next keeps ok (list, same) =
     comes_to now n s (state_of c a) (state_of d b) comes (state_same c d a b keeps list same)
 
 -- arrivals were looked at, or not

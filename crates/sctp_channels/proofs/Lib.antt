@@ -5,9 +5,11 @@ pub mod Gaining
 pub mod Handing
 pub mod Holding
 pub mod Lists
+pub mod News
 pub mod Next
 pub mod Polling
 pub mod Refusing
 pub mod Sending
 pub mod Settling
 pub mod Telling
+pub mod Waiting

@@ -62,7 +62,8 @@ open_refused side xs o fault.Resetting = tt
 open_refused side xs o fault.BadConfig = tt
 
 pub name_refused : (side : Side) (xs : List Channel) (o : request.Open) (f : dcep.Fault)
-    → (write_refusal (message.Open o) ≡ Some f) ⊎ ((write_refusal (message.Open o) ≡ None) × (f ≡ names.OutOfMemory)) → OpenRefused side xs o (refusal_of_name f)
+    → (write_refusal (message.Open o) ≡ Some f) ⊎ ((write_refusal (message.Open o) ≡ None) × (f ≡ names.OutOfMemory))
+    → OpenRefused side xs o (refusal_of_name f)
 name_refused side xs o f (inl e) = by f e
   where
     by : (f : dcep.Fault) → write_refusal (message.Open o) ≡ Some f → OpenRefused side xs o (refusal_of_name f)

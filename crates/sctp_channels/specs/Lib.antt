@@ -8,3 +8,4 @@ pub mod Refusals
 pub mod Rest
 pub mod Sends
 pub mod Steps
+pub mod Waiting

@@ -100,7 +100,7 @@ pub record IsBegun (s t : State) : Type 0 where
       s.association t.association
 
 -- a message of the application is next on the stream: the peer knows the channel (RFC 8832 6)
-pub record IsHeard (stream : ℕ) (s t : State) : Type 0 where
+pub record IsKnown (stream : ℕ) (s t : State) : Type 0 where
   pub application : is_data (message_in stream s.association.inbound) ≡ true
   pub is : t ≡ record s { list = t.list; association = t.association }
   pub knows : Knows stream s.list s.association t.list t.association
@@ -185,7 +185,7 @@ pub data Step : Type 0 where
   reads : ℕ → Step
   follows : Step
   begins : Step
-  hears : ℕ → Step
+  learns : ℕ → Step
   looks : Step
   asks : Step
   takes : Event → Step
@@ -194,7 +194,7 @@ abbrev pub IsStep : (now : ℕ) → Step → (s t : State) → Type 0
 IsStep now (reads stream) s t = IsHeld now stream s t
 IsStep now follows s t = FollowsHeld s.held s t
 IsStep now begins s t = IsBegun s t
-IsStep now (hears stream) s t = IsHeard stream s t
+IsStep now (learns stream) s t = IsKnown stream s t
 IsStep now looks s t = IsLooked s t
 IsStep now asks s t = AsksOwed s.owed s t
 IsStep now (takes e) s t = IsTaken e s t × (told_by e ≡ None)
@@ -209,7 +209,7 @@ abbrev pub takes_one : Step → ℕ
 takes_one (reads stream) = 1
 takes_one follows = 0
 takes_one begins = 0
-takes_one (hears stream) = 0
+takes_one (learns stream) = 0
 takes_one looks = 0
 takes_one asks = 0
 takes_one (takes e) = 1

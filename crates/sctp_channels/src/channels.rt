@@ -10,6 +10,7 @@ ghost use Rattle.sctp_channels.specs.Reading.{ReadsNext, TakesControl, TakesCont
 ghost use Rattle.sctp_channels.specs.Refusals.{AgreedRefused, OpenRefused, WriteRefused, refusal_of, refusal_of_name};
 ghost use Rattle.sctp_channels.specs.declared.channel.Stage.TheVariants as stage;
 ghost use Rattle.sctp_channels.specs.declared.channels.Refusal.TheVariants.{InUse, NoChannel, NoStream, OutOfMemory};
+ghost use Rattle.sctp_channels.specs.Waiting.{KeepsNews, KeepsOthers};
 ghost use Rattle.sctp_association.specs.Calls.{use_fault, write_fault};
 
 use crate::channel::{Channel, News, Stage};
@@ -349,6 +350,8 @@ impl Channels {
             (state_of self.new association.new)) }
         ensures comes { OnErr result (Comes now 0 (state_of self.old association.old)
             (state_of self.new association.new)) }
+        // Nothing that waits to be told of a channel is lost.
+        ensures others { KeepsNews self.old.channels.items self.new.channels.items }
     {
         self.follow_control(association, stream, now)?;
         if !is_of_application(association.next_len(stream)) {
@@ -380,6 +383,10 @@ impl Channels {
             (state_of self.new association.new)) }
         ensures comes { OnErr result (Comes now 0 (state_of self.old association.old)
             (state_of self.new association.new)) }
+        // Nothing that waits to be told of a channel is lost.
+        ensures others { IfOk result
+            (KeepsOthers self.old.channels.items self.new.channels.items) }
+        ensures news { OnErr result (KeepsNews self.old.channels.items self.new.channels.items) }
     {
         for _done in 0..MOST {
             self.settle(association, now)?;

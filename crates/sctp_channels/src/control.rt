@@ -13,7 +13,7 @@ ghost use Rattle.sctp_dcep.specs.declared.message.Message.TheVariants as message
 
 use crate::channel::{Channel, News, Stage};
 use crate::channels::{Channels, Held, MOST, Refusal, is_of_application};
-use crate::sends::{answer, ask, set_mode};
+use crate::sends::{answer, ask, set_mode_of};
 use bytes::Bytes;
 use sctp_association::{Association, PayloadProtocolIdentifier};
 use sctp_dcep::{Message, Open};
@@ -221,7 +221,7 @@ impl Channels {
             return Ok(());
         }
         let (unordered, reliability) = (channel.unordered, channel.reliability);
-        set_mode(association, stream, unordered, reliability, channel.value)?;
+        set_mode_of(association, stream, unordered, reliability, channel.value)?;
         self.note(stream, News::Known);
         Ok(())
     }

@@ -23,7 +23,7 @@ pub(crate) fn ask(association: &mut Association, stream: u16) -> Result<bool, Re
 }
 
 /// Sets the mode of a stream, where the association takes it.
-pub(crate) fn set_mode(
+pub(crate) fn set_mode_of(
     association: &mut Association,
     stream: u16,
     unordered: bool,
@@ -58,16 +58,16 @@ pub(crate) fn answer(
     let (unordered, reliability) = (request.unordered, request.reliability);
     match association.set_mode(stream, unordered, reliability, request.value) {
         Ok(()) => {}
-        Err(fault) => return given_up(fault),
+        Err(fault) => return not_taken(fault),
     }
     match association.write(stream, PayloadProtocolIdentifier::Dcep, &ack) {
         Ok(()) => Ok(true),
-        Err(fault) => given_up(fault),
+        Err(fault) => not_taken(fault),
     }
 }
 
 // A fault that a later call may not meet is a refusal. Else the stream takes no message any more.
-fn given_up(fault: Fault) -> Result<bool, Refusal>
+fn not_taken(fault: Fault) -> Result<bool, Refusal>
     ensures { IfOk result (λ b. (b ≡ false) × (passes fault ≡ false)) }
 {
     match fault {

@@ -1,5 +1,5 @@
 use Rattle.std.proofs.Common.{◌≡◌, ◌∙◌, true, arith, rules}
-use Rattle.sctp_channels.proofs.Coming.{comes_begun, comes_heard, comes_held, comes_less, comes_more}
+use Rattle.sctp_channels.proofs.Coming.{comes_begun, comes_known, comes_held, comes_less, comes_more}
 use Rattle.sctp_channels.proofs.Following.{data_told, of_more, of_same, of_then}
 use Rattle.sctp_channels.proofs.Gaining.{gains_then}
 use Rattle.sctp_channels.proofs.Polling.{comes_on}
@@ -27,7 +27,7 @@ returns-then-is_of_application-clause-comes c =
     let told : tells_data c.next_len-next.result ≡ true = search rules in
     let next = data_told true _ _ c.next_len-next.ensures told in
     let comes = comes_less _ 0 _ _ _ (omega arith) c.loop-done.invariant.comes in
-    comes_heard _ 0 _ c.knows.result _ _ _ _ _ comes next c.knows.ensures.rest c.knows.ensures.ok c.knows.ensures.err
+    comes_known _ 0 _ c.knows.result _ _ _ _ _ comes next c.knows.ensures.rest c.knows.ensures.ok c.knows.ensures.err
 
 pub returns-in_err-follow_next-clause-control : goal.returns-in_err-follow_next-clause-control
 returns-in_err-follow_next-clause-control c = of_more _ _ _ _ _ c.loop-done.invariant.control c.follow_next.ensures.control

@@ -1,8 +1,9 @@
-use Rattle.std.proofs.Common.{◌∙◌, None, ap, subst, sym}
+use Rattle.std.proofs.Common.{◌∙◌, None, ap, inl, subst, sym}
 use Rattle.sctp_association.specs.declared.association.Association.{Association}
 use Rattle.sctp_channels.proofs.Coming.{comes_then}
 use Rattle.sctp_channels.proofs.Following.{some_more, some_same}
 use Rattle.sctp_channels.proofs.Gaining.{gains_then}
+use Rattle.sctp_channels.proofs.News.{comes_news, polls_news}
 use Rattle.sctp_channels.proofs.Polling.{comes_on, comes_taken, polls_association, polls_channel, polls_idle, polls_many, ready, taken_is}
 use Rattle.sctp_channels.proofs.Telling.{always_err, tells_then}
 use Rattle.sctp_channels.specs.Answers.{Polls}
@@ -105,3 +106,21 @@ returns-in-Some-take-clause-control c =
     some_more _ _ _ _ c.loop-done.invariant.control (
     some_more _ _ _ _ c.settle.ensures.control (some_same _ _ _ (ap (λ (a : Association). a.inbound) c.poll.ensures.rest))
     )
+
+pub returns-in-Some-clause-others : goal.returns-in-Some-clause-others
+returns-in-Some-clause-others c = polls_news _ _ _ _ (returns-in-Some-clause-polls c)
+
+pub returns-then-is_some-clause-others : goal.returns-then-is_some-clause-others
+returns-then-is_some-clause-others c = polls_news _ _ _ _ (returns-then-is_some-clause-polls c)
+
+pub returns-in_default-clause-others : goal.returns-in_default-clause-others
+returns-in_default-clause-others c = polls_news _ _ _ _ (returns-in_default-clause-polls c)
+
+pub returns-in-Some-take-clause-others : goal.returns-in-Some-take-clause-others
+returns-in-Some-take-clause-others c = polls_news _ _ _ _ (returns-in-Some-take-clause-polls c)
+
+pub returns-in_err-settle-clause-news : goal.returns-in_err-settle-clause-news
+returns-in_err-settle-clause-news c = always_err _ (comes_news _ _ _ _ (comes_on _ _ _ _ _ _ c.loop-done.invariant.comes c.settle.ensures.comes))
+
+pub returns-clause-others : goal.returns-clause-others
+returns-clause-others c e waits = inl (comes_news _ _ _ _ c.loop-done.invariant.comes e waits)

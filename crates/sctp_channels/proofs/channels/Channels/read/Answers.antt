@@ -1,5 +1,6 @@
 use Rattle.std.proofs.Common.{◌≡◌, ◌∙◌, true, Some, ap, refl, sym, rules}
 use Rattle.sctp_channels.specs.Reading.{tells_data}
+use Rattle.sctp_channels.proofs.News.{comes_news}
 use Rattle.sctp_channels.specs.Steps.{state_of}
 use Rattle.sctp_channels.proofs.Following.{data_told}
 use Rattle.sctp_channels.proofs.channels.Channels.read.Goals as goal
@@ -29,4 +30,11 @@ returns-in-Some c =
         },
       );
       comes = tt;
+      others = comes_news _ _ _ _ c.follow_control.ensures.comes;
     }
+
+pub returns-in_err-follow_control-clause-others : goal.returns-in_err-follow_control-clause-others
+returns-in_err-follow_control-clause-others c = comes_news _ _ _ _ c.follow_control.ensures.comes
+
+pub returns-then-not-is_of_application-clause-others : goal.returns-then-not-is_of_application-clause-others
+returns-then-not-is_of_application-clause-others c = comes_news _ _ _ _ c.follow_control.ensures.comes
