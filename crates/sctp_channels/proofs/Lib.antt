@@ -4,6 +4,7 @@ pub mod Freeing
 pub mod Gaining
 pub mod Handing
 pub mod Holding
+pub mod Known
 pub mod Lists
 pub mod News
 pub mod Next

@@ -6,6 +6,7 @@ use Rattle.sctp_association.specs.Events.{NoneWaits}
 use Rattle.sctp_association.specs.Reads.{AreReadOff, IsSameBeside, message_in}
 use Rattle.sctp_association.specs.declared.event.Event.{Event}
 use Rattle.sctp_channels.specs.Channels.{has_news, is_reset}
+use Rattle.sctp_channels.specs.Dcep.{IsKnownOn}
 use Rattle.sctp_channels.specs.Reading.{is_data}
 use Rattle.sctp_channels.specs.Steps.{Comes, IsSettled, IsTaken, State, told_by}
 use Rattle.sctp_channels.specs.declared.channel.Channel.{Channel}
@@ -69,9 +70,10 @@ Polls now s t (Some told) = (mid : State) × Comes now 0 s mid
 
 -- ## Reads
 
--- the message of the application that is next is taken out
+-- the message of the application that is next is taken out; the peer knows the channel
 pub record IsRead (now stream : ℕ) (s t : State) (m : Received) : Type 0 where
   pub application : is_data (message_in stream s.association.inbound) ≡ true
+  pub known : IsKnownOn stream s.list
   pub message : Some m.chunks ≡ option_map at_start (message_in stream s.association.inbound)
   pub is : t ≡ record s { association = t.association }
   pub read : AreReadOff now stream s.association.inbound t.association.inbound

@@ -34,6 +34,10 @@ abbrev pub opening : Option Channel → Option Channel
 opening None = None
 opening (Some c) = if is_opening c.stage then Some c else None
 
+-- no channel of the stream waits for DATA_CHANNEL_ACK
+abbrev pub IsKnownOn : ℕ → List Channel → Type 0
+IsKnownOn stream list = opening (channel_on stream list) ≡ None
+
 -- it is open, its mode is that of its stream from now on, and that is to be told
 abbrev pub KnowsOf : Option Channel → ℕ → List Channel → Association → List Channel → Association
     → Type 0

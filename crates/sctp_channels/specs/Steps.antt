@@ -9,7 +9,7 @@ use Rattle.sctp_association.specs.declared.event.Event.{Event}
 use Rattle.sctp_association.specs.declared.event.Event.TheVariants as event
 use Rattle.sctp_association.specs.declared.inbound.Inbound.{Inbound}
 use Rattle.sctp_channels.specs.Channels.{channel_on, has_news, note_on, takes_messages}
-use Rattle.sctp_channels.specs.Dcep.{FollowsDcep, Knows, may_open}
+use Rattle.sctp_channels.specs.Dcep.{FollowsDcep, IsKnownOn, Knows, may_open}
 use Rattle.sctp_channels.specs.Reading.{is_control, is_data}
 use Rattle.sctp_channels.specs.Sends.{IsAsked, IsModed}
 use Rattle.sctp_channels.specs.declared.channel.Channel.{Channel}
@@ -111,12 +111,14 @@ pub record IsKnown (stream : ℕ) (s t : State) : Type 0 where
 abbrev pub looked : ℕ → Option Inbound → List Channel → List Channel
 looked stream i list = if is_some (message_in stream i) then note_on stream news.Readable list else list
 
--- the arrivals on a stream are looked at, once its messages of RFC 8832 are followed
+-- The arrivals on a stream are looked at, once its messages of RFC 8832 are followed. Where a message of the application is next, the peer knows the
+-- channel.
 pub record IsLooked (s t : State) : Type 0 where
   pub stream : ℕ
   pub was : s.arrived ≡ Some stream
   pub none : s.held ≡ None
   pub followed : is_control (message_in stream s.association.inbound) ≡ false
+  pub known : is_data (message_in stream s.association.inbound) ≡ true → IsKnownOn stream s.list
   pub is : t ≡ record s { list = looked stream s.association.inbound s.list; arrived = None }
 
 -- The reset that is owed is asked for. Where the association takes no reset of the stream, there is nothing left to reset.

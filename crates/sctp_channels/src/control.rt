@@ -1,10 +1,10 @@
 //! The messages of RFC 8832 that come on channels' streams.
 
-ghost use Rattle.std.specs.Prelude.{◌≡◌, ◌⊎◌, ◌^◌, None, Ok, Err, IsErr, OnErr, OnOk, true, false};
+ghost use Rattle.std.specs.Prelude.{◌≡◌, ◌⊎◌, ℕ, ◌^◌, None, Ok, Err, IsErr, OnErr, OnOk, true, false};
 ghost use Rattle.sctp_association.specs.Reads.{AreReadOff, message_in};
 ghost use Rattle.sctp_channels.specs.Channels.{Gains, asked};
-ghost use Rattle.sctp_channels.specs.Dcep.{Closes, FollowsDcep, Knows, may_open};
-ghost use Rattle.sctp_channels.specs.Reading.{TakesControl, TakesControlOf, is_control};
+ghost use Rattle.sctp_channels.specs.Dcep.{Closes, FollowsDcep, IsKnownOn, Knows, may_open};
+ghost use Rattle.sctp_channels.specs.Reading.{TakesControl, TakesControlOf, is_control, is_data};
 ghost use Rattle.sctp_channels.specs.Rest.{Keeps, KeepsDue};
 ghost use Rattle.sctp_channels.specs.Sends.{IsModed};
 ghost use Rattle.sctp_channels.specs.Steps.{Comes, FollowsHeld, IsBegun, IsHeld, IsLooked, held_of, state_of};
@@ -49,6 +49,8 @@ impl Channels {
     fn look(&mut self, association: &Association, stream: u16)
         requires was { self.old.arrived ≡ Some stream }
         requires none { self.old.held ≡ None }
+        requires known { is_data (message_in stream association.now.inbound) ≡ true
+            → IsKnownOn stream self.old.channels.items }
         ensures same { asked self.new.channels.items ≡ asked self.old.channels.items }
         ensures side { self.new.side ≡ self.old.side }
         ensures held { self.new.held ≡ self.old.held }
@@ -59,10 +61,10 @@ impl Channels {
         ensures stays { is_control (message_in stream association.now.inbound) ≡ true
             → self.new ≡ self.old }
     {
-        let next = association.next_len(stream);
-        if is_of_application(next) {
+        let came = association.next_len(stream);
+        if is_of_application(came) {
             self.note(stream, News::Readable);
-        } else if next.is_some() {
+        } else if came.is_some() {
             return;
         }
         self.arrived = None;
@@ -87,6 +89,8 @@ impl Channels {
             ((is_control (message_in stream association.new.inbound) ≡ false)
             ⊎ Comes now (2 ^ 20) (state_of self.old association.old)
             (state_of self.new association.new)) }
+        ensures known { OnOk result (is_data (message_in stream association.new.inbound) ≡ true
+            → IsKnownOn stream self.new.channels.items) }
     {
         self.follow_held(association)?;
         for _done in 0..MOST {
@@ -99,7 +103,7 @@ impl Channels {
             }
             self.follow_next(association, stream, now)?;
         }
-        Ok(())
+        self.knows_next(association, stream)
     }
 
     // Takes out the message of RFC 8832 that is next on a stream, and follows it.
@@ -204,13 +208,31 @@ impl Channels {
         }
     }
 
+    // Where a message of the application is next, the peer knows the channel.
+    fn knows_next(&mut self, association: &mut Association, stream: u16) -> Result<(), Refusal>
+        ensures same { asked self.new.channels.items ≡ asked self.old.channels.items }
+        ensures inbound { association.new.inbound ≡ association.old.inbound }
+        ensures rest { Keeps self.old self.new }
+        ensures comes { (now : ℕ) → Comes now 0 (state_of self.old association.old)
+            (state_of self.new association.new) }
+        ensures known { OnOk result (is_data (message_in stream association.new.inbound) ≡ true
+            → IsKnownOn stream self.new.channels.items) }
+    {
+        if is_of_application(association.next_len(stream)) {
+            return self.knows(association, stream);
+        }
+        Ok(())
+    }
+
     // The peer knows a channel: its messages may go out of order, if they are to.
+    #[tactic(auto, using(crate::proofs::Known::known_noted))]
     fn knows(&mut self, association: &mut Association, stream: u16) -> Result<(), Refusal>
         ensures same { asked self.new.channels.items ≡ asked self.old.channels.items }
         ensures inbound { association.new.inbound ≡ association.old.inbound }
         ensures rest { Keeps self.old self.new }
         ensures ok { OnOk result (Knows stream self.old.channels.items association.old
             self.new.channels.items association.new) }
+        ensures known { OnOk result (IsKnownOn stream self.new.channels.items) }
         ensures err { OnErr result ((self.new.channels.items ≡ self.old.channels.items)
             × (association.new ≡ association.old)) }
     {

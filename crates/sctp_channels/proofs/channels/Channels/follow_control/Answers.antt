@@ -1,7 +1,7 @@
-use Rattle.std.proofs.Common.{◌≡◌, ◌∙◌, true, arith, rules}
-use Rattle.sctp_channels.proofs.Coming.{comes_begun, comes_known, comes_held, comes_less, comes_more}
+use Rattle.std.proofs.Common.{◌≡◌, ◌∙◌, true, arith, inr, rules}
+use Rattle.sctp_channels.proofs.Coming.{always_ok, comes_then, comes_begun, comes_known, comes_held, comes_less, comes_more}
 use Rattle.sctp_channels.proofs.Following.{data_told, of_more, of_same, of_then}
-use Rattle.sctp_channels.proofs.Gaining.{gains_then}
+use Rattle.sctp_channels.proofs.Gaining.{gains_same, gains_then}
 use Rattle.sctp_channels.proofs.Polling.{comes_on}
 use Rattle.sctp_channels.specs.Reading.{tells_data}
 use Rattle.sctp_channels.proofs.channels.Channels.follow_control.Goals as goal
@@ -47,3 +47,18 @@ loop-done-preserved c = record {
   held = c.in_ok-follow_next.ensures.done;
   comes = comes_more _ _ _ _ _ _ c.loop-done.invariant.comes c.in_ok-follow_next.ensures.ok;
 }
+
+pub returns-clause-gains : goal.returns-clause-gains
+returns-clause-gains c =
+    gains_then _ _ _ _ _ c.loop-done.invariant.gains c.loop-done.invariant.side (gains_same _ _ _ c.knows_next.ensures.same)
+
+pub returns-clause-control : goal.returns-clause-control
+returns-clause-control c = of_then _ _ _ _ _ c.loop-done.invariant.control c.knows_next.ensures.inbound
+
+pub returns-clause-comes : goal.returns-clause-comes
+returns-clause-comes c = comes_on _ _ _ _ _ _ c.loop-done.invariant.comes (c.knows_next.ensures.comes c.args.now)
+
+pub returns-clause-ends : goal.returns-clause-ends
+returns-clause-ends c =
+    let all = comes_then _ _ _ _ _ c.loop-done.invariant.comes (c.knows_next.ensures.comes c.args.now) in
+    always_ok _ (inr (comes_less _ 1048576 c.loop-done._done _ _ (omega arith) all))

@@ -23,6 +23,7 @@ returns-in-Some c =
         c.follow_control.ensures.comes,
         record {
           application = data_told true _ _ c.next_len.ensures told;
+          known = c.in_ok-follow_control.ensures.known (data_told true _ _ c.next_len.ensures told);
           message = ap Some c.new.ensures ∙ sym c.in-Some.is ∙ c.in_ok-chunks.ensures.message;
           is = refl;
           read = c.read.ensures.taken;
