@@ -2,10 +2,9 @@
 use Rattle.std.specs.Prelude.{◌≡◌, ◌⊎◌, ℕ, Bool, true, false, List, Option, Some, None}
 use Rattle.sctp_association.specs.Calls.{write_fault}
 use Rattle.sctp_association.specs.Events.{BringsNone}
-use Rattle.sctp_association.specs.Telling.{KeepsEvents}
+use Rattle.sctp_association.specs.Telling.{TellsIn}
 use Rattle.sctp_association.specs.Waiting.{opened}
 use Rattle.sctp_association.specs.declared.association.Association.{Association}
-use Rattle.sctp_association.specs.declared.event.Events.{Events}
 use Rattle.sctp_association.specs.declared.fault.Fault.{Fault}
 use Rattle.sctp_association.specs.declared.fault.Fault.TheVariants as fault
 use Rattle.sctp_channels.specs.Channels.{IsNextFree}
@@ -22,16 +21,16 @@ use Rattle.sctp_sender.specs.Sender.{with_mode_on}
 
 -- ## What stays
 
--- none comes to wait, and each that waited waits still
-pub record KeepsEach (old new : Events) : Type 0 where
-  pub kept : KeepsEvents old new
-  pub none : BringsNone old new
+-- no event comes to wait, and each that waited waits still
+pub record KeepsEach (old new : Association) : Type 0 where
+  pub kept : TellsIn old.inbound old.events new.inbound new.events
+  pub none : BringsNone old.events new.events
 
 -- beside its sender, and the room for events, the association is as it was
 pub record SendsOnly (old new : Association) : Type 0 where
   pub rest : new ≡ record old { outbound = new.outbound; events = new.events }
   pub sender : new.outbound ≡ record old.outbound { sender = new.outbound.sender }
-  pub events : KeepsEach old.events new.events
+  pub events : KeepsEach old new
 
 -- ## The mode of a stream
 
@@ -96,7 +95,7 @@ AnswersIf false stream o old new = IsUnanswered stream o old new
 pub record IsAsked (stream : ℕ) (old new : Association) : Type 0 where
   pub requests : new.requests ≡ after_ask stream old.requests
   pub rest : new ≡ record old { requests = new.requests; events = new.events }
-  pub events : KeepsEach old.events new.events
+  pub events : KeepsEach old new
 
 abbrev pub AsksIf : Bool → ℕ → (old new : Association) → Type 0
 AsksIf true stream old new = IsAsked stream old new

@@ -12,11 +12,11 @@ returns-in-Ok-write-clause-ok c =
     let some = subst (λ (b : List ℕ). 0 < length b) (sym is) (lit≤ tt) in
     record {
       mid = c.set_mode.new.self;
-      mode = moded_of _ _ _ _ _ _ set.ok set.rest set.quiet set.tells.end.events.kept;
+      mode = moded_of _ _ _ _ _ _ set.ok set.rest set.quiet set.tells.end.events;
       ack = subst (λ (b : List ℕ). IsHanded c.args.stream Dcep b c.set_mode.new.self c.write-2.new.self) is (written.ok some);
       only = record {
         rest = written.rest;
         sender = written.sender;
-        events = record { kept = written.tells.end.events.kept; none = written.quiet };
+        events = record { kept = written.tells.end.events; none = written.quiet };
       };
     }
