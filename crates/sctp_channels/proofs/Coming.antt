@@ -49,9 +49,6 @@ comes_less now m n s t less a = record { steps = a.steps; are = a.are; many = le
 pub comes_to : (now n : ℕ) (s t u : State) → Comes now n s t → u ≡ t → Comes now n s u
 comes_to now n s t u a same = record { steps = a.steps; are = steps_to now a.steps s t u a.are same; many = a.many }
 
-pub comes_from : (now n : ℕ) (r s t : State) → s ≡ r → Comes now n s t → Comes now n r t
-comes_from now n r s t same a = record { steps = a.steps; are = steps_from now a.steps r s t same a.are; many = a.many }
-
 -- what is done behind it, by no further message or event
 pub comes_then : (now n : ℕ) (s t u : State) → Comes now n s t → Comes now 0 t u → Comes now n s u
 comes_then now n s t u a b = let all = comes_more now n 0 s t u a b in comes_less now n (n + 0) s u (omega arith) all

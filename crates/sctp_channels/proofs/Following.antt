@@ -1,9 +1,9 @@
 -- Messages of RFC 8832 are taken out, one after the other.
-use Rattle.std.proofs.Common.{◌≡◌, ℕ, zero, suc, Bool, true, false, List, [], ◌∷◌, ◌++◌, Option, Some, None, refl, ap, sym, ◌∙◌, subst}
-use Rattle.std.specs.Prelude.{not, replicate}
+use Rattle.std.proofs.Common.{◌≡◌, ℕ, zero, suc, Bool, true, List, [], ◌∷◌, ◌++◌, Option, Some, None, refl, ap, sym, ◌∙◌, subst}
+use Rattle.std.specs.Prelude.{replicate}
 use Rattle.sctp_association.specs.declared.association.Association.{Association}
 use Rattle.sctp_association.specs.Reads.{AreReadOff, length_of, message_in}
-use Rattle.sctp_channels.specs.Reading.{ReadsControl, TakesControl, TakesControlOf, is_control, is_data, is_dcep, tells_data}
+use Rattle.sctp_channels.specs.Reading.{ReadsControl, TakesControl, TakesControlOf, is_control, is_data, tells_data}
 use Rattle.sctp_data.specs.ChunkSet.{ChunkSet}
 use Rattle.sctp_data.specs.declared.chunk.chunk_payload_data.PayloadProtocolIdentifier.{PayloadProtocolIdentifier}
 
@@ -66,24 +66,6 @@ some_more now a b c h k = record { streams = h.streams ++ k.streams; reads = rea
 
 -- ## What is next
 
--- so the payload type says it that the association tells of the next message
-abbrev pub tells_control : Option (ℕ × PayloadProtocolIdentifier) → Bool
-tells_control None = false
-tells_control (Some p) = is_dcep p.1
-
-pub control_told : (m : Option ChunkSet) (o : Option (ℕ × PayloadProtocolIdentifier)) → o ≡ length_of m → tells_control o ≡ true → is_control m ≡ true
-control_told None o is told = sym (ap tells_control is) ∙ told
-control_told (Some s) o is told = sym (ap tells_control is) ∙ told
-
 pub data_told : (b : Bool) (m : Option ChunkSet) (o : Option (ℕ × PayloadProtocolIdentifier)) → o ≡ length_of m → tells_data o ≡ b → is_data m ≡ b
 data_told b None o is told = sym (ap tells_data is) ∙ told
 data_told b (Some s) o is told = sym (ap tells_data is) ∙ told
-
--- it is of none of both kinds
-pub none_next : (m : Option ChunkSet) → is_control m ≡ false → is_data m ≡ false → m ≡ None
-none_next None a b = refl
-none_next (Some s) a b = by (is_dcep s.ppi) a b
-  where
-    by : (d : Bool) → d ≡ false → not d ≡ false → Some s ≡ None
-    by true a b = cc
-    by false a b = cc

@@ -9,8 +9,7 @@ use Rattle.sctp_association.specs.declared.association.Association.{Association}
 use Rattle.sctp_association.specs.declared.event.Event.{Event}
 use Rattle.sctp_association.specs.declared.event.Event.TheVariants as event
 use Rattle.sctp_channels.proofs.Waiting.{and_left, and_right, news_more, news_noted, news_pushed, news_same, or_left, or_parts, or_right}
-use Rattle.sctp_channels.specs.declared.received.Received.{Received}
-use Rattle.sctp_channels.specs.Answers.{Polls, ReadsOn, after_told, event_of, next_told, told_once}
+use Rattle.sctp_channels.specs.Answers.{Polls, after_told, event_of, next_told, told_once}
 use Rattle.sctp_channels.specs.Channels.{channel_on, has_news, is_on, is_reset, note_on}
 use Rattle.sctp_channels.specs.Dcep.{Accepts, Closes, FollowsDcep, KnowsOf, may_open, opening}
 use Rattle.sctp_association.specs.Calls.{is_resettable}
@@ -222,9 +221,3 @@ polls_news now s t (Some told) (mid, comes, inl of) e h =
     kept_as e (after_told mid.list) t.list (next_told mid.list) told (kept_told e mid.list (comes_news now 0 s mid comes e h))
     (ap (λ (z : State). z.list) of.is) of.next
 polls_news now s t (Some told) (mid, comes, inr of) e h = absurd (silent_news e mid.list of.taken.silent (comes_news now 0 s mid comes e h))
-
-pub reads_news : (now stream : ℕ) (s t : State) (m : Option Received) → ReadsOn now stream s t m → KeepsNews s.list t.list
-reads_news now stream s t None (inl (comes, none)) e h = comes_news now 0 s t comes e h
-reads_news now stream s t None (inr comes) e h = comes_news now (2 ^ 20) s t comes e h
-reads_news now stream s t (Some m) (mid, comes, read) e h =
-    news_more s.list mid.list t.list (comes_news now 0 s mid comes) (news_same mid.list t.list (ap (λ (z : State). z.list) read.is)) e h

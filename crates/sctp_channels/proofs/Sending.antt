@@ -1,14 +1,13 @@
 -- What calls of the association leave of it.
-use Rattle.std.proofs.Common.{◌≡◌, ℕ, Bool, Option, Some, None, ap, sym, ◌∙◌, subst}
+use Rattle.std.proofs.Common.{◌≡◌, ℕ, Bool, Option, ap, sym, ◌∙◌}
 use Rattle.sctp_association.specs.Events.{BringsNone}
 use Rattle.sctp_association.specs.Telling.{KeepsEvents, TellsIn}
 use Rattle.sctp_association.specs.Waiting.{opened}
 use Rattle.sctp_association.specs.declared.association.Association.{Association}
 use Rattle.sctp_association.specs.declared.event.Events.{Events}
-use Rattle.sctp_association.specs.declared.fault.Fault.{Fault}
 use Rattle.sctp_association.specs.declared.inbound.Inbound.{Inbound}
 use Rattle.sctp_association.specs.declared.outbound.Outbound.{Outbound}
-use Rattle.sctp_channels.specs.Sends.{IsModed, KeepsEach, ModesIf, SendsOnly}
+use Rattle.sctp_channels.specs.Sends.{IsModed, KeepsEach, SendsOnly}
 use Rattle.sctp_data.specs.declared.chunk.chunk_payload_data.ReliabilityType.{ReliabilityType}
 use Rattle.sctp_sender.specs.Sender.{Transmission, with_mode_on}
 
@@ -61,11 +60,3 @@ moded_of s u r v a b mode rest none kept = record {
     events = record { kept = kept; none = none };
   };
 }
-
-pub modes_none : (f : Option Fault) (s : ℕ) (u : Bool) (r : ReliabilityType) (v : ℕ) (a b : Association) → f ≡ None → IsModed s u r v a b
-    → ModesIf f s u r v a b
-modes_none f s u r v a b none is = subst (λ (o : Option Fault). ModesIf o s u r v a b) (sym none) is
-
-pub modes_some : (f : Option Fault) (e : Fault) (s : ℕ) (u : Bool) (r : ReliabilityType) (v : ℕ) (a b : Association) → f ≡ Some e → b ≡ a
-    → ModesIf f s u r v a b
-modes_some f e s u r v a b some same = subst (λ (o : Option Fault). ModesIf o s u r v a b) (sym some) same
