@@ -1,7 +1,8 @@
 -- What is done, step by step, with what comes to the channels (RFC 8831 6.7, 8832 6).
 use Rattle.std.specs.Prelude.{◌≡◌, ℕ, ◌+◌, ◌≤◌, true, false, MatchBool, nat_lt, if◌then◌else◌, List, [], ◌∷◌, length, take, Option, Some, None, Ok, is_some}
 use Rattle.std.specs.List.{list_any}
-use Rattle.sctp_association.specs.Calls.{is_resettable}
+use Rattle.sctp_association.specs.Calls.{is_resettable, write_fault}
+use Rattle.sctp_association.specs.declared.fault.Fault.{Fault}
 use Rattle.sctp_association.specs.Events as events
 use Rattle.sctp_association.specs.Reads.{AreReadOff, IsSameBeside, message_in}
 use Rattle.sctp_association.specs.declared.association.Association.{Association}
@@ -104,6 +105,11 @@ pub record IsKnown (stream : ℕ) (s t : State) : Type 0 where
   pub application : is_data (message_in stream s.association.inbound) ≡ true
   pub is : t ≡ record s { list = t.list; association = t.association }
   pub knows : Knows stream s.list s.association t.list t.association
+
+-- why the association takes no DATA_CHANNEL_ACK for the message that is held
+abbrev pub held_fault : Option HeldMessage → Association → Option Fault
+held_fault None a = None
+held_fault (Some h) a = write_fault h.stream 1 a
 
 -- ## What an event of the association makes
 

@@ -7,7 +7,7 @@ ghost use Rattle.sctp_channels.specs.Sends.{IsLeftByOpen, IsModed, SendsOnly};
 ghost use Rattle.sctp_channels.specs.Events.{TellsMaybe};
 ghost use Rattle.sctp_channels.specs.Messages.{IsHanded, IsOpened, kind_of, sent_of};
 ghost use Rattle.sctp_channels.specs.Reading.{ReadsNext, TakesControl, TakesControlOf, tells_data};
-ghost use Rattle.sctp_channels.specs.Refusals.{AgreedRefused, OpenRefused, WriteRefused, refusal_of, refusal_of_name};
+ghost use Rattle.sctp_channels.specs.Refusals.{AgreedRefused, FollowRefused, OpenRefused, WriteRefused, refusal_of, refusal_of_name};
 ghost use Rattle.sctp_channels.specs.declared.channel.Stage.TheVariants as stage;
 ghost use Rattle.sctp_channels.specs.declared.channels.Refusal.TheVariants.{InUse, NoChannel, NoStream, OutOfMemory};
 ghost use Rattle.sctp_channels.specs.Waiting.{KeepsNews, KeepsOthers};
@@ -121,7 +121,7 @@ pub(crate) const MOST: u32 = 1 << 20;
 impl Channels {
     ghost use Rattle.sctp_channels.specs.Answers.{Polls, ReadsOn, after_told, next_told};
     ghost use Rattle.sctp_channels.specs.Rest.{Keeps};
-    ghost use Rattle.sctp_channels.specs.Steps.{Comes, IsSettled, after_event, looked, state_of, told_by};
+    ghost use Rattle.sctp_channels.specs.Steps.{Comes, IsSettled, after_event, held_fault, held_of, looked, state_of, told_by};
 
     /// No channels. `side` is the role in the DTLS connection. `most_name` is how many bytes a label and a protocol of the peer may have
     /// together; a channel with longer ones is closed. It takes no memory.
@@ -352,6 +352,8 @@ impl Channels {
             (state_of self.new association.new)) }
         // Nothing that waits to be told of a channel is lost.
         ensures others { KeepsNews self.old.channels.items self.new.channels.items }
+        ensures refused { IfErr result (FollowRefused (held_fault (held_of self.new.held)
+            association.new)) }
     {
         self.follow_control(association, stream, now)?;
         if !is_of_application(association.next_len(stream)) {
@@ -387,6 +389,8 @@ impl Channels {
         ensures others { IfOk result
             (KeepsOthers self.old.channels.items self.new.channels.items) }
         ensures news { OnErr result (KeepsNews self.old.channels.items self.new.channels.items) }
+        ensures refused { IfErr result (FollowRefused (held_fault (held_of self.new.held)
+            association.new)) }
     {
         for _done in 0..MOST {
             self.settle(association, now)?;

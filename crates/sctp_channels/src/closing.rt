@@ -8,7 +8,7 @@ ghost use Rattle.sctp_channels.specs.Sends.{IsAsked};
 ghost use Rattle.sctp_channels.specs.Steps.{AsksOwed, after_event, state_of};
 ghost use Rattle.sctp_association.specs.declared.event.Event.TheVariants as event;
 ghost use Rattle.sctp_channels.specs.declared.channel.News.TheVariants as news;
-ghost use Rattle.sctp_channels.specs.declared.channels.Refusal.TheVariants.{NoChannel};
+ghost use Rattle.sctp_channels.specs.declared.channels.Refusal.TheVariants.{NoChannel, OutOfMemory};
 ghost use Rattle.sctp_reset.specs.Own.{after_ask};
 
 use crate::channel::{News, Stage};
@@ -71,6 +71,7 @@ impl Channels {
         ensures done { OnOk result (self.new.owed ≡ None) }
         ensures err { OnErr result ((self.new ≡ self.old)
             × (association.new ≡ association.old)) }
+        ensures memory { IfErr result (λ e. e ≡ OutOfMemory) }
     {
         let Some(stream) = self.owed else {
             return Ok(());

@@ -1,13 +1,16 @@
 //! The messages of RFC 8832 that come on channels' streams.
 
-ghost use Rattle.std.specs.Prelude.{◌≡◌, ◌⊎◌, ℕ, ◌^◌, None, Ok, Err, IsErr, OnErr, OnOk, true, false};
+ghost use Rattle.std.specs.Prelude.{◌≡◌, ◌⊎◌, ℕ, ◌^◌, None, Ok, Err, IfErr, IsErr, OnErr, OnOk, true, false};
 ghost use Rattle.sctp_association.specs.Reads.{AreReadOff, message_in};
 ghost use Rattle.sctp_channels.specs.Channels.{Gains, asked};
 ghost use Rattle.sctp_channels.specs.Dcep.{Closes, FollowsDcep, IsKnownOn, Knows, may_open};
 ghost use Rattle.sctp_channels.specs.Reading.{TakesControl, TakesControlOf, is_control, is_data};
+ghost use Rattle.sctp_association.specs.Calls.{write_fault};
+ghost use Rattle.sctp_channels.specs.Refusals.{FollowRefused};
+ghost use Rattle.sctp_channels.specs.declared.channels.Refusal.TheVariants.{OutOfMemory};
 ghost use Rattle.sctp_channels.specs.Rest.{Keeps, KeepsDue};
 ghost use Rattle.sctp_channels.specs.Sends.{IsModed};
-ghost use Rattle.sctp_channels.specs.Steps.{Comes, FollowsHeld, IsBegun, IsHeld, IsLooked, held_of, state_of};
+ghost use Rattle.sctp_channels.specs.Steps.{Comes, FollowsHeld, IsBegun, IsHeld, IsLooked, held_fault, held_of, state_of};
 ghost use Rattle.sctp_dcep.specs.declared.fault.Fault.TheVariants as names;
 ghost use Rattle.sctp_dcep.specs.declared.message.Message.TheVariants as message;
 
@@ -23,7 +26,7 @@ const OPEN_HEADER: usize = 12;
 
 impl Channels {
     // Does what is left to do: resets, a message that is held, and arrivals on a stream.
-    #[tactic(auto, using(crate::proofs::Gaining::gains_same, crate::proofs::Gaining::gains_more))]
+    #[tactic(auto, using(crate::proofs::Gaining::gains_same, crate::proofs::Gaining::gains_more, crate::proofs::Refusing::follow_memory))]
     pub(crate) fn settle(&mut self, association: &mut Association, now: u64) -> Result<(), Refusal>
         ensures gains { Gains self.old.side self.old.channels.items self.new.channels.items }
         ensures side { self.new.side ≡ self.old.side }
@@ -34,6 +37,8 @@ impl Channels {
         ensures looked { OnOk result ((self.new.arrived ≡ None)
             ⊎ Comes now (2 ^ 20) (state_of self.old association.old)
             (state_of self.new association.new)) }
+        ensures refused { IfErr result (FollowRefused (held_fault (held_of self.new.held)
+            association.new)) }
     {
         self.ask_reset(association)?;
         self.follow_held(association)?;
@@ -71,7 +76,7 @@ impl Channels {
     }
 
     // Follows the messages of RFC 8832 that are next on a stream.
-    #[tactic(auto, using(crate::proofs::Gaining::gains_same, crate::proofs::Gaining::gains_more))]
+    #[tactic(auto, using(crate::proofs::Gaining::gains_same, crate::proofs::Gaining::gains_more, crate::proofs::Refusing::follow_memory))]
     pub(crate) fn follow_control(
         &mut self,
         association: &mut Association,
@@ -91,6 +96,8 @@ impl Channels {
             (state_of self.new association.new)) }
         ensures known { OnOk result (is_data (message_in stream association.new.inbound) ≡ true
             → IsKnownOn stream self.new.channels.items) }
+        ensures refused { IfErr result (FollowRefused (held_fault (held_of self.new.held)
+            association.new)) }
     {
         self.follow_held(association)?;
         for _done in 0..MOST {
@@ -107,6 +114,7 @@ impl Channels {
     }
 
     // Takes out the message of RFC 8832 that is next on a stream, and follows it.
+    #[tactic(auto, using(crate::proofs::Refusing::follow_memory))]
     fn follow_next(
         &mut self,
         association: &mut Association,
@@ -124,6 +132,8 @@ impl Channels {
         ensures comes { Comes now 0 (state_of self.old association.old)
             (state_of self.new association.new) }
         ensures done { OnOk result (self.new.held ≡ None) }
+        ensures refused { IfErr result (FollowRefused (held_fault (held_of self.new.held)
+            association.new)) }
     {
         self.hold(association, stream, now)?;
         self.follow_held(association)
@@ -142,6 +152,7 @@ impl Channels {
             (state_of self.new association.new)) }
         ensures err { OnErr result ((association.new ≡ association.old)
             × (self.new ≡ self.old)) }
+        ensures memory { IfErr result (λ e. e ≡ OutOfMemory) }
     {
         let Some((length, _)) = association.next_len(stream) else {
             return Ok(());
@@ -158,6 +169,7 @@ impl Channels {
     }
 
     // Follows the message that is held, if one is.
+    #[tactic(auto, using(crate::proofs::Refusing::follow_memory))]
     fn follow_held(&mut self, association: &mut Association) -> Result<(), Refusal>
         ensures gains { Gains self.old.side self.old.channels.items self.new.channels.items }
         ensures side { self.new.side ≡ self.old.side }
@@ -169,6 +181,8 @@ impl Channels {
         ensures err { OnErr result
             ((state_of self.new association.new ≡ state_of self.old association.old)
             ⊎ IsBegun (state_of self.old association.old) (state_of self.new association.new)) }
+        ensures refused { IfErr result (FollowRefused (held_fault (held_of self.new.held)
+            association.new)) }
     {
         let Some(held) = &self.held else {
             return Ok(());
@@ -181,7 +195,7 @@ impl Channels {
     }
 
     // Follows a message that came on a stream, by what it is read as.
-    #[tactic(auto, using(crate::proofs::Gaining::gains_same))]
+    #[tactic(auto, using(crate::proofs::Gaining::gains_same, crate::proofs::Refusing::follow_memory))]
     fn follow(
         &mut self,
         association: &mut Association,
@@ -199,6 +213,7 @@ impl Channels {
             ⊎ ((o : Open) × (read ≡ Ok (message.Open o))
             × (may_open self.old.side stream self.old.channels.items ≡ true)
             × IsModed stream o.unordered o.reliability o.value association.old association.new))) }
+        ensures refused { IfErr result (FollowRefused (write_fault stream 1 association.new)) }
     {
         match read {
             Ok(Message::Ack) => self.knows(association, stream),
@@ -217,6 +232,7 @@ impl Channels {
             (state_of self.new association.new) }
         ensures known { OnOk result (is_data (message_in stream association.new.inbound) ≡ true
             → IsKnownOn stream self.new.channels.items) }
+        ensures memory { IfErr result (λ e. e ≡ OutOfMemory) }
     {
         if is_of_application(association.next_len(stream)) {
             return self.knows(association, stream);
@@ -235,6 +251,7 @@ impl Channels {
         ensures known { OnOk result (IsKnownOn stream self.new.channels.items) }
         ensures err { OnErr result ((self.new.channels.items ≡ self.old.channels.items)
             × (association.new ≡ association.old)) }
+        ensures memory { IfErr result (λ e. e ≡ OutOfMemory) }
     {
         let Some(channel) = self.find(stream) else {
             return Ok(());
@@ -250,7 +267,7 @@ impl Channels {
 
     // The peer opens a channel: DATA_CHANNEL_ACK answers (RFC 8832 6). On a stream that it may not choose, or that has a channel, it is
     // closed.
-    #[tactic(auto, using(crate::proofs::Gaining::gains_same, crate::proofs::Gaining::gains_push))]
+    #[tactic(auto, using(crate::proofs::Gaining::gains_same, crate::proofs::Gaining::gains_push, crate::proofs::Refusing::follow_memory))]
     fn accept(
         &mut self,
         association: &mut Association,
@@ -267,6 +284,7 @@ impl Channels {
             ⊎ ((may_open self.old.side stream self.old.channels.items ≡ true)
             × IsModed stream request.unordered request.reliability request.value
             association.old association.new))) }
+        ensures refused { IfErr result (FollowRefused (write_fault stream 1 association.new)) }
     {
         if self.side.is_ours(stream) || self.has(stream) {
             return self.refuse(association, stream);
@@ -291,6 +309,7 @@ impl Channels {
             self.new.channels.items association.new) }
         ensures err { OnErr result ((self.new.channels.items ≡ self.old.channels.items)
             × (association.new ≡ association.old)) }
+        ensures memory { IfErr result (λ e. e ≡ OutOfMemory) }
     {
         if ask(association, stream)? {
             self.note(stream, News::Closing);

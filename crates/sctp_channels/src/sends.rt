@@ -1,7 +1,9 @@
 //! What is asked of the association for a channel.
 
-ghost use Rattle.std.specs.Prelude.{◌≡◌, false, IfOk, OnErr, OnOk};
-ghost use Rattle.sctp_association.specs.Calls.{is_resettable, use_fault};
+ghost use Rattle.std.specs.Prelude.{◌≡◌, false, IfErr, IfOk, OnErr, OnOk, Some};
+ghost use Rattle.sctp_association.specs.Calls.{is_resettable, use_fault, write_fault};
+ghost use Rattle.sctp_channels.specs.Refusals.{FollowRefused};
+ghost use Rattle.sctp_channels.specs.declared.channels.Refusal.TheVariants.{OutOfMemory};
 ghost use Rattle.sctp_channels.specs.Sends.{AnswersIf, AsksIf, IsModedAtMost, ModesIf, passes};
 
 use crate::channels::Refusal;
@@ -14,6 +16,7 @@ pub(crate) fn ask(association: &mut Association, stream: u16) -> Result<bool, Re
     ensures takes { IfOk result (λ b. b ≡ is_resettable stream association.old) }
     ensures ok { IfOk result (λ b. AsksIf b stream association.old association.new) }
     ensures err { OnErr result (association.new ≡ association.old) }
+    ensures memory { IfErr result (λ e. e ≡ OutOfMemory) }
 {
     match association.reset_stream(stream) {
         Ok(()) => Ok(true),
@@ -33,6 +36,7 @@ pub(crate) fn set_mode_of(
     ensures ok { OnOk result (ModesIf (use_fault stream association.old) stream unordered
         reliability value association.old association.new) }
     ensures err { OnErr result (association.new ≡ association.old) }
+    ensures memory { IfErr result (λ e. e ≡ OutOfMemory) }
 {
     match association.set_mode(stream, unordered, reliability, value) {
         Ok(()) => Ok(()),
@@ -43,6 +47,7 @@ pub(crate) fn set_mode_of(
 
 /// Sets the mode of a stream as the peer asks, and writes DATA_CHANNEL_ACK on it; answers whether the association takes that. Where it refuses for
 /// memory, or because too much waits, the mode may be set.
+#[tactic(auto, using(crate::proofs::Refusing::follow_refused, crate::proofs::Refusing::follow_memory))]
 pub(crate) fn answer(
     alloc: Global,
     association: &mut Association,
@@ -53,6 +58,7 @@ pub(crate) fn answer(
         (λ b. AnswersIf b stream request.now association.old association.new) }
     ensures err { OnErr result (IsModedAtMost stream request.now.unordered
         request.now.reliability request.now.value association.old association.new) }
+    ensures refused { IfErr result (FollowRefused (write_fault stream 1 association.new)) }
 {
     let ack = Message::Ack.write(alloc)?;
     let (unordered, reliability) = (request.unordered, request.reliability);
@@ -68,7 +74,8 @@ pub(crate) fn answer(
 
 // A fault that a later call may not meet is a refusal. Else the stream takes no message any more.
 fn not_taken(fault: Fault) -> Result<bool, Refusal>
-    ensures { IfOk result (λ b. (b ≡ false) × (passes fault ≡ false)) }
+    ensures stays { IfOk result (λ b. (b ≡ false) × (passes fault ≡ false)) }
+    ensures passes { IfErr result (FollowRefused (Some fault)) }
 {
     match fault {
         Fault::OutOfMemory => Err(Refusal::OutOfMemory),

@@ -1,4 +1,8 @@
 use Rattle.std.proofs.Common.{◌<◌, List, ℕ, length, lit≤, subst, sym}
+use Rattle.sctp_association.specs.Calls.{write_fault}
+use Rattle.sctp_association.specs.Waiting.{IsRefusal}
+use Rattle.sctp_association.specs.declared.association.Association.{Association}
+use Rattle.sctp_channels.proofs.Refusing.{follows_refused}
 use Rattle.sctp_channels.specs.Messages.{IsHanded}
 use Rattle.sctp_channels.proofs.Sending.{moded_of}
 use Rattle.sctp_data.specs.declared.chunk.chunk_payload_data.PayloadProtocolIdentifier.TheVariants.{Dcep}
@@ -20,3 +24,12 @@ returns-in-Ok-write-clause-ok c =
         events = record { kept = written.tells.end.events; none = written.quiet };
       };
     }
+
+pub returns-clause-refused : goal.returns-clause-refused
+returns-clause-refused c =
+    let fault = c.in-Err-write.fault in
+    let stream = c.args.stream in
+    let named =
+    subst (λ (b : List ℕ). IsRefusal fault (write_fault stream (length b) c.set_mode.new.self)) c.in_ok-ack.ensures.ok.1 c.in-Err-write.ensures.refused in
+    let here = subst (λ (a : Association). IsRefusal fault (write_fault stream 1 a)) (sym c.in-Err-write.ensures.err) named in
+    follows_refused _ fault _ here c.not_taken-in-Err-write.ensures.passes

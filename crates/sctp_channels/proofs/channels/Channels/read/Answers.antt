@@ -32,6 +32,7 @@ returns-in-Some c =
       );
       comes = tt;
       others = comes_news _ _ _ _ c.follow_control.ensures.comes;
+      refused = tt;
     }
 
 pub returns-in_err-follow_control-clause-others : goal.returns-in_err-follow_control-clause-others
