@@ -1,11 +1,8 @@
 -- Sessions of every call: what a sender gave TSNs to, while fewer than 2^31 chunks are in flight, also where it takes back what is no more reported.
-use Rattle.sctp_delivery.proofs.Names.{⊤}
-use Rattle.sctp_delivery.proofs.Names.{◌≡◌, ℕ, ◌+◌, ◌<◌, ◌^◌, Bool, true, false, List, [], ◌∷◌, ◌++◌, Option, refl, ap, sym, subst, ◌∙◌, arith, list_any}
-use Rattle.sctp_delivery.proofs.Names.{ChunkPayloadData, data_of, Sack, Limits, Modes, Transmission, Session, Call, Follows, at_first}
-use Rattle.sctp_delivery.proofs.Names.{at_start, abandoned_by, bytes_written, change_where, distance, modes_after, has_number, is_of, is_outstanding}
-use Rattle.sctp_delivery.proofs.Names.{of_receiver, of_sender, same-yes, Drop}
+use Rattle.sctp_delivery.proofs.Names.{⊤, ◌≡◌, ℕ, ◌+◌, ◌<◌, ◌^◌, Bool, true, false, List, [], ◌∷◌, ◌++◌, Option, refl, ap, sym, subst, ◌∙◌, arith, list_any}
+use Rattle.sctp_delivery.proofs.Names.{ChunkPayloadData, data_of, Sack, Limits, Modes, Transmission, Session, Call, Follows, at_first, abandoned_by}
+use Rattle.sctp_delivery.proofs.Names.{bytes_written, change_where, distance, modes_after, has_number, is_of, is_outstanding, of_receiver, of_sender, same-yes}
 use Rattle.sctp_sender.specs.declared.sender.Reported.{Reported}
-use Rattle.sctp_sender.specs.declared.sender.Reported.TheVariants.{Keep}
 use Rattle.sctp_sender.specs.Keeping.{restored}
 use Rattle.sctp_sender.specs.Outgoing.{from_first}
 use Rattle.sctp_sender.specs.Sender.{after_take_back, back_by, taken_back_by, with_streams}
@@ -18,7 +15,7 @@ use Rattle.sctp_delivery.proofs.AmountLaws.{HasMadeOn, WasMade, each-made, made-
 use Rattle.sctp_delivery.proofs.Delivered.{HoldsOn, beside-on, found-sent-on, held-first, next_tsn}
 use Rattle.sctp_delivery.proofs.Every.{Every, every-all, every-of}
 use Rattle.sctp_delivery.proofs.EveryGoes.{HasRun, closed-goes, closes-held, received-goes, reset-goes, resets-held, run-accounted, run-after, run-beside}
-use Rattle.sctp_delivery.proofs.EveryGoes.{run-first, run-restreamed, with_sender}
+use Rattle.sctp_delivery.proofs.EveryGoes.{run-first, run-restreamed, with_sender, returns-goes}
 use Rattle.sctp_delivery.proofs.FewInFlight.{AreRegular, regular-first, regular-then}
 use Rattle.sctp_delivery.proofs.InFlight.{IsKnownOn, placed-alike}
 use Rattle.sctp_delivery.proofs.Numbers.{all-open, number_of}
@@ -26,8 +23,7 @@ use Rattle.sctp_delivery.proofs.Plain.{AreLike, any-plain, are-plain, paired, re
 use Rattle.sctp_delivery.proofs.PlainCalls.{sender-goes}
 use Rattle.sctp_delivery.proofs.PlainHolds.{known-like, steady-alike}
 use Rattle.sctp_delivery.proofs.PlainReturns.{back-like}
-use Rattle.sctp_delivery.proofs.EveryGoes.{returns-goes}
-use Rattle.sctp_delivery.proofs.PlainSessions.{Goes, Others, kept_of, receives-too}
+use Rattle.sctp_delivery.proofs.PlainSessions.{Goes, Others, kept_of, receives-too, goes-first}
 use Rattle.sctp_delivery.proofs.PlainStreams.{returned-alike}
 use Rattle.sctp_delivery.proofs.Queues.{refilled}
 use Rattle.sctp_delivery.proofs.Senders.{AreSentOn, IsHeldOn, renumbered}
@@ -165,41 +161,21 @@ module _ (going : ℕ → Bool) (first : ℕ) where
 
   pub beside-start : (reported : Reported) (size max most : ℕ) (limits : Option Limits) → first < 2 ^ 32 → 0 < size
       → HasBeside (at_start_with reported first size max most limits)
-  beside-start reported size max most limits small some = by reported
-    where
-      start : IsHolding (at_start first size max most limits)
-      start = record {
-        made = record {
-          numbered = [];
-          sent = [];
-          holds = record { held = held-first going first size max most limits small some; made = tt; writes = refl; placed = tt };
-          made = tt;
-        };
-        regular = regular-first first size max most limits small;
-        ran = run-first first size max most limits;
-      }
-
-      by : (k : Reported) → HasBeside (at_start_with k first size max most limits)
-      by Drop = record {
-        given = 0;
-        gone = [];
-        modes = at_first;
-        goes = record {
-          other = at_start first size max most limits;
-          shadow = record { streams = []; chunks = []; sender = refl; alike = refl; like = tt; receiving = refl; made = refl; written = refl; sacks = tt };
-          plays = start;
-        };
-      }
-      by Keep = record {
-        given = 0;
-        gone = [];
-        modes = at_first;
-        goes = record {
-          other = at_start first size max most limits;
-          shadow = record { streams = []; chunks = []; sender = refl; alike = refl; like = tt; receiving = refl; made = refl; written = refl; sacks = tt };
-          plays = start;
-        };
-      }
+  beside-start reported size max most limits small some = record {
+    given = 0;
+    gone = [];
+    modes = at_first;
+    goes = goes-first first holding reported size max most limits (record {
+      made = record {
+        numbered = [];
+        sent = [];
+        holds = record { held = held-first going first size max most limits small some; made = tt; writes = refl; placed = tt };
+        made = tt;
+      };
+      regular = regular-first first size max most limits small;
+      ran = run-first first size max most limits;
+    });
+  }
 
 -- ## What comes back
 

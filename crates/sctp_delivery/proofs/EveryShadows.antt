@@ -1,15 +1,12 @@
 -- Sessions of every call: beside each there is one of a sender that keeps nothing, with the same chunks. So what is read is what was written.
-use Rattle.sctp_delivery.proofs.Names.{◌≡◌, ℕ, ◌+◌, ◌<◌, ◌^◌, Bool, true, false, not, List, [], ◌∷◌, ◌++◌, length, map, Option, refl, ap, sym, subst}
-use Rattle.sctp_delivery.proofs.Names.{◌∙◌, arith, distance, not_both, or-left, or-right, filter, change_where, Limits, Modes, OutboundStream}
-use Rattle.sctp_delivery.proofs.Names.{Call, Follows, Session, bytes_written, of_receiver, of_sender, at_first, has_number, Transmission}
-use Rattle.sctp_delivery.proofs.Names.{abandoned_by, append-nil, append_assoc, SenderCall, Made, ForwardTsn, is_pair_of, list_any_at, made_after}
-use Rattle.sctp_delivery.proofs.Names.{stream_of, ◌||◌, Mode, both, inl, inr, is_open, modes_from, negated, or-split, Some, None, none-some, nat_eq}
-use Rattle.sctp_delivery.proofs.Names.{list_any-append, ChunkPayloadData}
-use Rattle.sctp_delivery.proofs.Names.{has_come, has_tsn, filter_of, ⊤}
-use Rattle.sctp_delivery.proofs.Names.{IsAccounted, Contains, at_start, list_any, same-yes, forward_tsn, if◌then◌else◌}
+use Rattle.sctp_delivery.proofs.Names.{◌≡◌, ℕ, ◌+◌, ◌<◌, ◌^◌, Bool, true, false, not, List, [], ◌∷◌, ◌++◌, length, map, Option, refl, ap, sym, subst, ◌∙◌}
+use Rattle.sctp_delivery.proofs.Names.{arith, distance, not_both, or-left, or-right, filter, change_where, Limits, Modes, OutboundStream, Call, Follows}
+use Rattle.sctp_delivery.proofs.Names.{Session, bytes_written, of_receiver, of_sender, at_first, has_number, Transmission, abandoned_by, append-nil}
+use Rattle.sctp_delivery.proofs.Names.{append_assoc, SenderCall, Made, ForwardTsn, is_pair_of, list_any_at, made_after, stream_of, Mode, both, inl, inr}
+use Rattle.sctp_delivery.proofs.Names.{is_open, modes_from, negated, or-split, Some, None, none-some, nat_eq, list_any-append, ChunkPayloadData, has_come}
+use Rattle.sctp_delivery.proofs.Names.{has_tsn, filter_of, ⊤, IsAccounted, Contains, list_any, same-yes, forward_tsn, if◌then◌else◌, ◌||◌}
 use Rattle.sctp_receiver.specs.ReceiverRuns as receiver_runs
 use Rattle.sctp_sender.specs.declared.sender.Reported.{Reported}
-use Rattle.sctp_sender.specs.declared.sender.Reported.TheVariants.{Drop, Keep}
 use Rattle.sctp_sender.specs.Outgoing.{from_first}
 use Rattle.sctp_sender.specs.Sender.{with_streams}
 use Rattle.sctp_sender.specs.SenderRuns as sender_runs
@@ -19,9 +16,9 @@ use Rattle.sctp_receiver.specs.Inbound.{numbers_of}
 use Rattle.sctp_receiver.proofs.StreamCosts.{are_apart}
 use Rattle.sctp_receiver.proofs.Closed.{stays-apart}
 use Rattle.std.specs.List.{AllByRecursion}
-use Rattle.sctp_delivery.specs.EveryCall.{AnyCall, FollowsAny, ReceiverDoes, ReceiverOther, RunsAny, SenderDoes, SenderOther}
-use Rattle.sctp_delivery.specs.EveryCall.{as_receiver_run, closes, closes_incoming, discards, drops, makes, of_receiving, of_sending, passes_over, renews}
-use Rattle.sctp_delivery.specs.EveryCall.{resets, resets_incoming, takes_back, tsns_given_any}
+use Rattle.sctp_delivery.specs.EveryCall.{AnyCall, FollowsAny, ReceiverDoes, ReceiverOther, RunsAny, SenderDoes, SenderOther, as_receiver_run, closes}
+use Rattle.sctp_delivery.specs.EveryCall.{closes_incoming, discards, drops, makes, of_receiving, of_sending, passes_over, renews, resets, resets_incoming}
+use Rattle.sctp_delivery.specs.EveryCall.{takes_back, tsns_given_any}
 use Rattle.sctp_delivery.specs.EveryEnd.{abandoned_any, dropped_any, dropped_by, is_naming, is_unnamed}
 use Rattle.sctp_delivery.specs.EveryOrder.{breaks, goes_on, is_unbroken, opens_incoming, plain_calls}
 use Rattle.sctp_delivery.specs.ReceiverCalls as incoming
@@ -33,7 +30,7 @@ use Rattle.sctp_delivery.proofs.Cases.{at-test}
 use Rattle.sctp_delivery.proofs.Delivered.{next_tsn}
 use Rattle.sctp_delivery.proofs.EveryFronts.{IsGoneAt, IsReadUp, gone-later, other-up, receiver-up, sender-up}
 use Rattle.sctp_delivery.proofs.EveryGoes.{HasRun, closed-goes, closes-held, received-goes, received-too, reset-goes, resets-held, run-accounted, run-after}
-use Rattle.sctp_delivery.proofs.EveryGoes.{run-beside, run-first, run-restreamed, with_sender}
+use Rattle.sctp_delivery.proofs.EveryGoes.{run-beside, run-first, run-restreamed, with_sender, returns-goes, unmoved}
 use Rattle.sctp_delivery.proofs.EveryKept.{IsDropOf, IsTold, drops-elsewhere, drops-told, elsewhere, listed, listed-more, other-told, receiver-told}
 use Rattle.sctp_delivery.proofs.EveryKept.{sender-told, told-beside, told-first, whole-on}
 use Rattle.sctp_delivery.proofs.EveryRuns as runs
@@ -43,14 +40,13 @@ use Rattle.sctp_delivery.proofs.ModeSessions.{AreInModes, IsAsSaid, IsInModes, c
 use Rattle.sctp_delivery.proofs.PassedMessages.{AreCutGone, IsMadePassing, IsPassing, is_gone}
 use Rattle.sctp_delivery.proofs.Plain.{are-plain, plain}
 use Rattle.sctp_delivery.proofs.PlainCalls.{sender-goes}
-use Rattle.sctp_delivery.proofs.EveryGoes.{returns-goes, unmoved}
-use Rattle.sctp_delivery.proofs.PlainSessions.{Goes, Others, Shadows, gone_by, kept_of, modes_by, receives-too}
+use Rattle.sctp_delivery.proofs.PlainSessions.{Goes, Others, Shadows, gone_by, kept_of, modes_by, receives-too, goes-first}
 use Rattle.sctp_delivery.proofs.Every.{every-contained}
 use Rattle.sctp_delivery.proofs.SackLaws as sacks
 use Rattle.sctp_delivery.proofs.Senders.{IsHeldOn}
 use Rattle.sctp_delivery.proofs.Sent.{Entry, Numbered}
 use Rattle.sctp_delivery.proofs.Sessions as made_in
-use Rattle.sctp_delivery.proofs.Sessions.{IsCounted, IsTakenMade, more-made, sender-counts, unnot}
+use Rattle.sctp_delivery.proofs.Sessions.{IsTakenMade, more-made, unnot}
 use Rattle.sctp_delivery.proofs.SpreadCalls.{IsSpreadOn, beside-spreads, receiver-spreads-on, sender-spreads-on, spread-first-on}
 use Rattle.sctp_delivery.proofs.TsnPlaces.{base}
 use Rattle.sctp_delivery.proofs.UnwrappedSessions.{IsAnswered, answered-first, receiver-answered-on, sender-answered-on}
@@ -529,38 +525,23 @@ module _ (on dropped calm : ℕ → Bool) (lost : Option (List ℕ)) (sub : (st 
 
   begins : (reported : Reported) (size max most : ℕ) (limits : Option Limits) → first < 2 ^ 32 → 0 < size
       → HasBesideSo (at_start_with reported first size max most limits) 0 [] at_first
-  begins reported size max most limits small some = by reported
-    where
-      p : IsPlayedSo (at_start first size max most limits) 0 [] at_first
-      p = record {
-        numbered = [];
-        sent = [];
-        spread = spread-first-on on dropped first size max most limits small some;
-        said = said-first first size max most limits;
-        begun = λ k lt e. absurd (omega (arith, lt));
-        answered = λ st c. answered-first st first on dropped size max most limits small some;
-        up = λ st c.
-            record { next = 0; number = omega arith; front = tt; within = omega arith; near = omega arith; done = λ j lt. absurd (omega (arith, lt)) };
-        ran = run-first first size max most limits;
-        taken = refl;
-        called = record { most = most; limits = limits; calls = []; run = refl };
-        apart = refl;
-        marked = tt;
-        cut = tt;
-        told = λ l said st c. told-first st first size max most limits (listed l st []) small;
-      }
-
-      by : (k : Reported) → HasBesideSo (at_start_with k first size max most limits) 0 [] at_first
-      by Drop = record {
-        other = at_start first size max most limits;
-        shadow = record { streams = []; chunks = []; sender = refl; alike = refl; like = tt; receiving = refl; made = refl; written = refl; sacks = tt };
-        plays = λ few. p;
-      }
-      by Keep = record {
-        other = at_start first size max most limits;
-        shadow = record { streams = []; chunks = []; sender = refl; alike = refl; like = tt; receiving = refl; made = refl; written = refl; sacks = tt };
-        plays = λ few. p;
-      }
+  begins reported size max most limits small some = goes-first first every reported size max most limits (λ few. record {
+    numbered = [];
+    sent = [];
+    spread = spread-first-on on dropped first size max most limits small some;
+    said = said-first first size max most limits;
+    begun = λ k lt e. absurd (omega (arith, lt));
+    answered = λ st c. answered-first st first on dropped size max most limits small some;
+    up = λ st c.
+        record { next = 0; number = omega arith; front = tt; within = omega arith; near = omega arith; done = λ j lt. absurd (omega (arith, lt)) };
+    ran = run-first first size max most limits;
+    taken = refl;
+    called = record { most = most; limits = limits; calls = []; run = refl };
+    apart = refl;
+    marked = tt;
+    cut = tt;
+    told = λ l said st c. told-first st first size max most limits (listed l st []) small;
+  })
 
   pub has-beside-so : (reported : Reported) (size max most : ℕ) (limits : Option Limits) (cs : List AnyCall) (s : Session)
       → (r : RunsAny (at_start_with reported first size max most limits) cs s) → first < 2 ^ 32 → 0 < size

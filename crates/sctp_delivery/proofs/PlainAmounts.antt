@@ -13,8 +13,8 @@ use Rattle.sctp_sender.specs.Keeping.{after_returns, answered_back, back_each, m
 use Rattle.sctp_sender.specs.Sender.{back_by, stream_of, taken_back_by}
 use Rattle.sctp_delivery.specs.Amounts.{AmountsEnd, EachIsTold, told_by, told_on, written_by, written_on}
 use Rattle.sctp_delivery.specs.Returns.{AfterEachWithReturnsOfFewInFlight, AmountsAreLeftSo, AreFewInFlightSo, CallOrReturn, EachReturnIsTold, IsOfMade}
-use Rattle.sctp_delivery.specs.Returns.{RunsWithReturns, TakesBack}
-use Rattle.sctp_delivery.specs.Returns.{abandoned_so, at_start_with, bytes_back_on, makes, other_calls, returned_by, returned_on, takes_back, tsns_given_so}
+use Rattle.sctp_delivery.specs.Returns.{RunsWithReturns, TakesBack, abandoned_so, at_start_with, bytes_back_on, makes, other_calls, returned_by, returned_on}
+use Rattle.sctp_delivery.specs.Returns.{takes_back, tsns_given_so}
 use Rattle.sctp_delivery.specs.Session.{count_in_flight}
 use Rattle.sctp_delivery.proofs.AmountLaws.{AllOf, AreCounted, IsOf, WasMade, all-told, counted-in, counted-then, each-made, ends-of, made-in, moved}
 use Rattle.sctp_delivery.proofs.Cases.{all_streams, at-if, at-test}
@@ -23,7 +23,7 @@ use Rattle.sctp_delivery.proofs.Every.{Every, all-of-every, every-of}
 use Rattle.sctp_delivery.proofs.Plain.{AreLike, IsLike, rest_of}
 use Rattle.sctp_delivery.proofs.PlainHolds.{has-made}
 use Rattle.sctp_delivery.proofs.PlainReturns.{back-few}
-use Rattle.sctp_delivery.proofs.PlainRuns.{at-start, goes, grows, one-goes}
+use Rattle.sctp_delivery.proofs.PlainRuns.{at-start, goes, grows, one-goes, none-flying}
 use Rattle.sctp_delivery.proofs.PlainSessions.{Goes, kept_of, plain}
 use Rattle.sctp_delivery.proofs.PlainStreams.{open-alike, one-more}
 use Rattle.sctp_delivery.proofs.Sessions.{accounted}
@@ -277,14 +277,10 @@ module _ (reported : Reported) (first size max most : ℕ) (limits : Option Limi
     (few : AreFewInFlightSo (at_start_with reported first size max most limits) calls s run) (short : bytes_written s < 2 ^ 64) where
   counts-all : GoesSo first size max most limits small some calls (at_start_with reported first size max most limits) s
   counts-all =
-      counts first size max most limits small some calls (at_start_with reported first size max most limits) s run 0 [] _ (none reported)
-      few short
+      counts first size max most limits small some calls (at_start_with reported first size max most limits) s run 0 [] _
+      (let none = none-flying reported first size max most limits in omega (arith, none)) few short
       (at-start reported first size max most limits small) (by reported)
     where
-      none : (k : Reported) → count_in_flight (at_start_with k first size max most limits) < 2 ^ 31
-      none Drop = omega arith
-      none Keep = omega arith
-
       by : (k : Reported) → AreCounted (at_start_with k first size max most limits)
       by Drop = record { all = record { ordered = tt; unordered = tt; inflight = tt }; amounts = λ st. refl }
       by Keep = record { all = record { ordered = tt; unordered = tt; inflight = tt }; amounts = λ st. refl }

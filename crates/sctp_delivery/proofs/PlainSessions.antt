@@ -3,7 +3,7 @@ use Rattle.sctp_delivery.proofs.Names.{nat_tests, common_steps, ◌≡◌, ℕ, 
 use Rattle.sctp_delivery.proofs.Names.{append_assoc, Option, Some, None, Contains, ChunkPayloadData, Sack, Limits, OutboundStream, distance, Transmission, Call}
 use Rattle.sctp_delivery.proofs.Names.{Follows, ReceiverFollows, RunsTo, Session, IsReported, at_start, of_receiver, of_sender, abandoned_by, abandoned_in}
 use Rattle.sctp_delivery.proofs.Names.{tsns_given, Modes, at_first, modes_after, modes_from, SenderCall, SenderMakes, ReceiverCall, made_after, written_after}
-use Rattle.sctp_delivery.proofs.Names.{reports_after, Made, Write, IsAccounted, length}
+use Rattle.sctp_delivery.proofs.Names.{reports_after, Made, Write, IsAccounted, length, Drop}
 use Rattle.sctp_delivery.specs.Session.{IsSent, count_in_flight}
 use Rattle.sctp_delivery.specs.ReceiverCalls as incoming
 use Rattle.sctp_receiver.specs.ReceiverRuns as receiver_runs
@@ -18,6 +18,9 @@ use Rattle.sctp_delivery.proofs.PlainStreams.{AreAlike, bare}
 use Rattle.sctp_delivery.proofs.Sessions.{accounted}
 use Rattle.sctp_delivery.proofs.Stands.{contains-more, sender-follows, sender_after}
 use Rattle.sctp_delivery.proofs.TsnPlaces.{tsn-small}
+use Rattle.sctp_sender.specs.declared.sender.Reported.{Reported}
+use Rattle.sctp_sender.specs.declared.sender.Reported.TheVariants.{Keep}
+use Rattle.sctp_delivery.specs.Returns.{at_start_with}
 
 -- ## Calls one after another, with what laws ask of them
 
@@ -144,6 +147,20 @@ module _ (first : ℕ) (others : Others first) where
     pub other : Session
     pub shadow : Shadows t s other
     pub plays : others.Plays other n gone m
+
+  -- it begins beside one that is new
+  pub goes-first : (reported : Reported) (size max most : ℕ) (limits : Option Limits) → others.Plays (at_start first size max most limits) 0 [] at_first
+      → Goes (at_start_with reported first size max most limits).sending.sender (at_start_with reported first size max most limits) 0 [] at_first
+  goes-first Drop size max most limits p = record {
+    other = at_start first size max most limits;
+    shadow = record { streams = []; chunks = []; sender = refl; alike = refl; like = tt; receiving = refl; made = refl; written = refl; sacks = tt };
+    plays = p;
+  }
+  goes-first Keep size max most limits p = record {
+    other = at_start first size max most limits;
+    shadow = record { streams = []; chunks = []; sender = refl; alike = refl; like = tt; receiving = refl; made = refl; written = refl; sacks = tt };
+    plays = p;
+  }
 
   -- as many chunks are in flight there
   pub same-count : (t : Transmission) (s : Session) (n : ℕ) (gone : List ℕ) (m : Modes) (g : Goes t s n gone m)
