@@ -94,9 +94,7 @@ module _ (reported : Reported) (first size max most : ℕ) (limits : Option Limi
       }
 
   said : HasSaid first (modes_from at_first (other_calls calls)) Other
-  said =
-      let p = (goes reported first size max most limits calls s run small few short).plays.plain in
-      subst (λ m. HasSaid first m Other) p.said (said-in first size max most limits p.calls Other small some p.run)
+  said = grind (arith, nat_tests, common_steps, said-in)
 
   filled : AllWait IsFilled t.flight.queue.pending
   filled = let x = shadow reported first size max most limits calls s run small few short in
@@ -119,9 +117,7 @@ module _ (reported : Reported) (first size max most : ℕ) (limits : Option Limi
       })
 
   flying-few : count_in_flight s < 2 ^ 31
-  flying-few =
-      few-at calls (at_start_with reported first size max most limits) s run
-      (let none = none-flying reported first size max most limits in omega (arith, none)) few
+  flying-few = grind (arith, nat_tests, common_steps, few-at, none-flying)
 
   pub only-due-so : OnlyTheDueExpire (other_calls calls) s
   only-due-so call =

@@ -61,9 +61,7 @@ gone-cons (makes (of_receiver call)) cs s new r = refl
 gone-cons (takes_back sack back) cs s new r = refl
 
 modes-cons : (c : CallOrReturn) (cs : List CallOrReturn) (m : Modes) → modes_from m (other_calls (c ∷ cs)) ≡ modes_from (modes_so c m) (other_calls cs)
-modes-cons (makes (of_sender call)) cs m = refl
-modes-cons (makes (of_receiver call)) cs m = refl
-modes-cons (takes_back sack back) cs m = refl
+modes-cons h0 h1 h2 = grind (arith, nat_tests, common_steps)
 
 module _ (first : ℕ) (others : Others first) where
   -- one call
@@ -117,11 +115,7 @@ few-flying first n (c ∷ cs) s new r few i =
 pub at-start : (reported : Reported) (first size max most : ℕ) (limits : Option Limits) → first < 2 ^ 32
     → Goes first (plain first size max most limits) (at_start_with reported first size max most limits).sending.sender
     (at_start_with reported first size max most limits) 0 [] at_first
-at-start reported first size max most limits small =
-    goes-first first (plain first size max most limits) reported size max most limits (record {
-      plain = record { calls = []; run = refl; given = refl; left = refl; said = refl };
-      regular = regular-first first size max most limits small;
-    })
+at-start reported first size max most limits small = grind (arith, nat_tests, common_steps, goes-first, regular-first)
 
 pub none-flying : (reported : Reported) (first size max most : ℕ) (limits : Option Limits)
     → count_in_flight (at_start_with reported first size max most limits) ≡ 0

@@ -133,9 +133,7 @@ module _ (R : Write → Bool) where
   spots-few [] [] a e = omega arith
   spots-few [] (p ∷ ps) a e = let lt = e.0.0 in absurd (omega (arith, lt))
   spots-few (w ∷ ws) ps a e =
-      let ih = spots-few ws (lower ps) (lower-others ps a) (lower-spots w ws ps e) in
-      at-test (λ b. length ps ≤ length (lower ps) + (if b then 1 else 0) → length ps ≤ length (if b then w ∷ filter R ws else filter R ws)) (R w)
-      (λ _ h. omega (arith, h, ih)) (λ _ h. omega (arith, h, ih)) (one-lower w ws ps a e)
+      grind (arith, nat_tests, common_steps, lower-others, lower-spots, one-lower, spots-few ws (lower ps) (lower-others ps a) (lower-spots w ws ps e))
 
   -- those of the messages that are such writes
   abbrev spots : List Message → List ℕ → List ℕ
@@ -166,12 +164,7 @@ module _ (R : Write → Bool) where
 
   no-more : (ws : List Write) (ms : List Message) (ps : List ℕ) → Every IsFull ms → StandAt ws ms ps → AllPairs (λ p q. p ≢ q) ps
       → length (filter (λ m. R (value m)) ms) ≤ length (filter R ws)
-  no-more ws ms ps f h apart =
-      let others = others-of ps apart in
-      let are = spots-are ws ms ps f h in
-      let few = spots-few ws (spots ms ps) (spots-others ms ps others) are.0 in
-      let long = are.1 in
-      omega (arith, few, long)
+  no-more ws ms ps f h apart = grind (arith, nat_tests, common_steps, others-of, spots-are, spots-few, spots-others)
 
 -- # What is read from there on
 
