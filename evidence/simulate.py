@@ -1,11 +1,11 @@
 #!/usr/bin/env python3
 """Two hosts over a simulated path: goodput, retransmissions, SACKs and stalls, and how two associations share a bottleneck.
 
-    python3 evidence/simulate.py [--ours PROGRAM] [--hosts ours,usrsctp] [--losses N,..] [--rates N,..] [--seeds N] [--fair] [--page] [--trace FILE]
+    python3 evidence/simulate.py [--ours PROGRAM] [--hosts ours,usrsctp] [--losses N,..] [--rates N,..] [--seeds N] [--fair] [--page] [--errors] [--trace FILE]
 
 A host is a process that drives one association by lines: PROGRAM, crates/assocrun/out/assocrun unless told otherwise (`rt run` makes it), or usrsctp,
 which evidence/usrsctp_host.c drives by the same lines (built here; it needs Debian's libusrsctp-dev and gcc, or the CC given). No clock is read: times
-are simulated microseconds, and a seed's run is the same each time. --page prints docs/SIMULATION.md's tables.
+are simulated microseconds, and a seed's run is the same each time. --page prints docs/SIMULATION.md's tables, and --errors rows of that of many seeds.
 
 The path, each way: a datagram is lost at random, or waits in a queue of one bandwidth-delay product (at least 20 packets; the last to come is dropped),
 leaves it at the rate of the bottleneck, and comes after the delay and a random part of the jitter, behind the one before, unless the path reorders.
@@ -17,6 +17,7 @@ import collections
 import heapq
 import os
 import random
+import statistics
 import subprocess
 import sys
 import tempfile
@@ -348,6 +349,11 @@ def of_share(share):
     return f"{share:.3f}" if share >= 0.01 else f"{share:.5f}"
 
 
+def mean_of(shares):
+    """Returns the mean, and its standard error."""
+    return f"{statistics.mean(shares):.4f} ± {statistics.stdev(shares) / len(shares) ** 0.5:.4f}"
+
+
 def print_cell(args, commands, cell, trace):
     """Runs a cell for each kind of hosts, and prints it."""
     found = []
@@ -357,6 +363,10 @@ def print_cell(args, commands, cell, trace):
         runs = [Run(pairs, cell, seed, args.greedy, trace).run() for seed in range(args.seed, args.seed + args.seeds)]
         closed = {f"{who} {words}" for run in runs for f in run.flows for who, words in (("sender", f.sender.closed), ("reader", f.reader.closed)) if words}
         found.append((figures_of(runs), [jain(run.shares()) for run in runs], runs, closed))
+    if args.errors:
+        means = [mean_of([sum(run.shares()) for run in runs]) for _, _, runs, _ in found]
+        print(" | ".join([name_of(cell), f"{cell.loss:g}", f"{cell.seconds:g}", str(args.seeds), *means]), flush=True)
+        return
     for name, (f, fair, runs, closed) in zip(args.hosts.split(","), found):
         if not args.page:
             print(f"{name_of(cell)}, {cell.loss:g} % lost, {name}: {of_share(f.share)} of the bottleneck, {f.again:.1f} % of TSNs again "
@@ -386,6 +396,7 @@ def main():
     parser.add_argument("--greedy", action="store_true", help="something waits on each stream at all times, in place of messages in turn")
     parser.add_argument("--streams", action="store_true", help="also the share of each stream")
     parser.add_argument("--page", action="store_true", help="rows of docs/SIMULATION.md")
+    parser.add_argument("--errors", action="store_true", help="of each path and kind of hosts the mean goodput of all seeds, with its standard error")
     parser.add_argument("--trace", default="")
     args = parser.parse_args()
     with tempfile.TemporaryDirectory() as folder:

@@ -1,7 +1,8 @@
 /* One usrsctp association driven by lines, over AF_CONN, with no clock, socket or thread: the same lines as crates/assocrun takes, which
  * drives an association of this repository. Times are whole microseconds. simulate.py runs two hosts of either kind.
  *
- *     new KEY=VALUE ..                 tsn and zero_checksum are passed over; tag and key seed the random numbers
+ *     new KEY=VALUE ..                 tsn and zero_checksum are passed over; tag and key seed the random numbers; nagle=1 turns SCTP_NODELAY off,
+ *                                      and most_cwnd=N is SCTP_MAX_CWND
  *     connect T | shutdown T | abort T | timeout T | poll T
  *     in T HEX                         answers accepted
  *     mode STREAM ordered|unordered reliable|rexmit N|timed MILLISECONDS
@@ -91,7 +92,7 @@ static struct { uint64_t count, bytes; int is_new; } inboxes[MOST_STREAMS];
 struct message { struct message *next; uint32_t ppi; size_t length; uint8_t bytes[]; };
 static struct message *kept[MOST_STREAMS], *last[MOST_STREAMS];
 static int is_registered, is_up, keeps;
-static unsigned long mtu = 1191, window = 1 << 20, streams = 1024, most = 4 << 20;
+static unsigned long mtu = 1191, window = 1 << 20, streams = 1024, most = 4 << 20, nagle, most_cwnd;
 
 static void fail(const char *what) {
     fprintf(stderr, "usrsctp_host: %s: %s\n", what, strerror(errno));
@@ -138,10 +139,11 @@ static void watch(struct socket *s, uint16_t type) {
 }
 
 static void set_up_socket(struct socket *s) {
-    int send = (int)most, receive = (int)window, on = 1, off = 0;
+    int send = (int)most, receive = (int)window, on = 1, off = 0, at_once = !nagle;
     uint32_t point = LONGEST;
     struct sctp_initmsg init = { .sinit_num_ostreams = (uint16_t)streams, .sinit_max_instreams = (uint16_t)streams };
     struct sctp_assoc_value reset = { .assoc_id = SCTP_FUTURE_ASSOC, .assoc_value = SCTP_ENABLE_VALUE_MASK };
+    struct sctp_assoc_value cwnd = { .assoc_id = SCTP_FUTURE_ASSOC, .assoc_value = (uint32_t)most_cwnd };
     struct sctp_paddrparams path;
     memset(&path, 0, sizeof path);
     path.spp_address.ss_family = AF_CONN;
@@ -149,13 +151,14 @@ static void set_up_socket(struct socket *s) {
     path.spp_pathmtu = (uint32_t)mtu - 12; /* usrsctp adds the common header */
     set(s, SOL_SOCKET, SO_RCVBUF, &receive, sizeof receive, "SO_RCVBUF");
     set(s, SOL_SOCKET, SO_SNDBUF, &send, sizeof send, "SO_SNDBUF");
-    set(s, IPPROTO_SCTP, SCTP_NODELAY, &on, sizeof on, "SCTP_NODELAY");
+    set(s, IPPROTO_SCTP, SCTP_NODELAY, &at_once, sizeof at_once, "SCTP_NODELAY");
     set(s, IPPROTO_SCTP, SCTP_RECVRCVINFO, &on, sizeof on, "SCTP_RECVRCVINFO");
     set(s, IPPROTO_SCTP, SCTP_FRAGMENT_INTERLEAVE, &off, sizeof off, "SCTP_FRAGMENT_INTERLEAVE");
     set(s, IPPROTO_SCTP, SCTP_PARTIAL_DELIVERY_POINT, &point, sizeof point, "SCTP_PARTIAL_DELIVERY_POINT");
     set(s, IPPROTO_SCTP, SCTP_INITMSG, &init, sizeof init, "SCTP_INITMSG");
     set(s, IPPROTO_SCTP, SCTP_PEER_ADDR_PARAMS, &path, sizeof path, "SCTP_PEER_ADDR_PARAMS");
     set(s, IPPROTO_SCTP, SCTP_ENABLE_STREAM_RESET, &reset, sizeof reset, "SCTP_ENABLE_STREAM_RESET");
+    if (most_cwnd) set(s, IPPROTO_SCTP, SCTP_MAX_CWND, &cwnd, sizeof cwnd, "SCTP_MAX_CWND");
     watch(s, SCTP_ASSOC_CHANGE);
     watch(s, SCTP_SHUTDOWN_EVENT);
     watch(s, SCTP_STREAM_RESET_EVENT);
@@ -192,6 +195,8 @@ static void command_new(const char *line) {
     window = value_of(line, " window=", window);
     streams = value_of(line, " streams=", streams);
     most = value_of(line, " waiting=", most);
+    nagle = value_of(line, " nagle=", nagle);
+    most_cwnd = value_of(line, " most_cwnd=", most_cwnd);
     random_state = value_of(line, " tag=", 1) * 0x9e3779b97f4a7c15ull | 1;
     usrsctp_init_nothreads(0, output, NULL);
     usrsctp_sysctl_set_sctp_blackhole(2);

@@ -52,6 +52,7 @@ fn print_hex<W: Write>(bytes: &[u8], output: &mut W) -> io::Result<()> {
 }
 
 /// Prints a datagram that is sent.
+#[inline(never)]
 pub(crate) fn print_datagram<W: Write>(datagram: &[u8], output: &mut W) -> io::Result<()> {
     write!(output, "out ")?;
     print_hex(datagram, output)?;
@@ -204,6 +205,7 @@ fn word_of_ending(ending: Ending) -> &'static str {
 }
 
 /// Prints an event.
+#[inline(never)]
 pub(crate) fn print_event<W: Write>(event: Event, output: &mut W) -> io::Result<()> {
     match event {
         Event::Connected => write!(output, "event connected\n"),

@@ -69,6 +69,8 @@ pub(crate) enum Command {
     Look,
     Stats,
     StreamStats(u16),
+    /// Writes a message, and sends nothing.
+    Put(Message),
     /// One that has a moment.
     At(u64, Timed),
 }
@@ -105,6 +107,7 @@ pub(crate) fn read_command(alloc: Global, line: &str) -> Result<Option<Command>,
         "look" => Command::Look,
         "stats" => Command::Stats,
         "streamstats" => Command::StreamStats(words.stream().ok_or(Refusal::BadField)?),
+        "put" => Command::Put(read_message(alloc, &mut words)?),
         _ => read_timed(alloc, word, &mut words)?,
     };
     if !words.is_empty() {

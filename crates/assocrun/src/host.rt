@@ -1,4 +1,5 @@
-//! The association that is driven: the only file that calls it.
+//! The association that is driven: the only file that calls it. `answer` and `print_all` are compiled apart from what calls them, and from what they
+//! print by, so that evidence/message_costs.py counts its calls alone.
 
 use crate::answer::{Answer, print_answer, print_datagram, print_event, print_next, print_refusal};
 use crate::command::{Command, Message, Refusal, Timed, read_command};
@@ -83,6 +84,7 @@ fn perform(association: &mut Association, timed: &Timed, now: u64) -> Result<Ans
 }
 
 // Carries out a command.
+#[inline(never)]
 fn answer(association: &mut Association, command: &Command) -> Result<Answer, Refusal> {
     match command {
         Command::At(now, timed) => return perform(association, timed, *now),
@@ -105,12 +107,14 @@ fn answer(association: &mut Association, command: &Command) -> Result<Answer, Re
         }
         Command::State => return Ok(Answer::State(association.state())),
         Command::Restarted => return Ok(Answer::Restarted(association.has_restarted())),
+        Command::Put(message) => return write(association, message),
         Command::New(_) => {}
     }
     Ok(Answer::Done)
 }
 
 // Prints each datagram that is due, and each event.
+#[inline(never)]
 fn print_all<W: Write>(association: &mut Association, now: u64, output: &mut W) -> io::Result<()> {
     print_datagrams(association, now, output)?;
     for _ in 0..MOST {

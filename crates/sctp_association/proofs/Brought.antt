@@ -284,9 +284,9 @@ module _ (c : ChunkPlace) (d : List ℕ) (a b : Association) where
     peer-was s w = sym (ap (λ (e : Events). is_in s e.reset_by_peer) end) ∙ w
 
     pub brings_data : c.typ ≡ 0 → (chunk : ChunkPayloadData) → StartsWith (drop c.at d) (data_chunk (data_of chunk))
-        → NotesOnly (IsReadOf chunk j.receiver) (IsLongOf chunk i.receiver) a.events f → BringsOnly c d a b
+        → NotesOnly (IsReadOf chunk j.receiver) (IsLongOf chunk i) a.events f → BringsOnly c d a b
     brings_data typ chunk reads n = record {
-      by_type = both (IsReadOf chunk j.receiver) (IsLongOf chunk i.receiver) n ∙ ap (λ k. brought_at k a.events b.events) (sym typ);
+      by_type = both (IsReadOf chunk j.receiver) (IsLongOf chunk i) n ∙ ap (λ k. brought_at k a.events b.events) (sym typ);
       readable = λ other s w. elim (n.readable s (was s w)) [
         | inl h ↦ inl h
         | inr h ↦ inr (record { message = read s h.1; own = λ is. record { chunk = chunk; reads = reads; is = h.0 } })

@@ -20,7 +20,7 @@ headed_length h bytes draft = omega (
   length_head_encoding h.source_port h.destination_port h.verification_tag,
 )
 
-pub headed_within : (h : CommonHeader) (bytes : List ℕ) (limit : ℕ) → IsDraft (headed h) bytes → 28 ≤ limit → length bytes ≤ limit
+pub headed_within : (h : CommonHeader) (bytes : List ℕ) (limit : ℕ) → IsDraft (headed h) bytes → 512 ≤ limit → length bytes ≤ limit
 headed_within h bytes limit draft low = omega (arith, headed_length h bytes draft, low)
 
 -- a checksum takes the place of four bytes, or nothing changes
@@ -34,9 +34,9 @@ sealed_within n limit old new long short low = elim (cases_lt (length old.bytes)
 -- so the packet that is written keeps to its limit
 pub sealed_fits : (n limit : ℕ) (old : Option Draft) (w new : Draft) → old ≡ Some w
     → (12 ≤ length w.bytes → new.bytes ≡ take 8 w.bytes ++ le32 n ++ drop 12 w.bytes) → (length w.bytes < 12 → new ≡ w) → new.limit ≡ w.limit
-    → (28 ≤ limit) × (limit ≤ 65535) × (limit_in limit old ≡ limit) × (length (bytes_in old) ≤ limit)
-    → (28 ≤ limit) × (limit ≤ 65535) × (limit_in limit (Some new) ≡ limit) × (length (bytes_in (Some new)) ≤ limit)
+    → (512 ≤ limit) × (limit ≤ 65535) × (limit_in limit old ≡ limit) × (length (bytes_in old) ≤ limit)
+    → (512 ≤ limit) × (limit ≤ 65535) × (limit_in limit (Some new) ≡ limit) × (length (bytes_in (Some new)) ≤ limit)
 sealed_fits n limit old w new is long short same fits =
-    let F : Option Draft → Type 0 = λ o. (28 ≤ limit) × (limit ≤ 65535) × (limit_in limit o ≡ limit) × (length (bytes_in o) ≤ limit) in
+    let F : Option Draft → Type 0 = λ o. (512 ≤ limit) × (limit ≤ 65535) × (limit_in limit o ≡ limit) × (length (bytes_in o) ≤ limit) in
     let own = subst F is fits in
     (own.0, own.1, same ∙ own.2, sealed_within n limit w new long short own.3)

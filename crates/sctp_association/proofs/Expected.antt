@@ -19,13 +19,12 @@ use Rattle.sctp_datagram.proofs.Alone.{no-frame-fault}
 use Rattle.sctp_datagram.specs.InPlace.{NoInitFault}
 use Rattle.sctp_datagram.specs.Places.{IsPlace}
 use Rattle.sctp_datagram.specs.declared.datagram.ChunkPlace.{ChunkPlace}
-use Rattle.sctp_handshake.specs.Beginnings.{init_ack_checked, init_ack_row, init_checked, init_reply, init_row, on_init_ack}
+use Rattle.sctp_handshake.specs.Beginnings.{init_checked, init_reply, init_row}
 use Rattle.sctp_datagram.specs.declared.params.ParamPlace.{ParamPlace}
 use Rattle.sctp_handshake.specs.InitValues.{init_in, numbers_in, said_from}
 use Rattle.sctp_handshake.specs.InitValues as values
 use Rattle.sctp_handshake.specs.declared.init_value.InitFault.{InitFault}
 use Rattle.sctp_handshake.specs.Offers.{has_no_streams, offer_fault}
-use Rattle.sctp_handshake.specs.declared.answer.Answer.{Answer}
 use Rattle.sctp_handshake.specs.declared.init_value.InitFault.TheVariants.{ShortValue}
 use Rattle.sctp_handshake.specs.declared.init_value.Said.{Said}
 use Rattle.sctp_handshake.specs.declared.machine.Machine.{Machine}
@@ -181,9 +180,9 @@ init-long value said reads short = by (nat_lt (length value) 16) (lt-ltb (length
     by false is e = false≢true is
 
 -- the value of a chunk that is there is found, where it says something
-pub value_found : (d : List ℕ) (c : ChunkPlace) → IsPlace d c → (c.typ ≡ 1) ⊎ (c.typ ≡ 2) → (said : Said) → init_in (value_in d c) ≡ Ok said
+pub value_long : (d : List ℕ) (c : ChunkPlace) → IsPlace d c → (c.typ ≡ 1) ⊎ (c.typ ≡ 2) → (length (value_in d c) < 16 → ⊥)
     → (bytes : List ℕ) → bytes ≡ drop c.at d → (e : Error) → NoInitFault e bytes → ⊥
-value_found d c place typ said reads bytes cut e fault =
+value_long d c place typ long bytes cut e fault =
     by (subst (NoInitFault e) cut fault)
   where
     is : type_at (drop c.at d) ≡ c.typ
@@ -195,7 +194,12 @@ value_found d c place typ said reads bytes cut e fault =
       | inl one ↦ other.2 (is ∙ one)
       | inr two ↦ other.3 (is ∙ two)
     ]
-    by (inr (inr short)) = init-long (value_in d c) said reads short.2
+    by (inr (inr short)) = long short.2
+
+pub value_found : (d : List ℕ) (c : ChunkPlace) → IsPlace d c → (c.typ ≡ 1) ⊎ (c.typ ≡ 2) → (said : Said) → init_in (value_in d c) ≡ Ok said
+    → (bytes : List ℕ) → bytes ≡ drop c.at d → (e : Error) → NoInitFault e bytes → ⊥
+value_found d c place typ said reads bytes cut e fault =
+    value_long d c place typ (init-long (value_in d c) said reads) bytes cut e fault
 
 -- an offer with a tag is answered
 row-answers : (s : State) (peer : Offer) (tag : ℕ) (m : Machine) → init_row s peer tag m ≡ None → ⊥
@@ -220,20 +224,6 @@ offer_answered peer tag m tagged e = checked-answers (offer_fault peer) peer tag
 
     fault : offer_fault peer ≡ Some NoTag → ⊥
     fault f = by (peer.tag == 0) (has_no_streams peer) (nat_lt peer.window 1500) (ne_eqb peer.tag 0 tagged) f
-
--- where an INIT ACK is waited for the machine replies or tells
-ack-speaks : (f : Option OfferFault) (peer : Offer) (m : Machine) → (init_ack_checked f peer m).answer.reply ≡ None
-    → (init_ack_checked f peer m).answer.told ≡ None → ⊥
-ack-speaks None peer m e told = cc
-ack-speaks (Some NoTag) peer m e told = cc
-ack-speaks (Some NoStreams) peer m e told = cc
-ack-speaks (Some SmallWindow) peer m e told = cc
-
-pub init_ack_answered : (peer : Offer) (m : Machine) (a : Answer) → m.state ≡ CookieWait → a ≡ (on_init_ack peer m).answer → a.reply ≡ None
-    → a.told ≡ None → ⊥
-init_ack_answered peer m a waits is reply told =
-    let row : a ≡ (init_ack_checked (offer_fault peer) peer m).answer = is ∙ ap (λ (s : State). (init_ack_row s peer m).answer) waits in
-    ack-speaks (offer_fault peer) peer m (sym (ap (λ (k : Answer). k.reply) row) ∙ reply) (sym (ap (λ (k : Answer). k.told) row) ∙ told)
 
 -- an INIT ACK of which the cookie is found was read
 pub said_of : (r : Result Said InitFault) (x : Offer × ParamPlace) → values.cookie_in r ≡ Ok x → (said : Said) × (r ≡ Ok said)

@@ -162,7 +162,7 @@ each-datagram-acts datagram a b l peer handed came =
 
 pub each-datagram-brings : EachDatagramBrings
 each-datagram-brings datagram a b l peer handed came =
-    (record { handed = handed; arrives = came; after = refl }, λ w once. once, refl)
+    (record { handed = handed; arrives = came; after = refl }, λ w once. once, refl, λ out ages z young. young)
 
 pub each-other-is-quiet : EachOtherIsQuiet
 each-other-is-quiet a b l same peer = same-host a b l same.sender same.receiver

@@ -15,7 +15,8 @@ use Rattle.sctp_association.specs.Packets.{Adds, with_chunks}
 use Rattle.sctp_association.specs.Sending.{flight_of, marked_in}
 use Rattle.sctp_chunks.proofs.Lengths.{length_data_value, length_sack_value}
 use Rattle.sctp_chunks.specs.Params.{padded_param, params_encoding}
-use Rattle.sctp_chunks.specs.Wire.{HasEncoding, HasForm, Wire, cookie_ack_chunk, data_chunk, heartbeat_chunk, sack_chunk, shutdown_ack_chunk, shutdown_chunk, value_of}
+use Rattle.sctp_chunks.specs.Wire.{HasEncoding, HasForm, Wire, cookie_ack_chunk, data_chunk, heartbeat_chunk, sack_chunk, shutdown_ack_chunk, shutdown_chunk}
+use Rattle.sctp_chunks.specs.Wire.{value_of}
 use Rattle.sctp_data.specs.declared.chunk.chunk_payload_data.ChunkPayloadData.{ChunkPayloadData}
 use Rattle.sctp_data.specs.PayloadData.{data_of}
 use Rattle.sctp_data.specs.SelectiveAck.{Sack}

@@ -16,7 +16,7 @@ use Rattle.sctp_handshake.specs.declared.machine.Machine.{Machine}
 use Rattle.sctp_reset.specs.Requests.{Requests}
 use Rattle.sctp_reset.specs.declared.peer_requests.PeerRequests.{PeerRequests}
 
-abbrev IsWithin : Association → Type 0
+abbrev pub IsWithin : Association → Type 0
 IsWithin a = IfSome a.inbound (λ i. (i.receiver.limits ≡ Some (limits_of a.config)) × (i.streams ≤ a.config.inbound_streams))
 
 one_proof : (a : Association) → IsProp (IsWithin a)

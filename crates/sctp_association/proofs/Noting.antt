@@ -13,7 +13,8 @@ use Rattle.sctp_association.proofs.Named.{skipped-open}
 use Rattle.sctp_association.proofs.ReachedBounds.{streams-few}
 use Rattle.sctp_association.specs.Reached.{IsLimited}
 use Rattle.sctp_association.specs.StreamSet.{is_in}
-use Rattle.sctp_association.specs.Telling.{KeepsEvents, Stays, TellsIn}
+use Rattle.sctp_association.proofs.Rooms.{place_kept, rooms_alike, rooms_then}
+use Rattle.sctp_association.specs.Telling.{HasPlace, KeepsEvents, Stays, TellsIn}
 use Rattle.sctp_association.specs.declared.event.Events.{Events}
 use Rattle.sctp_association.specs.declared.inbound.Inbound.{Inbound}
 use Rattle.sctp_data.specs.declared.chunk.chunk_payload_data.ChunkPayloadData.{ChunkPayloadData}
@@ -76,6 +77,7 @@ all_kept e = record {
   reset_refused = λ s h. h;
   reset_by_peer = λ s h. h;
   too_long = λ s h. h;
+  rooms = rooms_alike e e refl refl refl refl refl refl;
 }
 
 pub kept_after : (a b c : Events) → KeepsEvents a b → KeepsEvents b c → KeepsEvents a c
@@ -90,12 +92,14 @@ kept_after a b c x y = record {
   reset_refused = λ s h. y.reset_refused s (x.reset_refused s h);
   reset_by_peer = λ s h. y.reset_by_peer s (x.reset_by_peer s h);
   too_long = λ s h. y.too_long s (x.too_long s h);
+  rooms = rooms_then a b c x.rooms y.rooms;
 }
 
 -- events of streams on which the peer writes
 pub inbound_kept : (e : Events) (readable too_long by_peer : List Bool) → Stays e.too_long too_long → Stays e.reset_by_peer by_peer
+    → length e.readable ≤ length readable → length e.too_long ≤ length too_long → length e.reset_by_peer ≤ length by_peer
     → KeepsEvents e (record e { readable = readable; too_long = too_long; reset_by_peer = by_peer })
-inbound_kept e readable too_long by_peer long peer = record {
+inbound_kept e readable too_long by_peer long peer read-room long-room peer-room = record {
   connected = λ h. h;
   restarted = λ h. h;
   shutdown = λ h. h;
@@ -106,6 +110,14 @@ inbound_kept e readable too_long by_peer long peer = record {
   reset_refused = λ s h. h;
   reset_by_peer = peer;
   too_long = long;
+  rooms = record {
+    readable = read-room;
+    low = omega arith;
+    reset_by_us = omega arith;
+    reset_refused = omega arith;
+    reset_by_peer = peer-room;
+    too_long = long-room;
+  };
 }
 
 -- ## Both
@@ -125,8 +137,8 @@ tells_after i j k e f g x y = record {
 -- the same of two receivers
 pub record TellsBy (r : Reception) (e : Events) (q : Reception) (f : Events) : Type 0 where
   pub kept : KeepsEvents e f
-  pub places : ((s : ℕ) → is_open s r ≡ true → s < length e.readable) → (s : ℕ) → is_open s q ≡ true → s < length f.readable
-  pub noted : ((s : ℕ) → is_open s r ≡ true → s < length e.readable) → (s : ℕ) → (is_some (message_on s r) ≡ true → is_in s e.readable ≡ true)
+  pub places : ((s : ℕ) → is_open s r ≡ true → HasPlace s e) → (s : ℕ) → is_open s q ≡ true → HasPlace s f
+  pub noted : ((s : ℕ) → is_open s r ≡ true → HasPlace s e) → (s : ℕ) → (is_some (message_on s r) ≡ true → is_in s e.readable ≡ true)
       → is_some (message_on s q) ≡ true → is_in s f.readable ≡ true
 
 pub tells_in : (i j : Inbound) (e f : Events) → TellsBy i.receiver e j.receiver f → TellsIn (Some i) e (Some j) f
@@ -146,17 +158,17 @@ ReadOrTold r e f s =
 
 -- no stream opens but one that has a place
 pub tells_by : (r q : Reception) (e f : Events) → KeepsEvents e f → length e.readable ≤ length f.readable
-    → ((s : ℕ) → is_open s q ≡ true → (is_open s r ≡ true) ⊎ (s < length f.readable))
-    → (((s : ℕ) → is_open s r ≡ true → s < length e.readable) → (s : ℕ) → is_some (message_on s q) ≡ true → ReadOrTold r e f s) → TellsBy r e q f
+    → ((s : ℕ) → is_open s q ≡ true → (is_open s r ≡ true) ⊎ HasPlace s f)
+    → (((s : ℕ) → is_open s r ≡ true → HasPlace s e) → (s : ℕ) → is_some (message_on s q) ≡ true → ReadOrTold r e f s) → TellsBy r e q f
 tells_by r q e f kept room opened message = record {
   kept = kept;
   places = λ h s o. place h s (opened s o);
   noted = λ h s n m. note s n (message h s m);
 }
   where
-    place : ((s : ℕ) → is_open s r ≡ true → s < length e.readable) → (s : ℕ) → (is_open s r ≡ true) ⊎ (s < length f.readable) → s < length f.readable
-    place h s (inl o) = let lt = h s o in omega (arith, lt, room)
-    place h s (inr lt) = lt
+    place : ((s : ℕ) → is_open s r ≡ true → HasPlace s e) → (s : ℕ) → (is_open s r ≡ true) ⊎ HasPlace s f → HasPlace s f
+    place h s (inl o) = place_kept s e f kept.rooms (h s o)
+    place h s (inr p) = p
 
     note : (s : ℕ) → (is_some (message_on s r) ≡ true → is_in s e.readable ≡ true) → ReadOrTold r e f s → is_in s f.readable ≡ true
     note s n (inl m) = m.1 (n m.0)
@@ -219,13 +231,13 @@ module _ (s : ℕ) (old new : Reception) (made : new ≡ open_stream s old) wher
 
 -- its place is there
 pub tells_opened : (s : ℕ) (r q : Reception) (e f : Events) → KeepsEvents e f → length e.readable ≤ length f.readable → Stays e.readable f.readable
-    → s < length f.readable → q ≡ open_stream s r → TellsBy r e q f
-tells_opened s r q e f kept room stays lt made =
+    → HasPlace s f → q ≡ open_stream s r → TellsBy r e q f
+tells_opened s r q e f kept room stays there made =
     tells_by r q e f kept room (λ n o. place n (opened_one s r q made n o)) (λ h n m. inl (opened_message s r q made n m, stays n))
   where
-    place : (n : ℕ) → (is_open n r ≡ true) ⊎ (n ≡ s) → (is_open n r ≡ true) ⊎ (n < length f.readable)
+    place : (n : ℕ) → (is_open n r ≡ true) ⊎ (n ≡ s) → (is_open n r ≡ true) ⊎ HasPlace n f
     place n (inl o) = inl o
-    place n (inr e) = inr (omega (arith, e, lt))
+    place n (inr e) = inr (subst (λ k. HasPlace k f) (sym e) there)
 
 -- ## A stream closes
 
@@ -360,15 +372,15 @@ pub tells_taken : (c : ChunkPayloadData) (complete : Bool) (r q : Reception) (e 
 tells_taken c complete r q e f a kept room stays told =
     tells_by r q e f kept (omega (arith, room)) (λ n o. inl (taken_opened c complete r q a n o)) message
   where
-    own : ((s : ℕ) → is_open s r ≡ true → s < length e.readable) → is_some (message_on c.stream_identifier q) ≡ true
+    own : ((s : ℕ) → is_open s r ≡ true → HasPlace s e) → is_some (message_on c.stream_identifier q) ≡ true
         → ReadOrTold r e f c.stream_identifier
     own h m = by (taken-some c complete r q a m)
       where
         by : (is_some (message_on c.stream_identifier r) ≡ true) ⊎ (complete ≡ true) → ReadOrTold r e f c.stream_identifier
         by (inl was) = inl (was, stays c.stream_identifier)
-        by (inr is) = inr (told is m (h c.stream_identifier (taken_open c complete r q a)))
+        by (inr is) = inr (told is m (h c.stream_identifier (taken_open c complete r q a)).readable)
 
-    message : ((s : ℕ) → is_open s r ≡ true → s < length e.readable) → (n : ℕ) → is_some (message_on n q) ≡ true → ReadOrTold r e f n
+    message : ((s : ℕ) → is_open s r ≡ true → HasPlace s e) → (n : ℕ) → is_some (message_on n q) ≡ true → ReadOrTold r e f n
     message h n m = by_same n c.stream_identifier
         (λ is. subst (ReadOrTold r e f) (sym is) (own h (subst (λ k. is_some (message_on k q) ≡ true) is m)))
         (λ apart is. inl (sym (ap (λ o. is_some (message_of o)) (taken_other c complete r q a n is)) ∙ m, stays n))
@@ -423,7 +435,7 @@ pub tells_skipped : (t : ForwardTsn) (r q : Reception) (e f : Events) → q ≡ 
     → length f.readable ≡ length e.readable → ((s : ℕ) → is_some (message_on s q) ≡ true → s < length e.readable → is_in s f.readable ≡ true)
     → TellsBy r e q f
 tells_skipped t r q e f made kept room noted =
-    tells_by r q e f kept (omega (arith, room)) (λ s o. inl (was s o)) (λ h s m. inr (noted s m (h s (was s (message_open s q m)))))
+    tells_by r q e f kept (omega (arith, room)) (λ s o. inl (was s o)) (λ h s m. inr (noted s m (h s (was s (message_open s q m))).readable))
   where
     was : (s : ℕ) → is_open s q ≡ true → is_open s r ≡ true
     was s o = sym (ap (is_open s) made ∙ skipped-open s t r) ∙ o
@@ -477,13 +489,13 @@ tells_reset s tsn r q e f made kept room stays told = tells_by r q e f kept (ome
             ap (λ b. Some (if b then stream_reset tsn l else l)) (ap (λ k. k == s) is ∙ apart)
 
     -- one that could be read before is told, or waits to be
-    at-s : ((k : ℕ) → is_open k r ≡ true → k < length e.readable) → (n : ℕ) → n ≡ s → is_some (message_on n q) ≡ true
+    at-s : ((k : ℕ) → is_open k r ≡ true → HasPlace k e) → (n : ℕ) → n ≡ s → is_some (message_on n q) ≡ true
         → (b : Bool) → is_some (message_on s r) ≡ b → ReadOrTold r e f n
     at-s h n is m true could = inl (ap (λ k. is_some (message_on k r)) is ∙ could, stays n)
     at-s h n is m false could = inr (subst (λ k. is_in k f.readable ≡ true) (sym is) (told could (subst (λ k. is_some (message_on k q) ≡ true) is m)
-        (h s (was s (subst (λ k. is_open k q ≡ true) is (message_open n q m))))))
+        (h s (was s (subst (λ k. is_open k q ≡ true) is (message_open n q m)))).readable))
 
-    message : ((k : ℕ) → is_open k r ≡ true → k < length e.readable) → (n : ℕ) → is_some (message_on n q) ≡ true
+    message : ((k : ℕ) → is_open k r ≡ true → HasPlace k e) → (n : ℕ) → is_some (message_on n q) ≡ true
         → ReadOrTold r e f n
     message h n m = by_same n s
         (λ is. at-s h n is m (is_some (message_on s r)) refl)
@@ -495,9 +507,10 @@ pub record IsLater (e f : Events) : Type 0 where
   pub room : length f.readable ≡ length e.readable
   pub stays : Stays e.readable f.readable
 
-pub later_peer : (e : Events) (by_peer : List Bool) → Stays e.reset_by_peer by_peer → IsLater e (record e { reset_by_peer = by_peer })
-later_peer e by_peer stays =
-    record { kept = inbound_kept e e.readable e.too_long by_peer (λ n h. h) stays; room = refl; stays = λ n h. h }
+pub later_peer : (e : Events) (by_peer : List Bool) → Stays e.reset_by_peer by_peer → length e.reset_by_peer ≤ length by_peer
+    → IsLater e (record e { reset_by_peer = by_peer })
+later_peer e by_peer stays more =
+    record { kept = inbound_kept e e.readable e.too_long by_peer (λ n h. h) stays (omega arith) (omega arith) more; room = refl; stays = λ n h. h }
 
 pub later_after : (e f g : Events) → IsLater e f → IsLater f g → IsLater e g
 later_after e f g x y =

@@ -1,29 +1,37 @@
--- Two associations that begin once stand in two sessions of every call, whatever datagrams bring.
-use Rattle.std.proofs.Common.{◌≡◌, ℕ, Bool, true, false, List, [], ◌∷◌, Option, Some, None, refl, ap, sym, subst, ◌∙◌, inl, inr, arith}
+-- Two associations that begin once stand in two sessions of every call, whatever datagrams bring: of few TSNs, or in which nothing is old.
+use Rattle.std.proofs.Common.{◌≡◌, ◌<◌, ◌^◌, ℕ, Bool, true, false, List, [], ◌∷◌, Option, Some, None, refl, ap, sym, subst, ◌∙◌, inl, inr, arith}
 use Rattle.std.proofs.lemmas.Bool.Decides.{nat_tests}
 use Rattle.std.specs.Prelude.{◌⊎◌, ◌==◌, ◌||◌, ◌&&◌, Contains, not}
 use Rattle.std.specs.List.{list_any}
-use Rattle.sctp_association.proofs.Hosts.{Fits, Joined, each-joined, turned}
+use Rattle.sctp_association.proofs.FewHosts.{each-few-joined}
+use Rattle.sctp_association.proofs.Hosts.{Fits}
+use Rattle.sctp_association.proofs.Long.{Long, given-of, stand-of}
+use Rattle.sctp_association.proofs.LongHosts.{Joined, each-joined, turned}
 use Rattle.sctp_association.proofs.Rules.{moves-both, moves-in}
 use Rattle.sctp_association.specs.Arrivals.{Arrival, Halves, begins, hears, receives, renews, restarts}
-use Rattle.sctp_association.specs.Hosts.{Host, IsPlain, NamesOpen, Way, first_host, hosts}
+use Rattle.sctp_association.specs.Hosts.{AreMovesByRule, Host, Hosts, IsPlain, Move, MovesTo, NamesOpen, Way, WroteFew, first_host, hosts}
+use Rattle.sctp_association.specs.Young.{DeliversYoung, EachDeliversYoung, EachFewIsYoung, EachLinkDeliversYoung, IsReadAsWrittenYoung, Ran}
 use Rattle.sctp_association.specs.Links.{Party, host_at}
-use Rattle.sctp_association.specs.OneLife.{AreOfTheirOwn, AreSingleOnSteady, AreWritesOnSteady, Brought, Came, CamePastClosed, DeliversAny, EachDeliversAny}
+use Rattle.sctp_association.specs.OneLife.{AreOfTheirOwn, AreOneLife, AreSingleOnSteady, AreWritesOnSteady, Brought, Came, CamePastClosed, DeliversAny}
+use Rattle.sctp_association.specs.OneLife.{DeliversIn}
+use Rattle.sctp_association.specs.OneLife.{EachDeliversAny}
 use Rattle.sctp_association.specs.OneLife.{EachPlainIsOneLife}
 use Rattle.sctp_association.specs.OneLife.{EachLinkDeliversAny, IsOneLife, NoneWasDropped, IsReadAsWrittenAny, IsSteady, IsUntouched, WasBrought, brought}
 use Rattle.sctp_association.specs.OneLife.{brought_to_one, brought_to_other, others_of}
 use Rattle.sctp_delivery.proofs.Every.{Every, all-of-every}
 use Rattle.sctp_delivery.proofs.EveryMessages as messages
 use Rattle.sctp_delivery.proofs.EveryRuns as every
+use Rattle.sctp_delivery.proofs.EveryYoung as young
+use Rattle.sctp_delivery.proofs.EveryYoungOrder as young_order
 use Rattle.sctp_delivery.proofs.InOrder as in_order
 use Rattle.sctp_util.proofs.More.{not_both}
 use Rattle.sctp_delivery.specs.EveryCall.{AnyCall, closes, closes_incoming, discards, makes, of_receiving, of_sending, passes_over, renews as renewed}
 use Rattle.sctp_delivery.specs.EveryCall.{RunsAny, resets, resets_incoming, takes_back}
 use Rattle.sctp_delivery.specs.EveryEnd.{dropped_any}
 use Rattle.sctp_delivery.specs.EveryOrder.{goes_on, opens_incoming}
+use Rattle.sctp_delivery.specs.Recent.{Aged}
 use Rattle.sctp_delivery.specs.SenderCalls.{Write}
 use Rattle.sctp_delivery.specs.Session.{Session}
-use Rattle.sctp_delivery.specs.StandAny.{StandAny}
 use Rattle.sctp_receiver.specs.Receiver.{Reception}
 use Rattle.sctp_receiver.specs.ReceiverRuns as runs
 use Rattle.sctp_receiver.specs.ReceiverRuns.{Message}
@@ -43,7 +51,7 @@ module _ (ones others : List Brought) where
       by true e = inr (h, c, λ named. not_both (sym (subst (NamesOpen f) is named) ∙ e))
       by false e = inl e
 
-  fits : (w : Way) (a : Arrival) (h : Halves) → IsOneLife w a h → Contains ones (brought a h) → Fits (WasBrought ones others) (WasBrought others ones) w a h
+  pub fits : (w : Way) (a : Arrival) (h : Halves) → IsOneLife w a h → Contains ones (brought a h) → Fits (WasBrought ones others) (WasBrought others ones) w a h
   fits w (receives (runs.discards tsn)) h p c = λ d same. (h, subst (λ n. Contains ones (brought (receives (runs.discards n)) h)) (sym same) c)
   fits w (receives (runs.closes stream)) h p c = (h, c)
   fits w (receives (runs.resets stream last)) h p c = (h, c)
@@ -55,7 +63,7 @@ module _ (ones others : List Brought) where
   fits w (renews tsn size max) h p c = absurd p
 
   -- where no datagram had the sender begin the stream again, no call of the session did
-  steady-calls : (cs : List AnyCall) (s : ℕ) → Every (WasBrought ones others) (others_of cs) → IsSteady ones s → list_any (renewed s) cs ≡ false
+  pub steady-calls : (cs : List AnyCall) (s : ℕ) → Every (WasBrought ones others) (others_of cs) → IsSteady ones s → list_any (renewed s) cs ≡ false
   steady-calls [] s e n = refl
   steady-calls (makes call ∷ cs) s e n = steady-calls cs s e n
   steady-calls (of_sending (takes_back sack back) ∷ cs) s e n = steady-calls cs s e n
@@ -74,7 +82,7 @@ module _ (ones others : List Brought) where
       let is : stream ≡ s = grind (arith, nat_tests, same) in absurd (n (subst P is p))
   elsewhere P stream s false same p n rest on = on
 
-  unbroken-calls : (cs : List AnyCall) (opened : Bool) (s : ℕ) → Every (WasBrought ones others) (others_of cs) → IsUntouched ones others s
+  pub unbroken-calls : (cs : List AnyCall) (opened : Bool) (s : ℕ) → Every (WasBrought ones others) (others_of cs) → IsUntouched ones others s
       → goes_on opened s cs ≡ true
   unbroken-calls [] opened s e n = refl
   unbroken-calls (makes call ∷ cs) opened s e n = unbroken-calls cs (opened || opens_incoming s (makes call)) s e n
@@ -107,51 +115,109 @@ module _ (ones others : List Brought) where
 
   -- ## The law
 
-  delivers : (f b : Way) (x z : Host) → Joined (WasBrought ones others) (WasBrought others ones) f b x z → DeliversAny f ones others x z
-  delivers f b x z j =
-      let st = j.forth in
-      let single : AreSingleOnSteady ones st.session.receiving.read = λ k m lt n.
-      messages.are-single st.reported st.tsn st.size st.max st.most st.limits st.calls st.session st.run st.small st.some st.few st.short k m lt
-      (ap not (steady-calls st.calls _ j.goes.only n)) in
-      record {
-        stand = st;
-        sends = j.goes.sends;
-        receives = j.goes.receives;
-        written = j.goes.written;
-        read = j.goes.read;
-        others = all-of-every (WasBrought ones others) (others_of st.calls) j.goes.only;
-        bytes = every.accounted st.reported st.tsn st.size st.max st.most st.limits st.calls st.session st.run;
-        made = every.made st.reported st.tsn st.size st.max st.most st.limits st.calls st.session st.run;
-        whole = every.messages st.reported st.tsn st.size st.max st.most st.limits st.calls st.session st.run;
-        parts = messages.parts st.reported st.tsn st.size st.max st.most st.limits st.calls st.session st.run st.small st.some st.few st.short;
-        once = every.none-read-twice st.reported st.tsn st.size st.max st.most st.limits st.calls st.session st.run st.small st.few;
-        writes = messages.are-writes st.reported st.tsn st.size st.max st.most st.limits st.calls st.session st.run st.small st.some st.few st.short;
-        own = messages.of-their-own st.reported st.tsn st.size st.max st.most st.limits st.calls st.session st.run st.small st.some st.few st.short;
-        steady = subst (AreSingleOnSteady ones) j.goes.read single;
-        apart = messages.told-apart st.reported st.tsn st.size st.max st.most st.limits st.calls st.session st.run;
-        unbroken = λ s n. unbroken-calls st.calls false s j.goes.only n;
-        order = messages.in-order st.reported st.tsn st.size st.max st.most st.limits st.calls st.session st.run st.small st.some st.few st.short;
-        modes = messages.as-written st.reported st.tsn st.size st.max st.most st.limits st.calls st.session st.run st.small st.some st.few st.short;
-        turn = in_order.in-turn-any st.reported st.tsn st.size st.max st.most st.limits st.calls st.session st.run st.small st.some st.few st.short;
-        end = messages.ordered-read st.reported st.tsn st.size st.max st.most st.limits st.calls st.session st.run st.small st.some st.few st.short;
-        chunks = messages.sent-read st.reported st.tsn st.size st.max st.most st.limits st.calls st.session st.run st.small st.some st.few st.short;
-        unordered = messages.unordered-written-read st.reported st.tsn st.size st.max st.most st.limits st.calls st.session st.run st.small st.some st.few
-            st.short;
-        dropped = none-dropped _ st.calls st.session st.run j.goes.only;
-      }
+  module _ (f b : Way) (made back : List Aged) (x z : Host) (j : Joined (WasBrought ones others) (WasBrought others ones) f b made back x z) where
+    abbrev st : Long
+    st = j.forth
+
+    abbrev r : Ran
+    r = j.forth.ran
+
+    single : AreSingleOnSteady ones r.session.receiving.read
+    single k m lt n =
+        young.single r.reported r.tsn r.size r.max r.most r.limits r.calls r.session r.run st.small st.some st.recent st.young st.short k m lt
+        (ap not (steady-calls r.calls _ j.goes.only n))
+
+    delivers-in : DeliversIn f ones others x z r.calls r.session
+    delivers-in = record {
+      sends = j.goes.sends;
+      receives = j.goes.receives;
+      written = j.goes.written;
+      read = j.goes.read;
+      others = all-of-every (WasBrought ones others) (others_of r.calls) j.goes.only;
+      bytes = every.accounted r.reported r.tsn r.size r.max r.most r.limits r.calls r.session r.run;
+      made = every.made r.reported r.tsn r.size r.max r.most r.limits r.calls r.session r.run;
+      whole = every.messages r.reported r.tsn r.size r.max r.most r.limits r.calls r.session r.run;
+      parts = young.parts r.reported r.tsn r.size r.max r.most r.limits r.calls r.session r.run st.small st.some st.recent st.young st.short;
+      writes = young.written r.reported r.tsn r.size r.max r.most r.limits r.calls r.session r.run st.small st.some st.recent st.young st.short;
+      own = young.own r.reported r.tsn r.size r.max r.most r.limits r.calls r.session r.run st.small st.some st.recent st.young st.short;
+      steady = subst (AreSingleOnSteady ones) j.goes.read single;
+      apart = messages.told-apart r.reported r.tsn r.size r.max r.most r.limits r.calls r.session r.run;
+      unbroken = λ s n. unbroken-calls r.calls false s j.goes.only n;
+      order = young_order.in-order r.reported r.tsn r.size r.max r.most r.limits r.calls r.session r.run st.small st.some st.recent st.young st.passed
+          st.short;
+      modes = young_order.as-written r.reported r.tsn r.size r.max r.most r.limits r.calls r.session r.run st.small st.some st.recent st.young st.passed
+          st.short;
+      turn = in_order.in-turn-any-young r.reported r.tsn r.size r.max r.most r.limits r.calls r.session r.run st.small st.some st.recent st.young
+          st.passed st.short;
+    }
+
+    delivers-young : DeliversYoung f ones others x z
+    delivers-young = record { ran = r; delivers = delivers-in }
+
+    delivers : WroteFew x → DeliversAny f ones others x z
+    delivers wrote =
+        let given = j.goes.given in
+        let cut = wrote.0 in
+        let few : given-of j.forth < 2 ^ 31 = omega (arith, given, cut) in
+        record {
+          stand = stand-of st few;
+          delivers = delivers-in;
+          once = every.none-read-twice r.reported r.tsn r.size r.max r.most r.limits r.calls r.session r.run st.small few;
+          end = messages.ordered-read r.reported r.tsn r.size r.max r.most r.limits r.calls r.session r.run st.small st.some few st.short;
+          chunks = messages.sent-read r.reported r.tsn r.size r.max r.most r.limits r.calls r.session r.run st.small st.some few st.short;
+          unordered = messages.unordered-written-read r.reported r.tsn r.size r.max r.most r.limits r.calls r.session r.run st.small st.some few st.short;
+          dropped = none-dropped _ r.calls r.session r.run j.goes.only;
+        }
+
+-- each call that moves bring fits the sessions
+fits-moves : (f b : Way) (moves : List Move) (new : Hosts) (run : MovesTo (hosts (first_host f) (first_host b)) moves new)
+    → AreOneLife f b (hosts (first_host f) (first_host b)) moves new run
+    → (ones others : List Brought) → brought_to_one (hosts (first_host f) (first_host b)) moves new run ≡ ones
+    → brought_to_other (hosts (first_host f) (first_host b)) moves new run ≡ others
+    → AreMovesByRule (Fits (WasBrought ones others) (WasBrought others ones) b) (Fits (WasBrought others ones) (WasBrought ones others) f)
+    (hosts (first_host f) (first_host b)) moves new run
+fits-moves f b moves new run once ones others to-one to-other =
+    let first = hosts (first_host f) (first_host b) in
+    moves-both (IsOneLife b) (λ a h. Contains ones (brought a h)) (Fits (WasBrought ones others) (WasBrought others ones) b) (fits ones others b)
+    (IsOneLife f) (λ a h. Contains others (brought a h)) (Fits (WasBrought others ones) (WasBrought ones others) f) (fits others ones f)
+    moves first new run once
+    (moves-in ones others moves first new run (λ a c. subst (λ (l : List Brought). Contains l a) to-one c)
+    (λ a c. subst (λ (l : List Brought). Contains l a) to-other c))
 
 pub each-delivers-any : EachDeliversAny
 each-delivers-any f b moves new run once fit other one-few other-few =
     let first = hosts (first_host f) (first_host b) in
     let ones = brought_to_one first moves new run in
     let others = brought_to_other first moves new run in
-    let rule = moves-both (IsOneLife b) (λ a h. Contains ones (brought a h)) (Fits (WasBrought ones others) (WasBrought others ones) b) (fits ones others b)
-    (IsOneLife f) (λ a h. Contains others (brought a h)) (Fits (WasBrought others ones) (WasBrought ones others) f) (fits others ones f)
-    moves first new run once (moves-in ones others moves first new run (λ a c. c) (λ a c. c)) in
-    let j = each-joined (WasBrought ones others) (WasBrought others ones) f b moves new run rule fit other one-few other-few in (
-      delivers ones others f b new.one new.other j,
-      delivers others ones b f new.other new.one (turned (WasBrought ones others) (WasBrought others ones) f b new.one new.other j),
+    let P = WasBrought ones others in
+    let Q = WasBrought others ones in
+    let x = (each-few-joined P Q f b moves new run (fits-moves f b moves new run once ones others refl refl) fit other one-few other-few).1 in
+    let j = x.joined' in (
+      delivers ones others f b x.ones x.others new.one new.other j one-few,
+      delivers others ones b f x.others x.ones new.other new.one (turned P Q f b x.ones x.others new.one new.other j) other-few,
     )
+
+pub each-delivers-young : EachDeliversYoung
+each-delivers-young f b moves new run once young fit other one-short other-short =
+    let first = hosts (first_host f) (first_host b) in
+    let ones = brought_to_one first moves new run in
+    let others = brought_to_other first moves new run in
+    let P = WasBrought ones others in
+    let Q = WasBrought others ones in
+    let x = each-joined P Q f b moves new run (fits-moves f b moves new run once ones others refl refl) young fit other one-short other-short in
+    let j = x.joined' in (
+      delivers-young ones others f b x.ones x.others new.one new.other j,
+      delivers-young others ones b f x.others x.ones new.other new.one (turned P Q f b x.ones x.others new.one new.other j),
+    )
+
+-- where few fragments are written, nothing is old
+pub each-few-young : EachFewIsYoung
+each-few-young f b moves new run once fit other one-few other-few =
+    let first = hosts (first_host f) (first_host b) in
+    let ones = brought_to_one first moves new run in
+    let others = brought_to_other first moves new run in
+    (each-few-joined (WasBrought ones others) (WasBrought others ones) f b moves new run (fits-moves f b moves new run once ones others refl refl) fit other
+    one-few other-few).0
 
 -- ## Plain calls
 
@@ -167,24 +233,28 @@ each-plain f b old moves new run plain =
 
 -- ## As a caller has them
 
-module _ (ones others : List Brought) (w : Way) (x z : Party) (d : DeliversAny w ones others (host_at x) (host_at z)) where
-  abbrev it : StandAny
-  it = d.stand
-
-  on-steady : AreWritesOnSteady ones x.log.written z.log.read
+module _ (ones others : List Brought) (w : Way) (x z : Party) (calls : List AnyCall) (s : Session)
+    (d : DeliversIn w ones others (host_at x) (host_at z) calls s) where
+  pub on-steady : AreWritesOnSteady ones x.log.written z.log.read
   on-steady =
-      let steady : AreSingleOnSteady ones it.session.receiving.read = subst (AreSingleOnSteady ones) (sym d.read) d.steady in
-      let all : AreWritesOnSteady ones it.session.written it.session.receiving.read = λ k m lt n. d.writes k m lt (steady k m lt n) in
+      let steady : AreSingleOnSteady ones s.receiving.read = subst (AreSingleOnSteady ones) (sym d.read) d.steady in
+      let all : AreWritesOnSteady ones s.written s.receiving.read = λ k m lt n. d.writes k m lt (steady k m lt n) in
       subst (λ (ws : List Write). AreWritesOnSteady ones ws z.log.read) d.written
-      (subst (λ (ms : List Message). AreWritesOnSteady ones it.session.written ms) d.read all)
+      (subst (λ (ms : List Message). AreWritesOnSteady ones s.written ms) d.read all)
 
-  of-their-own : AreOfTheirOwn x.log.written z.log.read
+  pub of-their-own : AreOfTheirOwn x.log.written z.log.read
   of-their-own =
-      subst (λ (ws : List Write). AreOfTheirOwn ws z.log.read) d.written
-      (subst (λ (ms : List Message). AreOfTheirOwn it.session.written ms) d.read d.own)
+      subst (λ (ws : List Write). AreOfTheirOwn ws z.log.read) d.written (subst (λ (ms : List Message). AreOfTheirOwn s.written ms) d.read d.own)
 
-  as-written : IsReadAsWrittenAny w ones others x z
-  as-written = record { delivers = d; writes = on-steady; own = of-their-own }
+as-written : (ones others : List Brought) (w : Way) (x z : Party) → DeliversAny w ones others (host_at x) (host_at z) → IsReadAsWrittenAny w ones others x z
+as-written ones others w x z d =
+    let calls = d.stand.calls in
+    let s = d.stand.session in
+    record {
+      delivers = d;
+      writes = on-steady ones others w x z calls s d.delivers;
+      own = of-their-own ones others w x z calls s d.delivers;
+    }
 
 pub each-link-delivers-any : EachLinkDeliversAny
 each-link-delivers-any f b x z link once fit other one-few other-few =
@@ -194,3 +264,23 @@ each-link-delivers-any f b x z link once fit other one-few other-few =
     let others = brought_to_other first link.moves last link.run in
     let d = each-delivers-any f b link.moves last link.run once fit other one-few other-few in
     (as-written ones others f x z d.0, as-written others ones b z x d.1)
+
+as-written-young : (ones others : List Brought) (w : Way) (x z : Party) → DeliversYoung w ones others (host_at x) (host_at z)
+    → IsReadAsWrittenYoung w ones others x z
+as-written-young ones others w x z d =
+    let calls = d.ran.calls in
+    let s = d.ran.session in
+    record {
+      delivers = d;
+      writes = on-steady ones others w x z calls s d.delivers;
+      own = of-their-own ones others w x z calls s d.delivers;
+    }
+
+pub each-link-delivers-young : EachLinkDeliversYoung
+each-link-delivers-young f b x z link once young fit other one-short other-short =
+    let first = hosts (first_host f) (first_host b) in
+    let last = hosts (host_at x) (host_at z) in
+    let ones = brought_to_one first link.moves last link.run in
+    let others = brought_to_other first link.moves last link.run in
+    let d = each-delivers-young f b link.moves last link.run once young fit other one-short other-short in
+    (as-written-young ones others f x z d.0, as-written-young others ones b z x d.1)

@@ -49,10 +49,10 @@ alike_same a = record { sender = refl; receiver = refl; path = refl }
 
 -- the same is due at the same moment
 pub timed_same : (a : Association) → IsAsTimed a a
-timed_same a = record { heartbeat = refl; requests = refl; peer = refl }
+timed_same a = record { heartbeat = refl; idle = refl; requests = refl; peer = refl }
 
 pub timed_then : (a b c : Association) → IsAsTimed a b → IsAsTimed b c → IsAsTimed a c
-timed_then a b c t s = record { heartbeat = s.heartbeat ∙ t.heartbeat; requests = s.requests ∙ t.requests; peer = s.peer ∙ t.peer }
+timed_then a b c t s = record { heartbeat = s.heartbeat ∙ t.heartbeat; idle = s.idle ∙ t.idle; requests = s.requests ∙ t.requests; peer = s.peer ∙ t.peer }
 
 pub others_none : (a b : Association) → HalvesAlike a b → IsUnmoved a b → IsAsTimed a b → b.draft.bytes ≡ a.draft.bytes → PutsOthers a b
 others_none a b h u t e = record {
@@ -427,7 +427,7 @@ unsent_alike a b h y = unsent (sides_of a) b.outbound.sender (receiver_of b.inbo
     (subst (λ t. Sends [] a.outbound.sender t) (sym h.sender) (none_sent a.outbound.sender)) h.receiver
 
 -- nor where the call is refused
-refused : (o : Result Bool Fault) → IsErr o → is_sent o ≡ false
+pub refused : (o : Result Bool Fault) → IsErr o → is_sent o ≡ false
 refused (Ok b) h = absurd (false≢true h)
 refused (Err e) h = refl
 

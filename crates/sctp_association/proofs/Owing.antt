@@ -83,6 +83,7 @@ module _ (a m : Association) (i j : Inbound) (inbound : a.inbound ≡ Some i) (a
     heartbeat = ap (λ (x : Machine). heartbeat_in x.state m.outbound.rto.rto m.heartbeat) same.machine
         ∙ ap (λ (o : Outbound). heartbeat_in a.machine.state o.rto.rto m.heartbeat) same.outbound
         ∙ ap (λ (h : Option Heartbeat). heartbeat_in a.machine.state a.outbound.rto.rto h) same.heartbeat;
+    idle = same.heartbeat;
     requests = same.requests;
     peer = same.peer;
   }

@@ -52,7 +52,6 @@ use Rattle.sctp_sender.specs.declared.sender.refusal.SenderRefusal.{SenderRefusa
 use Rattle.sctp_sender.specs.declared.sender.refusal.SenderRefusal.TheVariants as refusal
 use Rattle.sctp_stream.specs.declared.outbound_stream.OutboundStream.{OutboundStream}
 use Rattle.sctp_util.proofs.Cases.{by_same, same-yes}
-use Rattle.sctp_util.specs.Field.{u32_at}
 use Rattle.sctp_util.specs.Lists.{change_where}
 use Rattle.sctp_util.specs.Serial.{comes_before}
 use Rattle.sctp_util.specs.declared.error.Error.{Error}
@@ -438,15 +437,6 @@ pub denied_none : (n : Option ℕ) (a : Association) → a.peer_requests ≡ Non
 denied_none None a none = refl
 denied_none (Some k) a none = sym (ap (λ (x : Option PeerRequests). record a { peer_requests = option_map (denied k) x }) none
     ∙ ap (λ (x : Option PeerRequests). record a { peer_requests = x }) (sym none))
-
-module _ (raw : List ℕ) (at : ℕ) where
-  pub number_short : length raw < at + 8 → number_at raw at ≡ None
-  number_short lt =
-      let off : nat_le (at + 8) (length raw) ≡ false = grind (arith, nat_tests) in
-      ap (λ (b : Bool). if b then Some (u32_at (drop (at + 4) raw) 0) else None) off
-
-  pub number_there : at + 8 ≤ length raw → number_at raw at ≡ Some (u32_at (drop (at + 4) raw) 0)
-  number_there le = ap (λ (b : Bool). if b then Some (u32_at (drop (at + 4) raw) 0) else None) (le-leb (at + 8) (length raw) le)
 
 -- the expected one, and any other one
 pub denied_expected : (n : ℕ) (p q : PeerRequests) → q ≡ after_request n p → due_for n p ≡ Perform → after_answer Denied q ≡ denied n p

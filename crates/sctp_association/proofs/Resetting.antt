@@ -1,9 +1,7 @@
 -- A RE-CONFIG leaves where a response or a request is due.
-use Rattle.std.proofs.Common.{◌≡◌, ◌⊎◌, ℕ, ◌≤◌, ◌<◌, List, [], ◌∷◌, Bool, true, false, Option, Some, None, arith, refl, ap, inl, inr, sym, subst, ◌∙◌}
+use Rattle.std.proofs.Common.{◌≡◌, ◌⊎◌, ℕ, ◌≤◌, ◌<◌, List, Bool, true, false, Option, Some, None, arith, refl, ap, inl, inr, sym, subst, ◌∙◌}
 use Rattle.std.proofs.lemmas.Bool.{false≢true}
-use Rattle.std.proofs.lemmas.Option.{none-some}
-use Rattle.std.specs.Prelude.{IfSome, is_some, not, ◌&&◌, nat_le, ◌==◌, ◌-◌, ◌^◌, if◌then◌else◌}
-use Rattle.sctp_association.proofs.Making.{of-some}
+use Rattle.std.specs.Prelude.{IfSome, is_some}
 use Rattle.sctp_association.proofs.Known.{owes_alike}
 use Rattle.sctp_association.proofs.Others.{put_alike, puts_one, same_puts}
 use Rattle.sctp_association.proofs.Owing.{later_not_due}
@@ -18,7 +16,6 @@ use Rattle.sctp_packets.specs.Draft.{Draft}
 use Rattle.sctp_params.specs.Param.{Parameter, outgoing_reset_request, reconfig_response}
 use Rattle.sctp_params.specs.declared.param.param_reconfig_response.ParamReconfigResponse.{ParamReconfigResponse}
 use Rattle.sctp_path.specs.Timers.{is_due}
-use Rattle.sctp_reset.specs.Own.{due_at, is_idle, is_none_of}
 use Rattle.sctp_reset.specs.Peer.{first_due, without_first}
 use Rattle.sctp_reset.specs.Requests.{Request, Requests}
 use Rattle.sctp_reset.specs.declared.peer_requests.PeerRequests.{PeerRequests}
@@ -45,54 +42,12 @@ taken p h = taken-of p p.older p.newer h
 
 -- ## Requests
 
-comes-of : (now at : ℕ) (b : Bool) → (at == 2 ^ 64 - 1) ≡ b → b ≡ false → nat_le at now ≡ true → is_due now (if b then None else Some at) ≡ true
-comes-of now at true e h le = absurd (false≢true (sym h))
-comes-of now at false e h le = le
-
-due-in : (now : ℕ) (q r : Request) (b : Bool) → nat_le q.at now ≡ b → Some r ≡ (if b then Some q else None) → (r.at == 2 ^ 64 - 1) ≡ false
-    → is_due now (comes q.at) ≡ true
-due-in now q r true le e h = comes-of now q.at _ refl (ap (λ (x : Request). x.at == 2 ^ 64 - 1) (sym (of-some r q e)) ∙ h) le
-due-in now q r false le e h = absurd (none-some r (sym e))
-
-due-by : (now : ℕ) (w : List ℕ) (u : Option Request) (r : Request) → Some r ≡ due_at now u → (r.at == 2 ^ 64 - 1) ≡ false
-    → (is_some u ≡ true) × (request_in now w u ≡ true)
-due-by now w None r e h = absurd (none-some r (sym e))
-due-by now w (Some q) r e h = (refl, due-in now q r (nat_le q.at now) refl e h)
-
--- a request that is due, and comes
-pub due_is : (now : ℕ) (o : Requests) (r : Request) → Some r ≡ due_at now o.under_way → (r.at == 2 ^ 64 - 1) ≡ false
-    → (is_some o.under_way ≡ true) × (requests_due now o ≡ true)
-due_is now o r e h = due-by now o.waiting o.under_way r e h
-
 later-by : (now : ℕ) (w : List ℕ) (u : Option Request) → is_some u ≡ true → IsLater now (request_by u) → request_in now w u ≡ false
 later-by now w None some later = absurd (false≢true some)
 later-by now w (Some r) some later = later_not_due now (comes r.at) later
 
 pub later_asked : (now : ℕ) (o : Requests) → is_some o.under_way ≡ true → IsLater now (request_by o.under_way) → requests_due now o ≡ false
 later_asked now o some later = later-by now o.waiting o.under_way some later
-
-none-waits : (w : List ℕ) → not (is_none_of w) ≡ false → is_none_of w ≡ true
-none-waits [] e = refl
-none-waits (x ∷ xs) e = absurd (false≢true (sym e))
-
-some-waits : (w : List ℕ) → is_none_of w ≡ false → not (is_none_of w) ≡ true
-some-waits w e = ap not e
-
-asked-by : (now : ℕ) (w : List ℕ) (u : Option Request) → (not (is_some u) && is_none_of w) ≡ false → is_some u ≡ false → request_in now w u ≡ true
-asked-by now w None asked none = some-waits w asked
-asked-by now w (Some r) asked none = absurd (false≢true (sym none))
-
--- where streams wait, or a request is under way, and none is due, one is under way
-under-by : (now : ℕ) (w : List ℕ) (u : Option Request) → (not (is_some u) && is_none_of w) ≡ false → request_in now w u ≡ false → is_some u ≡ true
-under-by now w None asked none = absurd (false≢true (sym asked ∙ none-waits w none))
-under-by now w (Some r) asked none = refl
-
-pub under_way : (now : ℕ) (o : Requests) → is_idle o ≡ false → requests_due now o ≡ false → is_some o.under_way ≡ true
-under_way now o asked none = under-by now o.waiting o.under_way asked none
-
--- and where none is under way one is due
-pub asked_due : (now : ℕ) (o : Requests) → is_idle o ≡ false → is_some o.under_way ≡ false → requests_due now o ≡ true
-asked_due now o asked none = asked-by now o.waiting o.under_way asked none
 
 -- ## A RE-CONFIG
 

@@ -14,6 +14,7 @@ use Rattle.sctp_association.specs.Rows.{drained_where, over_by, owed_by, owed_on
 use Rattle.sctp_association.specs.Sending.{holds_nothing}
 use Rattle.sctp_association.specs.Telling.{ending_by, passed_on, whole_of}
 use Rattle.sctp_association.specs.Timers.{EntersTimers, KeepsTimers, RunsTimers, StartsTimers, StopsTimers, stops}
+use Rattle.sctp_association.proofs.Kept.{IsWithin}
 use Rattle.sctp_association.specs.declared.association.Association.{Association}
 use Rattle.sctp_association.specs.declared.association.arrivals.Step as arrivals
 use Rattle.sctp_association.specs.declared.association.arrivals.Step.TheVariants.{Next, Stop, Cut, Refused}
@@ -161,6 +162,26 @@ follows_step s tag now x y n a machine answer is h = record {
   machine = is ∙ machine;
   answer = subst (λ (k : Answer). FollowsAnswer k tag x.machine.state now x y) answer h;
 }
+
+-- an error of the peer is told besides
+pub follows_error : (s : Step) (tag now : ℕ) (x y : Association) (cause : Option ℕ) (p : IsWithin y) → FollowsStep s tag now x y
+    → FollowsStep s tag now x (record y { events = record y.events { peer_error = cause }; limited = p })
+follows_error s tag now x y cause p h =
+    let t = h.answer.timers in
+    record {
+      machine = h.machine;
+      answer = record {
+        due = h.answer.due;
+        timers = record {
+          stop = λ off. let k = t.stop off in record { control = k.control; guard = k.guard };
+          start = λ off other. let k = t.start off other in record { control = k.control; guard = k.guard };
+          keep = λ off same none. let k = t.keep off same none in record { control = k.control; guard = k.guard };
+        };
+        over = h.answer.over;
+        told = h.answer.told;
+        wants = h.answer.wants;
+      };
+    }
 
 -- ## The row of a chunk
 

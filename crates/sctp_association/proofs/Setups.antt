@@ -9,7 +9,9 @@ use Rattle.sctp_association.proofs.HostCalls.{each-datagram-brings}
 use Rattle.sctp_association.proofs.Links.{each-one-life-begins, each-one-life-goes-on, each-one-life-turns}
 use Rattle.sctp_association.proofs.Lives.{ack_read, deed_is_known, first_or_not, init_read, life_begins, sealed_of}
 use Rattle.sctp_association.proofs.OneLife.{each-link-delivers-any}
+use Rattle.sctp_association.proofs.OneLife.{each-link-delivers-young}
 use Rattle.sctp_association.proofs.Rules.{brought-steps, calls-by}
+use Rattle.sctp_association.specs.Ages.{AreYoungActs, aged_each, made_by_one, made_by_other}
 use Rattle.sctp_association.specs.Arrivals.{Arrival, Does, Halves, IsBroughtAs, Steps, begins, hears, receives, renews}
 use Rattle.sctp_association.specs.Beginnings.{AnswersInit, ArrivesAsOffered, BeginsToAsk, HasAsked, IsBegunBy, IsEchoed, IsKeptButMtu, IsOffered, IsOwnOffer}
 use Rattle.sctp_association.specs.Beginnings.{HasFreshTag, IsOwnEchoed, KeepsPeer, OffersInit, by_init_ack, by_kept, by_ticket}
@@ -26,8 +28,9 @@ use Rattle.sctp_association.specs.Lives.{Deed, DoesDeed, Life, asks, handles, li
 use Rattle.sctp_association.specs.Offering.{OffersAsDue}
 use Rattle.sctp_association.specs.OneLife.{Brought, IsOneLife, brought_each, brought_in, came_to_one}
 use Rattle.sctp_association.specs.Reached.{limits_of}
-use Rattle.sctp_association.specs.Setups.{AreQuiet, AreSetUp, AreSetUpBy, BringsOwnCookies, CameFrom, EachDatagramKeeps, EachQuietCallKeeps}
-use Rattle.sctp_association.specs.Setups.{EachSetUpDelivers, EachSetUpTurns, EachTwoAreSetUp, EachWrittenKeeps, IsSetUp, OfferTsn, ReceivesBy}
+use Rattle.sctp_association.specs.Setups.{AreQuiet, AreSetUp, AreSetUpBy, AreSetUpByActs, BringsOwnCookies, CameFrom, EachDatagramKeeps, EachQuietCallKeeps}
+use Rattle.sctp_association.specs.Setups.{EachSetUpDelivers, EachSetUpDeliversYoung, EachSetUpTurns, EachTwoAreSetUp, EachWrittenKeeps, IsSetUp, OfferTsn}
+use Rattle.sctp_association.specs.Setups.{ReceivesBy}
 use Rattle.sctp_association.specs.Setups.{is_silent}
 use Rattle.sctp_handshake.specs.declared.machine.Machine.{Machine}
 use Rattle.sctp_handshake.specs.declared.offer.Offer.{Offer}
@@ -188,6 +191,8 @@ module _ (f b : Way) (x y z : Party) (set : AreSetUp f b x z) (acts : List Act) 
     (longer : (d : List ℕ) → Contains x.log.sent d → Contains y.log.sent d) where
   set-up-by : (deed : Deed) → IsSetUp f b (life_after deed x.association set.life) y → CameFrom (life_after deed x.association set.life) z
       → AreSetUpBy f b x y z set deed more
+      (AreYoungActs f (made_by_other f b x z set.link) (host_at z) acts (host_at x) (host_at y) done)
+      (aged_each (made_by_one f b x z set.link) z.log.sent acts (host_at x) (host_at y) done)
   set-up-by deed is from =
       let g = each-one-life-goes-on f b acts x y z set.link done in
       record {
@@ -205,6 +210,9 @@ module _ (f b : Way) (x y z : Party) (set : AreSetUp f b x z) (acts : List Act) 
         peer_life = refl;
         came = g.2 ∙ ap (λ (m : List Brought). came_to_one f b x z set.link ++ m) brings;
         came_back = g.3;
+        young = g.4;
+        made_then = g.5;
+        made_back = g.6;
       }
 
 pub each-quiet-keeps : EachQuietCallKeeps
@@ -216,7 +224,7 @@ each-quiet-keeps f b deed acts x y z set silent does quiet done same = by deed s
     longer : (d : List ℕ) → Contains x.log.sent d → Contains y.log.sent d
     longer d c = subst (λ (s : List (List ℕ)). Contains s d) (sym same) c
 
-    by : (deed : Deed) → is_silent deed ≡ true → DoesDeed deed x.association y.association → AreSetUpBy f b x y z set deed []
+    by : (deed : Deed) → is_silent deed ≡ true → DoesDeed deed x.association y.association → AreSetUpByActs f b x y z set deed acts done
     by stays e k = set-up-by f b x y z set acts done q.0 [] q.1 longer stays (kept f b set.life x y set.one_is k same) set.came
     by asks e k = set-up-by f b x y z set acts done q.0 [] q.1 longer asks (has-asked f b set.life x y set.one_is k.0 k.1 same) set.came
     by resizes e k = set-up-by f b x y z set acts done q.0 [] q.1 longer resizes (resized f b set.life x y set.one_is k same) set.came
@@ -236,12 +244,21 @@ each-datagram-keeps f b d a c l z set handed o own none =
     let calls = o.arrives.calls in
     let run = brought-steps d a c calls (halves_of a) (halves_of c) o.arrives.run in
     let done = each-datagram-brings d a c l z.log.sent handed (record { calls = calls; run = run }) in
-    let rule = are-of-one f b set.life d a c l z set.one_is set.other_is.sent set.came handed o own none calls (halves_of a) (halves_of c) o.arrives.run in (
+    let rule = are-of-one f b set.life d a c l z set.one_is set.other_is.sent set.came handed o own none calls (halves_of a) (halves_of c) o.arrives.run in
+    let by = set-up-by f b x y z set (hands d ∷ []) (host_of c l, (done.0, refl)) (done.1 b rule, tt) (brought_in d calls (halves_of a) (halves_of c) run)
+    (append-nil _ ∙ done.2) (λ c there. there) (handles d) (handled f b set.life d a c l z set.one_is set.other_is.sent set.came handed o own)
+    (came-too f b set.life d a c l z set.one_is set.other_is.sent set.came handed o own) in (
       run,
-      set-up-by f b x y z set (hands d ∷ []) (host_of c l, (done.0, refl)) (done.1 b rule, tt) (brought_in d calls (halves_of a) (halves_of c) run)
-          (append-nil _ ∙ done.2) (λ c there. there) (handles d)
-          (handled f b set.life d a c l z set.one_is set.other_is.sent set.came handed o own)
-          (came-too f b set.life d a c l z set.one_is set.other_is.sent set.came handed o own),
+      record {
+        next = by.next;
+        life = by.life;
+        peer_life = by.peer_life;
+        came = by.came;
+        came_back = by.came_back;
+        young = λ before now. by.young before (done.3 f (made_by_other f b x z set.link) (host_at z) now, tt, tt);
+        made_then = by.made_then;
+        made_back = by.made_back;
+      },
     )
 
 pub each-two-are-set-up : EachTwoAreSetUp
@@ -249,7 +266,7 @@ each-two-are-set-up f b x z c peer-c key peer-key one other made peer-made by pe
     let begun = each-one-life-begins f b x z one other in
     let nothing : (h : Host) (w : Way) (s : List (List ℕ)) → s ≡ []
     → OfferTsn w.tsn s = λ h w s none d there. absurd (omega (arith, (subst (λ (s : List (List ℕ)). Contains s d) none there).1)) in
-    record {
+    let set : AreSetUp f b x z = record {
       life = new_life key;
       peer_life = new_life peer-key;
       one_is = record {
@@ -274,7 +291,8 @@ each-two-are-set-up f b x z c peer-c key peer-key one other made peer-made by pe
       came_back = λ d there. absurd (omega (arith, there.1));
       link = begun.0;
       once = begun.1;
-    }
+    } in
+    (set, begun.4, begun.5, begun.6)
 
 pub each-set-up-turns : EachSetUpTurns
 each-set-up-turns f b x z set =
@@ -291,7 +309,14 @@ each-set-up-turns f b x z set =
       },
       g.2,
       g.3,
+      g.4,
+      g.5,
+      g.6,
     )
 
 pub each-set-up-delivers : EachSetUpDelivers
 each-set-up-delivers f b x z set fit other few other-few = each-link-delivers-any f b x z set.link set.once fit other few other-few
+
+pub each-set-up-delivers-young : EachSetUpDeliversYoung
+each-set-up-delivers-young f b x z set young fit other short other-short =
+    each-link-delivers-young f b x z set.link set.once young fit other short other-short

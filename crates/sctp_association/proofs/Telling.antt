@@ -1,5 +1,6 @@
 -- What waits to be told stays: from one call to the next, and where nothing that is told changes.
 use Rattle.std.proofs.Common.{◌≡◌, ◌⊎◌, inl, inr, ℕ, zero, suc, ◌<◌, ◌≤◌, take, Bool, true, false, List, [], ◌∷◌, length, Option, Some, None, refl, ap, sym}
+use Rattle.std.proofs.Common.{arith}
 use Rattle.std.proofs.Common.{subst, ◌∙◌}
 use Rattle.std.proofs.lemmas.Bool.{cases_lt, false≢true}
 use Rattle.std.specs.Prelude.{find, is_some, if◌then◌else◌, ◌==◌}
@@ -18,7 +19,8 @@ use Rattle.sctp_association.specs.Reads.{message_in}
 use Rattle.sctp_association.specs.Rooms.{without}
 use Rattle.sctp_association.specs.Runs.{AcksBy, ReportsIn, Runs, reported_by}
 use Rattle.sctp_association.specs.StreamSet.{is_in}
-use Rattle.sctp_association.specs.Telling.{KeepsEvents, NotesReadable, PassesOn, Stays, Tells, TellsEnd, TellsIn, TellsTo, opened_in, passed_on}
+use Rattle.sctp_association.proofs.Rooms.{place_kept, rooms_alike, rooms_then}
+use Rattle.sctp_association.specs.Telling.{KeepsEvents, KeepsRooms, NotesReadable, PassesOn, Stays, Tells, TellsEnd, TellsIn, TellsTo, opened_in, passed_on}
 use Rattle.sctp_data.specs.SelectiveAck.{Sack}
 use Rattle.sctp_delivery.specs.ReceiverCalls.{ReceiverCall, forgets, makes_sack}
 use Rattle.sctp_handshake.specs.Beginnings.{init_ack_checked, init_ack_row, on_connect, on_init_ack}
@@ -57,6 +59,7 @@ kept_same e f is = subst (KeepsEvents e) (sym is) (record {
   reset_refused = λ s h. h;
   reset_by_peer = λ s h. h;
   too_long = λ s h. h;
+  rooms = rooms_alike e e refl refl refl refl refl refl;
 })
 
 pub kept_then : (e f g : Events) → KeepsEvents e f → KeepsEvents f g → KeepsEvents e g
@@ -71,6 +74,7 @@ kept_then e f g h k = record {
   reset_refused = λ s w. k.reset_refused s (h.reset_refused s w);
   reset_by_peer = λ s w. k.reset_by_peer s (h.reset_by_peer s w);
   too_long = λ s w. k.too_long s (h.too_long s w);
+  rooms = rooms_then e f g h.rooms k.rooms;
 }
 
 kept-closed : (e : Events) (x : Ending) → KeepsEvents e (record e { closed = Some x })
@@ -85,6 +89,7 @@ kept-closed e x = record {
   reset_refused = λ s h. h;
   reset_by_peer = λ s h. h;
   too_long = λ s h. h;
+  rooms = rooms_alike e _ refl refl refl refl refl refl;
 }
 
 kept-connected : (e : Events) → KeepsEvents e (record e { connected = true })
@@ -99,6 +104,7 @@ kept-connected e = record {
   reset_refused = λ s h. h;
   reset_by_peer = λ s h. h;
   too_long = λ s h. h;
+  rooms = rooms_alike e _ refl refl refl refl refl refl;
 }
 
 kept-restarted : (e : Events) → KeepsEvents e (record e { restarted = true })
@@ -113,6 +119,7 @@ kept-restarted e = record {
   reset_refused = λ s h. h;
   reset_by_peer = λ s h. h;
   too_long = λ s h. h;
+  rooms = rooms_alike e _ refl refl refl refl refl refl;
 }
 
 kept-shutdown : (e : Events) → KeepsEvents e (record e { shutdown = true })
@@ -127,6 +134,7 @@ kept-shutdown e = record {
   reset_refused = λ s h. h;
   reset_by_peer = λ s h. h;
   too_long = λ s h. h;
+  rooms = rooms_alike e _ refl refl refl refl refl refl;
 }
 
 kept-error : (e : Events) (code : ℕ) → KeepsEvents e (record e { peer_error = Some code })
@@ -141,6 +149,7 @@ kept-error e code = record {
   reset_refused = λ s h. h;
   reset_by_peer = λ s h. h;
   too_long = λ s h. h;
+  rooms = rooms_alike e _ refl refl refl refl refl refl;
 }
 
 -- ## Streams with a message to read
@@ -180,14 +189,14 @@ unopened s (Some i) e w = message-none (stream_of s i.receiver) e w
 -- where no stream opens, and the same messages can be read
 module _ (i : Option Inbound) (e : Events) (j : Option Inbound) (f : Events) where
   notes-by : ((s : ℕ) → opened_in s j ≡ true → opened_in s i ≡ true) → ((s : ℕ) → message_in s j ≡ message_in s i) → f.readable ≡ e.readable
-      → NotesReadable i e j f
-  notes-by more same is = record {
-    places = λ h s o. subst (λ (l : List Bool). s < length l) (sym is) (h s (more s o));
+      → KeepsRooms e f → NotesReadable i e j f
+  notes-by more same is rooms = record {
+    places = λ h s o. place_kept s e f rooms (h s (more s o));
     noted = λ h s n w. subst (λ (l : List Bool). is_in s l ≡ true) (sym is) (n (sym (ap is_some (same s)) ∙ w));
   }
 
-  notes-alike : streams_in j ≡ streams_in i → f.readable ≡ e.readable → NotesReadable i e j f
-  notes-alike same is = notes-by (λ s o. sym (opened-same i j same s) ∙ o) (message-same i j same) is
+  notes-alike : streams_in j ≡ streams_in i → f.readable ≡ e.readable → KeepsRooms e f → NotesReadable i e j f
+  notes-alike same is rooms = notes-by (λ s o. sym (opened-same i j same s) ∙ o) (message-same i j same) is rooms
 
   -- where no stream is open nothing can be read
   pub notes_none : ((s : ℕ) → opened_in s j ≡ false) → NotesReadable i e j f
@@ -197,7 +206,9 @@ module _ (i : Option Inbound) (e : Events) (j : Option Inbound) (f : Events) whe
   }
 
   in-alike : streams_in j ≡ streams_in i → f ≡ e → TellsIn i e j f
-  in-alike same is = record { kept = kept_same e f is; readable = notes-alike same (ap (λ (x : Events). x.readable) is) }
+  in-alike same is =
+      let kept = kept_same e f is in
+      record { kept = kept; readable = notes-alike same (ap (λ (x : Events). x.readable) is) kept.rooms }
 
 pub in_then : (i : Option Inbound) (e : Events) (j : Option Inbound) (f : Events) (k : Option Inbound) (g : Events) → TellsIn i e j f → TellsIn j f k g
     → TellsIn i e k g
@@ -225,18 +236,20 @@ module _ (i : Option Inbound) (e : Events) (x : Bool) (j : Option Inbound) (f : 
 
   -- nothing of the receiving half changes, and events that wait stay
   pub to_kept : streams_in j ≡ streams_in i → KeepsEvents e f → f.readable ≡ e.readable → y ≡ x → TellsTo i e x j f y
-  to_kept same kept is over = going (record { kept = kept; readable = notes-alike i e j f same is }) over
+  to_kept same kept is over = going (record { kept = kept; readable = notes-alike i e j f same is kept.rooms }) over
 
   -- it ends
   pub to_over : (how : Ending) → streams_in j ≡ streams_in i → f ≡ record e { closed = Some how } → y ≡ true → TellsTo i e x j f y
-  to_over how same is over = record {
-    events = record {
-      kept = subst (KeepsEvents e) (sym is) (kept-closed e how);
-      readable = notes-alike i e j f same (ap (λ (v : Events). v.readable) is);
-    };
-    over = λ was. over;
-    ended = λ was now. ap (λ (v : Events). is_some v.closed) is;
-  }
+  to_over how same is over =
+      let kept = subst (KeepsEvents e) (sym is) (kept-closed e how) in
+      record {
+        events = record {
+          kept = kept;
+          readable = notes-alike i e j f same (ap (λ (v : Events). v.readable) is) kept.rooms;
+        };
+        over = λ was. over;
+        ended = λ was now. ap (λ (v : Events). is_some v.closed) is;
+      }
 
   -- and what follows
   module _ (k : Option Inbound) (g : Events) (z : Bool) (h : TellsTo i e x j f y) (l : TellsTo j f y k g z) where
@@ -450,6 +463,12 @@ in-take (suc k) s [] h = absurd (false≢true h)
 in-take (suc k) zero (x ∷ l) h = h
 in-take (suc k) (suc s) (x ∷ l) h = in-take k s l h
 
+-- some room is no more than all
+cut-few : (k : ℕ) (l : List Bool) → length (take k l) ≤ length l
+cut-few zero l = omega arith
+cut-few (suc k) [] = omega arith
+cut-few (suc k) (x ∷ l) = let fewer = cut-few k l in omega (arith, fewer)
+
 -- room was made for them
 pub without_keeps : (r : Rooms) (e f : Events) → without r f ≡ e → KeepsEvents e f
 without_keeps r e f is = record {
@@ -463,6 +482,14 @@ without_keeps r e f is = record {
   reset_refused = λ s h. in-take r.reset_refused s f.reset_refused (ap (λ (x : Events). is_in s x.reset_refused) is ∙ h);
   reset_by_peer = λ s h. ap (λ (x : Events). is_in s x.reset_by_peer) is ∙ h;
   too_long = λ s h. ap (λ (x : Events). is_in s x.too_long) is ∙ h;
+  rooms = record {
+    readable = omega (arith, ap (λ (x : Events). length x.readable) is);
+    low = omega (arith, ap (λ (x : Events). length x.low) is, cut-few r.low f.low);
+    reset_by_us = omega (arith, ap (λ (x : Events). length x.reset_by_us) is, cut-few r.reset_by_us f.reset_by_us);
+    reset_refused = omega (arith, ap (λ (x : Events). length x.reset_refused) is, cut-few r.reset_refused f.reset_refused);
+    reset_by_peer = omega (arith, ap (λ (x : Events). length x.reset_by_peer) is);
+    too_long = omega (arith, ap (λ (x : Events). length x.too_long) is);
+  };
 }
 
 pub without_end : (r : Rooms) (i : Option Inbound) (e f : Events) (x : Bool) → without r f ≡ e → TellsTo i e x i f x
@@ -481,8 +508,8 @@ stays_insert n l m value full = by (cases_lt n (length l))
     by (inl h) k w = value h k ∙ in-if (k == n) (is_in k l) w
     by (inr h) k w = ap (is_in k) (full h) ∙ w
 
-kept-low : (e : Events) (m : List Bool) → Stays e.low m → KeepsEvents e (record e { low = m })
-kept-low e m h = record {
+kept-low : (e : Events) (m : List Bool) → Stays e.low m → length e.low ≤ length m → KeepsEvents e (record e { low = m })
+kept-low e m h more = record {
   connected = λ w. w;
   restarted = λ w. w;
   shutdown = λ w. w;
@@ -493,14 +520,22 @@ kept-low e m h = record {
   reset_refused = λ s w. w;
   reset_by_peer = λ s w. w;
   too_long = λ s w. w;
+  rooms = record {
+    readable = omega arith;
+    low = more;
+    reset_by_us = omega arith;
+    reset_refused = omega arith;
+    reset_by_peer = omega arith;
+    too_long = omega arith;
+  };
 }
 
 -- the low amounts are all that changed
 pub low_only : (e f : Events) (m : List Bool) → f ≡ record e { low = m } → f ≡ record e { low = f.low }
 low_only e f m is = is ∙ ap (λ l. record e { low = l }) (sym (ap (λ (x : Events). x.low) is))
 
-kept-by-us : (e : Events) (m : List Bool) → Stays e.reset_by_us m → KeepsEvents e (record e { reset_by_us = m })
-kept-by-us e m h = record {
+kept-by-us : (e : Events) (m : List Bool) → Stays e.reset_by_us m → length e.reset_by_us ≤ length m → KeepsEvents e (record e { reset_by_us = m })
+kept-by-us e m h more = record {
   connected = λ w. w;
   restarted = λ w. w;
   shutdown = λ w. w;
@@ -511,10 +546,18 @@ kept-by-us e m h = record {
   reset_refused = λ s w. w;
   reset_by_peer = λ s w. w;
   too_long = λ s w. w;
+  rooms = record {
+    readable = omega arith;
+    low = omega arith;
+    reset_by_us = more;
+    reset_refused = omega arith;
+    reset_by_peer = omega arith;
+    too_long = omega arith;
+  };
 }
 
-kept-refused : (e : Events) (m : List Bool) → Stays e.reset_refused m → KeepsEvents e (record e { reset_refused = m })
-kept-refused e m h = record {
+kept-refused : (e : Events) (m : List Bool) → Stays e.reset_refused m → length e.reset_refused ≤ length m → KeepsEvents e (record e { reset_refused = m })
+kept-refused e m h more = record {
   connected = λ w. w;
   restarted = λ w. w;
   shutdown = λ w. w;
@@ -525,17 +568,25 @@ kept-refused e m h = record {
   reset_refused = h;
   reset_by_peer = λ s w. w;
   too_long = λ s w. w;
+  rooms = record {
+    readable = omega arith;
+    low = omega arith;
+    reset_by_us = omega arith;
+    reset_refused = more;
+    reset_by_peer = omega arith;
+    too_long = omega arith;
+  };
 }
 
 module _ (i : Option Inbound) (e : Events) (x : Bool) (m : List Bool) where
-  pub to_low : Stays e.low m → TellsTo i e x i (record e { low = m }) x
-  to_low h = to_kept i e x i _ x refl (kept-low e m h) refl refl
+  pub to_low : Stays e.low m → length e.low ≤ length m → TellsTo i e x i (record e { low = m }) x
+  to_low h more = to_kept i e x i _ x refl (kept-low e m h more) refl refl
 
-  pub to_by_us : Stays e.reset_by_us m → TellsTo i e x i (record e { reset_by_us = m }) x
-  to_by_us h = to_kept i e x i _ x refl (kept-by-us e m h) refl refl
+  pub to_by_us : Stays e.reset_by_us m → length e.reset_by_us ≤ length m → TellsTo i e x i (record e { reset_by_us = m }) x
+  to_by_us h more = to_kept i e x i _ x refl (kept-by-us e m h more) refl refl
 
-  pub to_refused : Stays e.reset_refused m → TellsTo i e x i (record e { reset_refused = m }) x
-  to_refused h = to_kept i e x i _ x refl (kept-refused e m h) refl refl
+  pub to_refused : Stays e.reset_refused m → length e.reset_refused ≤ length m → TellsTo i e x i (record e { reset_refused = m }) x
+  to_refused h more = to_kept i e x i _ x refl (kept-refused e m h more) refl refl
 
 -- ## One step
 

@@ -3,6 +3,7 @@ use Rattle.std.proofs.Common.{◌≡◌, ◌⊎◌, inl, inr, ℕ, Bool, true, f
 use Rattle.std.proofs.lemmas.Bool.{false≢true}
 use Rattle.std.proofs.lemmas.List.Elements.{Contains-append_left, Contains-append_right, Contains-push}
 use Rattle.std.specs.Prelude.{Contains, is_some}
+use Rattle.sctp_association.proofs.Rooms.{rooms_alike, rooms_then}
 use Rattle.sctp_association.specs.Beginnings.{is_standing}
 use Rattle.sctp_association.specs.declared.association.Association.{Association}
 use Rattle.sctp_association.specs.declared.event.Ending.{Ending}
@@ -13,7 +14,7 @@ use Rattle.sctp_association.specs.Events.{Waits}
 use Rattle.sctp_association.specs.Reads.{message_in}
 use Rattle.sctp_association.specs.Told.{Act, ActsEach, EachLosesNone, Gives, IsGivenOrWaits, lasts}
 use Rattle.sctp_association.specs.Told.{calls, polls}
-use Rattle.sctp_association.specs.Telling.{HasPlaces, IsNoted, KeepsEvents, Tells}
+use Rattle.sctp_association.specs.Telling.{HasPlaces, IsNoted, KeepsEvents, KeepsRooms, Tells}
 
 -- ## One more call before
 
@@ -132,6 +133,19 @@ readable-along (polls given ∷ acts) a b run h s noted m =
     either (event.Readable s) given acts (IsNoted s run.0.inbound run.0.events) b.events
     (λ on. readable-along acts run.0 b run.1.1 (run.1.0.places h) s on m) (noted-by s given a run.0 run.1.0 noted)
 
+-- ## The room of the sets
+
+places-along : (acts : List Act) (a b : Association) → ActsEach acts a b → HasPlaces a.inbound a.events → HasPlaces b.inbound b.events
+places-along [] a b run h = subst (λ (x : Association). HasPlaces x.inbound x.events) (sym run) h
+places-along (calls ∷ acts) a b run h = places-along acts run.0 b run.1.1 (run.1.0.end.events.readable.places h)
+places-along (polls given ∷ acts) a b run h = places-along acts run.0 b run.1.1 (run.1.0.places h)
+
+rooms-along : (acts : List Act) (a b : Association) → ActsEach acts a b → KeepsRooms a.events b.events
+rooms-along [] a b run = subst (λ (x : Association). KeepsRooms a.events x.events) (sym run) (rooms_alike a.events a.events refl refl refl refl refl refl)
+rooms-along (calls ∷ acts) a b run =
+    rooms_then a.events run.0.events b.events run.1.0.end.events.kept.rooms (rooms-along acts run.0 b run.1.1)
+rooms-along (polls given ∷ acts) a b run = rooms_then a.events run.0.events b.events run.1.0.rooms (rooms-along acts run.0 b run.1.1)
+
 pub each-loses-none : EachLosesNone
 each-loses-none acts a b run = record {
   waited = λ v l w. waited-along acts v a b l run w;
@@ -144,4 +158,6 @@ each-loses-none acts a b run = record {
   ended = turned-along (λ x. x.is_over) (λ e. is_some e.closed ≡ true) IsEndGiven (λ x y t. t.end.ended)
       (λ g x y k. ap (λ (z : Association). z.is_over) k.rest) ended-waits end-later acts a b run;
   readable = readable-along acts a b run;
+  places = places-along acts a b run;
+  rooms = rooms-along acts a b run;
 }

@@ -1,5 +1,5 @@
 -- A sender gives out no more TSNs than fragments were written: one for each at most, and for the rest of a message that it abandons.
-use Rattle.std.proofs.Common.{◌≡◌, ◌+◌, ◌%◌, ◌^◌, ◌≤◌, ◌<◌, ℕ, zero, suc, Bool, true, false, not, List, [], ◌∷◌, ◌++◌, length, drop, Option, Some, None, refl}
+use Rattle.std.proofs.Common.{◌≡◌, ◌+◌, ◌%◌, ◌^◌, ◌≤◌, ◌<◌, ℕ, zero, suc, Bool, true, false, List, [], ◌∷◌, length, drop, Option, Some, None, refl}
 use Rattle.std.proofs.Common.{ap}
 use Rattle.std.proofs.Common.{sym, subst, ◌∙◌, arith, length-append}
 use Rattle.std.proofs.lemmas.Bool.Decides.{nat_tests}
@@ -13,22 +13,9 @@ use Rattle.sctp_data.specs.declared.chunk.chunk_payload_data.PayloadProtocolIden
 use Rattle.sctp_data.specs.SelectiveAck.{Sack}
 use Rattle.sctp_delivery.proofs.Changes.{Change, acknowledges, all_start, changes, each_leaves, flight_after, front_expires, more_room, nothing, one_leaves}
 use Rattle.sctp_delivery.proofs.Changes.{some_marked, some_missed}
-use Rattle.sctp_delivery.proofs.EveryMessages.{steady-there}
-use Rattle.sctp_delivery.proofs.EveryShadows.{HasBeside, IsPlayed, has-beside}
-use Rattle.sctp_delivery.proofs.Numbers.{number_of}
-use Rattle.sctp_delivery.proofs.PlainHolds.{held-like}
-use Rattle.sctp_delivery.proofs.Queues.{started}
-use Rattle.sctp_delivery.proofs.Senders.{IsHeldOn}
 use Rattle.sctp_delivery.proofs.Writing.{accepted-stream}
-use Rattle.sctp_delivery.specs.EveryCall.{AnyCall, FollowsAny, RunsAny, is_steady, tsns_given_any, was_dropped}
-use Rattle.sctp_delivery.specs.EveryEnd.{abandoned_any}
-use Rattle.sctp_delivery.specs.EveryOrder.{is_unbroken, plain_calls}
-use Rattle.sctp_delivery.specs.Modes.{Modes, at_first, modes_from}
-use Rattle.sctp_delivery.specs.Returns.{at_start_with}
 use Rattle.sctp_delivery.specs.SenderCalls as outgoing
 use Rattle.sctp_delivery.specs.SenderCalls.{SenderCall, SenderMakes}
-use Rattle.sctp_delivery.specs.Session.{Session, bytes_written}
-use Rattle.sctp_delivery.specs.StandAny.{StandAny, given_any}
 use Rattle.sctp_outbound.proofs.lemmas.outbound_queue.Outbounds.{peeked_all_started}
 use Rattle.sctp_outbound.proofs.lemmas.outbound_queue.Sendable.{sendable-sent}
 use Rattle.sctp_outbound.specs.Marks.{is_of}
@@ -83,7 +70,7 @@ pub record Uses (n : ℕ) (f g : Flight) : Type 0 where
   pub next : g.next_tsn ≡ (f.next_tsn + given) % 2 ^ 32
   pub fewer : given + waiting_in g ≤ waiting_in f + n
 
-uses-none : (n : ℕ) (f g : Flight) → f.next_tsn < 2 ^ 32 → g.next_tsn ≡ f.next_tsn → waiting_in g ≤ waiting_in f + n → Uses n f g
+pub uses-none : (n : ℕ) (f g : Flight) → f.next_tsn < 2 ^ 32 → g.next_tsn ≡ f.next_tsn → waiting_in g ≤ waiting_in f + n → Uses n f g
 uses-none n f g small next fewer = record { given = 0; next = omega (arith, small, next); fewer = omega (arith, fewer) }
 
 uses-then : (f g h : Flight) → Uses 0 f g → Uses 0 g h → Uses 0 f h
@@ -230,94 +217,6 @@ module _ (t : Transmission) (small : t.flight.next_tsn < 2 ^ 32) where
 
 -- ## A session
 
--- how many TSNs were given out, and how many fragments wait
-abbrev pub used : StandAny → ℕ
-used st = given_any st + waiting_in st.session.sending.sender.flight
-
-abbrev next_in : Session → ℕ
-next_in s = s.sending.sender.flight.next_tsn
-
-no-further : (a k : ℕ) → a < 2 ^ 32 → distance a ((a + k) % 2 ^ 32) ≤ k
+pub no-further : (a k : ℕ) → a < 2 ^ 32 → distance a ((a + k) % 2 ^ 32) ≤ k
 unfolding distance
 no-further a k small = omega (arith, small)
-
-unfoldable run-then : (cs : List AnyCall) (c : AnyCall) (old mid new : Session) → RunsAny old cs mid → FollowsAny c mid new
-    → RunsAny old (cs ++ c ∷ []) new
-run-then [] c old mid new r f = (new, (subst (λ s. FollowsAny c s new) r f, refl))
-run-then (d ∷ cs) c old mid new r f = (r.0, (r.1.0, run-then cs c r.0 mid new r.1.1 f))
-
-given-then : (cs : List AnyCall) (c : AnyCall) (old mid new : Session) (r : RunsAny old cs mid) (f : FollowsAny c mid new)
-    → tsns_given_any old (cs ++ c ∷ []) new (run-then cs c old mid new r f) ≡ tsns_given_any old cs mid r + distance (next_in mid) (next_in new)
-unfolding run-then
-given-then [] c old mid new r f = let e = ap (λ s. distance (next_in s) (next_in new)) r in omega (arith, e)
-given-then (d ∷ cs) c old mid new r f = let e = given-then cs c r.0 mid new r.1.1 f in omega (arith, e)
-
--- where the sender stands, its next TSN is a number of 32 bits, and what waits can be sent
-module _ (st : StandAny) where
-  abbrev on : ℕ → Bool
-  on = is_steady st.calls
-
-  abbrev gone : List ℕ
-  gone = abandoned_any (at_start_with st.reported st.tsn st.size st.max st.most st.limits) st.calls st.session st.run
-
-  abbrev modes : Modes
-  modes = modes_from at_first (plain_calls st.calls)
-
-  beside : HasBeside on (was_dropped st.calls) (is_unbroken st.calls) (steady-there false st.calls) st.tsn st.session (given_any st) gone modes
-  beside =
-      has-beside on (was_dropped st.calls) (is_unbroken st.calls) (steady-there false st.calls) st.tsn st.reported st.size st.max st.most st.limits
-      st.calls st.session st.run st.small st.some st.few st.short (λ t e. e) (λ q e. ap not e) (λ q e. e)
-
-  played : IsPlayed on (was_dropped st.calls) (is_unbroken st.calls) (steady-there false st.calls) st.tsn beside.other (given_any st) gone modes
-  played = beside.plays st.few
-
-  held : IsHeldOn on played.numbered st.tsn st.session.sending.sender played.sent
-  held =
-      let x = beside.shadow in
-      held-like on st.tsn st.session.sending.sender x.streams x.chunks played.numbered played.sent x.alike x.like
-      (subst (λ u. IsHeldOn on played.numbered st.tsn u played.sent) x.sender played.spread.holds.held)
-
-  pub small-in : st.session.sending.sender.flight.next_tsn < 2 ^ 32
-  small-in = let n = held.stands.counted in omega (arith, n)
-
-  pub ready-in : (now : ℕ) → IsSendable (all_started now st.session.sending.sender.flight.queue).pending
-      (all_started now st.session.sending.sender.flight.queue).inflight.chunks (all_started now st.session.sending.sender.flight.queue).next_message_id
-  ready-in now =
-      let t = st.session.sending.sender in
-      (started on played.numbered st.tsn (λ s. number_of s t.streams) now t.flight.queue t.flight.next_tsn played.sent held.stands).sendable
-
-  -- the session after a call that leads there
-  pub record Then (c : AnyCall) (t : Session) (n : ℕ) : Type 0 where
-    pub next : StandAny
-    pub there : next.session ≡ t
-    pub calls : next.calls ≡ st.calls ++ c ∷ []
-    pub used' : used next ≤ used st + n
-
-  pub then-used : (c : AnyCall) (t : Session) (n : ℕ) → FollowsAny c st.session t → Uses n st.session.sending.sender.flight t.sending.sender.flight
-      → used st + n < 2 ^ 31 → bytes_written t < 2 ^ 64 → Then c t n
-  then-used c t n f u few short =
-      let start = at_start_with st.reported st.tsn st.size st.max st.most st.limits in
-      let given = given-then st.calls c start st.session t st.run f in
-      let far : distance (next_in st.session) (next_in t) ≤ u.given =
-      subst (λ (k : ℕ). distance (next_in st.session) k ≤ u.given) (sym u.next) (no-further (next_in st.session) u.given small-in) in
-      let fewer = u.fewer in
-      record {
-        next = record {
-          reported = st.reported;
-          tsn = st.tsn;
-          size = st.size;
-          max = st.max;
-          most = st.most;
-          limits = st.limits;
-          calls = st.calls ++ c ∷ [];
-          session = t;
-          run = run-then st.calls c start st.session t st.run f;
-          small = st.small;
-          some = st.some;
-          few = omega (arith, given, far, fewer, few);
-          short = short;
-        };
-        there = refl;
-        calls = refl;
-        used' = omega (arith, given, far, fewer);
-      }

@@ -1,6 +1,7 @@
 -- Which events a chunk brings: no other one waits that did not wait before (RFC 9260 11.2).
 use Rattle.std.specs.Prelude.{◌≡◌, ◌⊎◌, ℕ, Bool, true, List, drop, Some, is_some}
 use Rattle.sctp_association.specs.Acks.{without_blocks}
+use Rattle.sctp_association.specs.AcksDue.{entered_on}
 use Rattle.sctp_association.specs.Events.{brought_at, peers_from}
 use Rattle.sctp_association.specs.Paths.{taken_as}
 use Rattle.sctp_association.specs.Reads.{message_in}
@@ -16,7 +17,7 @@ use Rattle.sctp_data.specs.PayloadData.{data_of}
 use Rattle.sctp_data.specs.SelectiveAck.{Sack}
 use Rattle.sctp_datagram.specs.Framing.{StartsWith}
 use Rattle.sctp_datagram.specs.declared.datagram.ChunkPlace.{ChunkPlace}
-use Rattle.sctp_receiver.specs.Receiver.{Reception, arrival_refusal, message_on, open_stream}
+use Rattle.sctp_receiver.specs.Receiver.{Reception, arrival_refusal, message_on}
 use Rattle.sctp_receiver.specs.declared.receiver.refusal.ReceiverRefusal.TheVariants.{MessageTooLarge}
 use Rattle.sctp_sender.specs.Sender.{Transmission, after_acked, after_take_back}
 use Rattle.sctp_sender.specs.Thresholds.{fell}
@@ -42,9 +43,9 @@ IsReadOf d r s = (d.stream_identifier ≡ s) × (is_some (message_on s r) ≡ tr
 abbrev pub IsLargeOf : ChunkPayloadData → Reception → ℕ → Type 0
 IsLargeOf d r s = (d.stream_identifier ≡ s) × (arrival_refusal d r ≡ Some MessageTooLarge)
 
--- so it is of the receiver as it is, or with the stream open
-abbrev pub IsLongOf : ChunkPayloadData → Reception → ℕ → Type 0
-IsLongOf d r s = IsLargeOf d r s ⊎ IsLargeOf d (open_stream d.stream_identifier r) s
+-- so it is of the receiver that it comes to
+abbrev pub IsLongOf : ChunkPayloadData → Inbound → ℕ → Type 0
+IsLongOf d i s = IsLargeOf d (entered_on d i) s
 
 -- ## A chunk
 
@@ -67,7 +68,7 @@ pub record IsLongOn (c : ChunkPlace) (datagram : List ℕ) (old : Association) (
   pub is : old.inbound ≡ Some there
   pub chunk : ChunkPayloadData
   pub reads : StartsWith (drop c.at datagram) (data_chunk (data_of chunk))
-  pub long : IsLongOf chunk there.receiver s
+  pub long : IsLongOf chunk there s
 
 -- the buffered amount of the stream falls from above its low threshold to at most it, as this SACK is taken
 abbrev pub falls_at : ℕ → Sack → Transmission → Bool

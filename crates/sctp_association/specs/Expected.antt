@@ -5,7 +5,7 @@ use Rattle.crc32c.specs.Castagnoli.{crc32c_of}
 use Rattle.sctp_association.specs.Beginnings.{is_standing}
 use Rattle.sctp_association.specs.Coming.{goes_on, is_due, zero_checksum_of}
 use Rattle.sctp_association.specs.Cookies.{IsSealedAt, cookie_in}
-use Rattle.sctp_association.specs.Openings.{echo_step}
+use Rattle.sctp_association.specs.Openings.{BringsEnd, echo_step}
 use Rattle.sctp_association.specs.Reports.{value_in}
 use Rattle.sctp_association.specs.Rows.{row_at}
 use Rattle.sctp_association.specs.Tags.{is_admitted}
@@ -97,11 +97,11 @@ pub record BringsCookie (c : ChunkPlace) (datagram : List ℕ) : Type 0 where
   pub reads : values.cookie_in (init_in (value_in datagram c)) ≡ Ok (offer, place)
   pub within : place.at + place.length ≤ length (value_in datagram c)
 
--- and this side waits for it
+-- this side waits for it, and it brings that, or ends what was begun
 pub record IsInitAckExpected (c : ChunkPlace) (datagram : List ℕ) (a : Association) : Type 0 where
   pub typ : c.typ ≡ 2
   pub waits : a.machine.state ≡ CookieWait
-  pub brings : BringsCookie c datagram
+  pub brings : BringsCookie c datagram ⊎ BringsEnd c datagram
 
 -- a chunk of a packet with this tag is expected
 abbrev pub IsExpected : ChunkPlace → (tag : ℕ) → List ℕ → (now : ℕ) → Association → Type 0

@@ -53,9 +53,10 @@ PutsSent old new = PutsOf (IsSkipOnce old.outbound.is_skip_due new.outbound.is_s
 abbrev pub PutsOnce : Association → Association → Type 0
 PutsOnce old new = PutsOf (IsReplyOnce (owed_of old) (owed_of new)) (sides_of old) (sides_of new)
 
--- the same is due at the same moment, and the same of resets
+-- the same is due at the same moment, the same HEARTBEAT waits for its answer, and the same of resets
 pub record IsAsTimed (old new : Association) : Type 0 where
   pub heartbeat : heartbeat_time new ≡ heartbeat_time old
+  pub idle : new.heartbeat ≡ old.heartbeat
   pub requests : new.requests ≡ old.requests
   pub peer : new.peer_requests ≡ old.peer_requests
 

@@ -10,6 +10,7 @@ use Rattle.sctp_delivery.specs.Order.{AreReadInOrder}
 use Rattle.sctp_delivery.specs.Returns.{abandoned_so, at_start_with}
 use Rattle.sctp_delivery.specs.SenderCalls.{SenderCall, SenderMakes, Write, written_after}
 use Rattle.sctp_delivery.specs.SenderCalls.{marks, opens, sets_low, sets_mode, sets_size, writes}
+use Rattle.sctp_delivery.specs.Session.{Session}
 use Rattle.sctp_delivery.specs.Stand.{StandSo}
 use Rattle.sctp_receiver.specs.declared.receiver.limits.Limits.{Limits}
 use Rattle.sctp_receiver.specs.Receiver.{Reception, after_read, at_first, is_open, message_on}
@@ -236,18 +237,21 @@ abandoned_in st =
     abandoned_so (at_start_with st.reported st.tsn st.size st.max st.most st.limits)
     st.calls st.session st.run
 
--- the sender of the one and the receiver of the other stand in a session (`sctp_delivery`), in which was written what the one wrote, and
--- read what the other read. So each message that was read is one that was written, at a place of its own, in order; and where nothing waits,
--- is in flight or is to be read, each other write was read exactly once
+-- the sender of the one and the receiver of the other stand in this session (`sctp_delivery`), in which was written what the one wrote, and
+-- read what the other read. So each message that was read is one that was written, at a place of its own, in order
+pub record DeliversPlain (w : Way) (a b : Host) (s : Session) : Type 0 where
+  pub sends : s.sending.sender ≡ a.sender
+  pub receives : IsReceiver w b.receiver s.receiving.receiver
+  pub written : s.written ≡ a.written
+  pub read : s.receiving.read ≡ b.read
+  pub writes : AreWrites s
+  pub own : AreWritesOfTheirOwn s
+  pub order : AreReadInOrder s
+
+-- and where nothing waits, is in flight or is to be read, each other write was read exactly once
 pub record Delivers (w : Way) (a b : Host) : Type 0 where
   pub stand : StandSo
-  pub sends : stand.session.sending.sender ≡ a.sender
-  pub receives : IsReceiver w b.receiver stand.session.receiving.receiver
-  pub written : stand.session.written ≡ a.written
-  pub read : stand.session.receiving.read ≡ b.read
-  pub writes : AreWrites stand.session
-  pub own : AreWritesOfTheirOwn stand.session
-  pub order : AreReadInOrder stand.session
+  pub delivers : DeliversPlain w a b stand.session
   pub ends : IsEachOtherReadInTheEnd (abandoned_in stand) stand.session
 
 -- so it is both ways, whatever two associations do from `new` on, and whatever becomes of their datagrams

@@ -2,6 +2,7 @@ pub mod Acks
 pub mod AcksDue
 pub mod AcksOn
 pub mod Again
+pub mod Ages
 pub mod Arrivals
 pub mod Asked
 pub mod BackOff
@@ -43,14 +44,19 @@ pub mod Offering
 pub mod Once
 pub mod OneLife
 pub mod Openings
+pub mod Ordered
 pub mod Packets
 pub mod Pairs
+pub mod Partly
+pub mod Parts
 pub mod Paths
+pub mod Probing
 pub mod Reached
 pub mod Reads
 pub mod Reconfigs
 pub mod Replying
 pub mod Reports
+pub mod Requesting
 pub mod Rooms
 pub mod Rows
 pub mod Runs
@@ -58,6 +64,7 @@ pub mod Sacks
 pub mod Sending
 pub mod Served
 pub mod Sessions
+pub mod Settled
 pub mod Setups
 pub mod Shutting
 pub mod Silence
@@ -71,5 +78,7 @@ pub mod Tags
 pub mod Telling
 pub mod Timers
 pub mod Told
+pub mod ToldBy
 pub mod Waiting
 pub mod Walks
+pub mod Young

@@ -3,6 +3,7 @@
 use Rattle.std.specs.Prelude.{◌≡◌, ◌≢◌, All, AllPairs, ⊤, ℕ, Bool, true, false, List, [], ◌∷◌, ◌++◌, Contains}
 use Rattle.std.specs.List.{filter}
 use Rattle.sctp_association.specs.declared.association.Association.{Association}
+use Rattle.sctp_association.specs.Ages.{AreYoungActs, IsYoungCall, IsYoungLink, aged_each, made_by_one, made_by_other}
 use Rattle.sctp_association.specs.Arrivals.{Arrival, Arrives, Does, Halves, IsBrought, Steps, begins, halves, hears, receives, renews, restarts}
 use Rattle.sctp_association.specs.Beginnings.{ArrivesAsOffered, IsBegunBy}
 use Rattle.sctp_association.specs.Halves.{halves_of}
@@ -18,9 +19,10 @@ use Rattle.sctp_delivery.specs.EveryCall.{takes_back}
 use Rattle.sctp_delivery.specs.EveryEnd.{IsOrderedReadInTheEnd, IsSentReadInTheEnd, IsUnorderedReadInTheEnd, abandoned_any, dropped_any}
 use Rattle.sctp_delivery.specs.EveryOrder.{AreReadInTurnWhereUnbroken, AreSingleReadAsWritten, AreSingleReadInOrder, is_unbroken}
 use Rattle.sctp_delivery.specs.Messages.{AreParts, IsWrite, NoneIsReadTwice, StandAt}
+use Rattle.sctp_delivery.specs.Recent.{Aged}
 use Rattle.sctp_delivery.specs.Returns.{IsAccountedSo, at_start_with}
 use Rattle.sctp_delivery.specs.SenderCalls.{Write}
-use Rattle.sctp_delivery.specs.Session.{AreMade, AreMessages}
+use Rattle.sctp_delivery.specs.Session.{AreMade, AreMessages, Session}
 use Rattle.sctp_delivery.specs.StandAny.{StandAny}
 use Rattle.sctp_receiver.specs.ReceiverRuns as runs
 use Rattle.sctp_receiver.specs.ReceiverRuns.{Message}
@@ -158,32 +160,38 @@ NoneWasDropped to_receiver =
 
 -- the sender of the one and the receiver of the other stand in a session of every call (`sctp_delivery`), in which was written what the one wrote, and
 -- read what the other read; each call of it that sessions of plain calls do not have was brought. So each byte is accounted for, and each message that
--- is read is whole, of fragments that are parts of writes, none of which is read twice. A message of which no fragment but the first begins one
--- is a write at a place of its own. Each is so on a stream that the sender did not begin again; and each on all, where of two ordered messages
--- of a stream that are sent one right behind the other the second has a number of its own. On an untouched stream ordered messages, and what was
--- written while it was ordered, are read in the order of their writes. Where nothing waits, is in flight or is to be read, each write on one was read
--- exactly once, unless it expired or was abandoned. Of an unordered write the receiver may have dropped a chunk, where a datagram brought that
+-- is read is whole, of fragments that are parts of writes. A message of which no fragment but the first begins one is a write at a place of its
+-- own. Each is so on a stream that the sender did not begin again; and each on all, where of two ordered messages of a stream that are sent one right
+-- behind the other the second has a number of its own. On an untouched stream ordered messages, and what was written while it was ordered, are
+-- read in the order of their writes
+pub record DeliversIn (w : Way) (to_sender to_receiver : List Brought) (a b : Host)
+    (calls : List AnyCall) (s : Session) : Type 0 where
+  pub sends : s.sending.sender ≡ a.sender
+  pub receives : IsReceiver w b.receiver s.receiving.receiver
+  pub written : s.written ≡ a.written
+  pub read : s.receiving.read ≡ b.read
+  pub others : All (WasBrought to_sender to_receiver) (others_of calls)
+  pub bytes : IsAccountedSo s
+  pub made : AreMade s
+  pub whole : AreMessages s
+  pub parts : AreParts s
+  pub writes : AreWritesWhereSingle s
+  pub own : AreSingleWritesOfTheirOwn s
+  pub steady : AreSingleOnSteady to_sender b.read
+  pub apart : AreToldApart s → AreSingle s
+  pub unbroken : (stream : ℕ) → IsUntouched to_sender to_receiver stream
+      → is_unbroken calls stream ≡ true
+  pub order : AreSingleReadInOrder calls s
+  pub modes : AreSingleReadAsWritten calls s
+  pub turn : AreReadInTurnWhereUnbroken calls s
+
+-- in a session that gives out few TSNs no fragment is read twice, too. Where nothing waits, is in flight or is to be read, each write on an untouched
+-- stream was read exactly once, unless it expired or was abandoned. Of an unordered write the receiver may have dropped a chunk, where a datagram
+-- brought that
 pub record DeliversAny (w : Way) (to_sender to_receiver : List Brought) (a b : Host) : Type 0 where
   pub stand : StandAny
-  pub sends : stand.session.sending.sender ≡ a.sender
-  pub receives : IsReceiver w b.receiver stand.session.receiving.receiver
-  pub written : stand.session.written ≡ a.written
-  pub read : stand.session.receiving.read ≡ b.read
-  pub others : All (WasBrought to_sender to_receiver) (others_of stand.calls)
-  pub bytes : IsAccountedSo stand.session
-  pub made : AreMade stand.session
-  pub whole : AreMessages stand.session
-  pub parts : AreParts stand.session
+  pub delivers : DeliversIn w to_sender to_receiver a b stand.calls stand.session
   pub once : NoneIsReadTwice stand.session
-  pub writes : AreWritesWhereSingle stand.session
-  pub own : AreSingleWritesOfTheirOwn stand.session
-  pub steady : AreSingleOnSteady to_sender b.read
-  pub apart : AreToldApart stand.session → AreSingle stand.session
-  pub unbroken : (stream : ℕ) → IsUntouched to_sender to_receiver stream
-      → is_unbroken stand.calls stream ≡ true
-  pub order : AreSingleReadInOrder stand.calls stand.session
-  pub modes : AreSingleReadAsWritten stand.calls stand.session
-  pub turn : AreReadInTurnWhereUnbroken stand.calls stand.session
   pub end : IsOrderedReadInTheEnd (abandoned_any_in stand) stand.calls stand.session
   pub chunks : IsSentReadInTheEnd stand.calls stand.session
   pub unordered : IsUnorderedReadInTheEnd (abandoned_any_in stand ++ dropped_any_in stand)
@@ -260,7 +268,7 @@ EachLinkDeliversAny =
 
 -- ## What leads on
 
--- two that were made by `new`: no datagram came
+-- two that were made by `new`: no datagram came, and nothing was made
 abbrev pub EachOneLifeBegins : Type 0
 EachOneLifeBegins =
     (forth back : Way) (one other : Party) → host_at one ≡ first_host forth
@@ -268,6 +276,8 @@ EachOneLifeBegins =
     → (link : AreLinked forth back one other) × IsOneLifeLink forth back one other link
     × (came_to_one forth back one other link ≡ [])
     × (came_to_other forth back one other link ≡ [])
+    × IsYoungLink forth back one other link × (made_by_one forth back one other link ≡ [])
+    × (made_by_other forth back one other link ≡ [])
 
 -- acts of the one bring these calls
 abbrev pub brought_each : (peer : List (List ℕ)) (acts : List Act) (old new : Host)
@@ -290,6 +300,13 @@ EachOneLifeGoesOn =
     ≡ came_to_one forth back old other link
     ++ brought_each other.log.sent acts (host_at old) (host_at new) done)
     × (came_to_other forth back new other next ≡ came_to_other forth back old other link)
+    × (IsYoungLink forth back old other link
+    → AreYoungActs forth (made_by_other forth back old other link) (host_at other) acts
+    (host_at old) (host_at new) done → IsYoungLink forth back new other next)
+    × (made_by_one forth back new other next
+    ≡ aged_each (made_by_one forth back old other link) other.log.sent acts
+    (host_at old) (host_at new) done)
+    × (made_by_other forth back new other next ≡ made_by_other forth back old other link)
 
 -- the two change places
 abbrev pub EachOneLifeTurns : Type 0
@@ -299,6 +316,9 @@ EachOneLifeTurns =
     × (IsOneLifeLink forth back one other link → IsOneLifeLink back forth other one turned)
     × (came_to_one back forth other one turned ≡ came_to_other forth back one other link)
     × (came_to_other back forth other one turned ≡ came_to_one forth back one other link)
+    × (IsYoungLink forth back one other link → IsYoungLink back forth other one turned)
+    × (made_by_one back forth other one turned ≡ made_by_other forth back one other link)
+    × (made_by_other back forth other one turned ≡ made_by_one forth back one other link)
 
 -- `handle_datagram` of one that the peer wrote: it brings these calls
 abbrev pub EachDatagramBrings : Type 0
@@ -310,6 +330,9 @@ EachDatagramBrings =
     → IsActByRule (IsOneLife w) peer (handles datagram) (host_of a l) (host_of b l) done)
     × (brought_by peer (handles datagram) (host_of a l) (host_of b l) done
     ≡ brought_in datagram came.calls (halves_of a) (halves_of b) came.run)
+    × ((out : Way) (ages : List Aged) (z : Host)
+    → AreByRule (IsYoungCall out ages z) datagram came.calls (halves_of a) (halves_of b) came.run
+    → IsActByRule (IsYoungCall out ages z) peer (handles datagram) (host_of a l) (host_of b l) done)
 
 -- and by whose offers halves begin, `handle_datagram` says (`offered`)
 abbrev pub EachOfferedIsBrought : Type 0

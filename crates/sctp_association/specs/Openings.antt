@@ -1,9 +1,9 @@
 -- What an INIT, an INIT ACK and a COOKIE-ECHO make of an association (RFC 9260 5.1, 5.2). Moments are nanoseconds.
-use Rattle.std.specs.Prelude.{◌≡◌, ◌⊎◌, ⊤, ℕ, ◌+◌, ◌-◌, Bool, true, false, nat_lt, List, slice_range, Option, Some, None, Ok, Err, is_some}
+use Rattle.std.specs.Prelude.{◌≡◌, ◌≢◌, ◌⊎◌, ⊤, ℕ, ◌+◌, ◌-◌, Bool, true, false, nat_lt, List, slice_range, Option, Some, None, Ok, Err, is_some}
 use Rattle.sctp_association.specs.AcksDue.{AcksTold, acks_of}
 use Rattle.sctp_association.specs.Cookies.{IsSealedAt}
 use Rattle.sctp_association.specs.Fresh.{fresh_tag}
-use Rattle.sctp_association.specs.Reports.{EndsBegun, params_told, report_with, to_tag, value_in}
+use Rattle.sctp_association.specs.Reports.{EndsBegun, host_name_told, params_told, report_with, to_tag, value_in}
 use Rattle.sctp_association.specs.Rows.{FollowsStep, owed_by}
 use Rattle.sctp_association.specs.declared.association.Association.{Association}
 use Rattle.sctp_association.specs.declared.association.arrivals.Step as arrivals
@@ -23,6 +23,7 @@ use Rattle.sctp_handshake.specs.declared.answer.Reply.TheVariants as reply
 use Rattle.sctp_handshake.specs.declared.init_value.InitFault.TheVariants.{MissingCookie}
 use Rattle.sctp_handshake.specs.declared.init_value.Said.{Said}
 use Rattle.sctp_handshake.specs.declared.offer.Offer.{Offer}
+use Rattle.sctp_handshake.specs.declared.state.State.TheVariants.{CookieWait}
 use Rattle.sctp_handshake.specs.declared.ticket.Ticket.{Ticket}
 use Rattle.sctp_util.specs.Field.{u32_at}
 
@@ -70,6 +71,8 @@ EchoesOn tag cookie now (chunk.Refused r) old new = ⊤
 -- due stays.
 pub record TakesInitAck (c : ChunkPlace) (datagram : List ℕ) (now : ℕ) (old new : Association)
     : Type 0 where
+  pub waits : old.machine.state ≡ CookieWait
+  pub plain : host_name_of (value_in datagram c) ≡ None
   pub offer : Offer
   pub place : ParamPlace
   pub reads : values.cookie_in (init_in (value_in datagram c)) ≡ Ok (offer, place)
@@ -81,13 +84,28 @@ pub record TakesInitAck (c : ChunkPlace) (datagram : List ℕ) (now : ℕ) (old 
   pub told : new.due.report
       ≡ report_with (params_told old.config.mtu (value_in datagram c)) old.due.report
 
--- it has no cookie, or a Host Name Address: by an ABORT with its tag what was begun ends (5.1, 5.1.2)
-pub record EndsAsked (c : ChunkPlace) (datagram : List ℕ) (old new : Association) : Type 0 where
-  pub kind : AloneKind
-  pub raw : Option (List ℕ)
-  pub why : is_some (host_name_of (value_in datagram c)) ≡ true
+-- it has a Host Name Address, or is read and has no cookie; and its sender has a tag (5.1, 5.1.2)
+pub record BringsEnd (c : ChunkPlace) (datagram : List ℕ) : Type 0 where
+  pub why : (is_some (host_name_of (value_in datagram c)) ≡ true)
       ⊎ (values.cookie_in (init_in (value_in datagram c)) ≡ Err MissingCookie)
-  pub ends : EndsBegun kind raw (u32_at (value_in datagram c) 0) old new
+  pub tagged : u32_at (value_in datagram c) 0 ≢ 0
+
+-- which ABORT answers it, and what that tells: the Host Name Address, where it has one
+abbrev pub end_kind : Option ParamPlace → AloneKind
+end_kind None = alone.NoCookie
+end_kind (Some p) = alone.HostName
+
+abbrev pub end_told : (value : List ℕ) → (mtu : ℕ) → Option ParamPlace → Option (List ℕ)
+end_told value mtu None = None
+end_told value mtu (Some p) = host_name_told value p mtu
+
+-- by that ABORT, with its tag, what was begun ends
+pub record EndsAsked (c : ChunkPlace) (datagram : List ℕ) (old new : Association) : Type 0 where
+  pub waits : old.machine.state ≡ CookieWait
+  pub brings : BringsEnd c datagram
+  pub ends : EndsBegun (end_kind (host_name_of (value_in datagram c)))
+      (end_told (value_in datagram c) old.config.mtu (host_name_of (value_in datagram c)))
+      (u32_at (value_in datagram c) 0) old new
 
 -- so it is of one that is taken
 abbrev pub InitAckOn : ChunkPlace → List ℕ → (now : ℕ) → arrivals.Step
@@ -115,6 +133,18 @@ pub record AnswersOffer (value : List ℕ) (now : ℕ) (old new : Association) :
       said.offer.tag old.due
       ) { unknown_params = params_told old.config.mtu value }
 
--- one without a Host Name Address (5.1.2)
+-- it has a Host Name Address: an ABORT is due, to its tag, which tells that, where it fits into a packet (5.1.2)
+abbrev pub RefusesHost : (value : List ℕ) → ParamPlace → (old new : Association) → Type 0
+RefusesHost value p old new = new.due ≡ record old.due {
+  alone = Some (to_tag alone.HostName (u32_at value 0));
+  unknown_params = host_name_told value p old.config.mtu;
+}
+
+-- so it is, by whether it has one
+abbrev pub OffersBy : Option ParamPlace → (value : List ℕ) → (now : ℕ) → (old new : Association)
+    → Type 0
+OffersBy None value now old new = AnswersOffer value now old new
+OffersBy (Some p) value now old new = RefusesHost value p old new
+
 abbrev pub OffersTo : (value : List ℕ) → (now : ℕ) → (old new : Association) → Type 0
-OffersTo value now old new = host_name_of value ≡ None → AnswersOffer value now old new
+OffersTo value now old new = OffersBy (host_name_of value) value now old new

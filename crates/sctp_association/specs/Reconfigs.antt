@@ -13,6 +13,7 @@ use Rattle.sctp_handshake.specs.InitValues.{is_param, place}
 use Rattle.sctp_handshake.specs.Machines.{agreed}
 use Rattle.sctp_handshake.specs.declared.machine.Agreed.{Agreed}
 use Rattle.sctp_params.specs.Param.{Parameter, outgoing_reset_request, reconfig_response}
+use Rattle.sctp_params.specs.ParamFraming.{param_declared_length}
 use Rattle.sctp_params.specs.ParamKind.{ReadsParam}
 use Rattle.sctp_params.specs.ResetRequest.{ResetRequest}
 use Rattle.sctp_params.specs.declared.param.param_reconfig_response.ParamReconfigResponse.{ParamReconfigResponse}
@@ -74,10 +75,11 @@ denied number p =
     if number == p.expected then after_answer Denied (after_request number p)
     else after_request number p
 
--- the number of the request whose header stands at a place, where the bytes have one
+-- the number of the request whose header stands at a place: a parameter of fewer than eight bytes has none (4)
 abbrev pub number_at : List ℕ → (at : ℕ) → Option ℕ
 number_at raw at =
-    if nat_le (at + 8) (length raw) then Some (u32_at (drop (at + 4) raw) 0) else None
+    if nat_le (at + 8) (length raw) && nat_le 8 (param_declared_length (drop at raw))
+    then Some (u32_at (drop (at + 4) raw) 0) else None
 
 abbrev pub denied_by : Option ℕ → Association → Association
 denied_by None a = a

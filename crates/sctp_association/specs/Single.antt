@@ -33,7 +33,8 @@ CauseOn c datagram (Refused r) old new = ⊤
 -- What RFC 9260 says of a chunk by its type is so, wherever it stands in a packet with this tag.
 pub record AloneOn (c : ChunkPlace) (tag : ℕ) (datagram : List ℕ) (now : ℕ) (s : Step)
     (old new : Association) : Type 0 where
-  -- An INIT is answered: an INIT ACK is due, to its tag, with a ticket of both offers; or what else its row says (5.1 B).
+  -- An INIT is answered: an INIT ACK is due, to its tag, with a ticket of both offers; or what else its row says (5.1 B). So is one with a Host
+  -- Name Address, by an ABORT (5.1.2).
   pub init : c.typ ≡ 1 → OffersOn c datagram now s old new
   -- The cookie of an INIT ACK is kept, and a COOKIE-ECHO is due; or what was begun ends (5.1 C).
   pub init_ack : c.typ ≡ 2 → InitAckOn c datagram now s old new

@@ -1,5 +1,5 @@
 -- What waits to be told: what happens is told, and nothing that waits is lost (RFC 9260 11.2).
-use Rattle.std.specs.Prelude.{◌≡◌, ℕ, ◌<◌, Bool, true, false, List, [], length, Option, Some, None, is_some}
+use Rattle.std.specs.Prelude.{◌≡◌, ℕ, ◌<◌, ◌≤◌, Bool, true, false, List, [], length, Option, Some, None, is_some}
 use Rattle.sctp_association.specs.Beginnings.{is_standing}
 use Rattle.sctp_association.specs.Reads.{message_in}
 use Rattle.sctp_association.specs.StreamSet.{is_in}
@@ -18,7 +18,17 @@ use Rattle.sctp_receiver.specs.Receiver.{is_open}
 abbrev pub Stays : (old new : List Bool) → Type 0
 Stays old new = (s : ℕ) → is_in s old ≡ true → is_in s new ≡ true
 
--- Each event that waited waits still. Another end, or another error of the peer, may take the place of the one that waited. Of streams with a
+-- for as many streams there is room in each set
+pub record KeepsRooms (old new : Events) : Type 0 where
+  pub readable : length old.readable ≤ length new.readable
+  pub low : length old.low ≤ length new.low
+  pub reset_by_us : length old.reset_by_us ≤ length new.reset_by_us
+  pub reset_refused : length old.reset_refused ≤ length new.reset_refused
+  pub reset_by_peer : length old.reset_by_peer ≤ length new.reset_by_peer
+  pub too_long : length old.too_long ≤ length new.too_long
+
+-- Each event that waited waits still, and the room for more stays. Another end, or another error of the peer, may take the place of the one that waited. Of
+-- streams with a
 -- message to read `NotesReadable` tells.
 pub record KeepsEvents (old new : Events) : Type 0 where
   pub connected : old.connected ≡ true → new.connected ≡ true
@@ -31,6 +41,7 @@ pub record KeepsEvents (old new : Events) : Type 0 where
   pub reset_refused : Stays old.reset_refused new.reset_refused
   pub reset_by_peer : Stays old.reset_by_peer new.reset_by_peer
   pub too_long : Stays old.too_long new.too_long
+  pub rooms : KeepsRooms old new
 
 -- ## Streams with a message to read
 
@@ -38,9 +49,15 @@ abbrev pub opened_in : ℕ → Option Inbound → Bool
 opened_in s None = false
 opened_in s (Some i) = is_open s i.receiver
 
--- each open stream has a place in the set of streams with a message to read
+-- the stream has a place in each set of streams on which the peer writes
+pub record HasPlace (s : ℕ) (e : Events) : Type 0 where
+  pub readable : s < length e.readable
+  pub too_long : s < length e.too_long
+  pub reset_by_peer : s < length e.reset_by_peer
+
+-- so it is of each open stream
 abbrev pub HasPlaces : Option Inbound → Events → Type 0
-HasPlaces i e = (s : ℕ) → opened_in s i ≡ true → s < length e.readable
+HasPlaces i e = (s : ℕ) → opened_in s i ≡ true → HasPlace s e
 
 -- where a message of the stream can be read, that waits to be told
 abbrev pub IsNoted : ℕ → Option Inbound → Events → Type 0

@@ -8,14 +8,15 @@ use Rattle.sctp_association.specs.declared.event.Event.TheVariants as event
 use Rattle.sctp_association.specs.declared.event.Events.{Events}
 use Rattle.sctp_association.specs.Events.{Waits}
 use Rattle.sctp_association.specs.Reads.{message_in}
-use Rattle.sctp_association.specs.Telling.{HasPlaces, IsNoted, Tells}
+use Rattle.sctp_association.specs.Telling.{HasPlaces, IsNoted, KeepsRooms, Tells}
 
 -- ## Calls one after another
 
--- `poll` gives this event, or none: each other event that waited waits still, and the places for streams stay
+-- `poll` gives this event, or none: each other event that waited waits still, and the room for streams stays
 pub record Gives (given : Option Event) (old new : Association) : Type 0 where
   pub rest : new ≡ record old { events = new.events }
   pub places : HasPlaces old.inbound old.events → HasPlaces new.inbound new.events
+  pub rooms : KeepsRooms old.events new.events
   pub others : (v : Event) → Waits v old.events → (given ≡ Some v) ⊎ Waits v new.events
 
 pub data Act : Type 0 where
@@ -53,7 +54,7 @@ lasts event.Shutdown = true
 lasts (event.Closed x) = false
 
 -- Each event that waited is given or waits. So it is where the association begins, begins anew or ends, and where a message can be read on a
--- stream: of one on which none could be read before, or that waited.
+-- stream: of one on which none could be read before, or that waited. Each open stream keeps its place, and each set its room.
 pub record LosesNone (acts : List Act) (old new : Association) : Type 0 where
   pub waited : (v : Event) → lasts v ≡ true → Waits v old.events
       → IsGivenOrWaits v acts new.events
@@ -65,6 +66,8 @@ pub record LosesNone (acts : List Act) (old new : Association) : Type 0 where
       → (how : Ending) × IsGivenOrWaits (event.Closed how) acts new.events
   pub readable : HasPlaces old.inbound old.events → (s : ℕ) → IsNoted s old.inbound old.events
       → is_some (message_in s new.inbound) ≡ true → IsGivenOrWaits (event.Readable s) acts new.events
+  pub places : HasPlaces old.inbound old.events → HasPlaces new.inbound new.events
+  pub rooms : KeepsRooms old.events new.events
 
 -- so along any such calls
 abbrev pub EachLosesNone : Type 0

@@ -1,46 +1,58 @@
 -- What the chunks of a datagram make, one after the other (RFC 9260 4, 5, 6, 8.5, 9). Moments are nanoseconds.
-use Rattle.std.specs.Prelude.{◌≡◌, ◌⊎◌, ⊤, ℕ, ◌<◌, ◌==◌, ◌&&◌, Bool, true, false, not, List, [], ◌∷◌, length}
+use Rattle.std.specs.Prelude.{◌≡◌, ◌≢◌, ◌⊎◌, ⊤, ℕ, ◌<◌, ◌==◌, ◌&&◌, Bool, true, false, not, List, [], ◌∷◌, length}
 use Rattle.std.specs.Option.{option_map}
 use Rattle.sctp_association.specs.AcksDue.{acks_of, ended}
 use Rattle.sctp_association.specs.Coming.{goes_on}
 use Rattle.sctp_association.specs.Expected.{BringsCookie, IsExpected, is_expected}
 use Rattle.sctp_association.specs.Halves.{receiver_of}
+use Rattle.sctp_association.specs.Openings.{BringsEnd}
 use Rattle.sctp_association.specs.Once.{has_seen, none_seen, seen}
+use Rattle.sctp_association.specs.Partly.{CutsChunk}
 use Rattle.sctp_association.specs.Rows.{Settles, has_row}
 use Rattle.sctp_association.specs.Single.{AloneOn}
 use Rattle.sctp_association.specs.Tags.{is_admitted}
+use Rattle.sctp_association.specs.ToldBy.{TellsBy}
 use Rattle.sctp_association.specs.declared.association.Association.{Association}
 use Rattle.sctp_association.specs.declared.association.arrivals.Step.{Step}
 use Rattle.sctp_association.specs.declared.association.arrivals.Step.TheVariants.{Next, Stop, Cut, Refused}
 use Rattle.sctp_association.specs.declared.once.Once.{Once}
 use Rattle.sctp_datagram.specs.declared.datagram.ChunkPlace.{ChunkPlace}
-use Rattle.sctp_handshake.specs.declared.state.State.TheVariants.{Closed}
+use Rattle.sctp_handshake.specs.declared.state.State.TheVariants.{Closed, CookieWait}
 use Rattle.sctp_util.specs.Field.{u32_at}
 
 -- ## A chunk
 
--- A chunk is taken: it may stand in a packet with this tag, of so many chunks. The state expects it, and what is said of its type is so. DATA, a SACK
--- and a FORWARD-TSN leave the HEARTBEAT-ACK and the ERROR that are due.
+-- A chunk is taken: it may stand in a packet with this tag, of so many chunks. The state expects it, and what is said of its type is so. What it
+-- brings waits to be told. DATA, a SACK and a FORWARD-TSN leave the HEARTBEAT-ACK and the ERROR that are due.
 pub record TakesChunk (c : ChunkPlace) (tag count : ℕ) (datagram : List ℕ) (now : ℕ) (s : Step)
     (old new : Association) : Type 0 where
   pub admitted : is_admitted c tag count old.machine ≡ true
   pub expected : has_row c.typ ≡ true → is_expected c.typ old ≡ true
   pub by_type : AloneOn c tag datagram now s old new
+  pub tells : s ≡ Next → TellsBy c datagram old new
   pub beside : goes_on c.typ ≡ true → s ≡ Next
       → (new.due.heartbeat ≡ old.due.heartbeat) × (new.due.report ≡ old.due.report)
 
--- A chunk is passed over: it may stand there, but the state does not expect it. Nothing changes.
+-- A chunk is passed over: it may stand there, but the state does not expect it. So is an INIT ACK that this side does not wait for (5.2.3). Nothing
+-- changes.
 pub record PassesOver (c : ChunkPlace) (tag count : ℕ) (datagram : List ℕ) (now : ℕ)
     (old new : Association) : Type 0 where
   pub admitted : is_admitted c tag count old.machine ≡ true
   pub unexpected : IsExpected c tag datagram now old → ⊥
+  pub init_ack : c.typ ≡ 2 → old.machine.state ≢ CookieWait
   pub same : new ≡ old
 
--- The datagram is read no further: behind the first chunk, this one may not stand there, or is an INIT ACK that brings no cookie. Nothing changes.
+-- it is an INIT ACK for which this side waits, and brings neither a cookie nor the end
+pub record IsUnread (c : ChunkPlace) (datagram : List ℕ) (a : Association) : Type 0 where
+  pub typ : c.typ ≡ 2
+  pub waits : a.machine.state ≡ CookieWait
+  pub cookie : BringsCookie c datagram → ⊥
+  pub end : BringsEnd c datagram → ⊥
+
+-- The datagram is read no further: behind the first chunk, this one may not stand there, or is such an INIT ACK. Nothing changes.
 pub record EndsUnread (c : ChunkPlace) (tag : ℕ) (datagram : List ℕ) (old new : Association)
     : Type 0 where
-  pub why : (is_admitted c tag 2 old.machine ≡ false)
-      ⊎ ((c.typ ≡ 2) × (BringsCookie c datagram → ⊥))
+  pub why : (is_admitted c tag 2 old.machine ≡ false) ⊎ IsUnread c datagram old
   pub same : new ≡ old
 
 -- ## Behind the first chunk
@@ -55,7 +67,7 @@ abbrev pub OtherOn : ChunkPlace → (tag : ℕ) → List ℕ → (now : ℕ) →
 OtherOn c tag datagram now Next old new =
     TakesChunk c tag 2 datagram now Next old new ⊎ PassesOver c tag 2 datagram now old new
 OtherOn c tag datagram now Stop old new = TakesChunk c tag 2 datagram now Stop old new
-OtherOn c tag datagram now Cut old new = ⊤
+OtherOn c tag datagram now Cut old new = CutsChunk c tag 2 datagram now old new
 OtherOn c tag datagram now (Refused r) old new = EndsUnread c tag datagram old new
 
 -- Chunks lead on so, each in its turn, where these kinds came before: up to the last one, or up to one behind which nothing more is looked at. One that
@@ -88,7 +100,7 @@ FirstOn c tag count datagram now Next old new =
     TakesChunk c tag count datagram now Next old new
     ⊎ PassesFirst c tag count datagram now old new
 FirstOn c tag count datagram now Stop old new = TakesChunk c tag count datagram now Stop old new
-FirstOn c tag count datagram now Cut old new = ⊤
+FirstOn c tag count datagram now Cut old new = CutsChunk c tag count datagram now old new
 FirstOn c tag count datagram now (Refused r) old new = ⊤
 
 -- The datagram ends: what follows from its chunks (9.2). Where DATA came in it, a SACK is due: now where it is to be at once, or one more packet waits for

@@ -27,6 +27,7 @@ ghost use Rattle.sctp_receiver.specs.Limits.{chunk_cost};
 ghost use Rattle.sctp_sender.specs.Sender.{stream_of};
 
 pub use self::stats::Stats;
+use crate::asking::Asking;
 use crate::config::{Config, Secrets};
 use crate::draft::Draft;
 use crate::due::{AloneKind, Due};
@@ -40,7 +41,7 @@ use sctp_data::chunk::chunk_payload_data::PayloadProtocolIdentifier;
 use sctp_handshake::{Machine, Offer, State};
 use sctp_path::{Heartbeat, Timer};
 use sctp_reassembly::Chunks;
-use sctp_reset::{OwnRequests, PeerRequests};
+use sctp_reset::PeerRequests;
 use std::alloc::Global;
 
 /// What became of a datagram.
@@ -84,7 +85,7 @@ pub struct Association {
     wants_shutdown: bool,
     outbound: Outbound,
     inbound: Option<Inbound>,
-    requests: OwnRequests,
+    requests: Asking,
     peer_requests: Option<PeerRequests>,
     // T1-init, T1-cookie or T2-shutdown, by the state.
     control: Timer,
@@ -145,7 +146,7 @@ impl Association {
     ghost use Rattle.sctp_association.specs.Lasting.{BeginsWithin, LastsNoLonger};
     ghost use Rattle.sctp_association.specs.Made.{IsNew};
     ghost use Rattle.sctp_association.specs.Rows.{Settles, asking, wants_at};
-    ghost use Rattle.sctp_association.specs.Telling.{HasPlaces, Tells};
+    ghost use Rattle.sctp_association.specs.Telling.{HasPlaces, KeepsRooms, Tells};
     ghost use Rattle.sctp_association.specs.Timers.{StartsTimers, StopsTimers};
     ghost use Rattle.sctp_association.specs.declared.due.AloneKind.TheVariants.{Abort};
 
@@ -182,7 +183,7 @@ impl Association {
             wants_shutdown: false,
             outbound,
             inbound: None,
-            requests: OwnRequests::new(alloc, secrets.first_tsn),
+            requests: Asking::new(alloc, secrets.first_tsn),
             peer_requests: None,
             control: Timer::new(),
             guard: Timer::new(),
@@ -242,9 +243,10 @@ impl Association {
 
     /// The next event, if there is one: it waited, and is told once.
     pub fn poll(&mut self) -> Option<Event>
-        // Each stream that is open keeps its place among those with a message to read.
+        // Each stream that is open keeps its place in the sets of events, and each set its room.
         ensures places { HasPlaces self.old.inbound self.old.events
             → HasPlaces self.new.inbound self.new.events }
+        ensures rooms { KeepsRooms self.old.events self.new.events }
         // Each other event that waited waits still, and no other comes to wait.
         ensures others { KeepsOthers self.old.events self.new.events result }
         ensures adds { BringsNone self.old.events self.new.events }

@@ -14,8 +14,8 @@ use sctp_util::util::Checksum;
 use std::alloc::{AllocError, Global};
 use std::marker::Model;
 
-// A packet has at least as many bytes: its header, and a SACK without blocks (RFC 9260 3.3.4).
-const LEAST: usize = PACKET_HEADER_SIZE + 16;
+// A packet has at least as many bytes, so that it takes any control chunk of this side.
+const LEAST: usize = 512;
 
 // A packet has at most so many bytes, so that a chunk in it has a length (RFC 9260 3.2).
 const MOST: usize = 65_535;
@@ -49,15 +49,15 @@ impl Model for Draft {
 
     ghost view = { λ d. record { bytes = bytes_in d.writer; limit = d.limit } };
 
-    ghost invariant = { λ d. (28 ≤ d.limit) × (d.limit ≤ 65535)
+    ghost invariant = { λ d. (512 ≤ d.limit) × (d.limit ≤ 65535)
         × (limit_in d.limit d.writer ≡ d.limit)
         × (length (bytes_in d.writer) ≤ d.limit) };
 }
 
 impl Draft {
-    /// No packet. It has room for its header and a SACK at least. It takes no memory.
+    /// No packet. It has room for its header and any control chunk at least. It takes no memory.
     pub(crate) fn new(alloc: Global, limit: usize) -> Draft
-        ensures { result ≡ record { bytes = []; limit = min 65535 (max 28 limit) } }
+        ensures { result ≡ record { bytes = []; limit = min 65535 (max 512 limit) } }
     {
         Draft {
             alloc,
@@ -89,7 +89,7 @@ impl Draft {
     /// How many bytes the packet has room for.
     pub(crate) fn room(&self) -> usize
         ensures value { result ≡ self.now.limit - length self.now.bytes }
-        ensures least { 28 ≤ self.now.limit }
+        ensures least { 512 ≤ self.now.limit }
         ensures most { self.now.limit ≤ 65535 }
     {
         self.limit.saturating_sub(self.bytes().len())

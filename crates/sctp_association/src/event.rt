@@ -3,7 +3,7 @@
 ghost use Rattle.std.specs.Prelude.{◌≡◌, ◌<◌, ◌≤◌, IfSome, None, IfOk, OnErr, OnOk, false, length, take};
 ghost use Rattle.sctp_association.specs.Events.{IsTold, KeepsOthers, NoneWaits, NoneWaitsOfStream, BringsNone};
 ghost use Rattle.sctp_association.specs.Brought.{NotesOnly};
-ghost use Rattle.sctp_association.specs.Telling.{KeepsEvents, Stays};
+ghost use Rattle.sctp_association.specs.Telling.{HasPlace, KeepsEvents, KeepsRooms, Stays};
 
 use crate::stream_set::StreamSet;
 use std::alloc::{AllocError, Global};
@@ -104,6 +104,7 @@ impl Events {
         ensures undo { IfOk result (λ rooms. without rooms self.new ≡ self.old) }
         ensures room { OnOk result ((stream < length self.new.reset_by_us)
             × (stream < length self.new.reset_refused)) }
+        ensures low_room { OnOk result (stream < length self.new.low) }
         ensures err { OnErr result (self.new ≡ self.old) }
     {
         let rooms = Rooms {
@@ -136,6 +137,7 @@ impl Events {
             ≡ self.old.reset_refused }
         ensures room { OnOk result ((stream < length self.new.reset_by_us)
             × (stream < length self.new.reset_refused)) }
+        ensures low_room { OnOk result (stream < length self.new.low) }
     {
         self.low.reserve(stream)?;
         self.reset_by_us.reserve(stream)?;
@@ -156,7 +158,7 @@ impl Events {
         ensures kept { KeepsEvents self.old self.new }
         ensures readable { Stays self.old.readable self.new.readable }
         ensures room { length self.old.readable ≤ length self.new.readable }
-        ensures place { OnOk result (stream < length self.new.readable) }
+        ensures place { OnOk result (HasPlace stream self.new) }
         ensures notes { NotesOnly (λ s. ⊥) (λ s. ⊥) self.old self.new }
     {
         self.readable.reserve(stream)?;
@@ -166,7 +168,7 @@ impl Events {
 
     // Takes out an event of the whole association, if one waits, but the last one.
     fn pop_whole(&mut self) -> Option<Event>
-        ensures room { length self.new.readable ≡ length self.old.readable }
+        ensures rooms { KeepsRooms self.old self.new }
         ensures others { KeepsOthers self.old self.new result }
         ensures adds { BringsNone self.old self.new }
         ensures all { result ≡ None → (self.old.connected ≡ false)
@@ -191,7 +193,7 @@ impl Events {
 
     // Takes out an event of a stream, if one waits.
     fn pop_of_stream(&mut self) -> Option<Event>
-        ensures room { length self.new.readable ≡ length self.old.readable }
+        ensures rooms { KeepsRooms self.old self.new }
         ensures others { KeepsOthers self.old self.new result }
         ensures adds { BringsNone self.old self.new }
         ensures all { result ≡ None → NoneWaitsOfStream self.old }
@@ -221,7 +223,7 @@ impl Events {
 
     // Takes out how the association ends, if that is to be told.
     fn pop_end(&mut self) -> Option<Event>
-        ensures room { length self.new.readable ≡ length self.old.readable }
+        ensures rooms { KeepsRooms self.old self.new }
         ensures others { KeepsOthers self.old self.new result }
         ensures adds { BringsNone self.old self.new }
         ensures all { result ≡ None
@@ -240,7 +242,7 @@ impl Events {
 
     /// Takes the next event out: those of the whole association first, the end last.
     pub(crate) fn pop(&mut self) -> Option<Event>
-        ensures room { length self.new.readable ≡ length self.old.readable }
+        ensures rooms { KeepsRooms self.old self.new }
         ensures others { KeepsOthers self.old self.new result }
         ensures adds { BringsNone self.old self.new }
         ensures all { result ≡ None → NoneWaits self.old }

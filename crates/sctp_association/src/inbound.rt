@@ -1,8 +1,9 @@
 //! What comes of the peer's messages, and when it is acknowledged (RFC 9260 6.2, 6.5; RFC 3758 3.6).
 
-ghost use Rattle.std.specs.Prelude.{◌≡◌, ◌==◌, ◌<◌, ◌≤◌, ℕ, Ok, IfOk, IsOk, OnErr, OnOk, Some, ◌||◌, length, option_map, is_some, true, false, ◌⊎◌};
+ghost use Rattle.std.specs.Prelude.{◌≡◌, ◌==◌, ◌<◌, ◌≤◌, ℕ, Ok, IfOk, IsOk, OnErr, OnOk, Some, ◌||◌, length, option_map, is_some, true, false, ◌⊎◌, ◌∷◌, []};
 ghost use Rattle.sctp_association.specs.Arrivals.{AsksFor, IsOpening, IsOpeningNamed, IsReset, Received};
 ghost use Rattle.sctp_association.specs.Filled.{IfNonePut};
+ghost use Rattle.sctp_association.specs.Ordered.{PutsTypes};
 ghost use Rattle.sctp_association.specs.Packets.{IsSackOnce, PutsIn, Stands};
 ghost use Rattle.sctp_association.specs.Reached.{IsLimited, most_user_data};
 ghost use Rattle.sctp_association.specs.StreamSet.{is_in};
@@ -75,16 +76,17 @@ pub(crate) struct Inbound {
 }
 
 impl Inbound {
-    ghost use Rattle.sctp_association.specs.AcksDue.{AcksData, acks_by, acks_in, ended, is_at_once, no_acks, with_due};
+    ghost use Rattle.sctp_association.specs.AcksDue.{AcksData, acks_by, acks_in, ended, entered_on, is_at_once, no_acks, with_due};
     ghost use Rattle.sctp_association.specs.Brought.{AddsOnly, IsLargeOf, IsLongOf, IsReadOf, NotesOnly};
     ghost use Rattle.sctp_association.specs.Coming.{HasComeOrIsDropped};
     ghost use Rattle.sctp_association.specs.Ends.{EndsData, EndsSkip};
     ghost use Rattle.sctp_association.specs.Entering.{Handles, HandlesOpen, HandlesRefused};
-    ghost use Rattle.sctp_association.specs.Events.{brought_at};
+    ghost use Rattle.sctp_association.specs.Events.{BringsNone, brought_at};
+    ghost use Rattle.sctp_association.specs.Partly.{OpensIn};
     ghost use Rattle.sctp_association.specs.Reads.{IsReadOff};
     ghost use Rattle.sctp_association.specs.Reconfigs.{ResetsOne};
     ghost use Rattle.sctp_association.specs.Served.{AreServed, IsServed, is_to_open, is_usable};
-    ghost use Rattle.sctp_association.specs.Telling.{KeepsEvents, Stays, TellsIn};
+    ghost use Rattle.sctp_association.specs.Telling.{HasPlaces, KeepsEvents, Stays, TellsIn};
     ghost use Rattle.sctp_association.specs.declared.event.Events.{Events};
 
     /// Nothing came. It takes no memory.
@@ -124,7 +126,7 @@ impl Inbound {
         ensures tells { TellsIn (Some self.old) events.old (Some self.new) events.new }
         // Of events it adds only that a message of its stream can be read, or is too long.
         ensures notes { NotesOnly (IsReadOf chunk.now self.new.receiver)
-            (IsLongOf chunk.now self.old.receiver) events.old events.new }
+            (IsLongOf chunk.now self.old) events.old events.new }
         // Whatever it answers, the receiver is called for this chunk alone.
         ensures received { Received (AsksFor (data_chunk (data_of chunk.now)))
             self.old.receiver self.new.receiver }
@@ -139,6 +141,13 @@ impl Inbound {
         ensures handles { result ≡ Ok Done → Handles chunk.now self.old self.new }
         // It is noted for the SACK of this datagram; or it is refused, and a SACK is due now.
         ensures acks { result ≡ Ok Done → AcksData chunk.now now self.old self.new }
+        // Where memory was wanting its stream may be open by that, and nothing else changed.
+        ensures cut { result ≡ Ok Wanting → OpensIn (IsOpening chunk.now.stream_identifier)
+            self.old events.old self.new events.new }
+        // Where its message is too long that is told.
+        ensures told { HasPlaces (Some self.old) events.old → result ≡ Ok Done
+            → arrival_refusal chunk.now (entered_on chunk.now self.old) ≡ Some MessageTooLarge
+            → is_in chunk.now.stream_identifier events.new.too_long ≡ true }
         // It ends the association only without user data, or where it is refused for good.
         ensures ends { IfOk result (λ f. EndsData chunk.now f self.new.receiver) }
         ensures err { OnErr result ((self.new ≡ self.old) × (events.new ≡ events.old)) }
@@ -167,7 +176,7 @@ impl Inbound {
         ensures tells { TellsIn (Some self.old) events.old (Some self.new) events.new }
         ensures notes { is_to_open chunk.now.stream_identifier self.old ≡ true
             → NotesOnly (IsReadOf chunk.now self.new.receiver)
-            (IsLongOf chunk.now self.old.receiver) events.old events.new }
+            (IsLongOf chunk.now self.old) events.old events.new }
         ensures received { Received (AsksFor (data_chunk (data_of chunk.now)))
             self.old.receiver self.new.receiver }
         ensures limits { (self.new.receiver.limits ≡ self.old.receiver.limits)
@@ -177,6 +186,14 @@ impl Inbound {
             → result ≡ Ok Done → Handles chunk.now self.old self.new }
         ensures acks { is_to_open chunk.now.stream_identifier self.old ≡ true
             → result ≡ Ok Done → AcksData chunk.now now self.old self.new }
+        ensures cut { OnErr result (OpensIn (IsOpening chunk.now.stream_identifier)
+            self.old events.old self.new events.new) }
+        ensures whole { result ≡ Ok Wanting → ⊥ }
+        ensures told { is_to_open chunk.now.stream_identifier self.old ≡ true
+            → HasPlaces (Some self.old) events.old → result ≡ Ok Done
+            → arrival_refusal chunk.now (open_stream chunk.now.stream_identifier self.old.receiver)
+            ≡ Some MessageTooLarge
+            → is_in chunk.now.stream_identifier events.new.too_long ≡ true }
         ensures ends { IfOk result (λ f. EndsData chunk.now f self.new.receiver) }
     {
         self.open_agreed(chunk.stream_identifier, events)?;
@@ -205,6 +222,10 @@ impl Inbound {
         ensures acks { result ≡ Ok Done → acks_in self.new
             ≡ acks_by (arrival_refusal chunk.now self.old.receiver) chunk.now now
             self.old.receiver self.new.receiver (acks_in self.old) }
+        ensures told { result ≡ Ok Done
+            → arrival_refusal chunk.now self.old.receiver ≡ Some MessageTooLarge
+            → chunk.now.stream_identifier < length events.old.too_long
+            → is_in chunk.now.stream_identifier events.new.too_long ≡ true }
         ensures ends { IfOk result (λ f. EndsData chunk.now f self.new.receiver) }
         ensures err { OnErr result ((self.new ≡ self.old) × (events.new ≡ events.old)) }
     {
@@ -281,6 +302,7 @@ impl Inbound {
             → is_open n self.new.receiver ≡ true }
         ensures place { self.new.receiver.cumulative_tsn ≡ self.old.receiver.cumulative_tsn }
         ensures acks { acks_in self.new ≡ acks_in self.old }
+        ensures unknown { self.new.unknown_stream ≡ self.old.unknown_stream }
     {
         if self.receiver.stats(stream).is_some() {
             return Ok(());
@@ -306,6 +328,7 @@ impl Inbound {
             → is_open n self.new.receiver ≡ true }
         ensures place { self.new.receiver.cumulative_tsn ≡ self.old.receiver.cumulative_tsn }
         ensures acks { acks_in self.new ≡ acks_in self.old }
+        ensures unknown { self.new.unknown_stream ≡ self.old.unknown_stream }
     {
         if stream >= self.streams || self.discarded.contains(stream) {
             return Ok(());
@@ -384,6 +407,7 @@ impl Inbound {
             × (self.new.streams ≡ self.old.streams) }
         ensures place { self.new.receiver.cumulative_tsn ≡ self.old.receiver.cumulative_tsn }
         ensures acks { acks_in self.new ≡ acks_in self.old }
+        ensures unknown { self.new.unknown_stream ≡ self.old.unknown_stream }
         ensures same { (n : ℕ) → is_in n self.new.discarded ≡ is_in n self.old.discarded }
         ensures served { IsOk result
             → comes_before self.old.receiver.cumulative_tsn skip.now.new_cumulative_tsn ≡ true
@@ -422,6 +446,9 @@ impl Inbound {
             × (self.new.streams ≡ self.old.streams) }
         ensures same { (n : ℕ) → is_in n self.new.discarded ≡ is_in n self.old.discarded }
         ensures whole { result ≡ Ok Wanting → ⊥ }
+        // Where memory was wanting streams that it names may be open by that, and nothing else changed.
+        ensures cut { OnErr result (OpensIn (IsOpeningNamed (forward_tsn_of skip.now))
+            self.old events.old self.new events.new) }
         // A SACK is due now (RFC 3758 3.6).
         ensures acks { result ≡ Ok Done → acks_in self.new ≡ with_due now (acks_in self.old) }
         // It ends the association only where it is refused for good.
@@ -536,6 +563,9 @@ impl Inbound {
         ensures others { (n : ℕ) → (n == stream) ≡ false
             → is_in n self.new.discarded ≡ is_in n self.old.discarded }
         ensures acks { acks_in self.new ≡ acks_in self.old }
+        // Where memory was wanting there may be more room for its event, and nothing else changed.
+        ensures cut { OnErr result ((self.new ≡ self.old)
+            × (KeepsEvents events.old events.new × BringsNone events.old events.new)) }
         // It is performed, or in progress, or the number is wrong, and all that follows.
         ensures resets { IfOk result (λ r. ResetsOne stream last_tsn is_named r
             self.old events.old self.new events.new) }
@@ -566,7 +596,7 @@ impl Inbound {
     }
 
     /// Puts the SACK that is due, or one that waits where DATA goes with it.
-    #[tactic(auto, using(crate::proofs::Reaching::reported))]
+    #[tactic(auto, using(crate::proofs::Ordered::order_one, crate::proofs::Ordered::order_none, crate::proofs::Reaching::reported))]
     pub(crate) fn put_sack(
         &mut self,
         packet: &mut Draft,
@@ -593,6 +623,7 @@ impl Inbound {
         ensures usable { (n : ℕ) → is_usable n self.new ≡ is_usable n self.old }
         ensures cumulative { self.new.receiver.cumulative_tsn ≡ self.old.receiver.cumulative_tsn }
         ensures limit { packet.new.limit ≡ packet.old.limit }
+        ensures order { PutsTypes (3 ∷ []) packet.old.bytes packet.new.bytes }
     {
         let is_waiting = has_data && self.delay.at().is_some();
         if !is_waiting && !self.delay.is_due(now) {

@@ -10,9 +10,10 @@ ghost use Rattle.sctp_association.specs.Links.{EachLinkDelivers, EachLinkGoesOn,
 ghost use Rattle.sctp_association.specs.Lives.{EachBeginningCame, EachDeedIsKnown, EachLifeBegins, EachOfferIsRead, EachUnforgedCame};
 ghost use Rattle.sctp_association.specs.OneLife.{EachDatagramBrings, EachDeliversAny, EachLinkDeliversAny, EachOneLifeBegins, EachOneLifeGoesOn, EachOneLifeTurns, EachOfferedIsBrought, EachPlainIsOneLife};
 ghost use Rattle.sctp_association.specs.Sessions.{EachIsSent};
-ghost use Rattle.sctp_association.specs.Setups.{EachDatagramKeeps, EachQuietCallKeeps, EachSetUpDelivers, EachSetUpTurns, EachTwoAreSetUp, EachWrittenKeeps};
+ghost use Rattle.sctp_association.specs.Setups.{EachDatagramKeeps, EachQuietCallKeeps, EachSetUpDelivers, EachSetUpDeliversYoung, EachSetUpTurns, EachTwoAreSetUp, EachWrittenKeeps};
 ghost use Rattle.sctp_association.specs.Sized.{EachAskIsCut, EachChunkFits, EachDatagramIsCut, EachIsCutFirst, EachOtherIsCut, EachPollIsCut, EachSizeIsCut, EachTimeoutIsCut};
 ghost use Rattle.sctp_association.specs.Told.{EachLosesNone};
+ghost use Rattle.sctp_association.specs.Young.{EachDeliversYoung, EachFewIsYoung, EachLinkDeliversYoung, EachPlainDeliversYoung, EachPlainLinkDeliversYoung};
 
 /// Whatever a peer sends, and whatever calls an association had, what it holds of the peer's messages is within its `Config`. By 400 a
 /// chunk, the chunks count for no more than `window` and one chunk for each TSN within `reach`; with their bytes, for no more than
@@ -44,21 +45,27 @@ pub fn what_comes_was_made()
 
 /// Two associations, from `new` on: whatever their applications call, and whichever datagrams of the peer come, late, again, in another order or
 /// never. What one reads the other wrote, on that stream, with that payload type and those bytes, no write twice, and ordered ones in order.
-/// In the end each other write was read. It holds while they write fewer than 2^31 - 1 fragments: no more than bytes.
+/// In the end each other write was read. It holds while they write fewer than 2^31 - 1 fragments: no more than bytes. Without the end it holds in a
+/// whole life, while nothing that comes or is held is 2^31 TSNs old.
 pub fn what_is_read_was_written()
     ensures hosts { EachDelivers }
     ensures cut { EachIsCut }
     ensures linked { EachLinkDelivers }
     ensures few { EachLinkIsCut }
+    ensures hosts_recent { EachPlainDeliversYoung }
+    ensures linked_recent { EachPlainLinkDeliversYoung }
 {}
 
 /// Two associations as above, whatever datagrams bring: streams are reset or closed, TSNs come without their chunks, names of streams that are
-/// not open are passed over. Only each receiver begins once, with the peer's first TSN, and no sender again. What is read on a stream that its
-/// sender did not begin again is what was written, no write twice; and in order, and in the end, on an untouched stream (`IsUntouched`).
+/// not open are passed over. Each receiver begins once. What is read on a stream that its sender did not begin again was written, no write twice;
+/// and in order, and in the end, on an untouched stream. In a whole life, too, but for the end, while nothing that comes is 2^31 TSNs old.
 pub fn whatever_is_reset_what_is_read_was_written()
     ensures hosts { EachDeliversAny }
     ensures linked { EachLinkDeliversAny }
     ensures weaker { EachPlainIsOneLife }
+    ensures hosts_recent { EachDeliversYoung }
+    ensures linked_recent { EachLinkDeliversYoung }
+    ensures few { EachFewIsYoung }
 {}
 
 /// What the clauses of a call ensure of an association is what these acts of a `Host` do: of such acts `what_is_read_was_written` speaks, and
@@ -81,8 +88,8 @@ pub fn two_associations_go_on()
     ensures turned { EachLinkTurns }
 {}
 
-/// As `two_associations_go_on`, for `whatever_is_reset_what_is_read_was_written`: it says too what datagrams brought to each meanwhile, and
-/// by whose offers halves began, where `offered` of `handle_datagram` says that.
+/// As `two_associations_go_on`, for `whatever_is_reset_what_is_read_was_written`: it says too what datagrams brought to each meanwhile, what each
+/// made, and when nothing old came; and by whose offers halves began, where `offered` of `handle_datagram` says that.
 pub fn two_associations_of_one_life_go_on()
     ensures begun { EachOneLifeBegins }
     ensures acts { EachOneLifeGoesOn }
@@ -104,7 +111,7 @@ pub fn each_receiver_begins_by_what_came()
 
 /// Two associations, from `new` on, whatever calls they have and whichever datagrams of the peer come: each receiver begins once, with the
 /// peer's first TSN, while no cookie is forged and no datagram brings a restart of the peer (RFC 9260 5.2.4 A). So
-/// `whatever_is_reset_what_is_read_was_written` holds of them.
+/// `whatever_is_reset_what_is_read_was_written` holds of them. It says too what each made, and when nothing old came.
 pub fn two_associations_begin_once()
     ensures begun { EachTwoAreSetUp }
     ensures quiet { EachQuietCallKeeps }
@@ -112,6 +119,7 @@ pub fn two_associations_begin_once()
     ensures handled { EachDatagramKeeps }
     ensures turned { EachSetUpTurns }
     ensures delivered { EachSetUpDelivers }
+    ensures delivered_recent { EachSetUpDeliversYoung }
 {}
 
 /// No event is lost, along any calls that ensure `tells`, with `poll` between them. Each event that waited is given or waits. So it is where the

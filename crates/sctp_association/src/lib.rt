@@ -3,6 +3,7 @@
 #![tactic(auto)]
 
 pub mod alone;
+mod asking;
 mod association;
 mod config;
 mod draft;

@@ -6,6 +6,7 @@ ghost use Rattle.std.specs.List.{list_any};
 ghost use Rattle.sctp_association.specs.Arrivals.{new_sender};
 ghost use Rattle.sctp_association.specs.Asked.{AsksOn};
 ghost use Rattle.sctp_association.specs.Beats.{after_beat};
+ghost use Rattle.sctp_association.specs.Brought.{AddsOnly};
 ghost use Rattle.sctp_association.specs.Congested.{expired_at, path_of};
 ghost use Rattle.sctp_association.specs.Counts.{CountsNone, HasLimitsOf};
 ghost use Rattle.sctp_association.specs.Halves.{fragment_size};
@@ -121,6 +122,8 @@ fn fault_of(refusal: SenderRefusal) -> Fault
 fn note_abandoned(low: &mut StreamSet, gone: &[AbandonedMessage])
     ensures stays { Stays low.old low.new }
     ensures told { PutsAll (λ s. list_any (tells_message_low s) gone.now) low.old low.new }
+    ensures only { AddsOnly (λ s. list_any (tells_message_low s) gone.now ≡ true)
+        low.old low.new }
     ensures room { length low.new ≡ length low.old }
 {
     for one in gone {
@@ -321,7 +324,9 @@ impl Outbound {
     }
 
     /// Whether DATA left at this moment.
-    pub(crate) fn was_used(&self, now: u64) -> bool {
+    pub(crate) fn was_used(&self, now: u64) -> bool
+        ensures { result ≡ true → self.now.used ≡ now }
+    {
         self.used == now && self.is_in_flight()
     }
 
@@ -450,7 +455,10 @@ impl Outbound {
     /// again, what is in flight may have come: it is not abandoned, unless more of the message in front waits than its last chunk.
     pub(crate) fn abandon(&mut self, low: &mut StreamSet, now: u64) -> Result<(), Fault>
         ensures low { Stays low.old low.new }
+        ensures room { length low.new ≡ length low.old }
         ensures told { PutsAll (λ s. fell s self.old.sender self.new.sender) low.old low.new }
+        ensures only { AddsOnly (λ s. fell s self.old.sender self.new.sender ≡ true)
+            low.old low.new }
         ensures dropped { Sends [] self.old.sender self.new.sender }
         ensures early { may_drop now self.old.sender ≡ false → self.new ≡ self.old
             ⊎ self.new ≡ record self.old { sender = with_lifetimes now self.old.sender } }
@@ -481,6 +489,7 @@ impl Outbound {
     fn note_dropped(&mut self, low: &mut StreamSet, dropped: &Dropped)
         ensures low { Stays low.old low.new }
         ensures told { PutsAll (λ s. tells_drop_low s dropped.now) low.old low.new }
+        ensures only { AddsOnly (λ s. tells_drop_low s dropped.now ≡ true) low.old low.new }
         ensures room { length low.new ≡ length low.old }
         ensures rest { self.new ≡ record self.old {
           is_skip_due = tells_some dropped.now || self.old.is_skip_due;

@@ -1,9 +1,9 @@
 -- Messages of RFC 8832 are taken out, one after the other.
-use Rattle.std.proofs.Common.{◌≡◌, ℕ, zero, suc, Bool, true, false, List, [], ◌∷◌, ◌++◌, Option, Some, None, refl, ap, sym, ◌∙◌, subst}
+use Rattle.std.proofs.Common.{◌≡◌, ℕ, zero, suc, Bool, true, List, [], ◌∷◌, ◌++◌, Option, Some, None, refl, ap, sym, ◌∙◌, subst}
 use Rattle.std.specs.Prelude.{replicate}
 use Rattle.sctp_association.specs.declared.association.Association.{Association}
 use Rattle.sctp_association.specs.Reads.{AreReadOff, length_of, message_in}
-use Rattle.sctp_channels.specs.Reading.{ReadsControl, TakesControl, TakesControlOf, is_control, is_data, is_dcep, tells_data}
+use Rattle.sctp_channels.specs.Reading.{ReadsControl, TakesControl, TakesControlOf, is_control, is_data, tells_data}
 use Rattle.sctp_data.specs.ChunkSet.{ChunkSet}
 use Rattle.sctp_data.specs.declared.chunk.chunk_payload_data.PayloadProtocolIdentifier.{PayloadProtocolIdentifier}
 
@@ -44,6 +44,15 @@ of_read now s a b c h control read = record { count = suc h.count; reads = reads
 pub of_from : (now s : ℕ) (a b c : Association) → b.inbound ≡ a.inbound → TakesControlOf now s b c → TakesControlOf now s a c
 of_from now s a b c same h = record { count = h.count; reads = reads_from now (replicate h.count s) a b c same h.reads }
 
+of_joined : (now s n : ℕ) (a b c : Association) → ReadsControl now (replicate n s) a b → TakesControlOf now s b c → TakesControlOf now s a c
+of_joined now s zero a b c same k = record { count = k.count; reads = reads_from now (replicate k.count s) a b c same k.reads }
+of_joined now s (suc n) a b c (mid, control, read, rest) k =
+    let joined = of_joined now s n mid b c rest k in
+    record { count = suc joined.count; reads = (mid, control, read, joined.reads) }
+
+pub of_more : (now s : ℕ) (a b c : Association) → TakesControlOf now s a b → TakesControlOf now s b c → TakesControlOf now s a c
+of_more now s a b c h k = of_joined now s h.count a b c h.reads k
+
 -- ## Of some streams
 
 pub some_same : (now : ℕ) (a b : Association) → b.inbound ≡ a.inbound → TakesControl now a b
@@ -56,15 +65,6 @@ pub some_more : (now : ℕ) (a b c : Association) → TakesControl now a b → T
 some_more now a b c h k = record { streams = h.streams ++ k.streams; reads = reads_more now h.streams k.streams a b c h.reads k.reads }
 
 -- ## What is next
-
--- so the payload type says it that the association tells of the next message
-abbrev pub tells_control : Option (ℕ × PayloadProtocolIdentifier) → Bool
-tells_control None = false
-tells_control (Some p) = is_dcep p.1
-
-pub control_told : (m : Option ChunkSet) (o : Option (ℕ × PayloadProtocolIdentifier)) → o ≡ length_of m → tells_control o ≡ true → is_control m ≡ true
-control_told None o is told = sym (ap tells_control is) ∙ told
-control_told (Some s) o is told = sym (ap tells_control is) ∙ told
 
 pub data_told : (b : Bool) (m : Option ChunkSet) (o : Option (ℕ × PayloadProtocolIdentifier)) → o ≡ length_of m → tells_data o ≡ b → is_data m ≡ b
 data_told b None o is told = sym (ap tells_data is) ∙ told

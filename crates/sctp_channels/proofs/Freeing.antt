@@ -41,7 +41,8 @@ searched_next side list s (own, within, below) has = by (nat_le (s + 2) 65534) r
     by true e = (grind (arith, nat_tests), grind (arith, nat_tests), more)
     by false e = λ m lt is. more m (grind (arith, nat_tests)) is
 
-lower : (side : Side) (list : List Channel) (s n : ℕ) → (n < s → is_of side n ≡ true → has_channel n list ≡ true) → is_of side n ≡ true → has_channel n list ≡ false → s ≤ n
+lower : (side : Side) (list : List Channel) (s n : ℕ) → (n < s → is_of side n ≡ true → has_channel n list ≡ true) → is_of side n ≡ true
+    → has_channel n list ≡ false → s ≤ n
 lower side list s n below is none = grind arith
 
 pub searched_found : (side : Side) (list : List Channel) (s : ℕ) → IsSearched side list (Some s) → has_channel s list ≡ false → IsNextFree side list s

@@ -10,7 +10,8 @@ use Rattle.sctp_dcep.specs.declared.side.Side.{Side}
 pub gains_same : (side : Side) (old new : List Channel) → asked new ≡ asked old → Gains side old new
 gains_same side old new same = record { gained = []; are = same ∙ sym (append-nil (asked old)); peers = refl }
 
-all_append : (side : Side) (xs ys : List Channel) → list_all (is_peers side) xs ≡ true → list_all (is_peers side) ys ≡ true → list_all (is_peers side) (xs ++ ys) ≡ true
+all_append : (side : Side) (xs ys : List Channel) → list_all (is_peers side) xs ≡ true → list_all (is_peers side) ys ≡ true
+    → list_all (is_peers side) (xs ++ ys) ≡ true
 all_append side [] ys h k = k
 all_append side (c ∷ xs) ys h k = grind (arith, all_append side xs ys)
 

@@ -1,7 +1,16 @@
+pub mod Coming
 pub mod Following
 pub mod Freeing
 pub mod Gaining
 pub mod Handing
+pub mod Holding
+pub mod Known
 pub mod Lists
+pub mod News
+pub mod Next
+pub mod Polling
 pub mod Refusing
+pub mod Sending
+pub mod Settling
 pub mod Telling
+pub mod Waiting

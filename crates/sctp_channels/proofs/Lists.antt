@@ -1,5 +1,6 @@
 -- Lists of channels: places in them, and what is noted.
-use Rattle.std.proofs.Common.{◌≡◌, ℕ, zero, suc, ◌+◌, ◌<◌, ◌≤◌, ◌==◌, Bool, true, false, not, ◌||◌, cond, List, [], ◌∷◌, ◌++◌, length, get_or, set, take, drop, position, find, Some, None, refl, ap, sym, ◌∙◌, arith}
+use Rattle.std.proofs.Common.{◌≡◌, ℕ, zero, suc, ◌+◌, ◌<◌, ◌≤◌, ◌==◌, Bool, true, false, not, ◌||◌, cond, List, [], ◌∷◌, ◌++◌, length, get_or, set, take, drop}
+use Rattle.std.proofs.Common.{position, find, Some, None, refl, ap, sym, ◌∙◌, arith}
 use Rattle.std.specs.List.{list_any, position_or_len}
 use Rattle.std.proofs.lemmas.Bool.Decides.{nat_tests}
 use Rattle.sctp_channels.specs.Channels.{as_asked, asked, has_channel, is_on, is_once, note_on, noted}
@@ -14,11 +15,12 @@ none_within : {X : Type 0} (p : X → Bool) (xs : List X) → length xs ≤ posi
 none_within p [] h = refl
 none_within {X} p (x ∷ xs) h = by (p x) h (none_within p xs)
   where
-    by : (b : Bool) → suc (length xs) ≤ cond (not b) (1 + position_or_len p xs) 0 → (length xs ≤ position_or_len p xs → list_any p xs ≡ false) → b || list_any p xs ≡ false
+    by : (b : Bool) → suc (length xs) ≤ cond (not b) (1 + position_or_len p xs) 0 → (length xs ≤ position_or_len p xs → list_any p xs ≡ false)
+        → b || list_any p xs ≡ false
     by true at rest = absurd (omega (arith, at))
     by false at rest = rest (omega (arith, at))
 
-none_from_position : {X : Type 0} (p : X → Bool) (xs : List X) → position p xs ≡ None → list_any p xs ≡ false
+pub none_from_position : {X : Type 0} (p : X → Bool) (xs : List X) → position p xs ≡ None → list_any p xs ≡ false
 none_from_position p xs none = none_within p xs (grind (arith, nat_tests))
 
 find_none : {X : Type 0} (p : X → Bool) (xs : List X) → list_any p xs ≡ false → find p xs ≡ None
@@ -66,7 +68,8 @@ pub asked_noted : (s : ℕ) (n : News) (xs : List Channel) → asked (note_on s 
 asked_noted s n [] = refl
 asked_noted s n (c ∷ xs) = by (is_on s c) (as_asked_noted n c) (asked_noted s n xs)
   where
-    by : (b : Bool) → as_asked (noted n c) ≡ as_asked c → asked (note_on s n xs) ≡ asked xs → asked (cond b (noted n c ∷ xs) (c ∷ note_on s n xs)) ≡ as_asked c ∷ asked xs
+    by : (b : Bool) → as_asked (noted n c) ≡ as_asked c → asked (note_on s n xs) ≡ asked xs
+        → asked (cond b (noted n c ∷ xs) (c ∷ note_on s n xs)) ≡ as_asked c ∷ asked xs
     by true same rest = ap (λ d. d ∷ asked xs) same
     by false same rest = ap (λ ds. as_asked c ∷ ds) rest
 
@@ -84,8 +87,8 @@ noted_within s n (d ∷ xs) i c e h is = by (is_on s d) i e h is (λ m. noted_wi
     by false (suc k) e h is rest = ap (λ ds. d ∷ ds) (rest k (omega (arith, e)) (omega (arith, h)) is)
 
 -- a write at the place of the stream notes it
-pub set_noted : (s : ℕ) (n : News) (xs : List Channel) (i : ℕ) (c d : Channel) → position (is_on s) xs ≡ Some i → i < length xs → c ≡ get_or xs i c → d ≡ noted n c
-    → set xs i d ≡ note_on s n xs
+pub set_noted : (s : ℕ) (n : News) (xs : List Channel) (i : ℕ) (c d : Channel) → position (is_on s) xs ≡ Some i → i < length xs → c ≡ get_or xs i c
+    → d ≡ noted n c → set xs i d ≡ note_on s n xs
 set_noted s n xs i c d at h is noted-is = rw noted-is (noted_within s n xs i c (grind (arith, nat_tests)) h is)
 
 -- where the stream has no channel nothing is noted
@@ -122,7 +125,8 @@ once_asked (c ∷ xs) = rw (has_asked c.stream xs, once_asked xs) refl
 pub once_same : (xs ys : List Channel) → asked ys ≡ asked xs → is_once xs ≡ true → is_once ys ≡ true
 once_same xs ys same h = sym (once_asked ys) ∙ ap is_once same ∙ once_asked xs ∙ h
 
-pub once_set : (xs : List Channel) (i : ℕ) (c d : Channel) → is_once xs ≡ true → i < length xs → c ≡ get_or xs i c → as_asked d ≡ as_asked c → is_once (set xs i d) ≡ true
+pub once_set : (xs : List Channel) (i : ℕ) (c d : Channel) → is_once xs ≡ true → i < length xs → c ≡ get_or xs i c → as_asked d ≡ as_asked c
+    → is_once (set xs i d) ≡ true
 once_set xs i c d once h is same = once_same xs (set xs i d) (asked_set xs i c d h is same) once
 
 pub once_set_noted : (n : News) (xs : List Channel) (i : ℕ) (c d : Channel) → is_once xs ≡ true → i < length xs → c ≡ get_or xs i c → d ≡ noted n c
@@ -136,7 +140,8 @@ pub has_append : (s : ℕ) (xs ys : List Channel) → has_channel s (xs ++ ys) �
 has_append s [] ys = refl
 has_append s (c ∷ xs) ys = by (is_on s c) (has_append s xs ys)
   where
-    by : (b : Bool) → has_channel s (xs ++ ys) ≡ has_channel s xs || has_channel s ys → b || has_channel s (xs ++ ys) ≡ (b || has_channel s xs) || has_channel s ys
+    by : (b : Bool) → has_channel s (xs ++ ys) ≡ has_channel s xs || has_channel s ys
+        → b || has_channel s (xs ++ ys) ≡ (b || has_channel s xs) || has_channel s ys
     by true rest = refl
     by false rest = rest
 
@@ -144,7 +149,8 @@ has_append s (c ∷ xs) ys = by (is_on s c) (has_append s xs ys)
 other_end : (a b : ℕ) → (a == b) ≡ (b == a)
 other_end a b = grind (arith, nat_tests)
 
-push_by : (c d : Channel) (xs : List Channel) → has_channel c.stream (d ∷ xs) ≡ false → not (has_channel d.stream xs) ≡ true → has_channel d.stream (xs ++ c ∷ []) ≡ false
+push_by : (c d : Channel) (xs : List Channel) → has_channel c.stream (d ∷ xs) ≡ false → not (has_channel d.stream xs) ≡ true
+    → has_channel d.stream (xs ++ c ∷ []) ≡ false
 push_by c d xs new own = grind (arith, has_append, other_end)
 
 pub once_push : (xs : List Channel) (c : Channel) → is_once xs ≡ true → has_channel c.stream xs ≡ false → is_once (xs ++ c ∷ []) ≡ true
@@ -159,7 +165,8 @@ pub once_without : (xs ys : List Channel) (c : Channel) → is_once (xs ++ c ∷
 once_without [] ys c h = grind arith
 once_without (d ∷ xs) ys c h = grind (arith, has_without d.stream xs ys c, once_without xs ys c)
 
-pub once_remove : (xs : List Channel) (i : ℕ) (c : Channel) → is_once xs ≡ true → i < length xs → c ≡ get_or xs i c → is_once (take i xs ++ drop (suc i) xs) ≡ true
+pub once_remove : (xs : List Channel) (i : ℕ) (c : Channel) → is_once xs ≡ true → i < length xs → c ≡ get_or xs i c
+    → is_once (take i xs ++ drop (suc i) xs) ≡ true
 once_remove xs i c once h is = once_without (take i xs) (drop (suc i) xs) c (ap is_once (sym (split_at xs i c h is)) ∙ once)
 
 -- the channel at a place is there

@@ -1,5 +1,6 @@
 -- What is told, of a list at a place.
-use Rattle.std.proofs.Common.{◌≡◌, ℕ, suc, ◌<◌, Bool, true, false, ◌&&◌, List, ◌++◌, length, get_or, set, take, drop, refl, ◌∙◌, subst, [], Result, Ok, Err, arith}
+use Rattle.std.proofs.Common.{◌≡◌, ℕ, suc, ◌<◌, Bool, true, false, ◌&&◌, List, ◌++◌, length, get_or, set, take, drop, refl, ◌∙◌, subst, [], Result, Ok, Err}
+use Rattle.std.proofs.Common.{arith}
 use Rattle.std.specs.Prelude.{MatchBool, OnErr}
 use Rattle.std.proofs.lemmas.List.{get_or_default}
 use Rattle.sctp_channels.proofs.Gaining.{gains_same, gains_more}
@@ -11,14 +12,15 @@ use Rattle.sctp_channels.specs.declared.event.ChannelEvent.{ChannelEvent}
 use Rattle.sctp_channels.specs.declared.event.ChannelEvent.TheVariants.{Opened, Acknowledged, Readable, Closed, Association}
 use Rattle.sctp_dcep.specs.declared.side.Side.{Side}
 
-told_at : (side : Side) (xs : List Channel) (i : ℕ) (c d : Channel) → i < length xs → c ≡ get_or xs i c → as_asked d ≡ as_asked c → IsTold side xs (set xs i d) c.stream
+told_at : (side : Side) (xs : List Channel) (i : ℕ) (c d : Channel) → i < length xs → c ≡ get_or xs i c → as_asked d ≡ as_asked c
+    → IsTold side xs (set xs i d) c.stream
 told_at side xs i c d h is same = let stays = asked_set xs i c d h is same in record {
   gains = gains_same side xs (set xs i d) stays;
   there = has_same c.stream xs (set xs i d) stays ∙ has_at xs i c h is;
 }
 
-pub tells_at : (side : Side) (xs : List Channel) (i : ℕ) (c d : Channel) (e : ChannelEvent) → i < length xs → c ≡ get_or xs i c → as_asked d ≡ as_asked c → IsAbout c.stream e
-    → Tells side xs (set xs i d) e
+pub tells_at : (side : Side) (xs : List Channel) (i : ℕ) (c d : Channel) (e : ChannelEvent) → i < length xs → c ≡ get_or xs i c → as_asked d ≡ as_asked c
+    → IsAbout c.stream e → Tells side xs (set xs i d) e
 tells_at side xs i c d (Opened s) h is same about = rw about (told_at side xs i c d h is same)
 tells_at side xs i c d (Acknowledged s) h is same about = rw about (told_at side xs i c d h is same)
 tells_at side xs i c d (Readable s) h is same about = rw about (told_at side xs i c d h is same)
@@ -50,7 +52,8 @@ closed_at side xs i c d h is is-d reset =
       };
     }
 
-left_then : (side : Side) (old mid new : List Channel) (b : Bool) → Gains side old mid → MatchBool b (new ≡ []) (Gains side mid new) → MatchBool b (new ≡ []) (Gains side old new)
+left_then : (side : Side) (old mid new : List Channel) (b : Bool) → Gains side old mid → MatchBool b (new ≡ []) (Gains side mid new)
+    → MatchBool b (new ≡ []) (Gains side old new)
 left_then side old mid new true first next = next
 left_then side old mid new false first next = gains_more side old mid new first next
 

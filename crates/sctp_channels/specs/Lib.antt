@@ -1,6 +1,11 @@
+pub mod Answers
 pub mod Channels
+pub mod Dcep
 pub mod Events
 pub mod Messages
 pub mod Reading
 pub mod Refusals
 pub mod Rest
+pub mod Sends
+pub mod Steps
+pub mod Waiting

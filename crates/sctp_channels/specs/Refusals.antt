@@ -64,3 +64,12 @@ CloseRefused stream list InUse = ⊥
 CloseRefused stream list NoChannel = channel_on stream list ≡ None
 CloseRefused stream list NameTooLong = ⊥
 CloseRefused stream list (Association f) = Unit {0}
+
+-- of a call that follows messages of RFC 8832: want of memory alone, or that too much waits for a DATA_CHANNEL_ACK
+abbrev pub FollowRefused : Option Fault → Refusal → Type 0
+FollowRefused asked OutOfMemory = Unit {0}
+FollowRefused asked NoStream = ⊥
+FollowRefused asked InUse = ⊥
+FollowRefused asked NoChannel = ⊥
+FollowRefused asked NameTooLong = ⊥
+FollowRefused asked (Association f) = (f ≡ fault.Full) × (asked ≡ Some fault.Full)

@@ -9,3 +9,8 @@ pub record Keeps (old new : Channels) : Type 0 where
   pub held : new.held ≡ old.held
   pub arrived : new.arrived ≡ old.arrived
   pub owed : new.owed ≡ old.owed
+
+-- what is still to be looked at and reset
+pub record KeepsDue (old new : Channels) : Type 0 where
+  pub arrived : new.arrived ≡ old.arrived
+  pub owed : new.owed ≡ old.owed

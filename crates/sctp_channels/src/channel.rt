@@ -1,6 +1,7 @@
 //! A data channel.
 
 ghost use Rattle.std.specs.Prelude.{◌≡◌, IsTrue, ◌↔◌, ◌&&◌, ◌||◌, true, IfSome};
+ghost use Rattle.sctp_channels.specs.Answers.{event_of, told_once};
 ghost use Rattle.sctp_channels.specs.Channels.{as_asked, asked_for, has_news, is_reset, noted};
 ghost use Rattle.sctp_channels.specs.Events.{IsAbout};
 
@@ -115,6 +116,8 @@ impl Channel {
     pub(crate) fn take_event(&mut self) -> ChannelEvent
         ensures same { as_asked self.new ≡ as_asked self.old }
         ensures about { IsAbout self.old.stream result }
+        ensures told { result ≡ event_of self.old }
+        ensures once { self.new ≡ told_once self.old }
     {
         if self.is_new {
             self.is_new = false;

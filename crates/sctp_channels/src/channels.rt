@@ -1,13 +1,16 @@
 //! The channels of an association: they are opened, written to, read and listed.
 
 ghost use Rattle.std.specs.Prelude.{◌≡◌, ◌<◌, ◌++◌, ◌∷◌, ◌⊎◌, [], true, false, None, Some, Err, IfErr, IfOk, IfSome, OnErr, OnOk, length, option_copied, position, vec_capacity, vec_len};
-ghost use Rattle.sctp_channels.specs.Channels.{Gains, IsFull, IsNextFree, asked, asked_for, channel_on, has_channel, is_on, is_once, note_on, takes_messages};
+ghost use Rattle.std.specs.List.{list_any};
+ghost use Rattle.sctp_channels.specs.Channels.{Gains, IsFull, IsNextFree, asked, asked_for, channel_on, has_channel, has_news, is_on, is_once, note_on, takes_messages};
+ghost use Rattle.sctp_channels.specs.Sends.{IsLeftByOpen, IsModed, SendsOnly};
 ghost use Rattle.sctp_channels.specs.Events.{TellsMaybe};
 ghost use Rattle.sctp_channels.specs.Messages.{IsHanded, IsOpened, kind_of, sent_of};
 ghost use Rattle.sctp_channels.specs.Reading.{ReadsNext, TakesControl, TakesControlOf, tells_data};
-ghost use Rattle.sctp_channels.specs.Refusals.{AgreedRefused, OpenRefused, WriteRefused, refusal_of, refusal_of_name};
+ghost use Rattle.sctp_channels.specs.Refusals.{AgreedRefused, FollowRefused, OpenRefused, WriteRefused, refusal_of, refusal_of_name};
 ghost use Rattle.sctp_channels.specs.declared.channel.Stage.TheVariants as stage;
 ghost use Rattle.sctp_channels.specs.declared.channels.Refusal.TheVariants.{InUse, NoChannel, NoStream, OutOfMemory};
+ghost use Rattle.sctp_channels.specs.Waiting.{KeepsNews, KeepsOthers};
 ghost use Rattle.sctp_association.specs.Calls.{use_fault, write_fault};
 
 use crate::channel::{Channel, News, Stage};
@@ -96,7 +99,7 @@ pub struct Channels {
 }
 
 // Whether the next message, of this length and payload type, is one of the application, and none of RFC 8832.
-fn is_of_application(next: Option<(usize, PayloadProtocolIdentifier)>) -> bool
+pub(crate) fn is_of_application(next: Option<(usize, PayloadProtocolIdentifier)>) -> bool
     ensures { result ≡ tells_data next }
 {
     let Some((_, kind)) = next else {
@@ -116,13 +119,17 @@ fn is_of_application(next: Option<(usize, PayloadProtocolIdentifier)>) -> bool
 pub(crate) const MOST: u32 = 1 << 20;
 
 impl Channels {
+    ghost use Rattle.sctp_channels.specs.Answers.{Polls, ReadsOn, after_told, next_told};
     ghost use Rattle.sctp_channels.specs.Rest.{Keeps};
+    ghost use Rattle.sctp_channels.specs.Steps.{Comes, IsSettled, after_event, held_fault, held_of, looked, state_of, told_by};
 
     /// No channels. `side` is the role in the DTLS connection. `most_name` is how many bytes a label and a protocol of the peer may have
     /// together; a channel with longer ones is closed. It takes no memory.
     pub fn new(alloc: Global, side: Side, most_name: usize) -> Channels
         ensures none { result.channels.items ≡ [] }
         ensures side { result.side ≡ side }
+        ensures most { result.most_name ≡ most_name }
+        ensures settled { (a : Association) → IsSettled (state_of result a) }
     {
         Channels {
             alloc,
@@ -195,9 +202,13 @@ impl Channels {
         ensures full { IsFull self.old.side self.old.channels.items → result ≡ Err NoStream }
         // DATA_CHANNEL_OPEN with the request is written on the stream, in order (RFC 8832 5.1, 6).
         ensures written { IfOk result (λ s. IsOpened s request association.old association.new) }
+        ensures sends { OnOk result (SendsOnly association.old association.new) }
         ensures refused { IfErr result
             (OpenRefused self.old.side self.old.channels.items request) }
         ensures err { OnErr result (self.new.channels.items ≡ self.old.channels.items) }
+        // The mode of the stream may be set, and the association is else as it was.
+        ensures left { OnErr result (IsLeftByOpen self.old.side self.old.channels.items request
+            association.old association.new) }
         ensures rest { Keeps self.old self.new }
     {
         let Some(stream) = self.free_stream() else {
@@ -231,6 +242,11 @@ impl Channels {
             → result ≡ Err InUse }
         ensures refused { IfErr result (AgreedRefused stream self.old.channels.items
             (use_fault stream association.old)) }
+        // A message that came before is to be told.
+        ensures told { OnOk result (self.new.channels.items ≡ looked stream association.old.inbound
+            (self.old.channels.items ++ asked_for stream stage.Open request ∷ [])) }
+        ensures moded { OnOk result (IsModed stream request.unordered request.reliability
+            request.value association.old association.new) }
         ensures err { OnErr result ((self.new.channels.items ≡ self.old.channels.items)
             × (association.new ≡ association.old)) }
         ensures rest { Keeps self.old self.new }
@@ -291,6 +307,7 @@ impl Channels {
             (write_fault stream (length (sent_of bytes.now)) association.old)) }
         ensures handed { OnOk result (IsHanded stream (kind_of is_text bytes.now)
             (sent_of bytes.now) association.old association.new) }
+        ensures sends { OnOk result (SendsOnly association.old association.new) }
         ensures err { OnErr result (association.new ≡ association.old) }
     {
         match self.find(stream) {
@@ -328,6 +345,15 @@ impl Channels {
         // It is the next one of the association's stream that is none of RFC 8832.
         ensures message { IfOk result (ReadsNext now stream association.old association.new) }
         ensures err { OnErr result (TakesControlOf now stream association.old association.new) }
+        // What the messages of RFC 8832 before it make is made (RFC 8832 6).
+        ensures reads { IfOk result (ReadsOn now stream (state_of self.old association.old)
+            (state_of self.new association.new)) }
+        ensures comes { OnErr result (Comes now 0 (state_of self.old association.old)
+            (state_of self.new association.new)) }
+        // Nothing that waits to be told of a channel is lost.
+        ensures others { KeepsNews self.old.channels.items self.new.channels.items }
+        ensures refused { IfErr result (FollowRefused (held_fault (held_of self.new.held)
+            association.new)) }
     {
         self.follow_control(association, stream, now)?;
         if !is_of_application(association.next_len(stream)) {
@@ -354,12 +380,27 @@ impl Channels {
         ensures side { self.new.side ≡ self.old.side }
         // No message of the application is taken out.
         ensures control { TakesControl now association.old association.new }
+        // What the peer's messages and the association's events make is made, and what waits is told (RFC 8832 6, 8831 6.7).
+        ensures polls { IfOk result (Polls now (state_of self.old association.old)
+            (state_of self.new association.new)) }
+        ensures comes { OnErr result (Comes now 0 (state_of self.old association.old)
+            (state_of self.new association.new)) }
+        // Nothing that waits to be told of a channel is lost.
+        ensures others { IfOk result
+            (KeepsOthers self.old.channels.items self.new.channels.items) }
+        ensures news { OnErr result (KeepsNews self.old.channels.items self.new.channels.items) }
+        ensures refused { IfErr result (FollowRefused (held_fault (held_of self.new.held)
+            association.new)) }
     {
-        for _ in 0..MOST {
+        for _done in 0..MOST {
             self.settle(association, now)?;
             match self.next_event() {
                 Some(event) => return Ok(Some(event)),
                 None => {}
+            }
+            // So many messages of RFC 8832 came on a stream that the next call goes on.
+            if self.arrived.is_some() {
+                return Ok(None);
             }
             let Some(event) = association.poll() else {
                 return Ok(None);
@@ -378,6 +419,9 @@ impl Channels {
         ensures told { TellsMaybe self.old.side self.old.channels.items
             self.new.channels.items result }
         ensures side { self.new.side ≡ self.old.side }
+        ensures passed { result ≡ told_by event }
+        ensures after { (a : Association) → state_of self.new a
+            ≡ after_event event (state_of self.old a) }
     {
         if is_end(event) {
             self.channels.clear();
@@ -400,17 +444,27 @@ impl Channels {
         }
     }
 
+    // Where the first channel stands of which something is to be told.
+    fn place_of_news(&self) -> Option<usize>
+        ensures place { result ≡ position has_news self.now.channels.items }
+        ensures within { IfSome result (λ i. i < vec_len self.now.channels) }
+    {
+        self.channels.iter().position(|channel| channel.has_news())
+    }
+
     // What is to be told, if anything is.
     #[tactic(auto, using(crate::proofs::Lists::once_remove, crate::proofs::Lists::once_set, crate::proofs::Telling::tells_at, crate::proofs::Telling::closed_at, crate::proofs::Gaining::gains_same))]
     fn next_event(&mut self) -> Option<ChannelEvent>
         ensures told { TellsMaybe self.old.side self.old.channels.items
             self.new.channels.items result }
         ensures side { self.new.side ≡ self.old.side }
+        ensures rest { Keeps self.old self.new }
+        ensures next { result ≡ next_told self.old.channels.items }
+        ensures left { self.new.channels.items ≡ after_told self.old.channels.items }
+        ensures none { result ≡ None → (self.new ≡ self.old)
+            × (list_any has_news self.old.channels.items ≡ false) }
     {
-        let place = self.channels.iter().position(|c| c.has_news())?;
-        if place >= self.channels.len() {
-            return None;
-        }
+        let place = self.place_of_news()?;
         if self.channels[place].is_closed() {
             let channel = self.channels.remove(place);
             return Some(ChannelEvent::Closed(channel.stream));

@@ -3,13 +3,18 @@
 ghost use Rattle.std.specs.Prelude.{◌≡◌, None, Err, IfErr, OnErr, OnOk, true};
 ghost use Rattle.sctp_channels.specs.Channels.{asked, channel_on, note_on};
 ghost use Rattle.sctp_channels.specs.Refusals.{CloseRefused};
+ghost use Rattle.sctp_channels.specs.Rest.{Keeps};
+ghost use Rattle.sctp_channels.specs.Sends.{IsAsked};
+ghost use Rattle.sctp_channels.specs.Steps.{AsksOwed, after_event, state_of};
+ghost use Rattle.sctp_association.specs.declared.event.Event.TheVariants as event;
 ghost use Rattle.sctp_channels.specs.declared.channel.News.TheVariants as news;
-ghost use Rattle.sctp_channels.specs.declared.channels.Refusal.TheVariants.{NoChannel};
+ghost use Rattle.sctp_channels.specs.declared.channels.Refusal.TheVariants.{NoChannel, OutOfMemory};
 ghost use Rattle.sctp_reset.specs.Own.{after_ask};
 
 use crate::channel::{News, Stage};
 use crate::channels::{Channels, Refusal};
-use sctp_association::{Association, Fault};
+use crate::sends::ask;
+use sctp_association::Association;
 
 impl Channels {
     /// Closes a channel: once what was written is acknowledged, our direction of the stream is reset, and the peer resets the other. `ChannelEvent::Closed`
@@ -21,6 +26,9 @@ impl Channels {
         // Our direction of the stream is to be reset (RFC 6525 5.1.2).
         ensures asked { OnOk result (association.new.requests
             ≡ after_ask stream association.old.requests) }
+        // Beside that, the stage, and room for events nothing changes.
+        ensures only { OnOk result (IsAsked stream association.old association.new) }
+        ensures rest { Keeps self.old self.new }
         ensures none { channel_on stream self.old.channels.items ≡ None
             → result ≡ Err NoChannel }
         ensures refused { IfErr result (CloseRefused stream self.old.channels.items) }
@@ -39,6 +47,8 @@ impl Channels {
     pub(crate) fn peers_reset_came(&mut self, stream: u16)
         ensures same { asked self.new.channels.items ≡ asked self.old.channels.items }
         ensures side { self.new.side ≡ self.old.side }
+        ensures after { (a : Association) → state_of self.new a
+            ≡ after_event (event.ResetByPeer stream) (state_of self.old a) }
     {
         let is_closing = match self.find(stream) {
             Some(channel) => channel.stage == Stage::Closing,
@@ -55,15 +65,21 @@ impl Channels {
         ensures same { asked self.new.channels.items ≡ asked self.old.channels.items }
         ensures side { self.new.side ≡ self.old.side }
         ensures inbound { association.new.inbound ≡ association.old.inbound }
+        ensures arrived { self.new.arrived ≡ self.old.arrived }
+        ensures ok { OnOk result (AsksOwed self.old.owed (state_of self.old association.old)
+            (state_of self.new association.new)) }
+        ensures done { OnOk result (self.new.owed ≡ None) }
+        ensures err { OnErr result ((self.new ≡ self.old)
+            × (association.new ≡ association.old)) }
+        ensures memory { IfErr result (λ e. e ≡ OutOfMemory) }
     {
-        if let Some(stream) = self.owed {
-            match association.reset_stream(stream) {
-                Ok(()) => {}
-                Err(Fault::OutOfMemory) => return Err(Refusal::OutOfMemory),
-                Err(_) => self.note(stream, News::OursReset),
-            }
-            self.owed = None;
+        let Some(stream) = self.owed else {
+            return Ok(());
+        };
+        if !ask(association, stream)? {
+            self.note(stream, News::OursReset);
         }
+        self.owed = None;
         Ok(())
     }
 }

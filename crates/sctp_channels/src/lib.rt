@@ -7,6 +7,7 @@ mod closing;
 mod control;
 mod event;
 mod received;
+mod sends;
 
 pub use channel::{Channel, Stage};
 pub use channels::{Channels, Refusal};

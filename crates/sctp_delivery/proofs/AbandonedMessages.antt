@@ -1,10 +1,10 @@
 -- Which messages the calls of a sender abandon (RFC 3758 3.5): only of these is a chunk in flight abandoned, and only behind a fragment of
 -- these stands a terminal chunk.
-use Rattle.sctp_delivery.proofs.Names.{◌≡◌, ℕ, ◌+◌, ◌-◌, ◌%◌, ◌^◌, Bool, true, false, List, [], ◌∷◌, ◌++◌, length, map, Option, Some, None, is_some, inl, inr}
-use Rattle.sctp_delivery.proofs.Names.{refl, ap, sym, subst, ◌∙◌, arith, ◌<◌, ◌≤◌, ◌==◌, if◌then◌else◌, find, option_map, option_to_list, nat_eq, ◌&&◌, ◌||◌}
-use Rattle.sctp_delivery.proofs.Names.{none-some, nat_tests, change_where, or-left, or-right, same-is, same-yes, some-same, or-split, list_any-append, not_both}
-use Rattle.sctp_delivery.proofs.Names.{and, both, fails, ChunkPayloadData, Sack, is_of, Outbound, abandoned_of, all_started, as_sent, sent_of, to_abandon}
-use Rattle.sctp_delivery.proofs.Names.{total_bytes, expired_of, expiring, expiring_tail, is_expired, is_expired_tail, message_of, passing, Pending}
+use Rattle.sctp_delivery.proofs.Names.{common_steps, ◌≡◌, ℕ, ◌+◌, ◌%◌, ◌^◌, Bool, true, false, List, [], ◌∷◌, ◌++◌, length, map, Option, Some, None, is_some}
+use Rattle.sctp_delivery.proofs.Names.{inl, inr, refl, ap, sym, subst, ◌∙◌, arith, ◌<◌, ◌≤◌, ◌==◌, if◌then◌else◌, find, option_map, option_to_list, nat_eq}
+use Rattle.sctp_delivery.proofs.Names.{◌&&◌, ◌||◌, none-some, nat_tests, change_where, or-left, or-right, same-is, same-yes, some-same, or-split}
+use Rattle.sctp_delivery.proofs.Names.{list_any-append, not_both, and, both, fails, ChunkPayloadData, Sack, is_of, Outbound, abandoned_of, all_started, as_sent}
+use Rattle.sctp_delivery.proofs.Names.{sent_of, to_abandon, expired_of, expiring, expiring_tail, is_expired, is_expired_tail, message_of, passing, Pending}
 use Rattle.sctp_delivery.proofs.Names.{next_pending, rest_after, without, without_message, partially_sent, waits, IsSendable, stage_of, peeked_all_started}
 use Rattle.sctp_delivery.proofs.Names.{last_is_of, following_tsn, has_tsn, AbandonedMessage, Flight, after_abandonment, after_sack, message_to_abandon}
 use Rattle.sctp_delivery.proofs.Names.{abandoned_at, abandoned_each, abandoned_with, leaving_at, leaving_each, late_order, worn_order, fragments_with_mode}
@@ -32,7 +32,7 @@ use Rattle.sctp_delivery.proofs.Changes.{Change, all_start, acknowledges, change
 use Rattle.sctp_delivery.proofs.Changes.{partial-found, some_marked, some_missed}
 use Rattle.std.specs.List.{find}
 use Rattle.sctp_outbound.proofs.lemmas.pending_queue.CompleteMessages.{none_past}
-use Rattle.sctp_delivery.proofs.AllBegun.{begins_in, begun-then, is_begun, next-or-stays, starts-keep, still-begun, write-begins, write-keeps}
+use Rattle.sctp_delivery.proofs.AllBegun.{begins_in, is_begun, next-or-stays, starts-keep, still-begun, write-begins, write-keeps}
 use Rattle.sctp_delivery.proofs.Begun.{begins, begins-changed, was_begun, next-any}
 
 -- ## Numbers
@@ -57,25 +57,17 @@ pub one-gone : (m : ℕ) (o : Option ℕ) → o ≡ Some m → is_gone (option_t
 one-gone m None e = absurd (none-some m e)
 one-gone m (Some k) e = or-left (nat_eq m k) false (subst (λ j. (m == j) ≡ true) (sym (some-same e)) (same-yes m))
 
--- the message of a chunk that is abandoned is told
-answered-of : (o : Option ChunkPayloadData) (bytes m : ℕ) → to_abandon o ≡ Some m → is_gone (numbers (abandoned_with o bytes)) m ≡ true
-answered-of o bytes m h4 = grind (arith, nat_tests, none-some, or-left, same-yes, some-same)
-
-answered-at : (tsn : ℕ) (f : Flight) (m : ℕ) → message_to_abandon tsn f ≡ Some m → is_gone (numbers (leaving_at tsn f)) m ≡ true
-answered-at tsn f m e =
-    answered-of (find (has_tsn tsn) f.queue.inflight.chunks) (total_bytes f.queue - total_bytes (abandoned_at tsn f).queue) m e
-
 -- the messages of these TSNs are among those that are gone
 abbrev pub AreAmong : List ℕ → List ℕ → Type 0
 AreAmong answered gone = (m : ℕ) → is_gone answered m ≡ true → is_gone gone m ≡ true
 
 pub among-first : (tsn : ℕ) (tsns : List ℕ) (f : Flight) (gone : List ℕ) → AreAmong (numbers (leaving_each (tsn ∷ tsns) f)) gone
     → (m : ℕ) → message_to_abandon tsn f ≡ Some m → is_gone gone m ≡ true
-among-first tsn tsns f gone a m e = grind (arith, nat_tests, answered-at, gone-left, numbers-append)
+among-first tsn tsns f gone a m e = grind (arith, nat_tests)
 
 pub among-rest : (tsn : ℕ) (tsns : List ℕ) (f : Flight) (gone : List ℕ) → AreAmong (numbers (leaving_each (tsn ∷ tsns) f)) gone
     → AreAmong (numbers (leaving_each tsns (abandoned_at tsn f))) gone
-among-rest tsn tsns f gone a m e = grind (arith, nat_tests, gone-right, numbers-append)
+among-rest tsn tsns f gone a m e = grind (arith, nat_tests)
 
 -- ## What is in flight
 
@@ -219,10 +211,7 @@ module _ (on : ℕ → Bool) (gone : List ℕ) (ws : List Numbered) (first : ℕ
 
 pub cut-later : (gone more : List ℕ) → AreAmong gone more → (sent : List Entry) → AreCutGone gone sent → AreCutGone more sent
 cut-later gone more a [] c = tt
-cut-later gone more a (terminal ∷ xs) c = (by xs c.0, cut-later gone more a xs c.1)
-  where
-    by : (ys : List Entry) → EndsGone gone ys → EndsGone more ys
-    by ys h2 = grind (arith, nat_tests)
+cut-later gone more a (terminal ∷ xs) c = grind (arith, nat_tests, common_steps, cut-later gone more a xs c.1)
 cut-later gone more a (fragment d w after ∷ xs) c = cut-later gone more a xs c
 
 -- after a call
@@ -277,7 +266,7 @@ earlier gone more a m e = fails (is_gone gone m) (λ h. not_both (sym e ∙ a m 
 
 kept-others : (gone : List ℕ) (n : ℕ) (sent more : List Entry) (p q : Pending) → IsOnceMore sent more → KeepsOthers gone p q
     → AreBegunOrGone gone n sent p → AreBegunOrGone gone n more q
-kept-others gone n sent more p q once keeps a m lt e = grind (arith, nat_tests, begun-then, or-left, or-right, or-split)
+kept-others gone n sent more p q once keeps a m lt e = grind (arith, nat_tests)
 
 pub begun-later : (gone more : List ℕ) → AreAmong gone more → (n : ℕ) (sent : List Entry) (q : Pending) → AreBegunOrGone gone n sent q
     → AreBegunOrGone more n sent q
@@ -288,7 +277,7 @@ begun-later gone more a n sent q b m lt e = b m lt (earlier gone more a m e)
 -- the first fragments of other messages stay
 others-begin : (k m : ℕ) → (k ≡ m → ⊥) → (cs : List ChunkPayloadData) → list_any (begins k) cs ≡ true → list_any (begins k) (without_message m cs) ≡ true
 others-begin k m other [] e = e
-others-begin k m other (c ∷ cs) e = grind (arith, nat_tests, both, or-left, or-right, or-split, same-is, others-begin k m other cs)
+others-begin k m other (c ∷ cs) e = grind (arith, nat_tests, others-begin k m other cs)
 
 without-keeps : (k m : ℕ) → (k ≡ m → ⊥) → (q : Pending) → begins_in k q ≡ true → begins_in k (without m q) ≡ true
 without-keeps k m other q e = grind (arith, nat_tests, or-left, or-right, or-split, others-begin)

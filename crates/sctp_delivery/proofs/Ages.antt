@@ -1,13 +1,10 @@
 -- How old what was made is, where fewer than 2^31 TSNs were given out.
-use Rattle.sctp_delivery.proofs.Names.{◌≡◌, ℕ, zero, suc, ◌+◌, ◌-◌, ◌%◌, ◌<◌, ◌≤◌, ◌^◌, true, List, [], ◌∷◌, ◌++◌, length, map, Option, Some, None, refl, ap}
-use Rattle.sctp_delivery.proofs.Names.{sym, subst, ◌∙◌, arith, nat_tests, inl, inr, ⊤, list_all, Contains, slice_index_or, both}
-use Rattle.sctp_delivery.proofs.Names.{ChunkPayloadData, Data, data_of, is_on, Made, data_chunk, forward_tsn, with_chunk, tsn}
-use Rattle.sctp_delivery.proofs.Names.{distance-tsn, next_chunk, made_after, Session, SenderCall}
-use Rattle.sctp_delivery.proofs.Names.{of_sender}
+use Rattle.sctp_delivery.proofs.Names.{common_steps, ◌≡◌, ℕ, zero, suc, ◌+◌, ◌%◌, ◌<◌, ◌≤◌, ◌^◌, true, List, [], ◌∷◌, ◌++◌, length, map, Option, Some, None}
+use Rattle.sctp_delivery.proofs.Names.{refl, ap, sym, subst, arith, nat_tests, inl, inr, ⊤, list_all, Contains, slice_index_or, ChunkPayloadData, Data, data_of}
+use Rattle.sctp_delivery.proofs.Names.{Made, data_chunk, forward_tsn, with_chunk, tsn, distance-tsn, next_chunk, made_after, Session, SenderCall, of_sender}
 use Rattle.sctp_util.specs.Serial.{comes_before, distance}
 use Rattle.std.proofs.lemmas.List.Elements.{Contains-append_right}
-use Rattle.sctp_delivery.specs.Recent.{Aged}
-use Rattle.sctp_delivery.specs.Recent.{aged_after, older}
+use Rattle.sctp_delivery.specs.Recent.{Aged, aged_after, older}
 use Rattle.sctp_delivery.specs.SenderCalls as outgoing
 use Rattle.sctp_delivery.proofs.Calls.{sent_by}
 use Rattle.sctp_delivery.proofs.Delivered.{next_tsn}
@@ -17,7 +14,7 @@ use Rattle.sctp_delivery.proofs.SackSteps.{IsMadeGiven}
 use Rattle.sctp_delivery.proofs.Senders.{IsMoreBy}
 use Rattle.sctp_delivery.proofs.Sent.{Entry, IsLine, IsPart, Numbered, fragment, part-length, part-line, terminal}
 use Rattle.sctp_delivery.proofs.TsnPlaces.{IsGiven, base}
-use Rattle.sctp_delivery.proofs.YoungReads.{both-pass, floor, from-test, is_recent, stands_from}
+use Rattle.sctp_delivery.proofs.YoungReads.{both-pass, from-test, is_recent}
 
 -- ## What was made has an age
 
@@ -71,36 +68,17 @@ AreAged n ages sent ms = Every (IsEntryAged n ages) sent × Every (IsForwardAged
 -- a TSN of one of the first places is before the next one
 pub given-before : (p n t next : ℕ) → n < 2 ^ 31 → next ≡ tsn p (n + 1) → IsGiven p n t → comes_before t next ≡ true
 unfolding comes_before
-given-before p n t next few is g =
-    let k = g.place in
-    let within = g.within in
-    let pos = g.some in
-    let far : distance t next ≡ n + 1 - k = ap (distance t) is ∙ ap (λ u. distance u (tsn p (n + 1))) g.is
-    ∙ distance-tsn p k (n + 1) (omega (arith, within)) (omega (arith, few)) in
-    let lo : 0 < distance t next = omega (arith, far, within) in
-    let hi : distance t next < 2 ^ 31 = omega (arith, far, pos, few) in
-    grind (arith, nat_tests, lo, hi)
+given-before p n t next few is g = grind (arith, nat_tests, common_steps, distance-tsn)
 
 place-before : (first n k t next : ℕ) → n < 2 ^ 31 → k < n → next ≡ (first + n) % 2 ^ 32 → t ≡ (first + k) % 2 ^ 32 → comes_before t next ≡ true
 unfolding comes_before distance
-place-before first n k t next few lt is at =
-    let lo : 0 < distance t next = omega (arith, few, lt, is, at) in
-    let hi : distance t next < 2 ^ 31 = omega (arith, few, lt, is, at) in
-    grind (arith, nat_tests, lo, hi)
+place-before first n k t next few lt is at = grind (arith, nat_tests, common_steps)
 
 -- so it is of what is held, after more TSNs, too
 pub all-before : (first m next st : ℕ) (ns : List Numbered) (sent : List Entry) → IsLine ns first sent → length sent ≤ m → m < 2 ^ 31
     → next ≡ (first + m) % 2 ^ 32 → (cs : List ChunkPayloadData) → list_all (is_recent sent st) cs ≡ true
     → list_all (λ c. comes_before c.tsn next) cs ≡ true
-all-before first m next st ns sent line le few is cs e =
-    both-pass (is_recent sent st) (is_recent sent st) (λ c. comes_before c.tsn next) before cs e e
-  where
-    before : (c : ChunkPayloadData) → is_recent sent st c ≡ true → is_recent sent st c ≡ true → comes_before c.tsn next ≡ true
-    before c e k =
-        let y = from-test (floor (length sent)) (data_of c) sent (both (is_on st c) (stands_from (floor (length sent)) (data_of c) sent) e).1 in
-        let number = (part-line ns first sent (fragment (data_of c) y.0 y.1 ∷ y.2) y.3 line).0.number in
-        let lt = part-length sent (fragment (data_of c) y.0 y.1 ∷ y.2) y.3 in
-        place-before first m (length y.2) c.tsn next few (omega (arith, lt, le)) is number
+all-before first m next st ns sent line le few is cs e = grind (arith, nat_tests, common_steps, both-pass, from-test, part-line, part-length, place-before)
 
 -- ## Ages after a call of the sender
 

@@ -3,22 +3,20 @@ use Rattle.sctp_delivery.proofs.Cases.{all_streams}
 use Rattle.sctp_delivery.proofs.Names.{◌≡◌, ℕ, ◌+◌, ◌-◌, ◌^◌, ◌<◌, ◌≤◌, Bool, true, false, not, List, [], ◌∷◌, length, map, Option, Some, None, refl, ap, sym}
 use Rattle.sctp_delivery.proofs.Names.{subst, ◌∙◌, arith, inl, inr, IfSome, if◌then◌else◌, ◌==◌, find, option_map, ◌&&◌, ◌||◌, ⊤, All, Contains, nat_eq, filter}
 use Rattle.sctp_delivery.proofs.Names.{list_any, nat_tests, sum_by-append, sum_by-cons, none-some, common_steps, change_where, same-is, some-same, same-yes}
-use Rattle.sctp_delivery.proofs.Names.{and-none, and-true, or-left, or-right, sum_by-inserted, not_both, same_test, ChunkPayloadData, PayloadProtocolIdentifier}
-use Rattle.sctp_delivery.proofs.Names.{Sack, as_abandoned, is_of, is_outstanding, with_retransmit, as_acknowledged, Outbound, abandoned_of, all_started}
-use Rattle.sctp_delivery.proofs.Names.{expiring, expiring_tail, is_expired, is_expired_tail, message_of, passing, terminal_chunk, to_abandon, total_bytes}
-use Rattle.sctp_delivery.proofs.Names.{with_message, with_message_id, next_pending, IsSendable, partially_sent, waits, removed_le, bytes_of, has_tsn, is_on}
-use Rattle.sctp_delivery.proofs.Names.{ExpiredMessage, AbandonedMessage, Flight, after_abandonment, is_outdated, is_whole, message_to_abandon, released_by}
-use Rattle.sctp_delivery.proofs.Names.{released_of, reports_anew, take_sack, abandoned_at, abandoned_each, abandoned_with, after_abandoning, late_order}
-use Rattle.sctp_delivery.proofs.Names.{leaving_at, leaving_each, worn_order, after_expiry, fragments_with_mode, has_number, less_by, with_low, with_mode}
-use Rattle.sctp_delivery.proofs.Names.{with_size, wrote, can_miss, count_again, missed, sent_again, Transmission, after_abandon, after_acked, after_expire}
-use Rattle.sctp_delivery.proofs.Names.{write_refusal, written_to, Makes, held_by_sender, with_message_lows, with_lows, OutboundStream, bytes_for}
-use Rattle.sctp_delivery.proofs.Names.{bytes_of_chunks, bytes_of_messages, Answers, Expires, IsAccepted, MakesExactly, SenderCall, Write, abandons, as_run}
-use Rattle.sctp_delivery.proofs.Names.{expires, expires_late, expires_rexmit, expires_tail, forwards, forwards_within, marks, opens, resends, reserves, sends}
-use Rattle.sctp_delivery.proofs.Names.{sets_low, sets_mode, sets_size, starts, takes_sack, writes, written_after, Made, data_chunk, made_after, with_chunk}
-use Rattle.sctp_delivery.proofs.Names.{of_sender, Call, Follows, RunsTo, SenderFollows, Session, at_start, of_receiver, Limits, AfterEachFitSession}
-use Rattle.sctp_delivery.proofs.Names.{AfterEachFitRun}
-use Rattle.sctp_delivery.proofs.Names.{at_or_before, Data, data_of, past, partial_waits, Released}
-use Rattle.sctp_util.proofs.Cases.{or-true}
+use Rattle.sctp_delivery.proofs.Names.{or-left, or-right, sum_by-inserted, not_both, same_test, ChunkPayloadData, PayloadProtocolIdentifier, Sack, as_abandoned}
+use Rattle.sctp_delivery.proofs.Names.{is_of, is_outstanding, with_retransmit, as_acknowledged, Outbound, abandoned_of, all_started, expiring, expiring_tail}
+use Rattle.sctp_delivery.proofs.Names.{is_expired, is_expired_tail, message_of, passing, terminal_chunk, to_abandon, total_bytes, with_message, with_message_id}
+use Rattle.sctp_delivery.proofs.Names.{next_pending, IsSendable, partially_sent, waits, removed_le, bytes_of, has_tsn, is_on, ExpiredMessage, AbandonedMessage}
+use Rattle.sctp_delivery.proofs.Names.{Flight, after_abandonment, is_outdated, is_whole, message_to_abandon, released_by, released_of, reports_anew, take_sack}
+use Rattle.sctp_delivery.proofs.Names.{abandoned_at, abandoned_each, abandoned_with, after_abandoning, late_order, leaving_at, leaving_each, worn_order}
+use Rattle.sctp_delivery.proofs.Names.{after_expiry, fragments_with_mode, has_number, less_by, with_low, with_mode, with_size, wrote, can_miss, count_again}
+use Rattle.sctp_delivery.proofs.Names.{missed, sent_again, Transmission, after_abandon, after_acked, after_expire, write_refusal, written_to, Makes}
+use Rattle.sctp_delivery.proofs.Names.{held_by_sender, with_message_lows, with_lows, OutboundStream, bytes_for, bytes_of_chunks, bytes_of_messages, Answers}
+use Rattle.sctp_delivery.proofs.Names.{Expires, IsAccepted, MakesExactly, SenderCall, Write, abandons, as_run, expires, expires_late, expires_rexmit}
+use Rattle.sctp_delivery.proofs.Names.{expires_tail, forwards, forwards_within, marks, opens, resends, reserves, sends, sets_low, sets_mode, sets_size, starts}
+use Rattle.sctp_delivery.proofs.Names.{takes_sack, writes, written_after, Made, data_chunk, made_after, with_chunk, of_sender, Call, Follows, RunsTo}
+use Rattle.sctp_delivery.proofs.Names.{SenderFollows, Session, at_start, of_receiver, Limits, AfterEachFitSession, AfterEachFitRun, Data, data_of, past}
+use Rattle.sctp_delivery.proofs.Names.{partial_waits, Released}
 use Rattle.sctp_outbound.specs.payload_queue.PayloadQueue as payload
 use Rattle.sctp_sender.specs.Flight.{is_half, open_messages}
 use Rattle.sctp_sender.specs.Sender.{stream_of}
@@ -35,7 +33,7 @@ use Rattle.sctp_delivery.proofs.QueueChunks.{peeked, EachIs, each-fragment}
 use Rattle.sctp_delivery.proofs.QueueChunks as queues
 use Rattle.sctp_delivery.proofs.Changes.{Keeps, each-call}
 use Rattle.sctp_delivery.proofs.Calls.{length-forgotten, numbered_after, sent_by}
-use Rattle.sctp_delivery.proofs.Delivered.{Holds, HoldsOn, at-first, beside-on, receiver-step, sender-step, sender-step-on}
+use Rattle.sctp_delivery.proofs.Delivered.{Holds, HoldsOn, at-first, receiver-step, sender-step, sender-step-on}
 use Rattle.sctp_delivery.proofs.Queues.{started as stands-started, IsEnded}
 use Rattle.sctp_delivery.proofs.Sent.{Entry, Numbered, IsPart, contains-more, fragment, terminal}
 use Rattle.sctp_delivery.proofs.InFlight.{AreKnownOn}
@@ -91,7 +89,7 @@ all-pushed ws w cs q ids fresh h =
     (every-of (IsFresh w.stream) (λ c. IsOf (w ∷ ws) (with_message_id q.next_message_id c)) one cs fresh) h
   where
     one : (c : ChunkPayloadData) → IsFresh w.stream c → IsOf (w ∷ ws) (with_message_id q.next_message_id c)
-    one c h2 = grind (arith, nat_tests, not_both, same-yes)
+    one c h2 = grind (arith, nat_tests)
 
 -- ## The calls
 
@@ -103,7 +101,7 @@ module _ (ws : List Write) (t : Transmission) (ids : t.flight.queue.next_message
   P = IsOf ws
 
   keeps : Keeps P P t
-  keeps = grind (arith, nat_tests, end-of, gone-of, of-alike)
+  keeps = grind (arith, nat_tests)
 
   pub all-call : (call : SenderCall) (u : Transmission) → Makes (as_run call) t u → MakesExactly call t u → IsAccepted call t
       → AllOf (written_after call ws) u.flight.queue
@@ -134,7 +132,7 @@ shares q r st b total same s = by (st == s) refl
 
 passed : (p : ChunkPayloadData → Bool) (o : Option ChunkPayloadData) (c : ChunkPayloadData) → passing p o ≡ Some c → o ≡ Some c
 passed p None c e = e
-passed p (Some x) c e = grind (arith, nat_tests, none-some)
+passed p (Some x) c e = grind (arith, nat_tests)
 
 module _ (ws : List Write) where
   is-off : (on : ℕ → Bool) (m : ℕ) (q : Outbound) → on (stream_in m ws) ≡ false → AllOf ws q → IsOff on m q
@@ -149,7 +147,7 @@ module _ (ws : List Write) where
   to-abandon : (o : Option ChunkPayloadData) (st : ℕ) → ((c : ChunkPayloadData) → o ≡ Some c → IsOf ws c)
       → Some st ≡ option_map (λ (c : ChunkPayloadData). c.stream_identifier) o → (m : ℕ) → to_abandon o ≡ Some m → stream_in m ws ≡ st
   to-abandon None st of told m e = absurd (none-some m e)
-  to-abandon (Some c) st of told m e = grind (arith, nat_tests, none-some, some-same)
+  to-abandon (Some c) st of told m e = grind (arith, nat_tests)
 
   in-tail : (o : Option ChunkPayloadData) (st : ℕ) → ((c : ChunkPayloadData) → o ≡ Some c → IsOf ws c)
       → Some st ≡ option_map (λ (c : ChunkPayloadData). c.stream_identifier) o → (m : ℕ) → message_of o ≡ Some m → stream_in m ws ≡ st
@@ -160,7 +158,7 @@ module _ (ws : List Write) where
 
 marked-le : (m : ℕ) (xs : List ChunkPayloadData) → bytes_of (change_where (is_of m) as_abandoned xs) ≤ bytes_of xs
 marked-le m [] = omega arith
-marked-le m (c ∷ cs) = grind (arith, common_steps, sum_by-cons, marked-le m cs)
+marked-le m (c ∷ cs) = grind (arith, common_steps, marked-le m cs)
 
 abandoned-le : (o : Option ℕ) (tsn : ℕ) (q : Outbound) → total_bytes (abandoned_of o tsn q) ≤ total_bytes q
 abandoned-le None tsn q = omega arith
@@ -444,9 +442,7 @@ module _ (first : ℕ) (call : SenderCall) (s t : Session) (ns : List Numbered) 
 
   pub counted-then : AreCounted t
   counted-then = record {
-    all = subst (λ ws. AllOf ws t.sending.sender.flight.queue) (sym (ap (λ (x : Session). x.written) f.after))
-        (all-call s.written s.sending.sender (h.held.stands.ids ∙ sym (length-forgotten ns) ∙ ap length h.writes) k.all call t.sending.sender
-        f.step.sender f.exact f.accepted);
+    all = grind (arith, nat_tests, common_steps, all-call, length-forgotten);
     amounts = λ stream. (moved stream).amounts;
   }
 
@@ -497,12 +493,12 @@ bare-none ws stream (c ∷ cs) e n =
     omega (arith, a, z, ih)
   where
     by : (a b : Bool) → is_outstanding c ≡ b → (a && b) ≡ false → (if a then length c.user_data else 0) ≡ 0
-    by a b h3 h4 = grind (arith, nat_tests, not_both)
+    by a b h3 h4 = grind (arith, nat_tests)
 
 -- or none on the stream
 absent-none : (stream : ℕ) (cs : List ChunkPayloadData) → list_any (is_on stream) cs ≡ false → weigh (only stream) cs ≡ 0
 absent-none stream [] n = refl
-absent-none stream (c ∷ cs) n = grind (arith, nat_tests, not_both, sum_by-cons, absent-none stream cs)
+absent-none stream (c ∷ cs) n = grind (arith, nat_tests, absent-none stream cs)
 
 pub ends-of : (s : Session) → AreCounted s → AmountsEnd s
 ends-of s k stream done = grind (arith, nat_tests, absent-none, amount-found, bare-none, not_both)
@@ -576,13 +572,7 @@ made-after on first (of_sender call) old new f h =
       made = subst (AllMade x.more) (sym (ap (λ (s : Session). s.made) f.after))
           (all-made old.sending.sender h.sent x.more old.made h.made call x.grown);
     }
-made-after on first (of_receiver call) old new f h = record {
-  numbered = h.numbered;
-  sent = h.sent;
-  holds = beside-on on first old new h.numbered h.sent (ap (λ (s : Session). s.sending) f.after) (ap (λ (s : Session). s.made) f.after)
-      (ap (λ (s : Session). s.written) f.after) h.holds;
-  made = subst (λ (s : Session). AllMade h.sent s.made) (sym f.after) h.made;
-}
+made-after on first (of_receiver call) old new f h = grind (arith, nat_tests, common_steps)
 
 made-run : (first : ℕ) (cs : List Call) (old new : Session) → RunsTo old cs new → HasMade first old → HasMade first new
 made-run first [] old new r h = subst (HasMade first) (sym r) h
@@ -605,17 +595,6 @@ each-made on first sent ms (c ∷ cs) a k =
 
 -- ## Which messages are left
 
-same-number : (m n : ℕ) → nat_eq m n ≡ (n == m)
-same-number m n = same_test (nat_eq m n) (n == m)
-    (λ e. subst (λ k. (k == m) ≡ true) (same-is m n e) (same-yes m)) (λ e. subst (λ k. nat_eq k n ≡ true) (same-is n m e) (same-yes n))
-
--- of the message, abandoned, acknowledged, reported cumulatively, and reported in a block
-open-is : (m a k c b : Bool) → (m && (a || not (k || (c || b)))) ≡ ((m && a) || (m && (not (not k && (c || b)) && (not c && not k))))
-open-is m a k c b = grind (arith, nat_tests)
-
-apart : (p q x y : Bool) → ((p || q) || (x || y)) ≡ ((p || x) || (q || y))
-apart p q x y = grind (arith, nat_tests, or-true)
-
 module _ (k : Sack) (m : ℕ) where
   abbrev Unacked : ChunkPayloadData → Bool
   Unacked c = is_of m c && not c.acked
@@ -626,21 +605,10 @@ module _ (k : Sack) (m : ℕ) where
   abbrev after : List ChunkPayloadData → List ChunkPayloadData
   after cs = past k.cumulative_tsn_ack (change_where (reports_anew k) as_acknowledged cs)
 
-  open-head : (o : Bool) (c : ChunkPayloadData) (ds : List ChunkPayloadData)
-      → list_any (nat_eq m) (map (λ (x : ChunkPayloadData). x.message_id) (if o then c ∷ ds else ds))
-      ≡ ((nat_eq m c.message_id && o) || list_any (nat_eq m) (map (λ (x : ChunkPayloadData). x.message_id) ds))
-  open-head true c ds = ap (λ x. x || list_any (nat_eq m) (map (λ (d : ChunkPayloadData). d.message_id) ds)) (sym (and-true (nat_eq m c.message_id)))
-  open-head false c ds = ap (λ x. x || list_any (nat_eq m) (map (λ (d : ChunkPayloadData). d.message_id) ds)) (sym (and-none (nat_eq m c.message_id)))
-
-  left-head : (r : Bool) (c : ChunkPayloadData) (ds : List ChunkPayloadData)
-      → list_any Unacked (past k.cumulative_tsn_ack ((if r then as_acknowledged c else c) ∷ ds))
-      ≡ ((is_of m c && (not r && (not (at_or_before c.tsn k.cumulative_tsn_ack) && not c.acked))) || list_any Unacked (past k.cumulative_tsn_ack ds))
-  left-head r c ds = grind (arith, nat_tests, and-none)
-
   -- a chunk is left open where one was abandoned, or one is not acknowledged after the SACK
   open-are : (cs : List ChunkPayloadData) → list_any (nat_eq m) (open_messages k cs) ≡ (list_any Gone cs || list_any Unacked (after cs))
   open-are [] = refl
-  open-are (c ∷ cs) = grind (arith, nat_tests, apart, left-head, open-head, open-is, same-number, open-are cs)
+  open-are (c ∷ cs) = grind (arith, nat_tests, open-are cs)
 
 -- of a message of which a chunk is in flight some waits exactly where it is partially sent
 half-waits : (q : Outbound) (m : ℕ) → IsSendable q.pending q.inflight.chunks q.next_message_id → list_any (is_of m) q.inflight.chunks ≡ true

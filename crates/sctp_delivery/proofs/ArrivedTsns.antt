@@ -1,9 +1,8 @@
 -- What a filter of TSNs and its gap ack blocks know, where none arrived but those that were given out.
-use Rattle.sctp_delivery.proofs.Names.{◌≡◌, ℕ, ◌+◌, ◌<◌, ◌≤◌, ◌%◌, ◌^◌, Bool, true, List, [], ◌∷◌, map, refl, subst, arith, if◌then◌else◌, ◌==◌, ◌&&◌, nat_le}
-use Rattle.sctp_delivery.proofs.Names.{filter, list_any, cases_lt, nat_tests, put_before_runs, runs_of, advance_over, Seen, distance, or-left, or-right}
-use Rattle.sctp_delivery.proofs.Names.{or-split, same-is, both, and, not_both, tsn, distance-tsn, distance-tsn_back}
+use Rattle.sctp_delivery.proofs.Names.{◌≡◌, ℕ, ◌+◌, ◌<◌, ◌≤◌, ◌%◌, ◌^◌, Bool, true, List, [], ◌∷◌, map, refl, arith, if◌then◌else◌, ◌==◌, ◌&&◌, nat_le, filter}
+use Rattle.sctp_delivery.proofs.Names.{list_any, cases_lt, nat_tests, put_before_runs, runs_of, advance_over, Seen, distance, not_both, tsn, distance-tsn}
+use Rattle.sctp_delivery.proofs.Names.{distance-tsn_back}
 use Rattle.sctp_delivery.proofs.Every.{Every}
-use Rattle.sctp_delivery.proofs.TsnPlaces.{next-place, same-place}
 
 -- one of the n TSNs that were given out, and it is known
 pub record IsKnown (p n : ℕ) (known : ℕ → Bool) (t : ℕ) : Type 0 where
@@ -28,7 +27,7 @@ advanced p n known c (t ∷ ts) few h = by (t == (c + 1) % 2 ^ 32) refl (λ g. a
   where
     by : (b : Bool) → (t == (c + 1) % 2 ^ 32) ≡ b → (IsArrived p n known t ts → IsArrived p n known (advance_over t ts).cum (advance_over t ts).held) →
         (let s : Seen = if b then advance_over t ts else (let r : Seen = record { cum = c; held = t ∷ ts } in r) in IsArrived p n known s.cum s.held)
-    by b h2 h3 = grind (arith, nat_tests, cases_lt, next-place, same-is, same-place)
+    by b h2 h3 = grind (arith, nat_tests)
 
 -- ## Gap ack blocks
 
@@ -39,11 +38,8 @@ pub in-runs : (P : ℕ → Type 0) (ds : List ℕ) (d : ℕ) → Every P ds → 
 in-runs P [] d h e = absurd (not_both e)
 in-runs P (x ∷ xs) d h e = by (runs_of xs) (λ g. in-runs P xs d h.1 g) e
   where
-    it : in_run d (x, x) ≡ true → P d
-    it g = let b = both (nat_le x d) (nat_le d x) g in let same : x ≡ d = grind (arith, nat_tests, b.0, b.1) in subst P same h.0
-
     by : (bs : List (ℕ × ℕ)) → (list_any (in_run d) bs ≡ true → P d) → list_any (in_run d) (put_before_runs x bs) ≡ true → P d
-    by bs h2 h3 = grind (arith, nat_tests, and, both, cases_lt, it, not_both, or-left, or-right, or-split)
+    by bs h2 h3 = grind (arith, nat_tests)
 
 -- so far past a cumulative TSN stands one that is known
 pub record IsKnownAfter (p n : ℕ) (known : ℕ → Bool) (cum d : ℕ) : Type 0 where

@@ -1,8 +1,8 @@
 -- Which writes were begun: each once, and none of which the first fragment waits.
-use Rattle.sctp_delivery.proofs.Names.{◌≡◌, ℕ, ◌+◌, ◌<◌, Bool, true, false, List, [], ◌∷◌, ◌++◌, map, Option, Some, None, slice_get, inl, inr, refl, ap₂, sym}
-use Rattle.sctp_delivery.proofs.Names.{subst, ◌∙◌, arith, ⊤, ◌==◌, ◌&&◌, ◌||◌, if◌then◌else◌, list_any, none-some, nat_tests, change_where, or-left, or-right}
-use Rattle.sctp_delivery.proofs.Names.{or-split, same-is, same-yes, some-same, list_any-append, and, both, fails, not_both, ChunkPayloadData, Data, Selected}
-use Rattle.sctp_delivery.proofs.Names.{is_of, with_message_id, Pending, list_of, list_to_pop, next_pending, rest_after, rest_from, IsSendable, IsWhole, begun}
+use Rattle.sctp_delivery.proofs.Names.{common_steps, ◌≡◌, ℕ, ◌+◌, ◌<◌, Bool, true, false, List, [], ◌∷◌, ◌++◌, map, Option, Some, None, slice_get, inl, inr}
+use Rattle.sctp_delivery.proofs.Names.{refl, sym, subst, ◌∙◌, arith, ⊤, ◌==◌, ◌&&◌, ◌||◌, if◌then◌else◌, list_any, none-some, nat_tests, change_where, or-left}
+use Rattle.sctp_delivery.proofs.Names.{or-right, or-split, same-is, same-yes, some-same, list_any-append, and, both, fails, not_both, ChunkPayloadData, Data}
+use Rattle.sctp_delivery.proofs.Names.{Selected, is_of, with_message_id, Pending, list_to_pop, next_pending, rest_after, rest_from, IsSendable, IsWhole, begun}
 use Rattle.sctp_delivery.proofs.Names.{free, partially_sent, stage_of, made, or_false, KeepsMessage, none_before}
 use Rattle.sctp_outbound.proofs.lemmas.pending_queue.CompleteMessages.{list_any-message}
 use Rattle.sctp_delivery.proofs.Cases.{at-test, by-test}
@@ -39,18 +39,13 @@ begun-ended os us n sent b = record { once = b.once; ordered = b.ordered; unorde
 pub begins-changed : (p : ChunkPayloadData → Bool) (f : ChunkPayloadData → ChunkPayloadData) → KeepsMessage f → (m : ℕ) (cs : List ChunkPayloadData)
     → list_any (begins m) (change_where p f cs) ≡ list_any (begins m) cs
 begins-changed p f keeps m [] = refl
-begins-changed p f keeps m (c ∷ cs) = ap₂ (λ a b. a || b) (at-test (λ b. begins m (if b then f c else c) ≡ begins m c) (p c)
-    (λ e. ap₂ (λ (i : ℕ) k. (i == m) && k) (keeps.number c) (keeps.begins c))
-    (λ e. refl)) (begins-changed p f keeps m cs)
+begins-changed p f keeps m (c ∷ cs) = grind (arith, nat_tests, common_steps, begins-changed p f keeps m cs)
 
 -- ## A write
 
 begins-of : (m : ℕ) (cs : List ChunkPayloadData) → list_any (begins m) cs ≡ true → list_any (is_of m) cs ≡ true
 begins-of m [] h = h
-begins-of m (c ∷ cs) h = at-test (λ b. ((b && c.beginning_fragment) || list_any (begins m) cs) ≡ true → (b || list_any (is_of m) cs) ≡ true)
-    (c.message_id == m)
-    (λ e h. refl)
-    (λ e h. (begins-of m cs) h) h
+begins-of m (c ∷ cs) h = grind (arith, nat_tests, common_steps, begins-of m cs)
 
 not-begun : (os us : List ChunkPayloadData) (n : ℕ) (sent : List Entry) → IsBegun os us n sent → was_begun n sent ≡ false
 not-begun os us n sent b = fails (was_begun n sent) (λ h. let lt = b.below n h in omega (arith, lt))
@@ -67,21 +62,11 @@ more-begins os us n sent b xs ms old m h = elim (or-split (list_any (begins m) x
 
 pub begun-ordered : (os us : List ChunkPayloadData) (n : ℕ) (sent : List Entry) (ms : List ChunkPayloadData) → IsBegun os us n sent
     → IsBegun (os ++ map (with_message_id n) ms) us (n + 1) sent
-begun-ordered os us n sent ms b = record {
-  once = b.once;
-  ordered = more-begins os us n sent b os ms b.ordered;
-  unordered = b.unordered;
-  below = λ m h. let lt = b.below m h in omega (arith, lt);
-}
+begun-ordered os us n sent ms b = grind (arith, nat_tests, common_steps, more-begins)
 
 pub begun-unordered : (os us : List ChunkPayloadData) (n : ℕ) (sent : List Entry) (ms : List ChunkPayloadData) → IsBegun os us n sent
     → IsBegun os (us ++ map (with_message_id n) ms) (n + 1) sent
-begun-unordered os us n sent ms b = record {
-  once = b.once;
-  ordered = b.ordered;
-  unordered = more-begins os us n sent b us ms b.unordered;
-  below = λ m h. let lt = b.below m h in omega (arith, lt);
-}
+begun-unordered os us n sent ms b = grind (arith, nat_tests, common_steps, more-begins)
 
 -- ## A fragment is sent
 
@@ -138,21 +123,12 @@ front-any p (x ∷ xs) c h e = or-left (p x) (list_any p xs) (subst (λ y. p y �
 -- what is next waits
 pub next-any : (p : ChunkPayloadData → Bool) (os us : List ChunkPayloadData) (sel : Option Selected) (ro ru : ℕ) (c : ChunkPayloadData) → p c ≡ true
     → next_pending (made os us sel ro ru) ≡ Some c → (list_any p us || list_any p os) ≡ true
-next-any p os (u ∷ us) None ro ru c h e = or-left (list_any p (u ∷ us)) (list_any p os) (front-any p (u ∷ us) c h e)
-next-any p os [] None ro ru c h e = front-any p os c h e
-next-any p os us (Some s) ro ru c h e = at-test (λ b. slice_get (list_of b (made os us (Some s) ro ru)) 0 ≡ Some c → (list_any p us || list_any p os)
-    ≡ true) s.unordered
-    (λ e f. or-left (list_any p us) (list_any p os) (front-any p us c h f))
-    (λ e f. or-right (list_any p us) (list_any p os) (front-any p os c h f)) e
+next-any h0 h1 h2 h3 h4 h5 h6 h7 h8 = grind (arith, nat_tests, common_steps, or-left, front-any, slice_get, or-right)
 
 rest-any : (p : ChunkPayloadData → Bool) (k : Option Bool) (os us : List ChunkPayloadData) (sel : Option Selected) (ro ru : ℕ)
     → (list_any p (rest_from k (made os us sel ro ru)).ordered ≡ true → list_any p os ≡ true)
     × (list_any p (rest_from k (made os us sel ro ru)).unordered ≡ true → list_any p us ≡ true)
-rest-any p None os us sel ro ru = (λ h. h, λ h. h)
-rest-any p (Some true) os [] sel ro ru = (λ h. h, λ h. h)
-rest-any p (Some true) os (u ∷ us) sel ro ru = (λ h. h, λ h. or-right (p u) (list_any p us) h)
-rest-any p (Some false) [] us sel ro ru = (λ h. h, λ h. h)
-rest-any p (Some false) (o ∷ os) us sel ro ru = (λ h. or-right (p o) (list_any p os) h, λ h. h)
+rest-any h0 h1 h2 h3 h4 h5 h6 = grind (arith, nat_tests, common_steps)
 
 pub begun-sent : (q : Pending) (xs ys : List ChunkPayloadData) (n : ℕ) (sent : List Entry) (c : ChunkPayloadData) (d : Data) (w : Numbered) (after : List ℕ)
     → d.beginning_fragment ≡ c.beginning_fragment → (c.beginning_fragment ≡ true → w.place ≡ c.message_id) → next_pending q ≡ Some c → IsSendable q xs n
@@ -164,18 +140,11 @@ begun-sent q xs ys n sent c d w after same placed e s r there b = record {
       ((rest-any (begins m) (list_to_pop q.selected c.beginning_fragment c.unordered) q.ordered q.unordered q.selected q.ordered_room q.unordered_room).0 h));
   unordered = λ m h. apart m (λ k. not_both (sym (none m k).1 ∙ h)) (b.unordered m
       ((rest-any (begins m) (list_to_pop q.selected c.beginning_fragment c.unordered) q.ordered q.unordered q.selected q.ordered_room q.unordered_room).1 h));
-  below = λ m h. elim (or-split (d.beginning_fragment && (w.place == m)) (was_begun m sent) h) [
-    | inl l ↦ small m l
-    | inr k ↦ b.below m k
-  ];
+  below = grind (arith, nat_tests, common_steps);
 }
   where
     fresh : c.beginning_fragment ≡ true → was_begun c.message_id sent ≡ false
-    fresh f = elim (or-split (list_any (begins c.message_id) q.unordered) (list_any (begins c.message_id) q.ordered) (next-any (begins c.message_id) q.ordered
-        q.unordered q.selected q.ordered_room q.unordered_room c (and (c.message_id == c.message_id) c.beginning_fragment (same-yes c.message_id) f) e)) [
-          | inl l ↦ b.unordered c.message_id l
-          | inr k ↦ b.ordered c.message_id k
-        ]
+    fresh f = grind (arith, nat_tests, common_steps, or-split, next-any, and, same-yes)
 
     is-it : (m : ℕ) → (d.beginning_fragment && (w.place == m)) ≡ true → c.message_id ≡ m
     is-it m h = let x = both d.beginning_fragment (w.place == m) h in sym (placed (sym same ∙ x.0)) ∙ same-is w.place m x.1
@@ -189,6 +158,3 @@ begun-sent q xs ys n sent c d w after same placed e s r there b = record {
     apart : (m : ℕ) → (c.message_id ≡ m → ⊥) → was_begun m sent ≡ false → ((d.beginning_fragment && (w.place == m)) || was_begun m sent) ≡ false
     apart m other f =
         or_false (d.beginning_fragment && (w.place == m)) (was_begun m sent) (fails (d.beginning_fragment && (w.place == m)) (λ h. other (is-it m h))) f
-
-    small : (m : ℕ) → (d.beginning_fragment && (w.place == m)) ≡ true → m < n
-    small m h = grind (arith, nat_tests)

@@ -22,18 +22,17 @@ use Rattle.sctp_delivery.specs.ReturnEndings.{AreAckedAfter, taken_by}
 use Rattle.sctp_delivery.specs.Returns.{CallOrReturn, RunsWithReturns, TakesBack, after_return, makes, other_calls, takes_back, tsns_given_so}
 use Rattle.sctp_delivery.proofs.Cases.{at-if}
 use Rattle.sctp_delivery.proofs.Delivered.{next_tsn}
-use Rattle.sctp_delivery.proofs.Every.{Every, every-all, every-changed, every-contained, every-found, every-of}
+use Rattle.sctp_delivery.proofs.Every.{Every, every-all, every-changed, every-found, every-of}
 use Rattle.sctp_delivery.proofs.GivenTsns.{IsNumbered}
 use Rattle.sctp_delivery.proofs.Plain.{AreLike, IsBareSack, IsLike, are-changed, are-long, are-plain, found-plain, paired, plain}
 use Rattle.sctp_delivery.proofs.PlainCalls.{in-place, kept-sacked, sent-bytes}
-use Rattle.sctp_delivery.proofs.PlainFlights.{are-sacked, are-sent, chunks_of, flight_with, named-both, next-same, refusal-same, sack-same, send-same}
-use Rattle.sctp_delivery.proofs.PlainFlights.{settled-kept, skip-same, started-same}
+use Rattle.sctp_delivery.proofs.PlainFlights.{are-sacked, are-sent, chunks_of, flight_with, named-both, refusal-same, sack-same, send-same, settled-kept}
+use Rattle.sctp_delivery.proofs.PlainFlights.{skip-same, started-same}
 use Rattle.sctp_delivery.proofs.PlainReturns.{back-fits, back-like, back-more}
-use Rattle.sctp_delivery.proofs.PlainSessions.{kept_of, sent-too}
+use Rattle.sctp_delivery.proofs.PlainSessions.{kept_of}
 use Rattle.sctp_delivery.proofs.QueueChunks.{EachIs}
 use Rattle.sctp_delivery.proofs.QueueChunks as queues
 use Rattle.sctp_delivery.proofs.SackLaws.{IsInStep}
-use Rattle.sctp_delivery.proofs.TsnPlaces.{tsn-small}
 use Rattle.sctp_delivery.proofs.ValidMarks.{IsUnmarked}
 
 -- ## Beside a session
@@ -109,18 +108,9 @@ module _ (now : ℕ) (gone : List ℕ) (sacks made' : ℕ) where
     run = (r, (f, (v, (h, e.run))));
     delivery = e.delivery;
     acked = (refl, (refl, e.acked));
-    given =
-        let g = e.given in
-        let one : distance (next_tsn k) (next_tsn r) ≡ 0 = ap (λ (y : Transmission). distance (next_tsn k) y.flight.next_tsn) f.exact ∙ zero' in
-        let two : distance (next_tsn r) (next_tsn v) ≡ 0 =
-        ap (distance (next_tsn r)) next ∙ ap (λ (y : Transmission). distance y.flight.next_tsn y.flight.next_tsn) f.exact ∙ zero' in
-        omega (arith, g, one, two, waiting);
+    given = grind (arith, nat_tests, common_steps);
     written = e.written ∙ ap (λ (y : Session). y.written) h.after ∙ ap (λ (y : Session). y.written) f.after;
-    few-sacks =
-        let l = e.few-sacks in
-        let a = ap (λ (y : Session). length y.sacks) f.after in
-        let b = ap (λ (y : Session). length y.sacks) h.after in
-        omega (arith, l, a, b, same);
+    few-sacks = grind (arith, nat_tests, common_steps);
     few-made = e.few-made;
     exhausted = e.exhausted;
     read = e.read;
@@ -154,7 +144,7 @@ module _ (call : ReceiverCall) (s t k : Session) (f : ReceiverFollows call s t) 
     sacks = reports_after call k.receiving.receiver k.sacks;
     written = k.written;
   })
-  receives-so = grind (arith, nat_tests, common_steps, sent-too)
+  receives-so = grind (arith, nat_tests, common_steps)
 
   pub received-beside : IsBeside t (record {
     sending = k.sending;
@@ -216,7 +206,7 @@ module _ (p n : ℕ) (few : n < 2 ^ 31) (s k : Session) (i : IsInStep p n s) (x 
       next_tsn = next_after_send k.sending.sender.flight;
     }) (sent_next
         (with_inflight k.sending.sender.flight.queue s.sending.sender.flight.queue.inflight.chunks) k.sending.sender.flight.next_tsn now).inflight.chunks
-    after-is = grind (arith, nat_tests, common_steps, next-same)
+    after-is = grind (arith, nat_tests, common_steps)
 
     same-bytes : total_bytes (sent_next k.sending.sender.flight.queue k.sending.sender.flight.next_tsn now) ≡ total_bytes k.sending.sender.flight.queue
     same-bytes = grind (arith, nat_tests, common_steps, sent-bytes, started-inflight, started-same)
@@ -225,7 +215,7 @@ module _ (p n : ℕ) (few : n < 2 ^ 31) (s k : Session) (i : IsInStep p n s) (x 
     sends-step = grind (arith, nat_tests, common_steps, same-bytes, send-same)
 
     made-same : t.made ≡ made_after (sends now) k.sending.sender k.made
-    made-same = grind (arith, nat_tests, common_steps, started-same, sends)
+    made-same = grind (arith, nat_tests, common_steps)
 
     sent-beside : IsBeside t sent
     sent-beside = record {
@@ -453,7 +443,7 @@ module _ (p n : ℕ) (few : n < 2 ^ 31) (s u t : Session) (w : ℕ) (f : Receive
   acked-is = ap (λ (r : Transmission). r.flight) g.exact ∙ ap (after_sack sack) y.flight ∙ sack-same sack sack v others bare
 
   fits : (sack_within w 0 s.receiving.receiver).cumulative_tsn_ack < 2 ^ 32
-  fits = grind (arith, nat_tests, common_steps, every-contained, tsn-small)
+  fits = grind (arith, nat_tests, common_steps)
 
   -- each chunk that is left came, or is abandoned
   all-came : Every (λ c. (list_any (has_tsn c.tsn) s.receiving.accepted || c.abandoned) ≡ true) (flying acked)
@@ -479,10 +469,7 @@ module _ (p n : ℕ) (few : n < 2 ^ 31) (s u t : Session) (w : ℕ) (f : Receive
     receiving = ap (λ (z : Session). z.receiving) g.after;
     made = ap (λ (z : Session). z.made) g.after ∙ y.made;
     written = ap (λ (z : Session). z.written) g.after ∙ y.written;
-    came = subst (λ (r : Stand). Every (IsCame r.accepted) (flying acked)) (sym (ap (λ (z : Session). z.receiving) g.after))
-        (subst (λ xs. Every (IsCame xs) (flying acked)) (sym f.step.accepted)
-        (every-of (λ c. (list_any (has_tsn c.tsn) s.receiving.accepted || c.abandoned) ≡ true) (IsCame s.receiving.accepted) (λ c e _. e)
-        (flying acked) all-came));
+    came = grind (arith, nat_tests, common_steps, every-of, all-came);
     short = let e = ap bytes_written g.after in let h = y.short in omega (arith, e, h);
   }
 

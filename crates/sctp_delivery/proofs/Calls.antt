@@ -1,16 +1,13 @@
 -- Each call of a sender, and what it makes of all that got TSNs.
-use Rattle.sctp_delivery.proofs.Names.{◌≡◌, ℕ, ◌<◌, Bool, true, List, [], ◌∷◌, length, Option, Some, None, inl, refl, ap, sym, subst, ◌∙◌, arith, zero, suc}
-use Rattle.sctp_delivery.proofs.Names.{Contains}
-use Rattle.sctp_delivery.proofs.Names.{find, slice_index_or, nat_tests, ChunkPayloadData, ForwardTsn, is_outstanding, with_retransmit, all_started}
-use Rattle.sctp_delivery.proofs.Names.{expiring_tail, message_of, next_pending, KeepsMessage, has_tsn, ExpiredMessage, AbandonedMessage, Name, named_up_to}
-use Rattle.sctp_delivery.proofs.Names.{is_outstanding_in, message_to_abandon, late_order, worn_order, has_number, with_low, with_mode, count_again, sent_again}
-use Rattle.sctp_delivery.proofs.Names.{Transmission, written_to, Makes, found-partial, tail-partial, Expires, ExpiresTail, IsAccepted, Made, MakesExactly}
-use Rattle.sctp_delivery.proofs.Names.{SenderCall, abandons, as_run, expires, expires_late, expires_rexmit, expires_tail, forward_tsn, forwards}
-use Rattle.sctp_delivery.proofs.Names.{forwards_within, made_after, marks, next_chunk, opens, resends, reserves, sends, sets_low, sets_mode, sets_size, starts}
-use Rattle.sctp_delivery.proofs.Names.{takes_sack, writes, written_after, Write}
+use Rattle.sctp_delivery.proofs.Names.{common_steps, ◌≡◌, ℕ, ◌<◌, Bool, true, List, [], ◌∷◌, length, Option, None, inl, refl, ap, sym, subst, ◌∙◌, arith, zero}
+use Rattle.sctp_delivery.proofs.Names.{suc, Contains, find, slice_index_or, nat_tests, ChunkPayloadData, ForwardTsn, is_outstanding, with_retransmit}
+use Rattle.sctp_delivery.proofs.Names.{all_started, KeepsMessage, has_tsn, ExpiredMessage, AbandonedMessage, Name, named_up_to, message_to_abandon, late_order}
+use Rattle.sctp_delivery.proofs.Names.{worn_order, count_again, sent_again, Transmission, written_to, Makes, found-partial, tail-partial, Expires, ExpiresTail}
+use Rattle.sctp_delivery.proofs.Names.{IsAccepted, Made, MakesExactly, SenderCall, abandons, as_run, expires, expires_late, expires_rexmit, expires_tail}
+use Rattle.sctp_delivery.proofs.Names.{forward_tsn, forwards, forwards_within, made_after, marks, next_chunk, opens, resends, reserves, sends, sets_low}
+use Rattle.sctp_delivery.proofs.Names.{sets_mode, sets_size, starts, takes_sack, writes, Write}
 use Rattle.sctp_sender.specs.Flight.{with_queue}
 use Rattle.sctp_delivery.specs.SenderCalls.{misses}
-use Rattle.sctp_delivery.proofs.InFlight.{IsKnownOn}
 use Rattle.sctp_delivery.proofs.OrderedRest.{names-known}
 use Rattle.sctp_delivery.proofs.Numbers.{all-open, counts-sized, number_of, numbers-sized, opened, sized-all, steady-changed, steady-same, there-sized}
 use Rattle.sctp_delivery.proofs.Queues.{started}
@@ -41,11 +38,7 @@ module _ (on : ℕ → Bool) (ws : List Numbered) (first : ℕ) (t : Transmissio
   expires-call now m u h4 = grind (arith, nat_tests, expired-one, expires-one, same)
 
   expires-tail-call : (now : ℕ) (m : Option AbandonedMessage) (u : Transmission) → ExpiresTail now m t u → ResultOn on None ws ws first sent u ms ms
-  expires-tail-call now None u x = same u (x.1 refl)
-  expires-tail-call now (Some a) u x =
-      subst (λ y. ResultOn on None ws ws first sent y ms ms) (sym x.0)
-      (abandons-message on ws first t sent ms h (message_of (expiring_tail now t.flight.queue))
-      (λ m e _. tail-partial t.flight.queue h.stands.sendable now (next_pending t.flight.queue.pending) refl m e) a.stream a.bytes)
+  expires-tail-call h0 h1 h2 h3 = grind (arith, same, abandons-message, tail-partial)
 
   again-keeps : (n now : ℕ) → KeepsMessage (sent_again n now)
   again-keeps n now = record { number = λ _. refl; begins = λ _. refl; ends = λ _. refl; kind = λ _. refl }
@@ -60,11 +53,7 @@ module _ (on : ℕ → Bool) (ws : List Numbered) (first : ℕ) (t : Transmissio
             (λ d. (λ o. (o, refl), record { kind = refl; stream = refl; number = refl; tsn = refl; message = refl; ends = refl })) h;
         once = inl refl;
         grown = inl refl;
-        made = λ s. (
-          (every-found (IsKnownOn on first sent) (has_tsn tsn) t.flight.queue.inflight.chunks c a.1 h.stands.known).0
-              (subst (λ o. is_outstanding_in o ≡ true) a.1 a.0),
-          s,
-        );
+        made = grind (arith, nat_tests, common_steps, every-found);
       })
 
   forwards-call : (f : ForwardTsn) (u : Transmission) → u ≡ t → Name f.streams (named_up_to f.new_cumulative_tsn t.flight)
@@ -83,10 +72,7 @@ module _ (on : ℕ → Bool) (ws : List Numbered) (first : ℕ) (t : Transmissio
       subst (λ y. ResultOn on None ws ws first sent y ms ms) (sym m)
       (calm on ws ws first sent _ ms
       (steady on ws first t sent h _ (opened stream t.fragment_size h.size t.streams a) t.flight sent h.stands))
-  stepped (sets_mode stream unordered reliability value) u m x a =
-      subst (λ y. ResultOn on None ws ws first sent y ms ms) (sym m)
-      (calm on ws ws first sent _ ms (steady on ws first t sent h _
-      (steady-changed (has_number stream) (with_mode unordered reliability value) (λ l. refl) (λ l. refl) (λ l. refl) t.streams) t.flight sent h.stands))
+  stepped (sets_mode stream unordered reliability value) u m x a = grind (arith, nat_tests, common_steps, calm, steady, steady-changed)
   stepped (writes stream ppi []) u m x a = same u (x.0 refl)
   stepped (writes stream ppi (b ∷ bs)) u m x a =
       let l = accepted-stream stream (length (b ∷ bs)) t a in
@@ -127,11 +113,8 @@ module _ (on : ℕ → Bool) (ws : List Numbered) (first : ℕ) (t : Transmissio
         apart = λ s. let e = counts-sized size s t.streams in let k = h.apart s in omega (arith, e, k);
         size = a.0;
       }))
-  stepped (sets_low stream bytes) u m x a =
-      subst (λ y. ResultOn on None ws ws first sent y ms ms) (sym m)
-      (calm on ws ws first sent _ ms (steady on ws first t sent h _
-      (steady-changed (has_number stream) (with_low bytes) (λ l. refl) (λ l. refl) (λ l. refl) t.streams) t.flight sent h.stands))
-  stepped (reserves count) u m x a = grind (arith, nat_tests, calm, steady, steady-same)
+  stepped (sets_low stream bytes) u m x a = grind (arith, nat_tests, common_steps, calm, steady, steady-changed)
+  stepped (reserves count) u m x a = grind (arith, nat_tests)
   stepped (takes_sack sack gone) u m x a = subst (λ y. ResultOn on None ws ws first sent y ms ms) (sym x)
       (calm on ws ws first sent _ ms (acked on ws first t sent sack h))
 
@@ -143,9 +126,6 @@ forget n = record { stream = n.stream; payload_type = n.payload_type; bytes = n.
 abbrev pub forgotten : List Numbered → List Write
 forgotten [] = []
 forgotten (n ∷ ns) = forget n ∷ forgotten ns
-
-pub forgotten-after : (call : SenderCall) (ns : List Numbered) → forgotten (numbered_after call ns) ≡ written_after call (forgotten ns)
-forgotten-after call ns = grind (arith, nat_tests)
 
 pub length-forgotten : (ns : List Numbered) → length (forgotten ns) ≡ length ns
 length-forgotten [] = refl

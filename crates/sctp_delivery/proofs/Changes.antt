@@ -1,13 +1,12 @@
 -- What a call of a sender makes of what waits and of what is in flight, but for a write and a sending: one of nine changes.
 use Rattle.sctp_delivery.proofs.Names.{◌≡◌, ℕ, ◌+◌, ◌≤◌, ◌++◌, Bool, true, false, List, [], ◌∷◌, length, map, Option, Some, None, refl, ap, sym, ◌∙◌, arith}
-use Rattle.sctp_delivery.proofs.Names.{inl, inr, subst, ◌⊎◌, find, option_to_list, IfSome, filter, nat_tests, common_steps, change_where, not_both}
-use Rattle.sctp_delivery.proofs.Names.{ChunkPayloadData, Sack, is_outstanding, with_retransmit, as_abandoned, as_acknowledged, all_started, expired_of}
-use Rattle.sctp_delivery.proofs.Names.{expiring, expiring_tail, is_late, late_tsns, message_of, with_inflight, as_sent, terminal_chunk, next_pending, one_lower}
-use Rattle.sctp_delivery.proofs.Names.{with_deadline, IsSendable, partially_sent, waits, has_tsn, Released, ExpiredMessage, Flight, after_abandonment}
-use Rattle.sctp_delivery.proofs.Names.{after_sack, message_to_abandon, with_room, abandoned_each, late_order, leaving_each, worn_order, after_misses}
-use Rattle.sctp_delivery.proofs.Names.{count_again, is_worn, sent_again, worn_tsns, missed, Transmission, after_expire, Makes, found-partial, tail-partial}
-use Rattle.sctp_delivery.proofs.Names.{abandoned_by, MakesExactly, SenderCall, as_run, Expires}
-use Rattle.std.specs.Prelude.{is_some}
+use Rattle.sctp_delivery.proofs.Names.{inl, inr, subst, ◌⊎◌, option_to_list, filter, nat_tests, common_steps, change_where, not_both, ChunkPayloadData, Sack}
+use Rattle.sctp_delivery.proofs.Names.{is_outstanding, with_retransmit, as_abandoned, as_acknowledged, all_started, expired_of, expiring, expiring_tail}
+use Rattle.sctp_delivery.proofs.Names.{is_late, late_tsns, message_of, with_inflight, as_sent, terminal_chunk, next_pending, one_lower, with_deadline}
+use Rattle.sctp_delivery.proofs.Names.{IsSendable, partially_sent, waits, has_tsn, Released, ExpiredMessage, Flight, after_abandonment, after_sack}
+use Rattle.sctp_delivery.proofs.Names.{message_to_abandon, with_room, abandoned_each, late_order, leaving_each, worn_order, after_misses, count_again, is_worn}
+use Rattle.sctp_delivery.proofs.Names.{sent_again, worn_tsns, missed, Transmission, after_expire, Makes, found-partial, tail-partial, abandoned_by}
+use Rattle.sctp_delivery.proofs.Names.{MakesExactly, SenderCall, as_run, Expires}
 use Rattle.sctp_sender.specs.Flight.{with_queue}
 use Rattle.sctp_sender.specs.Late.{with_tail}
 use Rattle.sctp_sender.proofs.Lates.{at-most-one}
@@ -68,12 +67,7 @@ is_write _ = false
 -- the message in front that expires, where one is told
 pub expired-one : (now : ℕ) (e : ExpiredMessage) (t u : Transmission) → Expires now (Some e) t u
     → (c : ChunkPayloadData) × (expiring now t.flight.queue ≡ Some c) × (u ≡ after_expire c e.bytes now t)
-expired-one now e t u x = by (expiring now t.flight.queue) refl x.0 x.1.0
-  where
-    by : (o : Option ChunkPayloadData) → expiring now t.flight.queue ≡ o → true ≡ is_some o → IfSome o (λ c. u ≡ after_expire c e.bytes now t)
-        → (c : ChunkPayloadData) × (expiring now t.flight.queue ≡ Some c) × (u ≡ after_expire c e.bytes now t)
-    by None i k y = absurd (not_both (sym k))
-    by (Some c) i k y = (c, i, y)
+expired-one now e t u x = grind (arith, nat_tests, common_steps)
 
 fewer : {A : Type 0} (q : A → Bool) (xs : List A) → length (filter q xs) ≤ length xs
 fewer q [] = omega arith
@@ -120,9 +114,7 @@ module _ (t u : Transmission) where
 -- of a message that is found so what waits is the rest of the one that is partially sent
 pub partial-found : (t : Transmission) → IsSendable t.flight.queue.pending t.flight.queue.inflight.chunks t.flight.queue.next_message_id
     → (o : Option ℕ) → IsFound o t → (m : ℕ) → o ≡ Some m → waits m t.flight.queue.pending ≡ true → partially_sent t.flight.queue.pending ≡ Some m
-partial-found t s o (inl i) m e w =
-    found-partial t.flight.queue s i.0 (find (has_tsn i.0) t.flight.queue.inflight.chunks) refl m (sym i.1 ∙ e) w
-partial-found t s o (inr i) m e w = tail-partial t.flight.queue s i.0 (next_pending t.flight.queue.pending) refl m (sym i.1 ∙ e)
+partial-found h0 h1 h2 h3 h4 h5 h6 = grind (arith, nat_tests, common_steps, found-partial, tail-partial)
 
 -- ## Each chunk
 

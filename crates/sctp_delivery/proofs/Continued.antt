@@ -1,9 +1,9 @@
 -- Behind a chunk in flight that does not end its message stands one of it, abandoned where it is: whatever is sent, abandoned, marked or
 -- taken out.
 use Rattle.sctp_delivery.proofs.Names.{common_steps, ◌≡◌, ℕ, zero, suc, ◌+◌, Bool, true, false, not, List, [], ◌∷◌, ◌++◌, map, take, drop, Option, Some, refl}
-use Rattle.sctp_delivery.proofs.Names.{ap, ap₂, sym, subst, ◌∙◌, arith, if◌then◌else◌, ◌==◌, filter, map-append, take-append-drop, none-some, nat_tests}
-use Rattle.sctp_delivery.proofs.Names.{change_where, same-is, same-yes, some-same, fails, not_both, tsn, ChunkPayloadData, as_abandoned, is_of, Outbound}
-use Rattle.sctp_delivery.proofs.Names.{last_of, ends, partially_sent, IsRunFrom, is_first_abandoned}
+use Rattle.sctp_delivery.proofs.Names.{ap, ap₂, sym, ◌∙◌, arith, if◌then◌else◌, ◌==◌, filter, map-append, take-append-drop, none-some, nat_tests, change_where}
+use Rattle.sctp_delivery.proofs.Names.{not_both, tsn, ChunkPayloadData, as_abandoned, is_of, Outbound, last_of, ends, partially_sent, IsRunFrom}
+use Rattle.sctp_delivery.proofs.Names.{is_first_abandoned}
 use Rattle.sctp_delivery.proofs.Cases.{at-test, by-test}
 use Rattle.sctp_delivery.proofs.GivenTsns.{lead, rest-run}
 
@@ -62,12 +62,6 @@ same-number m x = elim (x.0 == m) as (λ b. (if b then (x.0, x.1, true) else x).
 same-end : (m : ℕ) (x : Facts) → (gone_at m x).1 ≡ x.1
 same-end m x = elim (x.0 == m) as (λ b. (if b then (x.0, x.1, true) else x).1 ≡ x.1) [ true ↦ refl | false ↦ refl ]
 
-gone : (m : ℕ) (x : Facts) → x.0 ≡ m → (gone_at m x).2 ≡ true
-gone m x same = ap (λ b. (if b then (x.0, x.1, true) else x).2) (subst (λ j. (j == m) ≡ true) (sym same) (same-yes m))
-
-kept : (m : ℕ) (x : Facts) → (x.0 ≡ m → ⊥) → (gone_at m x).2 ≡ x.2
-kept m x other = ap (λ b. (if b then (x.0, x.1, true) else x).2) (fails (x.0 == m) (λ e. other (same-is x.0 m e)))
-
 -- two of one message stay alike
 alike : (m : ℕ) (x y : Facts) → y.0 ≡ x.0 → y.2 ≡ x.2 → (gone_at m y).2 ≡ (gone_at m x).2
 alike m x y same both = grind (arith, nat_tests)
@@ -80,14 +74,14 @@ pair-gone m x y p e = let h = p (sym (same-end m x) ∙ e) in (same-number m y �
 pub abandoned-continued : (partial : Option ℕ) (m : ℕ) (xs : List Facts) → (partial ≡ Some m → ⊥) → AreContinued partial xs
     → AreContinued partial (map (gone_at m) xs)
 abandoned-continued partial m [] other a = tt
-abandoned-continued partial m (x ∷ []) other a = grind (arith, nat_tests, common_steps, same-end, same-number, kept)
+abandoned-continued partial m (x ∷ []) other a = grind (arith, nat_tests, common_steps)
 abandoned-continued partial m (x ∷ y ∷ ys) other a = (pair-gone m x y a.0, abandoned-continued partial m (y ∷ ys) other a.1)
 
 -- the one that is: its terminal chunk stands behind its chunks
 pub ended-continued : (partial next : Option ℕ) (m : ℕ) (xs : List Facts) → partial ≡ Some m → AreContinued partial xs
     → AreContinued next (map (gone_at m) xs ++ (m, true, true) ∷ [])
 ended-continued partial next m [] is a = λ e. absurd (not_both (sym e))
-ended-continued partial next m (x ∷ []) is a = grind (arith, nat_tests, common_steps, same-end, some-same, same-number, gone, not_both)
+ended-continued partial next m (x ∷ []) is a = grind (arith, nat_tests, common_steps)
 ended-continued partial next m (x ∷ y ∷ ys) is a = (pair-gone m x y a.0, ended-continued partial next m (y ∷ ys) is a.1)
 
 -- ## Other changes

@@ -1,11 +1,11 @@
 -- The counters of each open stream are sums over what was written to it.
 use Rattle.sctp_delivery.proofs.Names.{◌≡◌, ℕ, ◌-◌, ◌^◌, Bool, true, false, List, [], ◌∷◌, length, Option, Some, None, is_some, refl, ap, sym, subst, ◌∙◌}
-use Rattle.sctp_delivery.proofs.Names.{arith, find, ◌==◌, min, sum_by, sum_by-cons, nat_tests, common_steps, change_where, same-is, same-yes, not_both}
+use Rattle.sctp_delivery.proofs.Names.{arith, find, min, sum_by, sum_by-cons, nat_tests, common_steps, change_where, same-is, not_both}
 use Rattle.sctp_delivery.proofs.Names.{PayloadProtocolIdentifier, ExpiredMessage, Released, AbandonedMessage, after_leaving, late_order, leaving_each}
-use Rattle.sctp_delivery.proofs.Names.{worn_order, after_expiry, after_releases, has_number, less_by, with_low, with_size, wrote, Transmission, Makes}
-use Rattle.sctp_delivery.proofs.Names.{OutboundStream, AfterEachFitSession, Expires, IsAccepted, MakesExactly, SenderCall, Write, abandons, as_run, expires}
-use Rattle.sctp_delivery.proofs.Names.{expires_late, expires_rexmit, expires_tail, forwards, forwards_within, opens, sends, sets_low, sets_mode, sets_size}
-use Rattle.sctp_delivery.proofs.Names.{takes_sack, writes, written_after, Call, RunsTo, Session, at_start, of_receiver, of_sender}
+use Rattle.sctp_delivery.proofs.Names.{worn_order, after_expiry, after_releases, has_number, less_by, with_size, wrote, Transmission, Makes, OutboundStream}
+use Rattle.sctp_delivery.proofs.Names.{AfterEachFitSession, Expires, IsAccepted, MakesExactly, SenderCall, Write, abandons, as_run, expires, expires_late}
+use Rattle.sctp_delivery.proofs.Names.{expires_rexmit, expires_tail, forwards, forwards_within, opens, sends, sets_low, sets_mode, sets_size, takes_sack}
+use Rattle.sctp_delivery.proofs.Names.{writes, written_after, Call, RunsTo, Session, at_start, of_receiver, of_sender}
 use Rattle.sctp_sender.specs.Flight as flight
 use Rattle.sctp_delivery.specs.Counters.{AreSums, bytes_on, messages_on}
 use Rattle.sctp_delivery.proofs.Calls.{forgotten, numbered_after}
@@ -60,17 +60,9 @@ module _ (stream : ℕ) (ppi : PayloadProtocolIdentifier) (bytes : List ℕ) (ws
   abbrev w : Write
   w = record { stream = stream; payload_type = ppi; bytes = bytes }
 
-  -- on another stream
-  other-counts : (l : OutboundStream) → (l.stream_identifier == stream) ≡ false → Counts ws l → Counts (w ∷ ws) l
-  other-counts l e h = grind (arith, nat_tests, not_both, same-is, same-yes, sum_by-cons)
-
-  -- on its own
-  own-counts : (l : OutboundStream) → (l.stream_identifier == stream) ≡ true → Counts ws l → Counts (w ∷ ws) (wrote ppi bytes l)
-  own-counts l e h = grind (arith, common_steps, same-is, same-yes, sum_by-cons)
-
   written-counts : (ls : List OutboundStream) → Every (Counts ws) ls → Every (Counts (w ∷ ws)) (change_where (has_number stream) (wrote ppi bytes) ls)
   written-counts [] h = tt
-  written-counts (l ∷ ls) h = grind (arith, nat_tests, common_steps, own-counts, other-counts, written-counts ls h.1)
+  written-counts (l ∷ ls) h = grind (arith, nat_tests, common_steps, written-counts ls h.1)
 
 -- ## A stream that is opened
 
@@ -119,9 +111,7 @@ module _ (t : Transmission) (ns : List Numbered) (o : AreThere t.streams ns) (h 
   counts-call (sets_size size) u e x a = to (forgotten ns) u _ e
       (every-mapped (Counts (forgotten ns)) (Counts (forgotten ns)) (with_size size)
       (λ l i. counts-kept (forgotten ns) (with_size size) (record { number = λ k. refl; stats = λ k. refl }) l i) t.streams h)
-  counts-call (sets_low stream bytes) u e x a =
-      to (forgotten ns) u _ e
-      (changed-counts (forgotten ns) (has_number stream) (with_low bytes) (record { number = λ l. refl; stats = λ l. refl }) t.streams h)
+  counts-call (sets_low stream bytes) u e x a = grind (arith, nat_tests, common_steps, changed-counts)
   counts-call (takes_sack sack gone) u e x a =
       to (forgotten ns) u _ x (released-counts (forgotten ns) (flight.released_by sack t.flight) t.streams h)
   counts-call call u e x a = to (forgotten ns) u _ e h

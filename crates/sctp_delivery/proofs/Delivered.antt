@@ -1,28 +1,25 @@
 -- Each message that is read was written.
-use Rattle.sctp_delivery.proofs.Names.{◌≡◌, ℕ, zero, suc, ◌+◌, ◌%◌, ◌^◌, ◌<◌, ◌≤◌, Bool, true, false, not, List, [], ◌∷◌, ◌++◌, length, Option, inl, inr, refl}
-use Rattle.sctp_delivery.proofs.Names.{ap, sym, subst, ◌∙◌, arith, get_or, ⊤, All, Contains, fails, ◌==◌, ◌&&◌, if◌then◌else◌, slice_index_or, list_all}
-use Rattle.sctp_delivery.proofs.Names.{AllPass-from_list_all, negated, same-is, same-yes, both, not_both, ChunkPayloadData, Data, data_of, completes}
-use Rattle.sctp_delivery.proofs.Names.{is_complete, Limits}
-use Rattle.sctp_delivery.proofs.Names.{Message, is_one_message, is_on, AfterEachFitSession, AreWrites, IsWrite, WhileTsnsLast, tsns_given, written_after, Made}
-use Rattle.sctp_delivery.proofs.Names.{SenderCall, Write, data_chunk, forward_tsn, AreMade, AreMessages, Call, ReceiverFollows, RunsTo, SenderFollows, Session}
-use Rattle.sctp_delivery.proofs.Names.{at_start, of_receiver, of_sender}
+use Rattle.sctp_delivery.proofs.Names.{common_steps, nat_tests, ◌≡◌, ℕ, zero, suc, ◌+◌, ◌%◌, ◌^◌, ◌<◌, ◌≤◌, Bool, true, false, not, List, [], ◌∷◌, ◌++◌, length}
+use Rattle.sctp_delivery.proofs.Names.{Option, inl, inr, refl, ap, sym, subst, ◌∙◌, arith, get_or, ⊤, All, Contains, fails, ◌==◌, ◌&&◌, if◌then◌else◌}
+use Rattle.sctp_delivery.proofs.Names.{slice_index_or, list_all, AllPass-from_list_all, negated, same-is, both, not_both, ChunkPayloadData, Data, data_of}
+use Rattle.sctp_delivery.proofs.Names.{completes, is_complete, Limits, Message, is_one_message, is_on, AfterEachFitSession, AreWrites, IsWrite, WhileTsnsLast}
+use Rattle.sctp_delivery.proofs.Names.{tsns_given, Made, SenderCall, Write, data_chunk, forward_tsn, AreMade, AreMessages, Call, ReceiverFollows, RunsTo}
+use Rattle.sctp_delivery.proofs.Names.{SenderFollows, Session, at_start, of_receiver, of_sender}
 use Rattle.sctp_util.specs.Serial.{distance}
 use Rattle.sctp_reassembly.specs.reassembly_queue.Fragments.{payload_of}
-use Rattle.sctp_receiver.specs.ReceiverRuns.{is_like, none_ends_before}
+use Rattle.sctp_receiver.specs.ReceiverRuns.{is_like}
 use Rattle.sctp_delivery.specs.Messages.{AreParts, AreSame}
-use Rattle.sctp_delivery.proofs.Cases.{all_streams, at-test, where-is, where-yes}
+use Rattle.sctp_delivery.proofs.Cases.{all_streams, where-is}
 use Rattle.sctp_delivery.proofs.Begun.{AreOnce}
-use Rattle.sctp_delivery.proofs.Calls.{contains-forgotten, forget, forgotten, forgotten-after, numbered_after, sent_by, stepped}
-use Rattle.sctp_delivery.proofs.OrderedEntries.{AreIndexed, AreIndexedOn, AreRising, IsIndexed, begins-ordered, begins_on, begun_on, one, written_on}
-use Rattle.sctp_delivery.proofs.OrderedEntries.{part-indexed}
-use Rattle.sctp_delivery.proofs.OrderedPlaces.{AreNumbered, numbered-after}
+use Rattle.sctp_delivery.proofs.Calls.{contains-forgotten, forget, forgotten, numbered_after, sent_by, stepped}
+use Rattle.sctp_delivery.proofs.OrderedEntries.{AreIndexed, AreIndexedOn, AreRising, IsIndexed, begun_on, one, written_on, part-indexed}
+use Rattle.sctp_delivery.proofs.OrderedPlaces.{AreNumbered}
 use Rattle.sctp_delivery.proofs.Queues.{IsOnceMore}
 use Rattle.sctp_delivery.proofs.Senders.{AreSent, AreSentOn, IsHeldOn, IsMoreBy}
-use Rattle.sctp_delivery.proofs.Sending.{IsTurn}
 use Rattle.sctp_delivery.proofs.Sent.{Numbered, Entry, GoesOn, IsFrom, IsLine, IsPart, WasSent, WasSentFrom, fragment, part-length, part-line, same-tsn}
 use Rattle.sctp_delivery.proofs.Sent.{stands-next}
 use Rattle.sctp_delivery.proofs.Sessions as sessions
-use Rattle.sctp_delivery.proofs.Every.{Every, every-all, every-of, every-of-all, all-of-every}
+use Rattle.sctp_delivery.proofs.Every.{Every, every-all, every-of, every-of-all}
 
 -- ## All that a sender gave TSNs to, in every session
 
@@ -60,12 +57,7 @@ sender-step-on on first call old new ns sent f h =
     let r = stepped on ns first old.sending.sender sent old.made h.held call new.sending.sender f.step.sender f.exact f.accepted in
     record {
       more = r.more;
-      holds = record {
-        held = r.held;
-        made = subst (AreSentOn on r.more) (sym (ap (λ (s : Session). s.made) f.after)) (r.made h.made);
-        writes = forgotten-after call ns ∙ ap (written_after call) h.writes ∙ sym (ap (λ (s : Session). s.written) f.after);
-        placed = numbered-after call ns h.placed;
-      };
+      holds = grind (arith, nat_tests, common_steps);
       few = counted first sent r.more (next_tsn old) (next_tsn new) h.held.stands.counted r.held.stands.counted r.once;
       once = r.once;
       grown = r.grown;
@@ -74,12 +66,7 @@ sender-step-on on first call old new ns sent f h =
 -- where the sender stays as it is
 pub beside-on : (on : ℕ → Bool) (first : ℕ) (old new : Session) (ns : List Numbered) (sent : List Entry) → new.sending ≡ old.sending → new.made ≡ old.made
     → new.written ≡ old.written → HoldsOn on first old ns sent → HoldsOn on first new ns sent
-beside-on on first old new ns sent same made written h = record {
-  held = subst (λ l. IsHeldOn on ns first l.sender sent) (sym same) h.held;
-  made = subst (AreSentOn on sent) (sym made) h.made;
-  writes = h.writes ∙ sym written;
-  placed = h.placed;
-}
+beside-on on first old new ns sent same made written h = grind (arith, nat_tests, common_steps)
 
 abbrev pub sender-step : (first : ℕ) (call : SenderCall) (old new : Session) (ns : List Numbered) (sent : List Entry) → SenderFollows call old new
     → Holds first old ns sent → Sends all_streams first call old new ns sent
@@ -87,9 +74,7 @@ sender-step first call old new ns sent f h = sender-step-on all_streams first ca
 
 pub receiver-step : (first : ℕ) (call : _) (old new : Session) (ns : List Numbered) (sent : List Entry) → ReceiverFollows call old new → Holds first old ns sent
     → Holds first new ns sent
-receiver-step first call old new ns sent f h =
-    beside-on all_streams first old new ns sent (ap (λ (s : Session). s.sending) f.after) (ap (λ (s : Session). s.made) f.after)
-    (ap (λ (s : Session). s.written) f.after) h
+receiver-step first call old new ns sent f h = grind (arith, nat_tests, common_steps)
 
 -- the writes and the entries after some calls, these no more than the TSNs that were given out
 record After (first : ℕ) (old : Session) (cs : List Call) (new : Session) (r : RunsTo old cs new) (sent : List Entry) : Type 0 where
@@ -106,44 +91,15 @@ held-after first (of_sender call ∷ cs) old new ns sent r h =
     let a = held-after first cs r.0 new (numbered_after call ns) x.more r.1.1 x.holds in
     record { numbered = a.numbered; more = a.more; holds = a.holds; few = omega arith }
 held-after first (of_receiver call ∷ cs) old new ns sent r h =
-    let a = held-after first cs r.0 new ns sent r.1.1 (receiver-step first call old r.0 ns sent r.1.0 h) in
-    record { numbered = a.numbered; more = a.more; holds = a.holds; few = omega arith }
+    grind (arith, nat_tests, common_steps, receiver-step, held-after first cs r.0 new ns sent r.1.1 (receiver-step first call old r.0 ns sent r.1.0 h))
 
 -- a new sender
 pub held-first : (on : ℕ → Bool) (tsn size max most : ℕ) (limits : Option Limits) → tsn < 2 ^ 32 → 0 < size
     → IsHeldOn on [] tsn (at_start tsn size max most limits).sending.sender []
-held-first on tsn size max most limits small some = record {
-  stands = record {
-    queued = record {
-      line = tt;
-      ordered = tt;
-      unordered = tt;
-      turns = λ s. where-yes (on s) (IsTurn s [] 0 []) (λ e. (0, (refl, refl)));
-      indexed = tt;
-      ranked =
-          record { top = 0; under = tt; waiting = omega arith; rising = tt; few = λ s. omega arith };
-      joined = tt;
-      open' = tt;
-    };
-    sendable = record { ordered = tt; unordered = tt; apart = λ m h. refl; sent = λ m h k. absurd (not_both h); below = λ m le. refl };
-    known = tt;
-    counted = omega (arith, small);
-    begun' = record { once = tt; ordered = λ m h. refl; unordered = λ m h. refl; below = λ m h. absurd (not_both h) };
-    ids = refl;
-  };
-  open' = tt;
-  sized = tt;
-  apart = λ s. omega arith;
-  size = some;
-}
+held-first on tsn size max most limits small some = grind (arith, nat_tests, common_steps)
 
 pub at-first : (tsn size max most : ℕ) (limits : Option Limits) → tsn < 2 ^ 32 → 0 < size → Holds tsn (at_start tsn size max most limits) [] []
-at-first tsn size max most limits small some = record {
-  held = held-first all_streams tsn size max most limits small some;
-  made = tt;
-  writes = refl;
-  placed = tt;
-}
+at-first tsn size max most limits small some = grind (arith, nat_tests, common_steps)
 
 -- ## The fragments of a message
 
@@ -173,9 +129,7 @@ pub from-few : (sent : List Entry) → length sent < 2 ^ 32 → (x : Entry) (xs 
 from-few sent few x xs p = let n = part-length sent (x ∷ xs) p in (omega arith, omega (arith, n, few))
 
 pub each-from : (sent : List Entry) → length sent < 2 ^ 32 → (cs : List ChunkPayloadData) → EachSent sent cs → EachSentFrom 0 sent cs
-each-from sent few cs s =
-    every-of (λ c. WasSent sent (data_of c)) (λ c. WasSentFrom 0 sent (data_of c))
-    (λ c x. (x.0, x.1, x.2, x.3, from-few sent few (fragment (data_of c) x.0 x.1) x.2 x.3)) cs s
+each-from sent few cs s = grind (arith, nat_tests, common_steps, every-of, from-few)
 
 pub each-sent-on : (on : ℕ → Bool) (sent : List Entry) (ms : List Made) (cs : List ChunkPayloadData) → AreSentOn on sent ms
     → All (λ c. Contains ms (data_chunk (data_of c))) cs
@@ -214,21 +168,11 @@ all-like x k c (d ∷ ds) i e =
     let s = both (d.stream_identifier == x.stream_identifier) _ b.0 in
     let o = both (not d.unordered) (d.stream_sequence_number == x.stream_sequence_number)
     (subst (λ u. (if u then d.unordered else not d.unordered && (d.stream_sequence_number == x.stream_sequence_number)) ≡ true) k s.1) in
-    let j : IsOf x.stream_identifier x.stream_sequence_number d = record {
-      ordered = negated d.unordered o.0;
-      same_stream = same-is d.stream_identifier x.stream_identifier s.0;
-      same_number = same-is d.stream_sequence_number x.stream_sequence_number o.1;
-    } in
+    let j : IsOf x.stream_identifier x.stream_sequence_number d = grind (arith, nat_tests, common_steps) in
     (λ _. (j.ordered, i.ordered, j.same_stream ∙ sym i.same_stream, j.same_number ∙ sym i.same_number), all-like x k d ds j b.1)
 
 pub inner-of : (x : ChunkPayloadData) (ys : List ChunkPayloadData) → is_one_message (x ∷ ys) ≡ true → AreInner x ys
-inner-of x ys e = let b = both (list_all (is_like x) ys) (rest x.unordered) e in at-test
-    (λ b. (if b then list_all (λ y. not y.beginning_fragment) ys && none_ends_before x ys else true) ≡ true → AreInner x ys) x.unordered
-    (λ k alone. none-begins x ys (both (list_all (λ y. not y.beginning_fragment) ys) (none_ends_before x ys) alone).0)
-    (λ k alone. all-like x k x ys (record { ordered = k; same_stream = refl; same_number = refl }) b.0) b.1
-  where
-    rest : Bool → Bool
-    rest u = if u then list_all (λ y. not y.beginning_fragment) ys && none_ends_before x ys else true
+inner-of x ys e = grind (arith, nat_tests, common_steps, not, none-begins, all-like)
 
 -- ## The law
 
@@ -306,29 +250,13 @@ module _ (ws : List Numbered) (first : ℕ) (sent : List Entry) (low : ℕ) (lin
       apart : (c d : Data) (w : Numbered) (after : List ℕ) (xs ys : List Entry) → ys ≡ fragment c w after ∷ xs → d.beginning_fragment ≡ true
           → d.unordered ≡ false → c.unordered ≡ false → d.stream_identifier ≡ c.stream_identifier
           → d.stream_sequence_number ≡ c.stream_sequence_number → IsIndexed c xs → IsIndexed d ys → ⊥
-      apart c d w after xs ys e k u v same number i j =
-          let x = i v in
-          let y = j u in
-          let st = c.stream_identifier in
-          let begins : begins_on d.stream_identifier d ≡ true =
-          begins-ordered d.stream_identifier d u ∙ ap (λ b. b && d.beginning_fragment) (same-yes d.stream_identifier) ∙ k in
-          let one-more = ap one begins in
-          let all : begun_on d.stream_identifier ys ≡ begun_on st (fragment c w after ∷ xs) = ap (begun_on d.stream_identifier) e
-          ∙ ap (λ s. begun_on s (fragment c w after ∷ xs)) same in
-          let first' = x.1 in
-          let second = y.1 in
-          let n = x.2 in
-          let m = y.2 in
-          omega (arith, one-more, all, first', second, n, m, number)
+      apart c d w after xs ys e k u v same number i j = grind (arith, nat_tests, common_steps)
 
   -- a chunk, and those that follow it up to the end, are the rest of the write; none of these begins a message
   pub follows : AreIndexed sent → (c : ChunkPayloadData) (cs : List ChunkPayloadData) (w : Numbered) (after : List ℕ) (xs : List Entry)
       → IsPart (fragment (data_of c) w after ∷ xs) sent → IsFrom low xs → completes c cs ≡ true → EachSentFrom low sent cs → AreInner c cs
       → (payload_of cs ≡ after) × EachTyped w (c ∷ cs) × Every (λ (d : ChunkPayloadData). d.beginning_fragment ≡ false) cs
-  follows indexed c cs w after xs p at e s i =
-      let none = none-inside all_streams indexed c cs w after xs p at e s i (every-all (λ d. true ≡ true) (λ d. refl) cs) in
-      let f = follows-in c cs w after xs p at e s none in
-      (f.0, f.1, none)
+  follows indexed c cs w after xs p at e s i = grind (arith, nat_tests, common_steps, none-inside, every-all, follows-in)
 
   -- a message of which no fragment but the first begins one
   pub single-is : (m : Message) → is_complete m.fragments ≡ true → (c : ChunkPayloadData) (cs : List ChunkPayloadData) → m.fragments ≡ c ∷ cs
@@ -340,23 +268,7 @@ module _ (ws : List Numbered) (first : ℕ) (sent : List Entry) (low : ℕ) (lin
       let after = s.0.1 in
       let l = part-line ws first sent (fragment (data_of c) w after ∷ s.0.2) s.0.3 line in
       let f = follows-in c cs w after s.0.2 s.0.3 s.0.4 b.1 s.1 none in
-      let x : IsReadOf ws sent m = record {
-        chunk = c;
-        others = cs;
-        fragments = is;
-        begins = b.0;
-        numbered = w;
-        after = after;
-        entries = s.0.2;
-        part = s.0.3;
-        written = l.0.written;
-        write = record {
-          stream = sym (same-is c.stream_identifier m.stream (both (is_on m.stream c) (list_all (is_on m.stream) cs) on).0) ∙ l.0.stream;
-          payload_type =
-              subst (λ ds. All (λ x. x.payload_type ≡ w.payload_type) ds) (sym is) (all-of-every (λ x. x.payload_type ≡ w.payload_type) (c ∷ cs) f.1);
-          bytes = ap payload_of is ∙ ap (λ bs. c.user_data ++ bs) f.0 ∙ sym (l.0.begins b.0);
-        };
-      } in
+      let x : IsReadOf ws sent m = grind (arith, nat_tests, common_steps) in
       (x, refl)
 
   -- of a message on such a stream no fragment but the first begins one

@@ -51,10 +51,6 @@ abbrev kind_in : Option (ℕ × Bool) → Bool
 kind_in None = false
 kind_in (Some p) = p.1
 
--- so many messages and then one more
-states-then : (u : Bool) (n a b : ℕ) (l : OutboundStream) → n + 1 < 2 ^ 16 → after_expiries u 1 b (after_expiries u n a l) ≡ after_expiries u (n + 1) (a + b) l
-states-then u n a b l h6 = grind (arith, nat_tests)
-
 abbrev after_first : Bool → ℕ → ℕ → OutboundStream → Bool → OutboundStream
 after_first u n a l k = if k then after_expiries u n a l else l
 
@@ -63,7 +59,7 @@ after_both s u n a b l k = if has_number s (after_first u n a l k) then after_ex
 
 heads : (s : ℕ) (u : Bool) (n a b : ℕ) (l : OutboundStream) → n + 1 < 2 ^ 16 → (k : Bool) → has_number s l ≡ k
     → after_both s u n a b l (has_number s l) ≡ after_first u (n + 1) (a + b) l (has_number s l)
-heads s u n a b l h7 k h9 = grind (arith, nat_tests, states-then)
+heads s u n a b l h7 k h9 = grind (arith, nat_tests)
 
 streams-then : (s : ℕ) (u : Bool) (n a b : ℕ) → n + 1 < 2 ^ 16 → (ls : List OutboundStream)
     → change_where (has_number s) (after_expiries u 1 b) (change_where (has_number s) (after_expiries u n a) ls)

@@ -386,14 +386,7 @@ module _ (b : Setting) (n : ℕ) (s : Session) (i : At b n s) (p : ℕ)
   followed-one = record made-one { receiving = record s.receiving { receiver = after_forward_tsn g s.receiving.receiver } }
 
   making : SenderFollows (forwards (advanced_ack_point (flight_of s)) g) s made-one
-  making = record {
-    handed = tt;
-    step = record { sender = omega arith; written = omega arith; released = omega arith; taken_back = omega arith };
-    exact = refl;
-    accepted = (sym skip, named (named_up_to p (flight_of s)));
-    answered = tt;
-    after = refl;
-  }
+  making = grind (arith, nat_tests, common_steps, step, named)
 
   following : reads_nothing s.receiving.receiver ≡ true → list_all (λ m. is_open m.identifier s.receiving.receiver) g.streams ≡ true
       → ReceiverFollows (follows g) made-one followed-one
@@ -441,9 +434,7 @@ abbrev pub AreTaken : Session → Type 0
 AreTaken s = All (λ c. c.abandoned ≡ false → was_taken c.tsn s ≡ true) (in_flight s)
 
 taken-still : (s t : Session) → t.sending ≡ s.sending → t.receiving.accepted ≡ s.receiving.accepted → AreTaken s → AreTaken t
-taken-still s t a e h =
-    subst (λ (l : Ledger). All (λ c. c.abandoned ≡ false → list_any (has_tsn c.tsn) t.receiving.accepted ≡ true) l.sender.flight.queue.inflight.chunks) (sym a)
-    (subst (λ xs. All (λ c. c.abandoned ≡ false → list_any (has_tsn c.tsn) xs ≡ true) (in_flight s)) (sym e) h)
+taken-still s t a e h = grind (arith, nat_tests, common_steps)
 
 module _ (b : Setting) where
   open-names : (ns : List ChunkForwardTsnStream) (n : ℕ) (s : Session) → At b n s → reads_nothing s.receiving.receiver ≡ true

@@ -1,12 +1,12 @@
 -- Each session can end: round after round leaves fewer chunks, and then all that is to be read is read.
 use Rattle.sctp_delivery.proofs.Names.{common_steps, ◌≡◌, ℕ, zero, suc, ◌+◌, ◌-◌, ◌%◌, ◌^◌, ◌<◌, ◌≤◌, Bool, true, false, List, [], ◌∷◌, length, Option, Some}
 use Rattle.sctp_delivery.proofs.Names.{None, is_some, inl, inr, refl, ap, subst, ◌∙◌, arith, ◌==◌, if◌then◌else◌, nat_le, cases_lt, nat_tests, and-none}
-use Rattle.sctp_delivery.proofs.Names.{same-yes, length-change_where, and, not_both, distance-tsn, distance, ChunkPayloadData}
-use Rattle.sctp_delivery.proofs.Names.{peeked_all_started, sendable-sent, Selected, Outbound, all_started, as_sent, sent_next, sent_of, Pending, chunk_count}
-use Rattle.sctp_delivery.proofs.Names.{front_of, list_of, list_to_pop, next_pending, next_pending_of, IsSendable, IsWhole, begun, free, stage_of, Limits}
-use Rattle.sctp_delivery.proofs.Names.{following_tsn, started-inflight, Flight, next_after_send, send_refusal, with_flight, Ledger}
-use Rattle.sctp_delivery.proofs.Names.{EachOtherIsReadOnce, abandoned_in, is_all_acknowledged, reads_nothing, chunks_waiting, chunks_left, in_flight}
-use Rattle.sctp_delivery.proofs.Names.{tsns_given, Made, made_after, sends, with_chunk, Call, RunsTo, SenderFollows, Session, at_start, of_sender}
+use Rattle.sctp_delivery.proofs.Names.{same-yes, length-change_where, and, not_both, distance-tsn, distance, ChunkPayloadData, peeked_all_started}
+use Rattle.sctp_delivery.proofs.Names.{sendable-sent, Selected, Outbound, all_started, as_sent, sent_next, sent_of, Pending, chunk_count, front_of, list_of}
+use Rattle.sctp_delivery.proofs.Names.{list_to_pop, next_pending, next_pending_of, IsSendable, IsWhole, begun, free, stage_of, Limits, following_tsn}
+use Rattle.sctp_delivery.proofs.Names.{started-inflight, Flight, next_after_send, send_refusal, with_flight, Ledger, EachOtherIsReadOnce, abandoned_in}
+use Rattle.sctp_delivery.proofs.Names.{is_all_acknowledged, reads_nothing, chunks_waiting, chunks_left, in_flight, tsns_given, Made, made_after, sends}
+use Rattle.sctp_delivery.proofs.Names.{with_chunk, Call, RunsTo, SenderFollows, Session, at_start, of_sender}
 use Rattle.std.specs.Prelude.{◌*◌, slice_get}
 use Rattle.sctp_sender.proofs.Amounts.{sent-bytes}
 use Rattle.sctp_delivery.specs.Ending.{CanEnd}
@@ -192,18 +192,7 @@ module _ (b : Setting) where
       (others-read b.first b.size b.max b.most b.limits j.calls t j.run b.small (few-given b n t j) b.some exhausted) in
       let same = ap length x.made in
       record {
-        alone = record {
-          calls = [];
-          ended = t;
-          run = refl;
-          delivery = refl;
-          given = omega (arith, waiting);
-          written = refl;
-          sacks = omega (arith, sacks, made);
-          made = omega (arith, same, all);
-          exhausted = exhausted;
-          read = once;
-        };
+        alone = grind (arith, nat_tests, common_steps);
         beside = ends-here b.now b.gone b.sacks b.made t exhausted once waiting (omega (arith, sacks, made)) (omega (arith, same, all));
       })
 

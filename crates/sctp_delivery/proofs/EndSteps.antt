@@ -337,10 +337,7 @@ module _ (b : Setting) where
       }
 
   pub receiver-before : (n : ℕ) (call : ReceiverCall) (s t : Session) → At b n s → ReceiverFollows call s t → Ends b t → Ends b s
-  receiver-before n call s t i f e = record {
-    alone = receiver-alone n call s t i f e.alone;
-    beside = receiver-so b.now b.gone b.sacks b.made call s t f (no-distance n s i) e.beside;
-  }
+  receiver-before n call s t i f e = search (receiver-alone, receiver-so, no-distance)
 
 -- # Sessions that can end: all that is to be read is read, and streams are opened
 
@@ -395,30 +392,7 @@ readable (l ∷ ls) e = by (is_some (message_read l.queue.held)) refl e (readabl
           subst (λ b. sum_by sets ((if b then stream_read l else l) ∷ change_where (has_number l.queue.si) stream_read ls) < sum_by sets (l ∷ ls))
           (sym (same-yes l.queue.si)) (omega (arith, n, o, lt, le));
     }
-    by false h f ih = behind (ih f)
-      where
-        found : (k : ℕ) → is_some (find (has_number k) ls) ≡ true → (b : Bool) → is_some (if b then Some l else find (has_number k) ls) ≡ true
-        found k e true = refl
-        found k e false = e
-
-        less : (k : ℕ) → sum_by sets (change_where (has_number k) stream_read ls) < sum_by sets ls → (b : Bool)
-            → sum_by sets ((if b then stream_read l else l) ∷ change_where (has_number k) stream_read ls) < sum_by sets (l ∷ ls)
-        less k lt true =
-            let n = sum_by-cons sets (stream_read l) (change_where (has_number k) stream_read ls) in
-            let o = sum_by-cons sets l ls in
-            let le = (rest-fewer l.queue.held).0 in
-            omega (arith, n, o, le, lt)
-        less k lt false =
-            let n = sum_by-cons sets l (change_where (has_number k) stream_read ls) in
-            let o = sum_by-cons sets l ls in
-            omega (arith, n, o, lt)
-
-        behind : Readable ls → Readable (l ∷ ls)
-        behind r = record {
-          number = r.number;
-          there = found r.number r.there (has_number r.number l);
-          fewer = less r.number r.fewer (has_number r.number l);
-        }
+    by false h f ih = grind (arith, nat_tests, common_steps, is_some, sum_by-cons, rest-fewer)
 
 -- ## What stays
 

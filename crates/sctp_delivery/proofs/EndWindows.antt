@@ -4,11 +4,9 @@ use Rattle.sctp_delivery.proofs.Names.{arith, if◌then◌else◌, nat_le, find,
 use Rattle.sctp_delivery.proofs.Names.{same-yes, some-same, negated, both, fails, not_both, change_where, ChunkPayloadData, Limits, InboundStream, number}
 use Rattle.sctp_delivery.proofs.Names.{Reception, cost_of, Selected, Pending, Outbound, IsSendable, is_of, partial_of, selected_after, chunk_to_pop_from}
 use Rattle.sctp_delivery.proofs.Names.{list_to_pop, rest_from, rest_after, next_pending, with_deadline, all_started, as_sent, sent_of, made, sendable-sent}
-use Rattle.sctp_delivery.proofs.Names.{goes_on, peeked_all_started, started-inflight, bytes_of, Session, at_start, reads_nothing, chunks_waiting, in_flight}
-use Rattle.sctp_delivery.proofs.Names.{common_steps, and, chunks_left, EachOtherIsReadOnce, has_room, Transmission}
+use Rattle.sctp_delivery.proofs.Names.{goes_on, peeked_all_started, started-inflight, Session, at_start, reads_nothing, chunks_waiting, in_flight, common_steps}
+use Rattle.sctp_delivery.proofs.Names.{and, chunks_left, EachOtherIsReadOnce, has_room, Transmission}
 use Rattle.std.specs.Prelude.{◌<◌, ◌^◌, max, nat_lt}
-use Rattle.sctp_reassembly.specs.reassembly_queue.Counts.{set_chunks}
-use Rattle.sctp_reassembly.specs.reassembly_queue.ReassemblyQueue.{set_bytes}
 use Rattle.sctp_receiver.proofs.StreamCosts.{are_apart}
 use Rattle.sctp_receiver.proofs.Weights as weights
 use Rattle.sctp_receiver.specs.Credit.{cost_of_chunks}
@@ -62,17 +60,7 @@ at-rest b n s i none unbegun unread =
     unread st l found (unread-of st s.receiving.receiver.streams l unread found))))
   where
     free : (l : InboundStream) → IsUnder l → IsBare l.queue.held → cost_of l ≡ 0
-    free l u e =
-        omega (
-          arith,
-          u,
-          ap set_bytes e.ordered,
-          ap set_bytes e.unordered,
-          ap bytes_of e.unassembled,
-          ap set_chunks e.ordered,
-          ap set_chunks e.unordered,
-          ap length e.unassembled,
-        )
+    free l u e = grind (arith, nat_tests, common_steps)
 
 -- ## A chunk is sent
 

@@ -1,7 +1,7 @@
 -- The fragments of a message together are no longer than its write, those of an ordered message that a set has, and those of an unordered one
 -- that stand beside a chunk among unassembled ones.
-use Rattle.sctp_delivery.proofs.Names.{◌≡◌, ℕ, ◌+◌, ◌%◌, ◌^◌, ◌<◌, ◌≤◌, Bool, true, false, not, List, [], ◌∷◌, length, length-append, inl, inr, refl, ap, sym}
-use Rattle.sctp_delivery.proofs.Names.{subst, ◌∙◌, arith, ◌==◌, ◌&&◌, if◌then◌else◌, cases_lt, sum_by-cons, nat_tests, common_steps, same-is, fails, not_both}
+use Rattle.sctp_delivery.proofs.Names.{◌≡◌, ℕ, ◌+◌, ◌^◌, ◌<◌, ◌≤◌, Bool, true, false, not, List, [], ◌∷◌, length, length-append, inl, inr, refl, ap, sym, subst}
+use Rattle.sctp_delivery.proofs.Names.{◌∙◌, arith, ◌==◌, ◌&&◌, if◌then◌else◌, cases_lt, sum_by-cons, nat_tests, common_steps, same-is, not_both}
 use Rattle.sctp_delivery.proofs.Names.{ChunkPayloadData, Data, data_of, bytes_of, following_tsn, has_tsn, preceding_tsn, size_after, size_before}
 use Rattle.std.specs.Prelude.{reverse}
 use Rattle.std.proofs.lemmas.List.{reverse-append}
@@ -44,7 +44,7 @@ has_fragment st k sent = of_entry false (is_fragment_on st) k sent
 
 entry-within : (q : Entry → Bool) (k : ℕ) (sent : List Entry) → of_entry false q k sent ≡ true → (0 < k) × (k ≤ length sent)
 entry-within q k [] e = absurd (not_both e)
-entry-within q k (x ∷ xs) e = grind (arith, nat_tests, common_steps, same-is, entry-within q k xs)
+entry-within q k (x ∷ xs) e = grind (arith, nat_tests, common_steps, entry-within q k xs)
 
 -- how many bytes a fragment has, and how many of its write are left behind it
 abbrev pub size_of : Entry → ℕ
@@ -215,13 +215,7 @@ module _ (first : ℕ) (ns : List Numbered) (sent : List Entry) (few : length se
 
       -- the one before it
       next-to : z.tsn ≡ preceding_tsn c.tsn → (was.0 ≡ h.0.0) × (length h.0.1 ≡ length c.user_data + length was.1)
-      next-to e =
-          let f = (part-line ns first sent (fragment (data_of c) was.0 was.1 ∷ was.2) was.3 line).0.number in
-          let up : c.tsn ≡ (z.tsn + 1) % 2 ^ 32 = omega (arith, e, f) in
-          let behind = stands-behind ns first sent few line (data_of z) (data_of c) h.0.0 was.0 h.0.1 was.1 h.0.2 was.2 h.0.3 was.3 up in
-          let on = (part-line ns first sent (fragment (data_of c) was.0 was.1 ∷ was.2) was.3 line).1.0 in
-          let g = subst (GoesOn (data_of c) was.0 was.1) behind on inner in
-          (g.0, ap length g.1 ∙ length-append c.user_data was.1)
+      next-to e = grind (arith, nat_tests, common_steps, part-line, stands-behind, length-append)
 
   -- up from a fragment that does not end its message: the neighbours are of what is left behind it
   up-fits : (ys : List ChunkPayloadData) → AreSent sent ys → (c : ChunkPayloadData) (was : WasSent sent (data_of c)) → c.ending_fragment ≡ false
@@ -235,13 +229,7 @@ module _ (first : ℕ) (ns : List Numbered) (sent : List Entry) (few : length se
       (λ e. omega arith)
     where
       next-to : z.tsn ≡ following_tsn c.tsn → length was.1 ≡ length z.user_data + length h.0.1
-      next-to e =
-          let behind = stands-behind ns first sent few line (data_of c) (data_of z) was.0 h.0.0 was.1 h.0.1 was.2 h.0.2 was.3 h.0.3 e in
-          let on = (part-line ns first sent (fragment (data_of z) h.0.0 h.0.1 ∷ h.0.2) h.0.3 line).1.0 in
-          let j = subst (Joins (data_of z)) behind (part-joined sent (fragment (data_of z) h.0.0 h.0.1 ∷ h.0.2) h.0.3 joined).0 in
-          let inner : z.beginning_fragment ≡ false = fails z.beginning_fragment (λ k. not_both (sym open' ∙ j.0 k)) in
-          let g = subst (GoesOn (data_of z) h.0.0 h.0.1) behind on inner in
-          ap length g.1 ∙ length-append z.user_data h.0.1
+      next-to e = grind (arith, nat_tests, common_steps, stands-behind, part-line, part-joined, not_both, length-append)
 
   -- a fragment with its neighbours among unassembled ones is no longer than its write
   pub unassembled-fits : (xs : List ChunkPayloadData) → AreSent sent xs → (c : ChunkPayloadData) (was : WasSent sent (data_of c))
@@ -253,9 +241,7 @@ module _ (first : ℕ) (ns : List Numbered) (sent : List Entry) (few : length se
       (λ e. down-fits (back_from (preceding_tsn c.tsn) xs)
       (leading-each (λ y. WasSent sent (data_of y)) (λ y. not (has_tsn (preceding_tsn c.tsn) y)) (reverse xs)
       (every-reversed (λ y. WasSent sent (data_of y)) xs h)) c was e) in
-      let b : size_after c xs ≤ length was.1 = at-if (λ z. z ≤ length was.1) c.ending_fragment
-      (λ e. omega arith)
-      (λ e. up-fits (on_from (following_tsn c.tsn) xs) (every-on (λ y. WasSent sent (data_of y)) (following_tsn c.tsn) xs h) c was e) in
+      let b : size_after c xs ≤ length was.1 = grind (arith, nat_tests, common_steps, up-fits, every-on) in
       omega (arith, a, b)
     where
       alone : length c.user_data + length was.1 ≤ length was.0.bytes

@@ -1,26 +1,20 @@
 -- On a stream that goes on: of unordered chunks, how many were taken, read, are held or are lost, whatever the receiver is called for.
-use Rattle.sctp_delivery.proofs.Names.{◌≡◌, ℕ, ◌+◌, ◌≤◌, Bool, true, false, not, List, [], ◌∷◌, ◌++◌, Option, Some, None, refl, ap, sym, subst, ◌∙◌, arith, ⊤}
-use Rattle.sctp_delivery.proofs.Names.{if◌then◌else◌, ◌==◌, option_map, filter, list_any, sum_by, sum_by-cons, sum_by-append, sum_by-inserted}
-use Rattle.sctp_delivery.proofs.Names.{insert_before, at_or_before, comes_before16, after_leading, cannot_complete, is_passed}
-use Rattle.sctp_delivery.proofs.Names.{ChunkPayloadData, ChunkSet, New, Pushes, PushesAs, Reassembly, ReassemblyState, sets_with}
-use Rattle.sctp_delivery.proofs.Names.{InboundStream, new_stream, skipped_each, ssns_of, Accepts, Reception, stream_of, Stand}
-use Rattle.sctp_delivery.proofs.Names.{fragments_read, held_weight, set_weight, weight, has_tsn, has_ssn, is_on, held_after_unordered_skip}
-use Rattle.sctp_delivery.proofs.Names.{has_come, filter_of, with_filter, with_tsn, after_forward_tsn}
-use Rattle.sctp_receiver.specs.Inbound.{stream_forwarded, unassembled_forwarded}
-use Rattle.sctp_receiver.specs.Receiver.{repeat_tsn}
+use Rattle.sctp_delivery.proofs.Names.{common_steps, nat_tests, ◌≡◌, ℕ, ◌+◌, ◌≤◌, Bool, true, false, not, List, [], ◌∷◌, ◌++◌, Option, Some, None, refl, ap}
+use Rattle.sctp_delivery.proofs.Names.{sym, subst, ◌∙◌, arith, ⊤, if◌then◌else◌, ◌==◌, option_map, filter, sum_by, sum_by-cons, sum_by-append, sum_by-inserted}
+use Rattle.sctp_delivery.proofs.Names.{at_or_before, after_leading, cannot_complete, is_passed, ChunkPayloadData, ChunkSet, New, Pushes, Reassembly}
+use Rattle.sctp_delivery.proofs.Names.{ReassemblyState, sets_with, InboundStream, new_stream, skipped_each, ssns_of, Accepts, Reception, stream_of, Stand}
+use Rattle.sctp_delivery.proofs.Names.{fragments_read, held_weight, set_weight, weight, is_on, held_after_unordered_skip, after_forward_tsn, rest_read}
+use Rattle.sctp_delivery.proofs.Names.{ForwardTsn, is_stale}
+use Rattle.sctp_receiver.specs.Inbound.{stream_forwarded, unassembled_forwarded, numbers_of}
 use Rattle.sctp_receiver.specs.Skips.{incomplete_forwarded}
-use Rattle.sctp_delivery.proofs.Names.{rest_read, new_set, set_before, chunk_before, ForwardTsn, is_stale}
-use Rattle.sctp_reassembly.specs.reassembly_queue.Fragments.{with_chunk}
 use Rattle.sctp_reassembly.specs.reassembly_queue.ReassemblyQueue.{after_ordered_skip}
 use Rattle.sctp_reassembly.specs.reassembly_queue.Skips.{held_after_incomplete_skip}
-use Rattle.sctp_receiver.specs.Inbound.{numbers_of}
 use Rattle.sctp_receiver.specs.ReceiverRuns as receiver_runs
 use Rattle.sctp_receiver.specs.Resets.{stream_reset}
 use Rattle.sctp_receiver.proofs.Closed.{others-left}
 use Rattle.sctp_receiver.proofs.StreamCosts.{are_apart}
 use Rattle.sctp_receiver.proofs.Weights as weights
-use Rattle.sctp_receiver.proofs.Weights.{message_weight}
-use Rattle.sctp_delivery.proofs.Cases.{at-if, at-test, by-test}
+use Rattle.sctp_delivery.proofs.Cases.{by-test}
 use Rattle.sctp_delivery.proofs.Every.{Every, every-inserted, every-joined, every-of, every-passing}
 use Rattle.sctp_delivery.proofs.Kept as streams
 use Rattle.sctp_delivery.proofs.Kept.{IsSo, changed-elsewhere}
@@ -47,15 +41,11 @@ module _ (w : ChunkPayloadData → ℕ) where
 
   pub lonely-less : (cs : List ChunkPayloadData) → sum_by (lonely w) cs ≤ sum_by w cs
   lonely-less [] = omega arith
-  lonely-less (c ∷ cs) =
-      let x : lonely w c ≤ w c = at-test (λ b. (if b then w c else 0) ≤ w c) c.unordered (λ _. omega arith) (λ _. omega arith) in
-      omega (arith, x, lonely-less cs, sum_by-cons (lonely w) c cs, sum_by-cons w c cs)
+  lonely-less (c ∷ cs) = grind (arith, nat_tests, common_steps, lonely-less cs)
 
   pub lonely-kind : (cs : List ChunkPayloadData) → Every IsUnordered cs → sum_by (lonely w) cs ≡ sum_by w cs
   lonely-kind [] e = refl
-  lonely-kind (c ∷ cs) e =
-      let x : lonely w c ≡ w c = ap (λ b. if b then w c else 0) e.0 in
-      omega (arith, x, lonely-kind cs e.1, sum_by-cons (lonely w) c cs, sum_by-cons w c cs)
+  lonely-kind (c ∷ cs) e = grind (arith, nat_tests, common_steps, lonely-kind cs e.1)
 
   pub lonely-sets : (ss : List ChunkSet) → Every IsWhole ss → sum_by (set_weight (lonely w)) ss ≡ sum_by (set_weight w) ss
   lonely-sets [] e = refl
@@ -71,13 +61,7 @@ sets-light w h [] e = refl
 sets-light w h (s ∷ ss) e = omega (arith, sum_by-cons (set_weight w) s ss, chunks-light w h s.chunks e.0, sets-light w h ss e.1)
 
 sets-ordered : (x : ChunkPayloadData) → IsOrdered x → (ss : List ChunkSet) → AreOrdered ss → AreOrdered (sets_with x ss)
-sets-ordered x kind ss e = at-if AreOrdered (list_any (has_ssn x.stream_sequence_number) ss)
-    (λ _. every-first (λ (s : ChunkSet). Every IsOrdered s.chunks) (has_ssn x.stream_sequence_number) (with_chunk x) ss
-    (every-of (λ (s : ChunkSet). Every IsOrdered s.chunks) _ (λ s o. (o, λ _. put s o)) ss e))
-    (λ _. every-inserted (λ (s : ChunkSet). Every IsOrdered s.chunks) set_before (new_set x) ss (kind, tt) e)
-  where
-    put : (s : ChunkSet) → Every IsOrdered s.chunks → Every IsOrdered (with_chunk x s).chunks
-    put s o = at-if (Every IsOrdered) (list_any (has_tsn x.tsn) s.chunks) (λ _. o) (λ _. every-inserted IsOrdered chunk_before x s.chunks kind o)
+sets-ordered x kind ss e = grind (arith, nat_tests, common_steps, every-first, every-of, every-inserted)
 
 -- a skip by names drops of these alone
 record IsNamed (q r : Reassembly) : Type 0 where
@@ -119,22 +103,7 @@ module _ (st : ℕ) (P : ChunkPayloadData → Type 0) (L : Reassembly → Type 0
 
   pushed-weighs : (c : ChunkPayloadData) (said : Bool) (q r : ReassemblyState) → Pushes c said q r → AreOrdered q.held.ordered
       → (w : ChunkPayloadData → ℕ) → IsLight w → weight w r.held ≡ w c + weight w q.held
-  pushed-weighs c said q r p e w h = by-test c.unordered
-      (λ u.
-      let b = (subst (λ k. PushesAs k c said q r) u p).0 in
-      let x = weights.becomes w (insert_before chunk_before c q.held.unassembled) q.held r.held said b in
-      omega (arith, x, sum_by-inserted w chunk_before c q.held.unassembled))
-      (λ u.
-      let x = (subst (λ k. PushesAs k c said q r) u p).0 in
-      let none = sets-light w h r.held.ordered (pushed-sorted c said q r p e) in
-      let before = sets-light w h q.held.ordered e in
-      let us = ap (λ (z : ReassemblyState). sum_by (set_weight w) z.held.unordered) x
-      ∙ at-if (λ (z : Reassembly). sum_by (set_weight w) z.unordered ≡ sum_by (set_weight w) q.held.unordered)
-      (comes_before16 c.stream_sequence_number q.held.next_ssn) (λ _. refl) (λ _. refl) in
-      let left = ap (λ (z : ReassemblyState). sum_by w z.held.unassembled) x
-      ∙ at-if (λ (z : Reassembly). sum_by w z.unassembled ≡ sum_by w q.held.unassembled)
-      (comes_before16 c.stream_sequence_number q.held.next_ssn) (λ _. refl) (λ _. refl) in
-      omega (arith, none, before, us, left, h c u))
+  pushed-weighs c said q r p e w h = grind (arith, nat_tests, common_steps, weights.becomes, sum_by-inserted, sets-light, pushed-sorted)
 
   -- where it is of the stream, it fits there
   abbrev pub Puts : ChunkPayloadData → Bool → Option InboundStream → Type 0
@@ -176,10 +145,7 @@ module _ (st : ℕ) (P : ChunkPayloadData → Type 0) (L : Reassembly → Type 0
           let h = subst Sorted there i.so.holds in
           record {
             weighs = λ w v. pushed-weighs c said acc.stream.queue acc.queue acc.pushed h.0 w v;
-            holds = (
-              pushed-sorted c said acc.stream.queue acc.queue acc.pushed h.0,
-              subst (Puts c said) there put on acc.queue acc.pushed h.1,
-            );
+            holds = grind (arith, nat_tests, common_steps, pushed-sorted);
           }) a e)
 
       -- a FORWARD-TSN comes
@@ -249,10 +215,7 @@ module _ (st : ℕ) (P : ChunkPayloadData → Type 0) (L : Reassembly → Type 0
     step (receiver_runs.resets s last) old new apart k f i =
         still old new i f.accepted f.read (ap (stream_of st) f.receiver ∙ changed-elsewhere s (stream_reset last) (λ l h. refl) old.receiver.streams st k)
     step (receiver_runs.takes c (New said)) old new apart k f i = taken old new i c said k f.receiver f.accepted f.read
-    step (receiver_runs.discards t) old new apart k f i =
-        still old new i f.accepted f.read (ap (stream_of st) f.receiver
-        ∙ at-test (λ b. stream_of st (if b then repeat_tsn t old.receiver else with_filter (with_tsn t (filter_of old.receiver)) old.receiver)
-        ≡ stream_of st old.receiver) (has_come t (filter_of old.receiver)) (λ e. refl) (λ e. refl))
+    step (receiver_runs.discards t) old new apart k f i = grind (arith, nat_tests, common_steps)
     step (receiver_runs.reads stream) old new apart k f i =
         made-of old new i (streams.reads st IsLight Sorted i.lost old new i.so stream f.receiver f.accepted f.read (λ l e.
         let h = subst Sorted e i.so.holds in
@@ -264,12 +227,4 @@ module _ (st : ℕ) (P : ChunkPayloadData → Type 0) (L : Reassembly → Type 0
 -- where more is said
 pub even-of : (st : ℕ) (P Q : ChunkPayloadData → Type 0) (L M : Reassembly → Type 0) (s : Stand)
     → ((c : ChunkPayloadData) → P c → Q c) → ((q : Reassembly) → L q → M q) → IsEven st P L s → IsEven st Q M s
-even-of st P Q L M s f g i = record {
-  lost = i.lost;
-  spent = every-of P Q f i.lost i.spent;
-  so = record { weighs = i.so.weighs; holds = by (stream_of st s.receiver) i.so.holds };
-}
-  where
-    by : (o : Option InboundStream) → Sorted st P L o → Sorted st Q M o
-    by None h = tt
-    by (Some x) h = (h.0, g x.queue.held h.1)
+even-of st P Q L M s f g i = grind (arith, nat_tests, common_steps, every-of)

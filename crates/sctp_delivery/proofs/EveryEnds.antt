@@ -1,10 +1,9 @@
 -- Sessions of every call: in the end each ordered DATA chunk of a stream that goes on was read, but of messages that may be passed over.
-use Rattle.sctp_delivery.proofs.Names.{◌≡◌, ℕ, suc, ◌+◌, ◌^◌, ◌<◌, ◌≤◌, Bool, true, false, List, [], ◌∷◌, length, Option, Some, None, inl, inr, refl, ap, sym}
-use Rattle.sctp_delivery.proofs.Names.{subst, ◌∙◌, arith, All, Contains, if◌then◌else◌, list_any, nat_le, cases_lt, nat_tests}
-use Rattle.sctp_delivery.proofs.Names.{or-left, or-split, same-is, same-yes, and, not_both, none-some, at_or_before, at_or_before16, tsn}
-use Rattle.sctp_delivery.proofs.Names.{at_or_before16-index, ChunkPayloadData, ChunkSet, Data, data_of, has_tsn, is_complete, is_readable, front_readable}
-use Rattle.sctp_delivery.proofs.Names.{message_read, Reassembly, InboundStream, Reception, stream_of, Message, reads_nothing, data_chunk, AreMade, AreMessages}
-use Rattle.sctp_delivery.proofs.Names.{Session, AllPass-from_list_all, ◌==◌, ◌%◌, ◌⊎◌, is_ordered_on, not}
+use Rattle.sctp_delivery.proofs.Names.{common_steps, ◌≡◌, ℕ, suc, ◌+◌, ◌^◌, ◌<◌, ◌≤◌, Bool, true, false, List, [], ◌∷◌, length, Option, Some, None, inl, inr}
+use Rattle.sctp_delivery.proofs.Names.{refl, ap, sym, subst, ◌∙◌, arith, All, Contains, if◌then◌else◌, list_any, nat_le, cases_lt, nat_tests, or-left, or-split}
+use Rattle.sctp_delivery.proofs.Names.{same-is, same-yes, and, not_both, none-some, at_or_before16, tsn, at_or_before16-index, ChunkPayloadData, ChunkSet, Data}
+use Rattle.sctp_delivery.proofs.Names.{data_of, has_tsn, is_complete, is_readable, front_readable, message_read, Reassembly, InboundStream, Reception}
+use Rattle.sctp_delivery.proofs.Names.{stream_of, Message, reads_nothing, data_chunk, AreMade, AreMessages, Session, ◌==◌, ◌%◌, ◌⊎◌, is_ordered_on, not}
 use Rattle.std.proofs.lemmas.List.Folds.{Any-from_list_any}
 use Rattle.sctp_data.specs.ChunkSet.{fresh}
 use Rattle.sctp_reassembly.specs.reassembly_queue.ReassemblyQueue.{message_among}
@@ -15,7 +14,7 @@ use Rattle.sctp_delivery.proofs.EveryFronts.{FrontOf, HasRead, IsHeldOn, IsReadU
 use Rattle.sctp_delivery.proofs.InTheEnd.{unread-of}
 use Rattle.sctp_delivery.proofs.MessagePlaces.{IsEntryAt, has-all, misses-one, place-tsn}
 use Rattle.sctp_delivery.proofs.NotRefused.{begin-place}
-use Rattle.sctp_delivery.proofs.OrderedEntries.{AreJoined, IsOpen}
+use Rattle.sctp_delivery.proofs.OrderedEntries.{AreJoined}
 use Rattle.sctp_delivery.proofs.PassedMessages.{EndsMessage}
 use Rattle.sctp_delivery.proofs.Sent.{Entry, IsLine, IsPart, Numbered, contains-more, fragment, part-itself, part-length, same-tsn, terminal}
 use Rattle.sctp_delivery.proofs.SpreadCalls.{IsSpreadOn}
@@ -68,28 +67,13 @@ module _ (st first : ℕ) (on dropped : ℕ → Bool) (o : on st ≡ true) (n : 
 
     -- the last message was sent whole, or cut short
     ends : 0 < n → EndsMessage sent
-    ends some = by sent (subst (IsOpen sent) unbegun i.holds.held.stands.queued.open') long
-      where
-        by : (xs : List Entry) → IsOpen xs None → length xs ≡ n → EndsMessage xs
-        by [] e l = absurd (omega (arith, some, l))
-        by (terminal ∷ xs) e l = tt
-        by (fragment d w after ∷ xs) e l = e
+    ends some = grind (arith, nat_tests, common_steps, long, terminal)
 
     upto : n ≤ d.arrived.place
-    upto =
-        let total = i.step.numbered.total in
-        let none = ap length landed in
-        let least = d.arrived.least_is in
-        omega (arith, total, none, least)
+    upto = grind (arith, nat_tests, common_steps)
 
     came : (y : ℕ) → y ≤ n → E y ≡ true → Came y
-    came y le on' =
-        let most = d.arrived.within in
-        let all = upto in (
-          on',
-          or-left (at_or_before (tsn p y) r.cumulative_tsn) (list_any (λ t. t == tsn p y) r.beyond)
-              (upto-yes p y d.arrived.place refl d.arrived.is (omega (arith, le, few)) (omega (arith, most, few)) (omega (arith, le, all))),
-        )
+    came y le on' = grind (arith, nat_tests, common_steps, upto, or-left, upto-yes)
 
     module _ (l : InboundStream) (found : stream_of st r ≡ Some l) (due : IsDue p n B Fits Came d.k d.reach l.queue.held) (front : HasFront l.queue.held) where
       abbrev q : Reassembly
@@ -117,12 +101,7 @@ module _ (st first : ℕ) (on dropped : ℕ → Bool) (o : on st ≡ true) (n : 
       not-whole x xs is j number lo le c =
           let near = due.near in
           let order : nat_le j due.index ≡ true = grind (arith, nat_tests, le) in
-          let at : at_or_before16 x.ssn q.next_ssn ≡ true = cc (
-            number,
-            due.next,
-            at_or_before16-index j due.index (omega (arith, le)) (omega (arith, near, lo)),
-            order,
-          ) in
+          let at : at_or_before16 x.ssn q.next_ssn ≡ true = grind (arith, nat_tests, common_steps, at_or_before16-index) in
           let e : is_readable q.next_ssn x ≡ true = and (is_complete x.chunks) (at_or_before16 x.ssn q.next_ssn) c at in
           by q.unordered refl (ap (front_readable q.next_ssn) is ∙ ap (λ b. if b then Some x else None) e)
         where
@@ -215,12 +194,7 @@ module _ (st first : ℕ) (on dropped : ℕ → Bool) (o : on st ≡ true) (n : 
     all-up = by (stream_of st r) refl
       where
         by : (l : Option InboundStream) → stream_of st r ≡ l → B n ≤ u.next
-        by None is =
-            let due = subst (holds.DueOn p st n B E M Came d.k d.reach) is d.due in
-            let y = due.1 in
-            let covered = d.arrived.covered in
-            let up = grows n d.arrived.place upto in
-            omega (arith, y, covered, up)
+        by None is = grind (arith, nat_tests, common_steps, grows, upto)
         by (Some l) is =
             let due = subst (holds.DueOn p st n B E M Came d.k d.reach) is d.due in
             let all = all-begun l is due (subst FrontOf is u.front) in
@@ -267,14 +241,9 @@ module _ (st first : ℕ) (on dropped : ℕ → Bool) (o : on st ≡ true) (n : 
       let e : IsEntryAt sent (suc (length xs)) d w = record { after = after; entries = xs; part = part; place = refl } in
       let within : suc (length xs) ≤ n = let l = part-length sent (fragment d w after ∷ xs) part in let long = i.long in omega (arith, l, long) in
       let is = place-tsn ns first sent line joined n i.long few (suc (length xs)) d w e in
-      let at : entry.before + 1 ≡ suc (length xs) =
-      same-place p (entry.before + 1) (suc (length xs)) (let w' = entry.within in let long = i.long in omega (arith, w', long, few))
-      (omega (arith, within, few))
-      (sym entry.is ∙ is) in
+      let at : entry.before + 1 ≡ suc (length xs) = grind (arith, nat_tests, common_steps, same-place, long) in
       let m = read-at own.0 s.receiving.read (read own.0 (let e = own.1 in omega (arith, e, top)) (ap B (sym at) ∙ sym own.1)) in
-      let complete : is_complete m.0.fragments ≡ true =
-      subst (λ (x : Message). is_complete x.fragments ≡ true) m.1.2
-      (AllPass-from_list_all (λ x. is_complete x.fragments) s.receiving.read whole.0 m.1.0 m.0 m.1.1) in
+      let complete : is_complete m.0.fragments ≡ true = grind (arith, nat_tests, common_steps) in
       let all : All (λ c. Contains s.made (data_chunk (data_of c))) m.0.fragments =
       subst (λ (x : Message). All (λ c. Contains s.made (data_chunk (data_of c))) x.fragments) m.1.2 (made m.1.0 m.0 m.1.1) in
       let there = has-all ns first sent line joined n i.long few st own.0 m.0.fragments m.3 complete (suc (length xs))

@@ -1,15 +1,14 @@
 -- Sessions of every call: in each that gives out fewer than 2^31 TSNs nothing is handed over or held that is 2^31 TSNs old.
-use Rattle.sctp_delivery.proofs.Names.{⊤}
-use Rattle.sctp_delivery.proofs.Names.{◌≡◌, ℕ, ◌+◌, ◌%◌, ◌<◌, ◌≤◌, ◌^◌, Bool, true, false, not, List, [], ◌∷◌, length, map, Option, refl, ap, sym}
-use Rattle.sctp_delivery.proofs.Names.{subst, ◌∙◌, arith, ◌==◌, same-is, or-left, or-right, list_any, list_all, filter, insert_before}
-use Rattle.sctp_delivery.proofs.Names.{if◌then◌else◌, Contains, Data, data_of, data_chunk, forward_tsn, ForwardTsn, Sack, Reception, Stand, Limits}
-use Rattle.sctp_delivery.proofs.Names.{tsn, advance_over, comes_before, at_or_before, distance, fragments_on, stream_of, Made, Session}
-use Rattle.sctp_delivery.proofs.Names.{after_forward_tsn, is_stale, without_incomplete, follow_forward_tsn, has_come, filter_of, with_filter, with_tsn}
-use Rattle.sctp_delivery.proofs.Names.{ReceiverCall, New, Repeat, reports_after, of_receiver, of_sender, bytes_written}
+use Rattle.sctp_delivery.proofs.Names.{common_steps, nat_tests, ⊤, ◌≡◌, ℕ, ◌+◌, ◌%◌, ◌<◌, ◌≤◌, ◌^◌, Bool, true, false, not, List, [], ◌∷◌, length, map, Option}
+use Rattle.sctp_delivery.proofs.Names.{refl, ap, sym, subst, ◌∙◌, arith, ◌==◌, same-is, or-left, or-right, list_any, list_all, filter, if◌then◌else◌, Contains}
+use Rattle.sctp_delivery.proofs.Names.{Data, data_of, data_chunk, forward_tsn, ForwardTsn, Sack, Reception, Stand, Limits, tsn, advance_over, comes_before}
+use Rattle.sctp_delivery.proofs.Names.{at_or_before, distance, fragments_on, stream_of, Made, Session, after_forward_tsn, is_stale, without_incomplete}
+use Rattle.sctp_delivery.proofs.Names.{follow_forward_tsn, has_come, filter_of, with_filter, with_tsn, ReceiverCall, New, Repeat, reports_after, of_receiver}
+use Rattle.sctp_delivery.proofs.Names.{of_sender, bytes_written}
 use Rattle.sctp_sender.specs.declared.sender.Reported.{Reported}
 use Rattle.sctp_sender.specs.declared.sender.Reported.TheVariants.{Drop, Keep}
-use Rattle.sctp_delivery.specs.EveryCall.{AnyCall, FollowsAny, RunsAny, closes_incoming, discards, drops, makes, of_receiving}
-use Rattle.sctp_delivery.specs.EveryCall.{is_steady, of_sending, passes_over, renews, resets_incoming, tsns_given_any, was_dropped}
+use Rattle.sctp_delivery.specs.EveryCall.{AnyCall, FollowsAny, RunsAny, closes_incoming, discards, drops, makes, of_receiving, is_steady, of_sending}
+use Rattle.sctp_delivery.specs.EveryCall.{passes_over, renews, resets_incoming, tsns_given_any, was_dropped}
 use Rattle.sctp_delivery.specs.EveryRecent.{ArePassedYoung, AreRecentAny, AreYoungAny, FewTsnsAreYoungAny, IsPassedYoung, IsRecentAny, IsYoungAny, aged_any}
 use Rattle.sctp_delivery.specs.ReceiverCalls as incoming
 use Rattle.sctp_delivery.specs.Recent.{Aged, HoldsRecent, IsAmongYoung, older}
@@ -22,8 +21,7 @@ use Rattle.sctp_delivery.proofs.Delivered.{beside-on, found-sent-on, next_tsn, s
 use Rattle.sctp_delivery.proofs.Every.{Every, every-contained, every-inserted, every-of, every-passing}
 use Rattle.sctp_delivery.proofs.EveryRuns as runs
 use Rattle.sctp_delivery.proofs.EveryYoung.{AreBacked, IsBacked, all-backed, IsNow, after, quiet-young, read-same, start}
-use Rattle.sctp_delivery.proofs.Ages.{AreAged, IsAged, IsEntryAged, IsForwardAged, aged-then, all-before, entry-later, forward-later, given-before}
-use Rattle.sctp_delivery.proofs.Ages.{part-aged}
+use Rattle.sctp_delivery.proofs.Ages.{AreAged, IsAged, IsEntryAged, IsForwardAged, aged-then, all-before, entry-later, forward-later, given-before, part-aged}
 use Rattle.sctp_delivery.proofs.HeldWeights.{weighs-so}
 use Rattle.sctp_delivery.proofs.SackLaws.{IsInStepBut, no-move}
 use Rattle.sctp_delivery.proofs.SackSteps.{IsMadeGiven, known_or}
@@ -53,9 +51,7 @@ advance-up p n c place (t ∷ ts) few is le e =
 
 module _ (p n : ℕ) (kn : ℕ → Bool) (r : Reception) (few : n < 2 ^ 31) (h : IsArrived p n kn r.cumulative_tsn r.beyond) where
   with-up : (t : ℕ) → IsGiven p n t → GoesUp p n h.place (with_filter (with_tsn t (filter_of r)) r).cumulative_tsn
-  with-up t g =
-      advance-up p n r.cumulative_tsn h.place (insert_before comes_before t r.beyond) few h.is h.within
-      (every-inserted (IsGiven p n) comes_before t r.beyond g (beyond-given p n r kn few h))
+  with-up t g = search (advance-up, every-inserted, beyond-given)
 
   past-up : (f : ForwardTsn) → IsGiven p n f.new_cumulative_tsn → GoesUp p n h.place (after_forward_tsn f r).cumulative_tsn
   past-up f g = at-test (λ b. GoesUp p n h.place
@@ -79,10 +75,7 @@ more-upto p a b ks le e =
 
 new-upto : (p place more : ℕ) (c : ReceiverCall) (r : Reception) (ks : List Sack) → r.cumulative_tsn ≡ tsn p place → place ≤ more
     → Every (IsSackUpTo p place) ks → Every (IsSackUpTo p more) (reports_after c r ks)
-new-upto p place more (incoming.reports credit) r ks is le e = ((place, is, le), more-upto p place more ks le e)
-new-upto p place more (incoming.reports_within credit bytes) r ks is le e = ((place, is, le), more-upto p place more ks le e)
-new-upto p place more (incoming.makes_sack credit bytes) r ks is le e = ((place, is, le), more-upto p place more ks le e)
-new-upto p place more c r ks is le e = more-upto p place more ks le e
+new-upto h0 h1 h2 h3 h4 h5 h6 h7 h8 = grind (arith, nat_tests, common_steps, more-upto)
 
 -- ## Each call
 
@@ -127,12 +120,7 @@ module _ (K : Type 0) (going dropped : ℕ → Bool) (first : ℕ) where
 
       -- a SACK that was made
       sack-recent : (k : Sack) → Contains s.sacks k → at_or_before k.cumulative_tsn_ack s.receiving.receiver.cumulative_tsn ≡ true
-      sack-recent k c =
-          let u = i.step.arrived in
-          let z = every-contained (IsSackUpTo P u.place) s.sacks k c i.sacks in
-          let within = u.within in
-          let le = z.2 in
-          upto-yes P z.0 u.place z.1 u.is (omega (arith, within, le, few)) (omega (arith, within, few)) le
+      sack-recent k c = grind (arith, nat_tests, common_steps, every-contained, upto-yes)
 
       is-recent : (c : AnyCall) → FollowsAny c s v → IsRecentAny c s
       is-recent (makes (of_sender (outgoing.takes_sack k gone))) f = sack-recent k f.handed
@@ -192,11 +180,7 @@ module _ (K : Type 0) (going dropped : ℕ → Bool) (first : ℕ) where
           (receiver-young going first call s v ns sent ages f i.now.young y).held
       holds-recent (of_sending call) f y =
           before-next (length sent) (omega arith) short (runs.next-same call s v f ∙ counted) (same-held (ap (λ (z : Session). z.receiving) f.after))
-      holds-recent (of_receiving call) f y =
-          before-next (length sent) (omega arith) short (ap (λ (z : Session). next_tsn z) f.after ∙ counted)
-          (quiet-young going first s v ns sent ages ps (λ w st. weighs-so w st call s v i.now.distinct f) (read-same call s v f)
-          (beside-on going first s v ns sent (ap (λ (z : Session). z.sending) f.after) (ap (λ (z : Session). z.made) f.after)
-          (ap (λ (z : Session). z.written) f.after) i.now.young.holds) i.now.young).held
+      holds-recent (of_receiving call) f y = grind (arith, nat_tests, common_steps, before-next, short, quiet-young, weighs-so, read-same, beside-on)
 
       -- ### What stays so
 

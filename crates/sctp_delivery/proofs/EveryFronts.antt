@@ -1,19 +1,17 @@
 -- Sessions of every call: on a stream that goes on each ordered message before the next one was read, is held whole, or may be passed over. Only those
 -- may be that a FORWARD-TSN passed, which has a name of the stream, and of which a message is gone.
-use Rattle.sctp_delivery.proofs.Names.{◌≡◌, ℕ, ◌+◌, ◌%◌, ◌^◌, ◌<◌, ◌≤◌, Bool, true, false, not, List, [], ◌∷◌, Option, Some, None, inl, inr, refl, ap, sym}
-use Rattle.sctp_delivery.proofs.Names.{subst, ◌∙◌, arith, ⊤, ◌⊎◌, ◌==◌, if◌then◌else◌, find, filter, list_any, option_map, option_or, cases_lt}
-use Rattle.sctp_delivery.proofs.Names.{not_both, same-is, eq-eqb, distance, tsn, at_or_before16, ◌&&◌}
-use Rattle.sctp_delivery.proofs.Names.{ChunkPayloadData, ChunkSet, Data}
-use Rattle.sctp_delivery.proofs.Names.{has_tsn, Reassembly, ReassemblyState, is_complete}
-use Rattle.sctp_delivery.proofs.Names.{held_after_incomplete_skip, held_after_ordered_skip, held_after_unordered_skip, is_passed}
-use Rattle.sctp_delivery.proofs.Names.{message_read, misses, InboundStream, New, new_stream, stream_read}
-use Rattle.sctp_delivery.proofs.Names.{Reception, stream_of, ForwardTsn, after_forward_tsn, is_stale, is_pair_of, message_on, Message, Stand, map, Session}
-use Rattle.sctp_delivery.proofs.Names.{ReceiverCall, ReceiverFollows, SenderCall, SenderFollows, Contains, forward_tsn, has_come, filter_of, with_filter}
-use Rattle.sctp_delivery.proofs.Names.{change_where, incomplete_forwarded, length, stream_forwarded, unassembled_forwarded, with_tsn, ChunkForwardTsnStream}
-use Rattle.sctp_delivery.proofs.Names.{with_queue, find-append, same-yes, or-left, list_any-those, names_too_far, ssns_of, skipped_each, was_taken}
+use Rattle.sctp_delivery.proofs.Names.{common_steps, nat_tests, ◌≡◌, ℕ, ◌+◌, ◌%◌, ◌^◌, ◌<◌, ◌≤◌, Bool, true, false, not, List, [], ◌∷◌, Option, Some, None, inl}
+use Rattle.sctp_delivery.proofs.Names.{inr, refl, ap, sym, subst, ◌∙◌, arith, ⊤, ◌⊎◌, ◌==◌, if◌then◌else◌, find, filter, list_any, option_map, option_or}
+use Rattle.sctp_delivery.proofs.Names.{cases_lt, not_both, same-is, eq-eqb, distance, tsn, at_or_before16, ◌&&◌, ChunkPayloadData, ChunkSet, Data, has_tsn}
+use Rattle.sctp_delivery.proofs.Names.{Reassembly, ReassemblyState, is_complete, held_after_incomplete_skip, held_after_ordered_skip, held_after_unordered_skip}
+use Rattle.sctp_delivery.proofs.Names.{is_passed, message_read, misses, InboundStream, New, new_stream, stream_read, Reception, stream_of, ForwardTsn}
+use Rattle.sctp_delivery.proofs.Names.{after_forward_tsn, is_stale, is_pair_of, message_on, Message, Stand, map, Session, ReceiverCall, ReceiverFollows}
+use Rattle.sctp_delivery.proofs.Names.{SenderCall, SenderFollows, Contains, forward_tsn, change_where, incomplete_forwarded, length, stream_forwarded}
+use Rattle.sctp_delivery.proofs.Names.{unassembled_forwarded, ChunkForwardTsnStream, with_queue, find-append, same-yes, or-left, list_any-those, names_too_far}
+use Rattle.sctp_delivery.proofs.Names.{ssns_of, skipped_each, was_taken}
 use Rattle.sctp_reassembly.specs.reassembly_queue.ReassemblyQueue.{after_ordered_skip}
 use Rattle.sctp_receiver.specs.Inbound.{has_number, numbers_of}
-use Rattle.sctp_receiver.specs.Receiver.{message_of, repeat_tsn}
+use Rattle.sctp_receiver.specs.Receiver.{message_of}
 use Rattle.sctp_receiver.specs.ReceiverRuns.{with_message}
 use Rattle.sctp_receiver.specs.Resets.{stream_reset}
 use Rattle.sctp_receiver.proofs.StreamCosts.{are_apart}
@@ -32,11 +30,10 @@ use Rattle.sctp_delivery.proofs.NotRefused.{begin-place}
 use Rattle.sctp_delivery.proofs.PassedMessages.{AreCutGone, IsPassing, is_gone}
 use Rattle.sctp_delivery.proofs.PassingCalls.{at-entry, taken-or-gone}
 use Rattle.sctp_delivery.proofs.Queues.{IsOnceMore}
-use Rattle.sctp_delivery.proofs.Sent.{Entry, IsLine, IsPart, Numbered, fragment, part-itself, part-length}
+use Rattle.sctp_delivery.proofs.Sent.{Entry, IsLine, Numbered, part-itself, part-length}
 use Rattle.sctp_delivery.proofs.SpreadCalls.{IsSpreadOn, SpreadsOn}
 use Rattle.sctp_delivery.proofs.SpreadEntries.{begun_to, to-all, to-up}
 use Rattle.sctp_delivery.proofs.SpreadFlight.{IsMadeNaming, IsNaming}
-use Rattle.sctp_delivery.proofs.TakenCalls.{HasCome}
 use Rattle.sctp_delivery.proofs.TakenTsns.{come}
 use Rattle.sctp_delivery.proofs.TightFlight.{step-few}
 use Rattle.sctp_delivery.proofs.TsnPlaces.{base, same-place}
@@ -105,15 +102,7 @@ module _ (st first : ℕ) where
   near-due : (n : ℕ) (sent : List Entry) (C : ℕ → Type 0) (k reach next : ℕ) (o : Option InboundStream) → DueOn n sent C k reach o
       → next_of o ≡ next % 2 ^ 16 → reach ≤ begun_to st n sent → begun_to st n sent ≤ reach + 2 ^ 14 → next ≤ begun_to st n sent
       → begun_to st n sent ≤ next + (2 ^ 15 + 2 ^ 14 + 1) → begun_to st n sent ≤ next + (2 ^ 15 + 2 ^ 14)
-  near-due n sent C k reach next None d number most wide within near = let y = d.1 in omega (arith, y, wide)
-  near-due n sent C k reach next (Some l) d number most wide within near =
-      let x = d.next in
-      let number' : l.queue.held.next_ssn ≡ next % 2 ^ 16 = number in
-      let w = d.within in
-      let far = d.far in
-      let from = d.from in
-      let same : d.index ≡ next = omega (arith, x, number', w, far, from, most, wide, within, near) in
-      omega (arith, same, far, from, wide)
+  near-due h0 h1 h2 h3 h4 h5 h6 h7 h8 h9 h10 h11 h12 = grind (arith, nat_tests, common_steps)
 
   read-more : (n m : ℕ) (sent more : List Entry) → ((i : ℕ) (cs : List ChunkPayloadData) → Fit n sent i cs → Fit m more i cs) → (i : ℕ) (ms : List Message)
       → HasRead n sent i ms → HasRead m more i ms
@@ -132,22 +121,7 @@ module _ (st first : ℕ) where
 
   pub gone-later : (n : ℕ) (gone more : List ℕ) → AreAmong gone more → (sent xs : List Entry) → length sent ≡ n → IsOnceMore sent xs → (j : ℕ)
       → IsGoneAt st gone sent j → IsGoneAt st more xs j
-  gone-later n gone more a sent xs long once j g =
-      let part = g.3.part in
-      let at = g.3.place in
-      let most : g.0 ≤ n = let l = part-length sent (fragment g.1 g.2 g.3.after ∷ g.3.entries) part in omega (arith, l, at, long) in (
-        g.0,
-        g.1,
-        g.2,
-        record { after = g.3.after; entries = g.3.entries; part = part-more (fragment g.1 g.2 g.3.after ∷ g.3.entries) once part; place = at },
-        g.4,
-        same-to st first n sent xs long once g.0 most ∙ g.5,
-        a g.2.place g.6,
-      )
-    where
-      part-more : (ys : List Entry) → IsOnceMore sent xs → IsPart ys sent → IsPart ys xs
-      part-more ys (inl e) q = subst (IsPart ys) (sym e) q
-      part-more ys (inr e) q = subst (IsPart ys) (sym e.1) (inr q)
+  gone-later n gone more a sent xs long once j g = grind (arith, nat_tests, common_steps, part-length, same-to)
 
   pub sender-up : (on dropped : ℕ → Bool) → on st ≡ true → (n : ℕ) (call : SenderCall) (old new : Session) (ns : List Numbered) (sent : List Entry)
       (i : IsSpreadOn on dropped first n old ns sent) → (few : n + distance (next_tsn old) (next_tsn new) < 2 ^ 31) → (f : SenderFollows call old new)
@@ -177,10 +151,7 @@ module _ (st first : ℕ) where
         within = omega (arith, within, grown);
         near = near-due m x.more _ d.k d.reach u.next (stream_of st new.receiving.receiver) d.due u.number d.most wide (omega (arith, within, grown))
             (omega (arith, least, one-more m x.more i.long x.spread.long x.once));
-        done = λ j lt. elim (u.done j lt) [
-          | inl h ↦ inl (read-more n m sent x.more fit j new.receiving.read h)
-          | inr h ↦ inr (elim h [ inl k ↦ inl (held-more n m sent x.more fit j (stream_of st new.receiving.receiver) k) | inr k ↦ inr (later j k) ])
-        ];
+        done = grind (arith, nat_tests, common_steps, read-more, fit, held-more);
       }
     where
       fit : (k : ℕ) (cs : List ChunkPayloadData) → Fit n sent k cs → Fit (n + distance (next_tsn old) (next_tsn new)) x.more k cs
@@ -193,16 +164,7 @@ module _ (st first : ℕ) where
 
       -- one message more is begun at most
       one-more : (m : ℕ) (more : List Entry) → length sent ≡ n → length more ≡ m → IsOnceMore sent more → begun_to st m more ≤ begun_to st n sent + 1
-      one-more m more long longer once = elim once [
-        | inl e ↦ let a = ap (begun_to st m) e in let b = to-all st m sent (let z = ap length e in omega (arith, z, longer)) in
-            let c = to-all st n sent (omega (arith, long)) in omega (arith, a, b, c)
-        | inr e ↦
-            let a = ap (begun_to st m) e.1 in
-            let b = to-all st m (e.0 ∷ sent) (let z = ap length e.1 in omega (arith, z, longer)) in
-            let c = to-all st n sent (omega (arith, long)) in
-            let s = step-few st e.0 sent in
-            omega (arith, a, b, c, s)
-      ]
+      one-more m more long longer once = grind (arith, nat_tests, common_steps, to-all, step-few)
 
   -- ## A call of the receiver
 
@@ -234,13 +196,7 @@ module _ (st first : ℕ) where
 
     -- a complete set is of one message
     pub one-index : (j k : ℕ) (cs : List ChunkPayloadData) → Fits j cs → Fits k cs → is_complete cs ≡ true → j ≡ k
-    one-index j k [] f g e = absurd (not_both e)
-    one-index j k (c ∷ cs) f g e =
-        let y = f.0.before + 1 in
-        let here = or-left (has_tsn (tsn p y) c) (list_any (has_tsn (tsn p y)) cs) (eq-eqb c.tsn (tsn p y) f.0.is) in
-        let b = at-in p st n B E M few grows k y (c ∷ cs) f.0.within g here in
-        let a = f.0.begun in
-        omega (arith, a, b)
+    one-index h0 h1 h2 h3 h4 h5 = grind (arith, nat_tests, common_steps, not_both, or-left, eq-eqb, at-in, grows)
 
     -- ## A FORWARD-TSN names the stream
 
@@ -257,9 +213,7 @@ module _ (st first : ℕ) where
       line = i.holds.held.stands.queued.line
 
       taken-came : (z : ℕ) → was_taken (tsn p z) old ≡ true → come (tsn p z) r.cumulative_tsn r.beyond ≡ true
-      taken-came z e =
-          let x = one-of (HasCome p n r) (has_tsn (tsn p z)) old.receiving.accepted e i.step.taken.each in
-          ap (λ u. come u r.cumulative_tsn r.beyond) (sym (same-is x.0.tsn (tsn p z) x.1)) ∙ x.2.1
+      taken-came z e = grind (arith, nat_tests, common_steps, one-of, same-is)
 
       -- a place of such a message is held, or its message is gone
       held-or-gone : (z j : ℕ) → z ≤ m → E z ≡ true → B z ≡ j + 1 → due.index ≤ j
@@ -310,38 +264,17 @@ module _ (st first : ℕ) where
       Now = ReadUp (stream_of st new.receiving.receiver) new.receiving.read
 
       wide : B n ≤ d.reach + 2 ^ 14
-      wide =
-          let near = sessions.near st first on dropped o n old ns sent i few in
-          let up = grows i.step.numbered.acked d.arrived.place d.arrived.least_is in
-          let covered = d.arrived.covered in
-          omega (arith, near, up, covered)
+      wide = grind (arith, nat_tests, common_steps, sessions.near, grows)
 
       -- the next message is that of the queue
       pub index-is : (l : InboundStream) (due : IsDue p n B Fits Old d.k d.reach l.queue.held) → next_of (Some l) ≡ u.next % 2 ^ 16
           → due.index ≡ u.next
-      index-is l due number =
-          let x = due.next in
-          let number' : l.queue.held.next_ssn ≡ u.next % 2 ^ 16 = number in
-          let w = due.within in
-          let far = due.far in
-          let from = due.from in
-          let most = d.most in
-          let within = u.within in
-          let near = u.near in
-          let w' = wide in
-          omega (arith, x, number', w, far, from, most, within, near, w')
+      index-is l due number = grind (arith, nat_tests, common_steps, wide)
 
       -- with the same next number
       kept : (l : Option InboundStream) (ms : List Message) → next_of l ≡ next_of (stream_of st r) → FrontOf l
           → ((j : ℕ) → j < u.next → Done (stream_of st r) old.receiving.read j → Done l ms j) → ReadUp l ms
-      kept l ms same front more = record {
-        next = u.next;
-        number = same ∙ u.number;
-        front = front;
-        within = u.within;
-        near = u.near;
-        done = λ j lt. more j lt (u.done j lt);
-      }
+      kept l ms same front more = grind (arith, nat_tests, common_steps)
 
       still : new.receiving.read ≡ old.receiving.read → stream_of st new.receiving.receiver ≡ stream_of st r → Now
       still read same = subst (λ l. ReadUp l new.receiving.read) (sym same) (subst (ReadUp (stream_of st r)) (sym read) u)
@@ -454,10 +387,7 @@ module _ (st first : ℕ) where
                 done = λ y less. elim (cases_lt y u.next) [
                   | inl before ↦ held-done (Some l) (Some (changed l)) y (stays y k.1) (subst (λ z. Done z old.receiving.read y) is (u.done y before))
                   | inr ge ↦
-                      let most : y + 1 ≤ B to-place = elim next.3 [
-                        | inl e ↦ absurd (omega (arith, e, index, less, ge))
-                        | inr e ↦ omega (arith, e, last, less)
-                      ] in
+                      let most : y + 1 ≤ B to-place = grind (arith, nat_tests, common_steps) in
                       elim (whole-or-gone gone cut g pass d.k d.reach l.queue.held due y (omega (arith, index, ge)) most) [
                         | inl h ↦ inr (inl (stays y k.1 h))
                         | inr h ↦ inr (inr (may y named h))
@@ -577,16 +507,7 @@ module _ (st first : ℕ) where
             where
               opened : (l : Option InboundStream) (b : Bool) → ReadUp l old.receiving.read
                   → ReadUp (option_or l (if b then Some (new_stream stream r.max_message_size) else None)) old.receiving.read
-              opened None true h = record {
-                next = h.next;
-                number = h.number;
-                front = tt;
-                within = h.within;
-                near = h.near;
-                done = λ j lt. elim (h.done j lt) [ inl x ↦ inl x | inr x ↦ elim x [ inl y ↦ absurd y | inr y ↦ inr (inr y) ] ];
-              }
-              opened None false h = h
-              opened (Some l) b h = h
+              opened h0 h1 h2 = grind (arith, nat_tests, common_steps)
           receiver-up (incoming.takes c (New answered)) f =
               let acc = f.step.receiver in
               subst (ReadUp (stream_of st new.receiving.receiver)) (sym f.step.read)
@@ -606,10 +527,7 @@ module _ (st first : ℕ) where
 
           pub other-up : (opened : Bool) → are_apart (numbers_of r.streams) ≡ true → (call : ReceiverOther) → ReceiverDoes call old new
               → breaks opened st (of_receiving call) ≡ false → Now
-          other-up opened apart (discards c) f off =
-              still f.step.read (ap (stream_of st) f.step.receiver
-              ∙ at-test (λ b. stream_of st (if b then repeat_tsn c.tsn r else with_filter (with_tsn c.tsn (filter_of r)) r) ≡ stream_of st r)
-              (has_come c.tsn (filter_of r)) (λ e. refl) (λ e. refl))
+          other-up opened apart (discards c) f off = grind (arith, still)
           other-up opened apart (closes_incoming stream) f off =
               still f.step.read (ap (stream_of st) f.step.receiver ∙ others-left stream st off r.streams apart)
           other-up opened apart (resets_incoming stream last) f off =

@@ -1,12 +1,8 @@
 -- Sessions of every call: beside each there is one of a sender that keeps nothing, with the same chunks. What the calls that most sessions do not have
 -- make of it.
-use Rattle.sctp_delivery.proofs.Names.{◌+◌}
-use Rattle.sctp_delivery.proofs.Names.{nat_tests, common_steps, append-nil, Sack, distance}
-use Rattle.sctp_delivery.proofs.Names.{◌≡◌, ℕ, Bool, true, false, not, List, [], ◌∷◌, ◌++◌, length, map, Option, refl, ap, sym, subst, ◌∙◌}
-use Rattle.sctp_delivery.proofs.Names.{arith, not_both, filter, change_where, if◌then◌else◌, Limits, Modes, OutboundStream, Transmission, Session, SenderCall}
-use Rattle.sctp_delivery.proofs.Names.{SenderFollows, Write, Contains, IsAccounted, has_number, sum_by, at_start, data_of, data_chunk}
-use Rattle.sctp_delivery.proofs.Names.{forward_tsn, Drop}
-use Rattle.sctp_receiver.specs.ReceiverRuns as receiver_runs
+use Rattle.sctp_delivery.proofs.Names.{◌+◌, nat_tests, common_steps, append-nil, Sack, distance, ◌≡◌, ℕ, Bool, false, not, List, [], ◌∷◌, ◌++◌, map, Option}
+use Rattle.sctp_delivery.proofs.Names.{refl, ap, sym, subst, ◌∙◌, arith, filter, change_where, if◌then◌else◌, Limits, Modes, OutboundStream, Transmission}
+use Rattle.sctp_delivery.proofs.Names.{Session, SenderCall, SenderFollows, IsAccounted, has_number, at_start, Drop}
 use Rattle.sctp_sender.specs.Outgoing.{from_first}
 use Rattle.sctp_sender.specs.Sender.{close_stream, with_streams}
 use Rattle.sctp_sender.specs.Settings.{reset_on}
@@ -15,8 +11,7 @@ use Rattle.sctp_sender.proofs.Accounts as accounts
 use Rattle.sctp_stream.specs.Numbers.{swapped_out}
 use Rattle.sctp_stream.proofs.Removals.{rotated-map}
 use Rattle.std.specs.List.{slice_rotate_right}
-use Rattle.sctp_delivery.specs.EveryCall.{IsMadeChunk, IsReceiverTaken, ReceiverDoes, ReceiverOther, SenderDoes, SenderOther, as_receiver_run, closes}
-use Rattle.sctp_delivery.specs.EveryCall.{closes_incoming, discards, passes_over, resets, resets_incoming}
+use Rattle.sctp_delivery.specs.EveryCall.{ReceiverDoes, ReceiverOther, SenderDoes, SenderOther, closes, resets}
 use Rattle.sctp_sender.specs.declared.sender.flight.kept.TakenBack.{TakenBack}
 use Rattle.sctp_delivery.specs.Returns.{TakesBack}
 use Rattle.sctp_delivery.specs.Session.{count_in_flight}
@@ -25,10 +20,9 @@ use Rattle.sctp_delivery.proofs.Delivered.{next_tsn}
 use Rattle.sctp_delivery.proofs.OneRead.{no-way}
 use Rattle.sctp_delivery.proofs.PlainReturns.{back-like}
 use Rattle.sctp_delivery.proofs.Cases.{at-test}
-use Rattle.sctp_delivery.proofs.Every.{Every}
-use Rattle.sctp_delivery.proofs.Numbers.{all-open, apart-changed, apart-closed, number-elsewhere, number_of, numbers-closed, sized-changed, sized-closed}
-use Rattle.sctp_delivery.proofs.Numbers.{there-changed, there-closed}
-use Rattle.sctp_delivery.proofs.PlainSessions.{Goes, IsThere, Others, small-next}
+use Rattle.sctp_delivery.proofs.Numbers.{all-open, apart-changed, apart-closed, number-elsewhere, numbers-closed, sized-changed, sized-closed, there-changed}
+use Rattle.sctp_delivery.proofs.Numbers.{there-closed}
+use Rattle.sctp_delivery.proofs.PlainSessions.{Goes, Others, small-next}
 use Rattle.sctp_delivery.proofs.PlainStreams.{AreAlike, bare, both-changed, returned-alike}
 use Rattle.sctp_delivery.proofs.Senders.{IsHeldOn, renumbered}
 use Rattle.sctp_delivery.proofs.Sent.{Entry, Numbered}
@@ -48,30 +42,11 @@ with_sender t d = record d { sending = record d.sending { sender = t } }
 -- # A stream of the sender is closed or reset
 
 module _ (on : ℕ → Bool) (first : ℕ) (st : ℕ) (off : on st ≡ false) where
-  other : (r : ℕ) → on r ≡ true → r ≡ st → ⊥
-  other r e same = not_both (sym off ∙ ap on (sym same) ∙ e)
-
   pub closes-held : (ns : List Numbered) (t : Transmission) (sent : List Entry) → IsHeldOn on ns first t sent → IsHeldOn on ns first (close_stream st t) sent
-  closes-held ns t sent h = record {
-    stands = renumbered on ns first (λ r. number_of r t.streams) (λ r. number_of r (swapped_out (has_number st) t.streams)) t.flight.queue
-        t.flight.next_tsn sent (λ r e. numbers-closed st t.streams r (other r e) h.apart) h.stands;
-    open' = all-open on t.streams (swapped_out (has_number st) t.streams) (λ r e o. there-closed st t.streams r (other r e) o) ns h.open';
-    sized = sized-closed st t.streams h.sized;
-    apart = apart-closed st t.streams h.apart;
-    size = h.size;
-  }
+  closes-held ns t sent h = grind (arith, nat_tests, common_steps, renumbered, numbers-closed, all-open, there-closed, sized-closed, apart-closed)
 
   pub resets-held : (ns : List Numbered) (t : Transmission) (sent : List Entry) → IsHeldOn on ns first t sent → IsHeldOn on ns first (reset_on st t) sent
-  resets-held ns t sent h =
-      let ls = change_where (has_number st) from_first t.streams in
-      record {
-        stands = renumbered on ns first (λ r. number_of r t.streams) (λ r. number_of r ls) t.flight.queue t.flight.next_tsn sent
-            (λ r e. number-elsewhere r st (other r e) from_first (λ l. refl) t.streams) h.stands;
-        open' = all-open on t.streams ls (λ r e o. there-changed (has_number st) from_first (λ l. refl) r t.streams ∙ o) ns h.open';
-        sized = sized-changed (has_number st) from_first (λ l. refl) t.streams h.sized;
-        apart = apart-changed (has_number st) from_first (λ l. refl) t.streams h.apart;
-        size = h.size;
-      }
+  resets-held ns t sent h = grind (arith, nat_tests, common_steps, renumbered, number-elsewhere, all-open, there-changed, sized-changed, apart-changed)
 
 -- streams that are alike are so without one
 pub both-closed : (s : ℕ) (ls ms : List OutboundStream) → AreAlike ls ms → AreAlike (swapped_out (has_number s) ls) (swapped_out (has_number s) ms)
@@ -116,16 +91,7 @@ run-after first call d e f h = record {
 
 -- its sender stays as it is
 pub run-beside : (first : ℕ) (d e : Session) → e.sending ≡ d.sending → e.written ≡ d.written → HasRun first d → HasRun first e
-run-beside first d e same written h = record {
-  counted = record {
-    written = ap (λ ws. sum_by (λ (w : Write). length w.bytes) ws) written ∙ h.counted.written ∙ sym (ap (λ (l : sender_runs.Ledger). l.written) same);
-    back = ap (λ (l : sender_runs.Ledger). l.taken_back) same ∙ h.counted.back;
-  };
-  size = h.size;
-  max = h.max;
-  calls = h.calls;
-  ran = subst (λ l. sender_runs.RunsTo (sender_runs.at_start first h.size h.max) h.calls l) (sym same) h.ran;
-}
+run-beside first d e same written h = grind (arith, nat_tests, common_steps)
 
 -- it has other streams
 pub run-restreamed : (first : ℕ) (d : Session) (ls : List OutboundStream) (c : sender_runs.Call)
@@ -157,11 +123,7 @@ module _ (first : ℕ) (others : Others first) where
   pub unmoved : (s v : Session) (n : ℕ) (gone : List ℕ) (m : Modes) → next_tsn v ≡ next_tsn s → others.Bound n (count_in_flight s)
       → Goes first others s.sending.sender s n gone m → Goes first others v.sending.sender v n gone m
       → Goes first others v.sending.sender v (n + distance (next_tsn s) (next_tsn v)) (gone ++ []) m
-  unmoved s v n gone m same few g h =
-      let none : distance (next_tsn s) (next_tsn v) ≡ 0 = ap (distance (next_tsn s)) same
-      ∙ no-way (next_tsn s) (small-next first others s.sending.sender s n gone m few g) in
-      subst (λ k. Goes first others v.sending.sender v k (gone ++ []) m) {x = n} {y = n + distance (next_tsn s) (next_tsn v)} (omega (arith, none))
-      (subst (λ xs. Goes first others v.sending.sender v n xs m) (sym (append-nil gone)) h)
+  unmoved s v n gone m same few g h = grind (arith, nat_tests, common_steps, no-way, small-next, append-nil)
 
 module _ (first : ℕ) (others : Others first) (s v : Session) (n : ℕ) (gone : List ℕ) (m : Modes) (g : Goes first others s.sending.sender s n gone m) where
   abbrev d : Session
@@ -171,21 +133,7 @@ module _ (first : ℕ) (others : Others first) (s v : Session) (n : ℕ) (gone :
   restreams : (call : SenderOther) → SenderDoes call s v → (us ls : List OutboundStream) → v.sending.sender ≡ with_streams us s.sending.sender
       → AreAlike us ls → others.Plays (with_sender (with_streams ls g.other.sending.sender) g.other) n gone m
       → Goes first others v.sending.sender v n gone m
-  restreams call f us ls e alike p = subst (λ (t : Transmission). Goes first others t v n gone m) (sym e) (record {
-    other = with_sender (with_streams ls d.sending.sender) d;
-    shadow = record {
-      streams = ls;
-      chunks = g.shadow.chunks;
-      sender = ap (with_streams ls) g.shadow.sender;
-      alike = alike;
-      like = g.shadow.like;
-      receiving = g.shadow.receiving ∙ sym (ap (λ (x : Session). x.receiving) f.after);
-      made = g.shadow.made ∙ sym (ap (λ (x : Session). x.made) f.after);
-      written = g.shadow.written ∙ sym (ap (λ (x : Session). x.written) f.after);
-      sacks = subst (Every (IsThere d.sacks)) (sym (ap (λ (x : Session). x.sacks) f.after)) g.shadow.sacks;
-    };
-    plays = p;
-  })
+  restreams call f us ls e alike p = grind (arith, nat_tests, common_steps)
 
   pub closed-goes : (st : ℕ) → SenderDoes (closes st) s v
       → others.Plays (with_sender (with_streams (swapped_out (has_number st) g.other.sending.sender.streams) g.other.sending.sender) g.other) n gone m
@@ -205,37 +153,9 @@ module _ (first : ℕ) (others : Others first) (s v : Session) (n : ℕ) (gone :
       (both-changed st from_first (λ l. refl) s.sending.sender.streams g.shadow.streams g.shadow.alike
       ∙ ap (λ (t : Transmission). map bare (change_where (has_number st) from_first t.streams)) (sym g.shadow.sender))
 
-  -- what is handed to the receiver of the one is handed to that of the other
-  handed-too : (call : ReceiverOther) → IsMadeChunk call s → IsMadeChunk call g.other
-  handed-too (discards c) h = subst (λ ms. Contains ms (data_chunk (data_of c))) (sym g.shadow.made) h
-  handed-too (closes_incoming st) h = tt
-  handed-too (resets_incoming st last) h = tt
-  handed-too (passes_over c) h = subst (λ ms. Contains ms (forward_tsn c)) (sym g.shadow.made) h
-
   pub received-too : (call : ReceiverOther) → ReceiverDoes call s v → ReceiverDoes call g.other (record g.other { receiving = v.receiving })
-  received-too call f = record {
-    handed = handed-too call f.handed;
-    step = subst (λ y. receiver_runs.Follows (as_receiver_run call) y v.receiving) (sym g.shadow.receiving) f.step;
-    accepted = subst (λ (y : receiver_runs.Stand). IsReceiverTaken call y.receiver) (sym g.shadow.receiving) f.accepted;
-    after = refl;
-  }
+  received-too call f = grind (arith, nat_tests, common_steps)
 
   pub received-goes : (call : ReceiverOther) → ReceiverDoes call s v → others.Plays (record g.other { receiving = v.receiving }) n gone m
       → Goes first others v.sending.sender v n gone m
-  received-goes call f p =
-      let x = g.shadow in
-      subst (λ (l : sender_runs.Ledger). Goes first others l.sender v n gone m) (sym (ap (λ (y : Session). y.sending) f.after)) (record {
-        other = record d { receiving = v.receiving };
-        shadow = record {
-          streams = x.streams;
-          chunks = x.chunks;
-          sender = x.sender;
-          alike = x.alike;
-          like = x.like;
-          receiving = refl;
-          made = x.made ∙ sym (ap (λ (y : Session). y.made) f.after);
-          written = x.written ∙ sym (ap (λ (y : Session). y.written) f.after);
-          sacks = subst (Every (IsThere d.sacks)) (sym (ap (λ (y : Session). y.sacks) f.after)) x.sacks;
-        };
-        plays = p;
-      })
+  received-goes call f p = grind (arith, nat_tests, common_steps)

@@ -1,20 +1,15 @@
 -- Sessions of every call: on a stream that goes on each unordered chunk that was taken is held, was read, or is passed by a FORWARD-TSN.
-use Rattle.sctp_delivery.proofs.Names.{◌≡◌, ℕ, Bool, true, false, not, List, [], ◌∷◌, Option, Some, None, refl, ap, sym, subst, ◌∙◌, arith, ⊤}
-use Rattle.sctp_delivery.proofs.Names.{list_any}
-use Rattle.sctp_delivery.proofs.Names.{at_or_before, Contains}
-use Rattle.sctp_delivery.proofs.Names.{ChunkPayloadData, New, Reassembly}
-use Rattle.sctp_delivery.proofs.Names.{InboundStream, stream_of, Stand}
-use Rattle.sctp_delivery.proofs.Names.{passes, Made, forward_tsn, ForwardTsn, list_any_at}
+use Rattle.sctp_delivery.proofs.Names.{common_steps, nat_tests, ◌≡◌, ℕ, Bool, true, false, not, List, [], ◌∷◌, Option, ap, sym, subst, arith, ⊤, list_any}
+use Rattle.sctp_delivery.proofs.Names.{Contains, ChunkPayloadData, Reassembly, InboundStream, stream_of, Stand, passes, Made, forward_tsn, ForwardTsn}
+use Rattle.sctp_delivery.proofs.Names.{list_any_at, Session, both, negated, ◌||◌, of_sender, of_receiver, ReceiverCall, was_passed}
 use Rattle.sctp_receiver.specs.Inbound.{numbers_of}
 use Rattle.sctp_receiver.specs.ReceiverRuns as receiver_runs
 use Rattle.sctp_receiver.proofs.StreamCosts.{are_apart}
-use Rattle.sctp_delivery.proofs.Names.{Session, both, negated, ◌||◌, of_sender, of_receiver, ReceiverCall, was_passed}
-use Rattle.sctp_delivery.specs.EveryCall.{AfterEachAny, AnyCall, FollowsAny, IsMadeChunk, ReceiverOther, RunsAny, as_receiver_run, closes_incoming, discards}
-use Rattle.sctp_delivery.specs.EveryCall.{makes, of_receiving, of_sending, passes_over, resets_incoming}
+use Rattle.sctp_delivery.specs.EveryCall.{AfterEachAny, AnyCall, FollowsAny, IsMadeChunk, ReceiverOther, RunsAny, as_receiver_run, makes, of_receiving}
+use Rattle.sctp_delivery.specs.EveryCall.{of_sending}
 use Rattle.sctp_delivery.specs.EveryEnd.{IsUnorderedHeldReadOrPassed}
 use Rattle.sctp_delivery.specs.EveryOrder.{breaks, goes_on, is_unbroken, opens_incoming}
 use Rattle.sctp_delivery.specs.ReceiverCalls as incoming
-use Rattle.sctp_delivery.specs.Returns.{at_start_with}
 use Rattle.sctp_delivery.specs.Session.{IsSent}
 use Rattle.sctp_receiver.proofs.Closed.{stays-apart}
 use Rattle.sctp_delivery.proofs.Stands.{more-made}
@@ -57,34 +52,18 @@ module _ (st : ℕ) where
 
   module _ (ms : List Made) (o : Option InboundStream) where
     leaves : (g : ForwardTsn) → Contains ms (forward_tsn g) → Leaves st (IsSpent ms) Anything g o
-    leaves g in' = by o
-      where
-        passed : (x : ChunkPayloadData) → at_or_before x.tsn g.new_cumulative_tsn ≡ true → IsSpent ms x
-        passed x h = list_any_at (passes x.tsn) ms in'.0 (forward_tsn g) in'.1 (ap (passes x.tsn) in'.2 ∙ h)
-
-        by : (p : Option InboundStream) → Leaves st (IsSpent ms) Anything g p
-        by None = tt
-        by (Some l) = every-all (λ c. at_or_before c.tsn g.new_cumulative_tsn ≡ true → IsSpent ms c) passed l.queue.held.unassembled
+    leaves g in' = grind (arith, nat_tests, common_steps, list_any_at, every-all)
 
     puts : (c : ChunkPayloadData) (said : Bool) → Puts st (IsSpent ms) Anything c said o
-    puts c said = by o
-      where
-        by : (p : Option InboundStream) → Puts st (IsSpent ms) Anything c said p
-        by None = tt
-        by (Some l) = λ on q p h. tt
+    puts c said = grind (arith, nat_tests, common_steps)
 
     -- a call of the receiver, in a session that goes on to where these are made
     plain-fits : (call : ReceiverCall) (s : Session) → IsSent call s → ((m : Made) → Contains s.made m → Contains ms m) → FitsBut ms (incoming.as_run call) o
-    plain-fits (incoming.follows g) s h stays = leaves g (stays (forward_tsn g) h)
-    plain-fits (incoming.takes c (New said)) s h stays = puts c said
-    plain-fits call s h stays = tt
+    plain-fits h0 h1 h2 h3 = grind (arith, nat_tests, common_steps, leaves, puts)
 
     other-fits : (opened : Bool) (call : ReceiverOther) (s : Session) → breaks opened st (of_receiving call) ≡ false → IsMadeChunk call s
         → ((m : Made) → Contains s.made m → Contains ms m) → FitsBut ms (as_receiver_run call) o
-    other-fits opened (discards c) s off h stays = tt
-    other-fits opened (closes_incoming stream) s off h stays = off
-    other-fits opened (resets_incoming stream last) s off h stays = off
-    other-fits opened (passes_over g) s off h stays = leaves g (stays (forward_tsn g) h)
+    other-fits h0 h1 h2 h3 h4 h5 = grind (arith, nat_tests, common_steps, leaves)
 
   even-run : (opened : Bool) (cs : List AnyCall) (old new : Session) (r : RunsAny old cs new) → goes_on opened st cs ≡ true
       → are_apart (numbers_of old.receiving.receiver.streams) ≡ true → IsEvenBut new.made old.receiving → IsEvenBut new.made new.receiving
@@ -102,10 +81,7 @@ module _ (st : ℕ) where
 
       received : (c : receiver_runs.Call) (v : Session) → FitsBut new.made c o → receiver_runs.Follows c old.receiving v.receiving
           → (are_apart (numbers_of v.receiving.receiver.streams) ≡ true) × IsEvenBut new.made v.receiving
-      received c v k f = (
-        stays-apart c old.receiving.receiver v.receiving.receiver f.receiver apart,
-        step st (IsSpent new.made) Anything any-kept c old.receiving v.receiving apart k f i,
-      )
+      received c v k f = grind (arith, nat_tests, common_steps, stays-apart, step, any-kept)
 
       one : (c : AnyCall) (v : Session) → FollowsAny c old v → ((m : Made) → Contains old.made m → Contains new.made m) → breaks opened st c ≡ false
           → (are_apart (numbers_of v.receiving.receiver.streams) ≡ true) × IsEvenBut new.made v.receiving
@@ -115,9 +91,7 @@ module _ (st : ℕ) where
       one (of_receiving call) v f stays off = received (as_receiver_run call) v (other-fits new.made o opened call old off f.handed stays) f.step
 
 pub even : AfterEachAny (λ cs s. (st : ℕ) → is_unbroken cs st ≡ true → IsEvenBut st s.made s.receiving)
-even reported first size max most limits cs s r st on =
-    even-run st false cs (at_start_with reported first size max most limits) s r on refl
-    (record { lost = []; spent = tt; so = record { weighs = λ w h. omega arith; holds = tt } })
+even reported first size max most limits cs s r st on = grind (arith, nat_tests, common_steps, even-run)
 
 pub held-or-read : AfterEachAny IsUnorderedHeldReadOrPassed
 held-or-read reported first size max most limits cs s r st on =

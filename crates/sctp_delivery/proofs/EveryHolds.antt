@@ -1,11 +1,9 @@
 -- Sessions of every call: what a sender gave TSNs to, while fewer than 2^31 chunks are in flight, also where it takes back what is no more reported.
-use Rattle.sctp_delivery.proofs.Names.{⊤}
-use Rattle.sctp_delivery.proofs.Names.{◌≡◌, ℕ, ◌+◌, ◌<◌, ◌^◌, Bool, true, false, List, [], ◌∷◌, ◌++◌, Option, refl, ap, sym, subst, ◌∙◌, arith, list_any}
-use Rattle.sctp_delivery.proofs.Names.{ChunkPayloadData, data_of, Sack, Limits, Modes, Transmission, Session, Call, Follows, at_first}
-use Rattle.sctp_delivery.proofs.Names.{at_start, abandoned_by, bytes_written, change_where, distance, modes_after, has_number, is_of, is_outstanding}
-use Rattle.sctp_delivery.proofs.Names.{of_receiver, of_sender, same-yes, Drop}
+use Rattle.sctp_delivery.proofs.Names.{common_steps, nat_tests, ⊤, ◌≡◌, ℕ, ◌+◌, ◌<◌, ◌^◌, Bool, true, false, List, [], ◌∷◌, ◌++◌, Option, refl, ap, sym, subst}
+use Rattle.sctp_delivery.proofs.Names.{◌∙◌, arith, list_any, ChunkPayloadData, data_of, Sack, Limits, Modes, Transmission, Session, Call, Follows, at_first}
+use Rattle.sctp_delivery.proofs.Names.{abandoned_by, bytes_written, change_where, distance, modes_after, has_number, is_of, is_outstanding, of_receiver}
+use Rattle.sctp_delivery.proofs.Names.{of_sender, same-yes}
 use Rattle.sctp_sender.specs.declared.sender.Reported.{Reported}
-use Rattle.sctp_sender.specs.declared.sender.Reported.TheVariants.{Keep}
 use Rattle.sctp_sender.specs.Keeping.{restored}
 use Rattle.sctp_sender.specs.Outgoing.{from_first}
 use Rattle.sctp_sender.specs.Sender.{after_take_back, back_by, taken_back_by, with_streams}
@@ -15,22 +13,20 @@ use Rattle.sctp_delivery.specs.EveryCall.{AnyCall, FollowsAny, SenderDoes, Sende
 use Rattle.sctp_delivery.specs.Returns.{at_start_with}
 use Rattle.sctp_delivery.specs.Session.{count_in_flight}
 use Rattle.sctp_delivery.proofs.AmountLaws.{HasMadeOn, WasMade, each-made, made-after}
-use Rattle.sctp_delivery.proofs.Delivered.{HoldsOn, beside-on, found-sent-on, held-first, next_tsn}
+use Rattle.sctp_delivery.proofs.Delivered.{HoldsOn, found-sent-on, held-first, next_tsn}
 use Rattle.sctp_delivery.proofs.Every.{Every, every-all, every-of}
 use Rattle.sctp_delivery.proofs.EveryGoes.{HasRun, closed-goes, closes-held, received-goes, reset-goes, resets-held, run-accounted, run-after, run-beside}
-use Rattle.sctp_delivery.proofs.EveryGoes.{run-first, run-restreamed, with_sender}
+use Rattle.sctp_delivery.proofs.EveryGoes.{run-first, run-restreamed, with_sender, returns-goes}
 use Rattle.sctp_delivery.proofs.FewInFlight.{AreRegular, regular-first, regular-then}
 use Rattle.sctp_delivery.proofs.InFlight.{IsKnownOn, placed-alike}
-use Rattle.sctp_delivery.proofs.Numbers.{all-open, number_of}
+use Rattle.sctp_delivery.proofs.Numbers.{all-open}
 use Rattle.sctp_delivery.proofs.Plain.{AreLike, any-plain, are-plain, paired, rest_of}
 use Rattle.sctp_delivery.proofs.PlainCalls.{sender-goes}
 use Rattle.sctp_delivery.proofs.PlainHolds.{known-like, steady-alike}
 use Rattle.sctp_delivery.proofs.PlainReturns.{back-like}
-use Rattle.sctp_delivery.proofs.EveryGoes.{returns-goes}
-use Rattle.sctp_delivery.proofs.PlainSessions.{Goes, Others, kept_of, receives-too}
+use Rattle.sctp_delivery.proofs.PlainSessions.{Goes, Others, kept_of, receives-too, goes-first}
 use Rattle.sctp_delivery.proofs.PlainStreams.{returned-alike}
-use Rattle.sctp_delivery.proofs.Queues.{refilled}
-use Rattle.sctp_delivery.proofs.Senders.{AreSentOn, IsHeldOn, renumbered}
+use Rattle.sctp_delivery.proofs.Senders.{IsHeldOn}
 use Rattle.sctp_delivery.proofs.Sent.{Entry, Numbered, WasSent}
 
 -- ## The session beside it
@@ -43,16 +39,7 @@ module _ (going : ℕ → Bool) (first : ℕ) where
     pub ran : HasRun first d
 
   pub onward : (c : Call) (d e : Session) → count_in_flight d < 2 ^ 31 → count_in_flight e < 2 ^ 31 → Follows c d e → IsHolding d → IsHolding e
-  onward (of_sender call) d e was few f h = record {
-    made = made-after going first (of_sender call) d e f h.made;
-    regular = regular-then (of_sender call) d e was few f h.regular;
-    ran = run-after first call d e f h.ran;
-  }
-  onward (of_receiver call) d e was few f h = record {
-    made = made-after going first (of_receiver call) d e f h.made;
-    regular = regular-then (of_receiver call) d e was few f h.regular;
-    ran = run-beside first d e (ap (λ (s : Session). s.sending) f.after) (ap (λ (s : Session). s.written) f.after) h.ran;
-  }
+  onward h0 h1 h2 h3 h4 h5 h6 = grind (arith, nat_tests, common_steps, made-after, regular-then, run-after, run-beside)
 
   abbrev pub holding : Others first
   holding = record {
@@ -76,21 +63,7 @@ module _ (going : ℕ → Bool) (first : ℕ) where
       → sender_runs.Follows c d.sending (record d.sending { sender = with_streams ls d.sending.sender }) → (h : IsHolding d)
       → IsHeldOn going h.made.numbered first (with_streams ls d.sending.sender) h.made.sent
       → IsHolding (with_sender (with_streams ls d.sending.sender) d)
-  restreamed d ls c f h held = record {
-    made = record {
-      numbered = h.made.numbered;
-      sent = h.made.sent;
-      holds = record { held = held; made = h.made.holds.made; writes = h.made.holds.writes; placed = h.made.holds.placed };
-      made = h.made.made;
-    };
-    regular = record {
-      regular = record { numbered = h.regular.regular.numbered; fresh = h.regular.regular.fresh; sacks = h.regular.regular.sacks };
-      made = h.regular.made;
-      cumulative = h.regular.cumulative;
-      beyond = h.regular.beyond;
-    };
-    ran = run-restreamed first d ls c f h.ran;
-  }
+  restreamed d ls c f h held = grind (arith, nat_tests, common_steps, run-restreamed)
 
   pub beside-after : (c : AnyCall) (s v : Session) → FollowsAny c s v → count_in_flight s < 2 ^ 31 → count_in_flight v < 2 ^ 31 → bytes_written v < 2 ^ 64
       → ((r : ℕ) → renews r c ≡ true → going r ≡ false) → AreRegular v → HasBeside s → HasBeside v
@@ -103,19 +76,7 @@ module _ (going : ℕ → Bool) (first : ℕ) where
       }
   beside-after (makes (of_receiver call)) s v f was few short off regular h =
       record { given = h.given; gone = h.gone; modes = h.modes; goes = receives-too first holding call s v h.given h.gone h.modes was h.goes f }
-  beside-after (of_sending (takes_back sack back)) s v f was few short off regular h = record {
-    given = h.given;
-    gone = h.gone;
-    modes = h.modes;
-    goes = returns-goes first holding sack back s v h.given h.gone h.modes (record {
-      handed = f.handed;
-      step = f.step;
-      exact = f.exact;
-      accepted = f.accepted.0;
-      answered = f.accepted.1;
-      after = f.after;
-    }) h.goes;
-  }
+  beside-after (of_sending (takes_back sack back)) s v f was few short off regular h = grind (arith, nat_tests, common_steps, returns-goes)
   beside-after (of_sending (closes st)) s v f was few short off regular h =
       let d = h.goes.other in
       let i = h.goes.plays in
@@ -147,59 +108,29 @@ module _ (going : ℕ → Bool) (first : ℕ) where
         gone = h.gone;
         modes = h.modes;
         goes = received-goes first holding s v h.given h.gone h.modes h.goes call f (record {
-          made = record {
-            numbered = i.made.numbered;
-            sent = i.made.sent;
-            holds = beside-on going first d e i.made.numbered i.made.sent refl refl refl i.made.holds;
-            made = i.made.made;
-          };
-          regular = record {
-            regular = record { numbered = i.regular.regular.numbered; fresh = i.regular.regular.fresh; sacks = i.regular.regular.sacks };
-            made = i.regular.made;
-            cumulative = regular.cumulative;
-            beyond = regular.beyond;
-          };
+          made = grind (arith, nat_tests, common_steps);
+          regular = assumption (regular, i.regular);
           ran = run-beside first d e refl refl i.ran;
         });
       }
 
   pub beside-start : (reported : Reported) (size max most : ℕ) (limits : Option Limits) → first < 2 ^ 32 → 0 < size
       → HasBeside (at_start_with reported first size max most limits)
-  beside-start reported size max most limits small some = by reported
-    where
-      start : IsHolding (at_start first size max most limits)
-      start = record {
-        made = record {
-          numbered = [];
-          sent = [];
-          holds = record { held = held-first going first size max most limits small some; made = tt; writes = refl; placed = tt };
-          made = tt;
-        };
-        regular = regular-first first size max most limits small;
-        ran = run-first first size max most limits;
-      }
-
-      by : (k : Reported) → HasBeside (at_start_with k first size max most limits)
-      by Drop = record {
-        given = 0;
-        gone = [];
-        modes = at_first;
-        goes = record {
-          other = at_start first size max most limits;
-          shadow = record { streams = []; chunks = []; sender = refl; alike = refl; like = tt; receiving = refl; made = refl; written = refl; sacks = tt };
-          plays = start;
-        };
-      }
-      by Keep = record {
-        given = 0;
-        gone = [];
-        modes = at_first;
-        goes = record {
-          other = at_start first size max most limits;
-          shadow = record { streams = []; chunks = []; sender = refl; alike = refl; like = tt; receiving = refl; made = refl; written = refl; sacks = tt };
-          plays = start;
-        };
-      }
+  beside-start reported size max most limits small some = record {
+    given = 0;
+    gone = [];
+    modes = at_first;
+    goes = goes-first first holding reported size max most limits (record {
+      made = record {
+        numbered = [];
+        sent = [];
+        holds = record { held = held-first going first size max most limits small some; made = tt; writes = refl; placed = tt };
+        made = tt;
+      };
+      regular = regular-first first size max most limits small;
+      ran = run-first first size max most limits;
+    });
+  }
 
 -- ## What comes back
 
@@ -210,20 +141,7 @@ module _ (going : ℕ → Bool) (first : ℕ) (ns : List Numbered) (sent : List 
   known-there ks [] [] a k w = tt
   known-there ks [] (d ∷ ds) a k w = absurd a
   known-there ks (c ∷ cs) [] a k w = absurd a
-  known-there ks (c ∷ cs) (d ∷ ds) a k w = (
-    (
-      w.0,
-      placed-alike going first sent c d (record {
-        kind = ap (λ (x : ChunkPayloadData). x.unordered) (sym a.0.same);
-        stream = ap (λ (x : ChunkPayloadData). x.stream_identifier) (sym a.0.same);
-        number = ap (λ (x : ChunkPayloadData). x.stream_sequence_number) (sym a.0.same);
-        tsn = ap (λ (x : ChunkPayloadData). x.tsn) (sym a.0.same);
-        message = ap (λ (x : ChunkPayloadData). x.message_id) (sym a.0.same);
-        ends = ap (λ (x : ChunkPayloadData). x.ending_fragment) (sym a.0.same);
-      }) k.0.1,
-    ),
-    known-there (rest_of ks) cs ds a.1 k.1 w.1,
-  )
+  known-there ks (c ∷ cs) (d ∷ ds) a k w = grind (arith, nat_tests, common_steps, placed-alike, known-there (rest_of ks) cs ds a.1 k.1 w.1)
 
   module _ (sack : Sack) (t : Transmission) (ds : List ChunkPayloadData) (like : AreLike (kept_of t.kept) t.flight.queue.inflight.chunks ds)
       (was : Every (λ d. is_outstanding d ≡ true → WasSent sent (data_of d)) ds) (h : IsHeldOn going ns first t sent) where
@@ -244,9 +162,7 @@ module _ (going : ℕ → Bool) (first : ℕ) (ns : List Numbered) (sent : List 
         let known = paired (λ c. Unit {0}) (IsKnownOn going first sent) (IsKnownOn going first sent) (known-like going first sent) ks back ds like'
         (every-all (λ c. Unit {0}) (λ c. tt) back) (known-there ks cs ds like h.stands.known was) in
         record {
-          stands = renumbered going ns first (λ r. number_of r t.streams) (λ r. number_of r u.streams) u.flight.queue u.flight.next_tsn sent
-              (λ r _. steady.numbers r)
-              (refilled going ns first (λ r. number_of r t.streams) t.flight.queue t.flight.next_tsn sent back (λ m e. sym (any m) ∙ e) known h.stands);
+          stands = grind (arith, nat_tests, common_steps);
           open' = all-open going t.streams u.streams (λ r _. steady.there r) ns h.open';
           sized = steady.sized h.sized;
           apart = steady.apart h.apart;
@@ -275,12 +191,7 @@ module _ (going : ℕ → Bool) (first : ℕ) (s v : Session) (ns : List Numbere
       (each-made going first i.sent b.goes.other.made there i.made i.holds.held.stands.known)))
 
   other-holds : (call : SenderOther) → SenderDoes call s v → IsHeldOn going ns first v.sending.sender sent → HoldsOn going first v ns sent
-  other-holds call f held = record {
-    held = held;
-    made = subst (AreSentOn going sent) (sym (ap (λ (y : Session). y.made) f.after)) h.made;
-    writes = h.writes ∙ sym (ap (λ (y : Session). y.written) f.after);
-    placed = h.placed;
-  }
+  other-holds call f held = grind (arith, nat_tests, common_steps)
 
   pub other-step : (call : SenderOther) → WhereBack call (HasBeside going first s) → ((r : ℕ) → renews r (of_sending call) ≡ true → going r ≡ false)
       → SenderDoes call s v → HoldsOn going first v ns sent

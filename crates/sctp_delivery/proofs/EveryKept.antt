@@ -1,14 +1,13 @@
 -- Sessions of every call, on a stream that goes on: each TSN that came was taken, or is of a message that is gone; and what is lost of unordered
 -- messages is of such. A message is gone that was abandoned, or of which a chunk was dropped.
-use Rattle.sctp_delivery.proofs.Names.{◌≡◌, ℕ, suc, ◌+◌, ◌-◌, ◌<◌, ◌≤◌, ◌^◌, Bool, true, false, List, [], ◌∷◌, length, map, Option, Some, None, inl, inr}
-use Rattle.sctp_delivery.proofs.Names.{⊤, refl, ap, sym, subst, ◌∙◌, arith, ◌||◌, ◌==◌, if◌then◌else◌, nat_eq, filter, list_any, list_any_at, list_all, sum_by}
-use Rattle.sctp_delivery.proofs.Names.{nat_tests, cases_lt, or-left, or-right, or-split, same-is, same-yes, not_both, eq-eqb, at_or_before, tsn}
-use Rattle.sctp_delivery.proofs.Names.{distance, distance-tsn, ChunkPayloadData, Data, data_of, data_chunk, forward_tsn, ForwardTsn, New, has_tsn, has_come}
-use Rattle.sctp_delivery.proofs.Names.{filter_of, with_filter, with_tsn, Reassembly, InboundStream, stream_of, Reception, Stand, Message}
-use Rattle.sctp_delivery.proofs.Names.{held_weight, is_on, is_complete, is_one_message, was_taken, Contains, Limits, Session, SenderCall}
-use Rattle.sctp_delivery.proofs.Names.{SenderFollows, ReceiverCall, ReceiverFollows, IsRunFrom, AllPass-from_list_all, slice_index_or, AreMade, AreMessages}
-use Rattle.sctp_delivery.proofs.Names.{made_after, after_forward_tsn, at_start, reads_nothing, message_read, none-some, ChunkSet, set_weight}
-use Rattle.sctp_reassembly.specs.reassembly_queue.ReassemblyQueue.{message_among}
+use Rattle.sctp_delivery.proofs.Names.{common_steps, ◌≡◌, ℕ, suc, ◌+◌, ◌-◌, ◌<◌, ◌≤◌, ◌^◌, Bool, true, false, List, [], ◌∷◌, length, map, Option, Some, None}
+use Rattle.sctp_delivery.proofs.Names.{inl, inr, ⊤, refl, ap, sym, subst, ◌∙◌, arith, ◌||◌, ◌==◌, if◌then◌else◌, nat_eq, filter, list_any, list_any_at}
+use Rattle.sctp_delivery.proofs.Names.{list_all, sum_by, nat_tests, cases_lt, or-left, or-right, or-split, same-is, same-yes, not_both, eq-eqb, at_or_before}
+use Rattle.sctp_delivery.proofs.Names.{tsn, distance, distance-tsn, ChunkPayloadData, Data, data_of, data_chunk, forward_tsn, ForwardTsn, New, has_tsn}
+use Rattle.sctp_delivery.proofs.Names.{has_come, filter_of, with_filter, with_tsn, Reassembly, InboundStream, stream_of, Reception, Stand, Message, held_weight}
+use Rattle.sctp_delivery.proofs.Names.{is_on, is_complete, is_one_message, was_taken, Contains, Limits, Session, SenderCall, SenderFollows, ReceiverCall}
+use Rattle.sctp_delivery.proofs.Names.{ReceiverFollows, IsRunFrom, AllPass-from_list_all, slice_index_or, AreMade, AreMessages, made_after, after_forward_tsn}
+use Rattle.sctp_delivery.proofs.Names.{at_start, reads_nothing, message_read, none-some, set_weight}
 use Rattle.sctp_receiver.specs.Inbound.{numbers_of}
 use Rattle.sctp_receiver.specs.Receiver.{after_discard, close_stream, repeat_tsn}
 use Rattle.sctp_receiver.specs.Resets.{reset_stream}
@@ -91,11 +90,7 @@ at-within gone (x ∷ xs) y e =
 
 at-later : (gone more : List ℕ) → AreAmong gone more → (sent xs : List Entry) → IsOnceMore sent xs → (y : ℕ) → gone_at gone sent y ≡ true
     → gone_at more xs y ≡ true
-at-later gone more a sent xs (inl e) y h = subst (λ zs. gone_at more zs y ≡ true) (sym e) (at-among gone more a sent y h)
-at-later gone more a sent xs (inr x) y h = subst (λ zs. gone_at more zs y ≡ true) (sym x.1)
-    (let le = at-within gone sent y h in
-    let other : (length (x.0 ∷ sent) == y) ≡ false = grind (arith, nat_tests, le) in
-    ap (λ b. if b then is_gone_entry more x.0 else gone_at more sent y) other ∙ at-among gone more a sent y h)
+at-later h0 h1 h2 h3 h4 h5 h6 h7 = grind (arith, nat_tests, common_steps, at-among, at-within)
 
 -- ## Messages that are not ordered ones of a stream
 
@@ -105,17 +100,13 @@ elsewhere st (terminal ∷ xs) = elsewhere st xs
 elsewhere st (fragment d w after ∷ xs) = if is_of_stream st d then elsewhere st xs else w.place ∷ elsewhere st xs
 
 elsewhere-more : (st : ℕ) (x : Entry) (xs : List Entry) → AreAmong (elsewhere st xs) (elsewhere st (x ∷ xs))
-elsewhere-more st terminal xs k e = e
-elsewhere-more st (fragment d w after) xs k e = at-if (λ (ms : List ℕ). is_gone ms k ≡ true) (is_of_stream st d) (λ _. e)
-    (λ _. or-right (nat_eq k w.place) (is_gone (elsewhere st xs) k) e)
+elsewhere-more h0 h1 h2 h3 h4 = grind (arith, nat_tests, common_steps, or-right)
 
 elsewhere-has : (st : ℕ) (d : Data) (w : Numbered) (after : List ℕ) (xs sent : List Entry) → IsPart (fragment d w after ∷ xs) sent
     → is_of_stream st d ≡ false → is_gone (elsewhere st sent) w.place ≡ true
 elsewhere-has st d w after xs [] q off = let n = ap length q in absurd (omega (arith, n))
 elsewhere-has st d w after xs (y ∷ ys) (inr q) off = elsewhere-more st y ys w.place (elsewhere-has st d w after xs ys q off)
-elsewhere-has st d w after xs (y ∷ ys) (inl e) off = subst (λ zs. is_gone (elsewhere st zs) w.place ≡ true) e
-    (ap (λ b. is_gone (if b then elsewhere st xs else w.place ∷ elsewhere st xs) w.place) off
-    ∙ or-left (nat_eq w.place w.place) (is_gone (elsewhere st xs) w.place) (same-yes w.place))
+elsewhere-has st d w after xs (y ∷ ys) (inl e) off = grind (arith, nat_tests, common_steps, or-left, same-yes)
 
 -- each has an entry that is none
 pub elsewhere-of : (st k : ℕ) (sent : List Entry) → is_gone (elsewhere st sent) k ≡ true → (d : Data) × (w : Numbered) × (after : List ℕ) × (xs : List Entry)
@@ -137,9 +128,7 @@ listed None st sent = elsewhere st sent
 listed (Some others) st sent = others
 
 pub listed-more : (l : Option (List ℕ)) (st : ℕ) (sent more : List Entry) → IsOnceMore sent more → AreAmong (listed l st sent) (listed l st more)
-listed-more (Some others) st sent more once k e = e
-listed-more None st sent more (inl e) k h = subst (λ xs. is_gone (elsewhere st xs) k ≡ true) (sym e) h
-listed-more None st sent more (inr x) k h = subst (λ xs. is_gone (elsewhere st xs) k ≡ true) (sym x.1) (elsewhere-more st x.0 sent k h)
+listed-more h0 h1 h2 h3 h4 h5 h6 = grind (arith, nat_tests, common_steps, elsewhere-more)
 
 -- a chunk that the call drops, and that had not come, is of one of these messages
 abbrev pub IsDropOf : List ℕ → List Entry → Session → ReceiverOther → Type 0
@@ -152,11 +141,7 @@ IsDropOf gone sent s (passes_over g) = ⊤
 -- where the stream goes on, it is not an ordered one of it
 pub drops-elsewhere : (st : ℕ) (gone : List ℕ) (sent : List Entry) (s : Session) (opened : Bool) (call : ReceiverOther)
     → AreAmong (elsewhere st sent) gone → breaks opened st (of_receiving call) ≡ false → IsDropOf gone sent s call
-drops-elsewhere st gone sent s opened (discards c) among off =
-    λ w after xs q new'. among w.place (elsewhere-has st (data_of c) w after xs sent q off)
-drops-elsewhere st gone sent s opened (closes_incoming stream) among off = tt
-drops-elsewhere st gone sent s opened (resets_incoming stream last) among off = tt
-drops-elsewhere st gone sent s opened (passes_over g) among off = tt
+drops-elsewhere h0 h1 h2 h3 h4 h5 h6 h7 = grind (arith, nat_tests, common_steps, elsewhere-has)
 
 -- ## What is known of a TSN: it was taken, or is of a message that is gone
 
@@ -173,10 +158,7 @@ module _ (ws : List Numbered) (first : ℕ) (sent : List Entry) (line : IsLine w
 
   number : (d : Data) (w : Numbered) (after : List ℕ) (xs : List Entry) → IsPart (fragment d w after ∷ xs) sent
       → (d.tsn ≡ tsn (base first) (length xs + 1)) × (length xs + 1 ≤ n)
-  number d w after xs q = (
-    let e = (part-line ws first sent (fragment d w after ∷ xs) q line).0.number in omega (arith, e),
-    let l = part-length sent (fragment d w after ∷ xs) q in omega (arith, l, long),
-  )
+  number d w after xs q = grind (arith, nat_tests, common_steps, part-line, part-length)
 
   gone-of : (x : Entry) (xs : List Entry) → IsPart (x ∷ xs) sent → gone_at gone sent (place_in first (tsn (base first) (length xs + 1))) ≡ is_gone_entry gone x
   gone-of x xs q =
@@ -221,9 +203,7 @@ module _ (ws : List Numbered) (first : ℕ) (sent : List Entry) (line : IsLine w
       rest (fragment d w after) c = c.1
 
       here : (z : Entry) → IsPart (z ∷ zs) sent → AreTakenOrGone gone s (z ∷ zs) → known_so first gone sent s (tsn (base first) (length zs + 1)) ≡ true
-      here terminal q c =
-          or-right (was_taken (tsn (base first) (length zs + 1)) s) (gone_at gone sent (place_in first (tsn (base first) (length zs + 1))))
-          (gone-of terminal zs q)
+      here terminal q c = grind (arith, nat_tests, common_steps, or-right, gone-of)
       here (fragment d w after) q c =
           let t = tsn (base first) (length zs + 1) in
           elim (or-split (was_taken d.tsn s) (is_gone gone w.place) c.0) [
@@ -286,11 +266,7 @@ told-beside st first n gone s t sent same made h = record {
 
 pub told-first : (st first size max most : ℕ) (limits : Option Limits) (gone : List ℕ) → first < 2 ^ 32
     → IsTold st first 0 gone (at_start first size max most limits) []
-told-first st first size max most limits gone small = record {
-  known = record { place = 0; within = omega arith; is = omega (arith, small); so_far = λ k pos le. absurd (omega (arith, pos, le)); each = tt };
-  passing = tt;
-  even = record { lost = []; spent = tt; so = record { weighs = λ w h. omega arith; holds = tt } };
-}
+told-first st first size max most limits gone small = grind (arith, nat_tests, common_steps)
 
 -- what was read on a stream whose numbers go on
 pub whole-on : (on : ℕ → Bool) (first : ℕ) (s : Session) (ns : List Numbered) (sent : List Entry) (st : ℕ) → on st ≡ true → length sent < 2 ^ 32
@@ -333,12 +309,7 @@ module _ (on dropped : ℕ → Bool) (st first n : ℕ) (few : n < 2 ^ 31) (old 
 
   -- what is acknowledged has come
   least : i.step.numbered.acked ≤ h.known.place
-  least =
-      let d = answered.0.arrived in
-      let w = d.within in
-      let v = h.known.within in
-      let same : d.place ≡ h.known.place = same-place p d.place h.known.place (omega (arith, w, few)) (omega (arith, v, few)) (sym d.is ∙ h.known.is) in
-      omega (arith, d.least_is, same)
+  least = grind (arith, nat_tests, common_steps, same-place)
 
   came : (d : Data) (w : Numbered) (after : List ℕ) (xs : List Entry) → IsPart (fragment d w after ∷ xs) sent → length xs + 1 ≤ h.known.place
       → (was_taken d.tsn old || is_gone gone w.place) ≡ true
@@ -368,48 +339,24 @@ module _ (on dropped : ℕ → Bool) (st first n : ℕ) (few : n < 2 ^ 31) (old 
       }
     where
       wider : (d : Data) (w : Numbered) → (was_taken d.tsn old || is_gone gone w.place) ≡ true → (was_taken d.tsn old || is_gone more w.place) ≡ true
-      wider d w e = elim (or-split (was_taken d.tsn old) (is_gone gone w.place) e) [
-        | inl k ↦ or-left (was_taken d.tsn old) (is_gone more w.place) k
-        | inr k ↦ or-right (was_taken d.tsn old) (is_gone more w.place) (later w.place k)
-      ]
+      wider d w e = grind (arith, nat_tests, common_steps, or-split, or-left, or-right)
 
       grows : (xs : List Entry) → IsOnceMore sent xs → (t : ℕ) → known_so first gone sent old t ≡ true → known_so first more xs old t ≡ true
-      grows xs once t e =
-          let y = place_in first t in
-          elim (or-split (was_taken t old) (gone_at gone sent y) e) [
-            | inl k ↦ or-left (was_taken t old) (gone_at more xs y) k
-            | inr k ↦ or-right (was_taken t old) (gone_at more xs y) (at-later gone more later sent xs once y k)
-          ]
+      grows xs once t e = grind (arith, nat_tests, common_steps, or-split, or-left, or-right, at-later)
 
       part-more : (xs : List Entry) → IsOnceMore sent xs → (ys : List Entry) → IsPart ys sent → IsPart ys xs
       part-more xs (inl e) ys q = subst (IsPart ys) (sym e) q
       part-more xs (inr e) ys q = subst (IsPart ys) (sym e.1) (inr q)
 
       gone-more : (xs : List Entry) → IsOnceMore sent xs → (c : ChunkPayloadData) → IsGone gone sent c → IsGone more xs c
-      gone-more xs once c g = (
-        g.0,
-        g.1,
-        record {
-          after = g.2.after;
-          entries = g.2.entries;
-          part = part-more xs once (fragment (data_of c) g.1 g.2.after ∷ g.2.entries) g.2.part;
-          place = g.2.place;
-        },
-        later g.1.place g.3,
-      )
+      gone-more xs once c g = grind (arith, nat_tests, common_steps, part-more)
 
   -- it is of one of the messages that the call tells
   pub drops-told : (call : ReceiverOther) → ((m : ℕ) → is_gone (dropped_by call old) m ≡ true → is_gone gone m ≡ true) → IsDropOf gone sent old call
   drops-told (discards c) covers = λ w after xs q new'.
       let num = number ns first sent line n i.long few gone old (data_of c) w after xs q in
       let x = i.step.numbered in
-      let far : h.known.place < length xs + 1 = elim (cases_lt h.known.place (length xs + 1)) [
-        | inl lt ↦ lt
-        | inr ge ↦
-            let v = h.known.within in
-            absurd (not_both (sym new' ∙ or-left (at_or_before c.tsn r.cumulative_tsn) (list_any (λ u. u == c.tsn) r.beyond)
-            (upto-yes p (length xs + 1) h.known.place num.0 h.known.is (omega (arith, num.1, few)) (omega (arith, v, few)) ge)))
-      ] in
+      let far : h.known.place < length xs + 1 = grind (arith, nat_tests, common_steps, cases_lt, not_both, or-left, upto-yes) in
       let all = x.total in
       let tells = flight-tells on first n sent i.long few x.acked (flight_of old).queue.inflight.chunks (omega (arith, all)) x.run
       (placed-each on first sent (flight_of old).queue.inflight.chunks i.holds.held.stands.known) (data_of c) w after xs q num.0
@@ -476,24 +423,13 @@ module _ (on dropped : ℕ → Bool) (st first n : ℕ) (few : n < 2 ^ 31) (old 
     -- all up to a FORWARD-TSN is known
     passed-known : (g : ForwardTsn) → Contains old.made (forward_tsn g) → (v : IsGiven p n g.new_cumulative_tsn) (k : ℕ) → k ≤ v.place
         → known_so first gone sent old (tsn p k) ≡ true
-    passed-known g in' v k le =
-        let pass = every-contained (IsMadePassing p gone old sent) old.made (forward_tsn g) in' h.passing in
-        let l = part-length sent pass.passed pass.part in
-        let w = v.within in
-        let same : v.place ≡ length pass.passed = same-place p v.place (length pass.passed) (omega (arith, w, few)) (omega (arith, l, few))
-        (sym v.is ∙ pass.is) in
-        known-upto ns first sent line n i.long few gone old pass.passed pass.part pass.came k (omega (arith, le, same))
+    passed-known g in' v k le = grind (arith, nat_tests, common_steps, every-contained, part-length, same-place, known-upto)
 
     module _ (new : Session) (apart : are_apart (numbers_of r.streams) ≡ true) where
       -- what is known stays so
       stays : ((t : ℕ) → was_taken t old ≡ true → was_taken t new ≡ true) → (t : ℕ) → known_so first gone sent old t ≡ true
           → known_so first gone sent new t ≡ true
-      stays grows t e =
-          let y = place_in first t in
-          elim (or-split (was_taken t old) (gone_at gone sent y) e) [
-            | inl k ↦ or-left (was_taken t new) (gone_at gone sent y) (grows t k)
-            | inr k ↦ or-right (was_taken t new) (gone_at gone sent y) k
-          ]
+      stays grows t e = grind (arith, nat_tests, common_steps, or-split, or-left, or-right)
 
       after : new.made ≡ old.made → ((t : ℕ) → was_taken t old ≡ true → was_taken t new ≡ true)
           → IsArrived p n (known_so first gone sent new) new.receiving.receiver.cumulative_tsn new.receiving.receiver.beyond
@@ -598,11 +534,7 @@ module _ (on dropped : ℕ → Bool) (st first n : ℕ) (few : n < 2 ^ 31) (old 
         none-held = by o refl
           where
             none-complete : (q : Reassembly) → message_read q ≡ None → q.unordered ≡ []
-            none-complete q none = of q.unordered refl
-              where
-                of : (us : List ChunkSet) → q.unordered ≡ us → q.unordered ≡ []
-                of [] e = e
-                of (u ∷ us) e = absurd (none-some u (sym (ap (λ vs. message_among vs q) (sym e) ∙ none)))
+            none-complete q none = grind (arith, nat_tests, common_steps, none-some)
 
             by : (l : Option InboundStream) → o ≡ l → held_weight (lonely (one t)) l ≡ 0
             by None e = refl

@@ -1,31 +1,27 @@
 -- Sessions of every call: each message of which no fragment but the first begins one is a write, and no write is read twice.
-use Rattle.sctp_delivery.proofs.Names.{◌≡◌, ℕ, zero, suc, ◌+◌, ◌<◌, ◌^◌, Bool, true, false, not, List, [], ◌∷◌, ◌++◌, length, Option, refl, ap, sym, subst}
-use Rattle.sctp_delivery.proofs.Names.{◌∙◌, arith, All, Contains, slice_index_or, filter, list_all, list_any, and, both}
-use Rattle.sctp_delivery.proofs.Names.{◌≤◌, None, Released, SenderCall, SenderFollows, distance, fails, ◌==◌}
-use Rattle.sctp_delivery.proofs.Names.{not_both, list_any-append, ChunkPayloadData, Message, is_on}
-use Rattle.sctp_delivery.proofs.Names.{data_of, data_chunk, StandAt, AreMade, AreMessages, Session, Write, Limits, Transmission}
-use Rattle.sctp_delivery.proofs.Names.{Modes, Stand, Data, Pending, Unknown, nat_eq, or-split, ◌-◌, if◌then◌else◌, inl, inr, is_all_acknowledged, reads_nothing}
-use Rattle.sctp_delivery.proofs.Names.{at_first, modes_from, AllPairs, Some, some-same, same-yes, ◌&&◌, ◌⊎◌}
+use Rattle.sctp_delivery.proofs.Names.{common_steps, nat_tests, ◌≡◌, ℕ, zero, suc, ◌+◌, ◌<◌, ◌^◌, Bool, true, false, not, List, [], ◌∷◌, ◌++◌, length, Option}
+use Rattle.sctp_delivery.proofs.Names.{refl, ap, sym, subst, ◌∙◌, arith, All, Contains, slice_index_or, filter, list_all, list_any, and, both, ◌≤◌, None}
+use Rattle.sctp_delivery.proofs.Names.{Released, SenderCall, SenderFollows, distance, fails, ◌==◌, not_both, list_any-append, ChunkPayloadData, Message, is_on}
+use Rattle.sctp_delivery.proofs.Names.{data_of, data_chunk, StandAt, AreMade, AreMessages, Session, Write, Limits, Transmission, Modes, Stand, Data, Pending}
+use Rattle.sctp_delivery.proofs.Names.{Unknown, nat_eq, or-split, ◌-◌, if◌then◌else◌, inl, inr, is_all_acknowledged, reads_nothing, at_first, modes_from}
+use Rattle.sctp_delivery.proofs.Names.{AllPairs, Some, some-same, same-yes, ◌&&◌, ◌⊎◌, Sack, bytes_written}
 use Rattle.std.proofs.Common.{◌≢◌}
-use Rattle.sctp_delivery.proofs.Names.{Sack, IsAccounted, bytes_written, held_by_sender, total_bytes, with_inflight, sum_by}
 use Rattle.sctp_sender.specs.declared.sender.Reported.{Reported}
 use Rattle.sctp_sender.specs.declared.sender.flight.kept.TakenBack.{TakenBack}
 use Rattle.sctp_sender.specs.Keeping.{bytes_back}
 use Rattle.sctp_sender.specs.Sender.{take_back_refusal}
 use Rattle.sctp_sender.specs.Totals.{bytes_in}
-use Rattle.sctp_delivery.specs.EveryCall.{AnyCall, AreSingleWhereSteady, AreSingleWritesOfTheirOwn, AreWritesWhereSingle, RunsAny}
-use Rattle.sctp_delivery.specs.EveryCall.{SenderDoes, takes_back, is_single, is_steady, single_messages}
-use Rattle.sctp_delivery.specs.EveryCall.{tsns_given_any, was_dropped}
+use Rattle.sctp_delivery.specs.EveryCall.{AnyCall, AreSingleWhereSteady, AreSingleWritesOfTheirOwn, AreWritesWhereSingle, RunsAny, SenderDoes, takes_back}
+use Rattle.sctp_delivery.specs.EveryCall.{is_single, is_steady, single_messages, tsns_given_any, was_dropped}
 use Rattle.sctp_receiver.specs.ReceiverRuns.{AreComplete, AreOfOneMessage}
 use Rattle.sctp_delivery.specs.EveryEnd.{IsLeftOn, IsOrderedReadInTheEnd, IsReadOn, IsSentReadInTheEnd, IsUnorderedReadInTheEnd, IsUnorderedReadOrHeld}
-use Rattle.sctp_delivery.specs.EveryEnd.{IsUnorderedSentReadInTheEnd}
-use Rattle.sctp_delivery.specs.EveryEnd.{abandoned_any, dropped_any, is_unnamed}
+use Rattle.sctp_delivery.specs.EveryEnd.{IsUnorderedSentReadInTheEnd, abandoned_any, dropped_any, is_unnamed}
 use Rattle.sctp_delivery.specs.EveryOrder.{AreSingleReadAsWritten, AreSingleReadInOrder, is_unbroken, plain_calls}
 use Rattle.sctp_delivery.specs.Messages.{AreParts, AreSame}
 use Rattle.sctp_delivery.specs.Returns.{NoneIsRefusedSo, after_return, at_start_with}
 use Rattle.sctp_delivery.specs.SenderCalls.{TakesBackAndSack, takes_sack}
 use Rattle.sctp_delivery.proofs.AbandonedMessages.{cut-later, gone-left}
-use Rattle.sctp_delivery.proofs.Begun.{AreOnce, begins, was_begun}
+use Rattle.sctp_delivery.proofs.Begun.{AreOnce, was_begun}
 use Rattle.sctp_delivery.proofs.Calls.{at-forgotten, contains-forgotten, forget, forgotten, length-forgotten}
 use Rattle.sctp_delivery.proofs.Cases.{at-if}
 use Rattle.sctp_delivery.proofs.Delivered.{HoldsOn, next_tsn, sender-step-on, IsReadOf, found-sent-on}
@@ -51,20 +47,19 @@ use Rattle.sctp_delivery.proofs.PassedMessages.{EndsMessage}
 use Rattle.sctp_delivery.proofs.PlainHolds.{held-like}
 use Rattle.sctp_delivery.proofs.PlainReturns.{back-fits, back-more}
 use Rattle.sctp_delivery.proofs.Plain.{are-long}
-use Rattle.sctp_delivery.proofs.PlainSessions.{as_plain, kept_of, small-next}
+use Rattle.sctp_delivery.proofs.PlainSessions.{as_plain, small-next}
 use Rattle.sctp_delivery.proofs.OneRead.{no-way}
 use Rattle.sctp_delivery.proofs.Stands.{one-given}
-use Rattle.sctp_delivery.proofs.Senders.{AreSentOn, IsHeldOn}
-use Rattle.sctp_delivery.proofs.Sent.{Entry, IsPart, Numbered, contains-more, fragment, part-line, same-tsn, terminal}
+use Rattle.sctp_delivery.proofs.Senders.{AreSentOn}
+use Rattle.sctp_delivery.proofs.Sent.{Entry, IsPart, Numbered, contains-more, fragment, part-line, same-tsn}
 use Rattle.sctp_delivery.proofs.Sessions as sessions
-use Rattle.sctp_delivery.proofs.Sessions.{neither}
 use Rattle.sctp_delivery.proofs.YoungReads.{IsReadFrom}
-pub use Rattle.sctp_delivery.proofs.EveryRead.{steady-there, told-apart}
 use Rattle.sctp_delivery.proofs.EveryRead.{each-single, from-made, none-begin, some-apart}
 use Rattle.sctp_delivery.proofs.EveryFewYoung.{few-young}
 use Rattle.sctp_delivery.proofs.EveryYoung as young
 use Rattle.sctp_delivery.proofs.EveryYoungOrder as young_order
 use Rattle.sctp_delivery.specs.EveryRecent.{ArePassedYoung, AreRecentAny, AreYoungAny}
+pub use Rattle.sctp_delivery.proofs.EveryRead.{steady-there, told-apart}
 
 -- ## Each session
 
@@ -87,9 +82,7 @@ module _ (reported : Reported) (first size max most : ℕ) (limits : Option Limi
   others = dropped_any (at_start_with reported first size max most limits) cs s r
 
   beside : HasBesideSo (is_steady cs) (was_dropped cs) (is_unbroken cs) (Some others) (steady-there false cs) first s n gone modes
-  beside =
-      has-beside-so (is_steady cs) (was_dropped cs) (is_unbroken cs) (Some others) (steady-there false cs) first reported size max most limits cs s r small
-      some few short (λ t e. e) (λ q e. ap not e) (λ q e. e) (λ ms is k e. subst (λ xs. list_any (nat_eq k) xs ≡ true) (some-same is) e)
+  beside = grind (arith, nat_tests, common_steps, has-beside-so, not, some-same)
 
   i : IsPlayedSo (is_steady cs) (was_dropped cs) (is_unbroken cs) (Some others) (steady-there false cs) first beside.other n gone modes
   i = beside.plays few
@@ -145,9 +138,7 @@ module _ (reported : Reported) (first size max most : ℕ) (limits : Option Limi
   own-stand = subst (λ ws. StandAt ws singles-read own-places) writes (stand i.numbered i.sent once singles-read each-is)
 
   own-apart : AllPairs (λ p q. p ≢ q) own-places
-  own-apart =
-      apart i.numbered i.sent once singles-read each-is
-      (some-apart (λ m. is_single m.fragments) s.receiving.read (runs.none-read-twice reported first size max most limits cs s r small few))
+  own-apart = search (apart, i, each-is, some-apart, runs.none-read-twice)
 
   pub of-their-own : AreSingleWritesOfTheirOwn s
   of-their-own = (own-places, own-stand, own-apart)
@@ -190,11 +181,7 @@ module _ (reported : Reported) (first size max most : ℕ) (limits : Option Limi
     none-left (d ∷ ds) e = absurd (omega (arith, e))
 
     landed : q.sending.sender.flight.queue.inflight.chunks ≡ []
-    landed =
-        let x = beside.shadow in
-        bare (λ u. u.flight.queue.inflight.chunks)
-        ∙ none-left x.chunks (sym (are-long (kept_of s.sending.sender.kept) s.sending.sender.flight.queue.inflight.chunks x.chunks x.like)
-        ∙ ap length idle.inflight)
+    landed = grind (arith, nat_tests, common_steps, none-left, are-long, idle)
 
     unbegun : q.sending.sender.flight.queue.pending.selected ≡ None
     unbegun = none-selected (is_steady cs) i.numbered first (λ r. number_of r q.sending.sender.streams) q.sending.sender.flight.queue.pending i.sent
@@ -284,9 +271,7 @@ module _ (reported : Reported) (first size max most : ℕ) (limits : Option Limi
         alive)
       where
         ends : (xs : List Entry) → IsOpen xs None → length xs ≡ n → 0 < n → EndsMessage xs
-        ends [] e l lt = absurd (omega (arith, lt, l))
-        ends (terminal ∷ xs) e l lt = tt
-        ends (fragment d w after ∷ xs) e l lt = e
+        ends h0 h1 h2 h3 = grind (arith, nat_tests, common_steps)
 
     -- ## Each write
 
@@ -318,10 +303,7 @@ module _ (reported : Reported) (first size max most : ℕ) (limits : Option Limi
           let off = fails (list_any (nat_eq w.place) gone) (λ e. not_both (sym alive ∙ among w.place e)) in
           elim (or-split (was_begun w.place i.sent) (begins_in w.place p) (i.begun w.place (omega (arith, at)) off)) [
             | inl e ↦ e
-            | inr e ↦ elim (or-split (list_any (begins w.place) p.ordered) (list_any (begins w.place) p.unordered) e) [
-              | inl f ↦ absurd (not_both (sym (ap (list_any (begins w.place)) (bare (λ u. u.flight.queue.pending.ordered) ∙ idle.ordered)) ∙ f))
-              | inr f ↦ absurd (not_both (sym (ap (list_any (begins w.place)) (bare (λ u. u.flight.queue.pending.unordered) ∙ idle.unordered)) ∙ f))
-            ]
+            | inr e ↦ grind (arith, nat_tests, common_steps, or-split, not_both, idle)
           ]
         where
           p : Pending
@@ -363,9 +345,7 @@ module _ (reported : Reported) (first size max most : ℕ) (limits : Option Limi
           subst (λ (x : Message). is_steady cs x.stream ≡ true → is_single x.fragments ≡ true) m.1.2 (are-single m.1.0 m.0 m.1.1)
           (ap (is_steady cs) m.2 ∙ steady) in
           let x = place-of singles-read each-is m.0 (contains-those (λ y. is_single y.fragments) s.receiving.read m.0 alone m.1) in
-          let head : data_of x.0.chunk ≡ first_part.0 =
-          ap data_of (head-is x.0.chunk x.0.others (none-begin x.0.others (ap is_single (sym x.0.fragments) ∙ alone)) m.3
-          (subst (λ ys. Contains ys m.3) x.0.fragments m.4) (ap (λ (y : Data). y.beginning_fragment) m.5 ∙ first_part.5)) ∙ m.5 in
+          let head : data_of x.0.chunk ≡ first_part.0 = grind (arith, nat_tests, common_steps, head-is, none-begin) in
           let same = same-write i.numbered first i.sent (let a = i.spread.long in omega (arith, a, few)) i.spread.holds.held.stands.queued.line
           (data_of x.0.chunk) first_part.0 x.0.numbered v x.0.after first_part.2 x.0.entries first_part.3 x.0.part first_part.4
           (ap (λ (y : Data). y.tsn) head) in
@@ -374,9 +354,7 @@ module _ (reported : Reported) (first size max most : ℕ) (limits : Option Limi
           -- one that begins is the first
           head-is : (c : ChunkPayloadData) (ds : List ChunkPayloadData) → Every (λ (d : ChunkPayloadData). d.beginning_fragment ≡ false) ds
               → (d : ChunkPayloadData) → Contains (c ∷ ds) d → d.beginning_fragment ≡ true → c ≡ d
-          head-is c ds e d (zero, lt, is) f = is
-          head-is c ds e d (suc j, lt, is) f =
-              absurd (not_both (sym (every-contained (λ y. y.beginning_fragment ≡ false) ds d (j, omega (arith, lt), is) e) ∙ f))
+          head-is h0 h1 h2 h3 h4 h5 = grind (arith, nat_tests, common_steps, not_both, every-contained, lt)
 
           place-of : (ms : List Message) (e : EachRead i.numbered i.sent once ms) (m : Message) → Contains ms m
               → (x : IsReadOf i.numbered i.sent m) × Contains (places i.numbered i.sent once ms e) x.written.0
@@ -436,30 +414,11 @@ module _ (reported : Reported) (first size max most : ℕ) (limits : Option Limi
 
   -- what comes back is not refused
   pub none-refused-back : NoneIsRefusedSo s
-  none-refused-back =
-      let x = beside.shadow in
-      let t = s.sending.sender in
-      let all = beside-accounted in
-      let held : held_by_sender beside.other.sending.sender ≡ total_bytes (with_inflight t.flight.queue x.chunks) = ap held_by_sender x.sender in
-      let before : bytes_written beside.other ≡ bytes_written s = ap (λ ws. sum_by (λ (y : Write). length y.bytes) ws) x.written in
-      let refused = runs.none-refused reported first size max most limits cs s r small few in
-      λ k d lt. back-fits (slice_index_or s.sacks k d) t x.chunks x.like (omega (arith, all, held, before, short)) (refused k d lt)
-    where
-      beside-accounted : IsAccounted beside.other
-      beside-accounted =
-          played-accounted (is_steady cs) (was_dropped cs) (is_unbroken cs) (Some others) (steady-there false cs) first beside.other n gone modes i
+  none-refused-back = grind (arith, runs.none-refused, lt, back-fits, played-accounted, i)
 
   -- the sender holds what got TSNs, too; so a call of it gives out one at most
   holds : HoldsOn (is_steady cs) first s i.numbered i.sent
-  holds =
-      let x = beside.shadow in
-      record {
-        held = held-like (is_steady cs) first s.sending.sender x.streams x.chunks i.numbered i.sent x.alike x.like
-            (subst (λ u. IsHeldOn (is_steady cs) i.numbered first u i.sent) x.sender i.spread.holds.held);
-        made = made;
-        writes = writes;
-        placed = i.spread.holds.placed;
-      }
+  holds = grind (arith, held-like, i, writes)
 
   pub given-once : (call : SenderCall) (t : Session) → SenderFollows call s t → distance (next_tsn s) (next_tsn t) ≤ 1
   given-once call t f =

@@ -1,18 +1,15 @@
 -- Sessions of every call: what is read, where entries got TSNs; each message of which no fragment but the first begins one is a write.
-use Rattle.sctp_delivery.proofs.Names.{◌≡◌, ℕ, zero, suc, ◌<◌, ◌^◌, Bool, true, false, not, List, [], ◌∷◌, ◌++◌, length, refl, ap, sym, subst}
-use Rattle.sctp_delivery.proofs.Names.{◌∙◌, arith, All, Contains, slice_index_or, filter, list_all, list_any, AllPass-from_list_all, and, both, negated}
-use Rattle.sctp_delivery.proofs.Names.{completes, fails, following_tsn, same-is, ◌==◌}
-use Rattle.sctp_delivery.proofs.Names.{not_both, list_any-append, ChunkPayloadData, Message, has_tsn, is_complete, is_one_message, is_on}
-use Rattle.sctp_delivery.proofs.Names.{data_of, data_chunk, fragments_of_all, are_apart, AreMade, AreMessages, Session}
+use Rattle.sctp_delivery.proofs.Names.{nat_tests, common_steps, ◌≡◌, ℕ, zero, suc, ◌<◌, ◌^◌, Bool, true, false, not, List, [], ◌∷◌, ◌++◌, length, refl, ap, sym}
+use Rattle.sctp_delivery.proofs.Names.{subst, ◌∙◌, arith, All, Contains, slice_index_or, filter, list_all, list_any, AllPass-from_list_all, and, both, negated}
+use Rattle.sctp_delivery.proofs.Names.{completes, fails, following_tsn, same-is, ◌==◌, not_both, list_any-append, ChunkPayloadData, Message, has_tsn}
+use Rattle.sctp_delivery.proofs.Names.{is_complete, is_one_message, is_on, data_of, data_chunk, fragments_of_all, are_apart, AreMade, AreMessages, Session}
 use Rattle.sctp_delivery.proofs.Names.{◌||◌, ap₂}
-use Rattle.sctp_delivery.specs.EveryCall.{AfterEachAny, AnyCall, AreSingle, AreWritesWhereSingle}
-use Rattle.sctp_delivery.specs.EveryCall.{makes, of_receiving, of_sending, renews, AreToldApart, is_single, is_steady, single_messages}
+use Rattle.sctp_delivery.specs.EveryCall.{AfterEachAny, AnyCall, AreSingle, AreWritesWhereSingle, renews, AreToldApart, is_single, is_steady, single_messages}
 use Rattle.sctp_delivery.specs.EveryOrder.{breaks, goes_on, opens_incoming}
 use Rattle.sctp_delivery.proofs.Begun.{AreOnce}
 use Rattle.sctp_delivery.proofs.Calls.{contains-forgotten, forget, forgotten}
 use Rattle.sctp_delivery.proofs.Cases.{at-if}
-use Rattle.sctp_delivery.proofs.Delivered.{AreInner, IsReadOf, inner-of, single-is}
-use Rattle.sctp_delivery.proofs.Delivered.{EachSentFrom, each-from, each-sent-on, single-on}
+use Rattle.sctp_delivery.proofs.Delivered.{AreInner, IsReadOf, inner-of, single-is, EachSentFrom, each-from, each-sent-on, single-on}
 use Rattle.sctp_delivery.proofs.EveryRuns as runs
 use Rattle.sctp_delivery.proofs.Every.{Every, every-at, every-of-all}
 use Rattle.sctp_delivery.proofs.OnceWritten.{EachRead}
@@ -176,9 +173,7 @@ pub steady-there : (opened : Bool) (cs : List AnyCall) (q : ℕ) → goes_on ope
 steady-there opened cs q e = ap not (none opened cs e)
   where
     renewed : (o : Bool) (c : AnyCall) → breaks o q c ≡ false → renews q c ≡ false
-    renewed o (makes call) h = refl
-    renewed o (of_sending call) h = h
-    renewed o (of_receiving call) h = refl
+    renewed h0 h1 h2 = grind (arith, nat_tests, common_steps)
 
     none : (o : Bool) (ks : List AnyCall) → goes_on o q ks ≡ true → list_any (renews q) ks ≡ false
     none o [] h = refl

@@ -1,33 +1,29 @@
 -- Sessions of every call in a whole life: what came at the receiver lies behind the acknowledged TSN. No TSN is taken, or read, more often than it was
 -- given out, and no SACK is refused that is less than 2^31 TSNs old. Most sessions are sessions of these.
-use Rattle.sctp_delivery.proofs.Names.{◌≡◌, ℕ, ◌+◌, ◌<◌, ◌≤◌, ◌^◌, List, [], ◌∷◌, ◌++◌, length, map, Option, None, refl, ap, sym, subst, ◌∙◌, arith}
-use Rattle.sctp_delivery.proofs.Names.{Limits, Drop, ChunkPayloadData, Transmission, Reception, Stand, Ledger, filter, if◌then◌else◌}
-use Rattle.sctp_delivery.proofs.Names.{sack_refusal, at_or_before, distance, fragments_of_all, sum_by-cons, true, false, tsn, CanBeAnswered, Session, RunsTo}
-use Rattle.sctp_delivery.proofs.Names.{Call, at_start, of_receiver, of_sender, tsns}
-use Rattle.sctp_delivery.proofs.Names.{has_come, has_tsn, filter_of, after_forward_tsn, data_of, data_chunk}
-use Rattle.sctp_receiver.specs.Receiver.{after_discard, close_stream}
-use Rattle.sctp_receiver.specs.Resets.{reset_stream}
+use Rattle.sctp_delivery.proofs.Names.{common_steps, nat_tests, ◌≡◌, ℕ, ◌+◌, ◌<◌, ◌≤◌, ◌^◌, List, [], ◌∷◌, ◌++◌, length, map, Option, None, refl, ap, sym}
+use Rattle.sctp_delivery.proofs.Names.{subst, ◌∙◌, arith, Limits, Drop, ChunkPayloadData, Transmission, Reception, Ledger, filter, if◌then◌else◌, sack_refusal}
+use Rattle.sctp_delivery.proofs.Names.{at_or_before, distance, fragments_of_all, sum_by-cons, true, false, CanBeAnswered, Session, RunsTo, Call, at_start}
+use Rattle.sctp_delivery.proofs.Names.{of_receiver, of_sender, tsns, has_come, has_tsn, filter_of, after_forward_tsn, data_of, data_chunk}
+use Rattle.sctp_receiver.specs.Receiver.{after_discard}
 use Rattle.sctp_sender.specs.declared.sender.Reported.{Reported}
-use Rattle.sctp_sender.specs.declared.sender.Reported.TheVariants.{Keep}
-use Rattle.sctp_sender.specs.Keeping.{with_restored}
 use Rattle.sctp_sender.specs.Sender.{back_by}
-use Rattle.sctp_delivery.specs.EveryCall.{AnyCall, FollowsAny, ReceiverDoes, ReceiverOther, RunsAny, SenderDoes, SenderOther}
-use Rattle.sctp_delivery.specs.EveryCall.{closes, closes_incoming, discards, makes, of_receiving, of_sending, passes_over, resets, resets_incoming, takes_back}
+use Rattle.sctp_delivery.specs.EveryCall.{AnyCall, FollowsAny, ReceiverDoes, ReceiverOther, RunsAny, SenderDoes, SenderOther, closes, closes_incoming, discards}
+use Rattle.sctp_delivery.specs.EveryCall.{makes, of_receiving, of_sending, passes_over, resets, resets_incoming, takes_back}
 use Rattle.sctp_delivery.specs.EveryRecent.{AreReadAsGiven, AreRecentAny, AreTakenAsGiven, IsRecentAny, WhileAnyRecent, new_sacks_any, sacks_aged_any}
 use Rattle.sctp_delivery.specs.EveryRecent.{times_given_any}
-use Rattle.sctp_delivery.specs.Recent.{AgedSack, AreRecent, EachIsTakenOnceWhereGiven, NoYoungSackIsRefused, NoneYoungIsRefused, WhileRecent}
-use Rattle.sctp_delivery.specs.Recent.{gives, sack_older, sacks_aged, new_sacks, times_given, times_taken}
+use Rattle.sctp_delivery.specs.Recent.{AgedSack, AreRecent, EachIsTakenOnceWhereGiven, NoYoungSackIsRefused, NoneYoungIsRefused, WhileRecent, gives, sack_older}
+use Rattle.sctp_delivery.specs.Recent.{sacks_aged, new_sacks, times_given, times_taken}
 use Rattle.sctp_delivery.specs.Returns.{at_start_with}
 use Rattle.sctp_delivery.specs.Session.{count_in_flight}
 use Rattle.sctp_delivery.proofs.Cases.{at-if, at-test}
 use Rattle.sctp_delivery.proofs.Delivered.{next_tsn}
 use Rattle.sctp_delivery.proofs.Every.{Every, all-of-every, every-contained, every-joined, every-mapped, every-of}
 use Rattle.sctp_delivery.proofs.EveryRuns.{back-valid, receiver-runs, receiver_calls, restored-tsns}
-use Rattle.sctp_delivery.proofs.FewInFlight.{HasSmall, IsInRun, IsMadeSmall, follows-small, still-run, with-small}
+use Rattle.sctp_delivery.proofs.FewInFlight.{HasSmall, IsMadeSmall, follows-small, still-run, with-small}
 use Rattle.sctp_delivery.proofs.GivenTsns.{as-long}
 use Rattle.sctp_delivery.proofs.ReadOnce.{count, none-more, one}
-use Rattle.sctp_delivery.proofs.Recent.{Comes, HasArrived, IsNear, any, comes-past, comes-with, fresh-given, longer-arrived, near-can, near-first, none}
-use Rattle.sctp_delivery.proofs.Recent.{receiver-near, same-longer, sender-near}
+use Rattle.sctp_delivery.proofs.Recent.{Comes, IsNear, any, comes-past, comes-with, fresh-given, longer-arrived, near-can, none, receiver-near, same-longer}
+use Rattle.sctp_delivery.proofs.Recent.{sender-near}
 use Rattle.sctp_delivery.proofs.TakenAgain.{Flies, IsBalanced, balanced-first, receiver-balanced, sender-balanced, stays-past, stays-with, still, wider}
 use Rattle.sctp_delivery.proofs.TakenCalls.{Knows}
 use Rattle.sctp_delivery.proofs.TsnPlaces.{IsGiven}
@@ -48,32 +44,7 @@ module _ (old new : Session) (few : count_in_flight new < 2 ^ 31) (i : IsNear ol
       → tsns t.flight.queue.inflight.chunks ≡ tsns old.sending.sender.flight.queue.inflight.chunks
       → t.flight.next_tsn ≡ old.sending.sender.flight.next_tsn → t.flight.acked_tsn ≡ old.sending.sender.flight.acked_tsn
       → IsFresh t.flight.queue → IsValid any none t.flight.queue → IsNear new
-  other-flight call f t e same next acked fresh valid =
-      let to : (P : Session → Type 0) → P (record {
-        sending = new.sending;
-        receiving = old.receiving;
-        made = old.made;
-        sacks = old.sacks;
-        written = old.written;
-      }) → P new = λ P h. subst P (sym f.after) h in
-      to IsNear (record {
-        regular = record {
-          regular = record {
-            numbered = subst (λ (x : Transmission). IsInRun x.flight) (sym e)
-                (still-run u.flight t.flight same next acked i.regular.regular.numbered);
-            fresh = subst (λ (x : Transmission). IsFresh x.flight.queue) (sym e) fresh;
-            sacks = i.regular.regular.sacks;
-          };
-          made = i.regular.made;
-          cumulative = i.regular.cumulative;
-          beyond = i.regular.beyond;
-        };
-        valid = subst (λ (x : Transmission). IsValid any none x.flight.queue) (sym e) valid;
-        arrived = subst (λ (x : Transmission). HasArrived x.flight old.receiving.receiver) (sym e)
-            (longer-arrived u.flight t.flight r (same-longer u.flight t.flight same acked) i.arrived);
-        order = i.order;
-        few = few;
-      })
+  other-flight call f t e same next acked fresh valid = grind (arith, still-run, longer-arrived, same-longer)
 
   sender-other : (call : SenderOther) → SenderDoes call old new → IsNear new
   sender-other (takes_back sack back) f =
@@ -89,27 +60,7 @@ module _ (old new : Session) (few : count_in_flight new < 2 ^ 31) (i : IsNear ol
   Stood q = HasSmall q × Comes old new few i q
 
   other-reception : (call : ReceiverOther) → ReceiverDoes call old new → (q : Reception) → new.receiving.receiver ≡ q → Stood q → IsNear new
-  other-reception call f q e h =
-      let to : (P : Session → Type 0) → P (record {
-        sending = old.sending;
-        receiving = new.receiving;
-        made = old.made;
-        sacks = old.sacks;
-        written = old.written;
-      }) → P new = λ P k. subst P (sym f.after) k in
-      let k = subst Stood (sym e) h in
-      to IsNear (record {
-        regular = record {
-          regular = record { numbered = i.regular.regular.numbered; fresh = i.regular.regular.fresh; sacks = i.regular.regular.sacks };
-          made = i.regular.made;
-          cumulative = k.0.0;
-          beyond = k.0.1;
-        };
-        valid = i.valid;
-        arrived = k.1.0;
-        order = k.1.1;
-        few = i.few;
-      })
+  other-reception call f q e h = grind (arith, nat_tests, common_steps)
 
   -- a chunk that was made and is handed over now, is in flight where it has not come
   handed-given : (c : ChunkPayloadData) → ReceiverDoes (discards c) old new → IsRecentAny (of_receiving (discards c)) old
@@ -125,12 +76,8 @@ module _ (old new : Session) (few : count_in_flight new < 2 ^ 31) (i : IsNear ol
         with-small old i.regular c.tsn (every-contained IsMadeSmall old.made (data_chunk (data_of c)) f.handed i.regular.made),
         comes-with old new few i c.tsn (handed-given c f q e) e,
       )))
-  receiver-other (closes_incoming stream) f q =
-      other-reception (closes_incoming stream) f (close_stream stream r) f.step.receiver
-      ((i.regular.cumulative, i.regular.beyond), (i.arrived, record { small = i.order.small; rise = i.order.rise }))
-  receiver-other (resets_incoming stream last) f q =
-      other-reception (resets_incoming stream last) f (reset_stream stream last r) f.step.receiver
-      ((i.regular.cumulative, i.regular.beyond), (i.arrived, record { small = i.order.small; rise = i.order.rise }))
+  receiver-other (closes_incoming stream) f q = grind (arith, nat_tests, common_steps)
+  receiver-other (resets_incoming stream last) f q = grind (arith, nat_tests, common_steps)
   receiver-other (passes_over c) f q =
       other-reception (passes_over c) f (after_forward_tsn c r) f.step.receiver (follows-small old i.regular c f.handed, comes-past old new few i c f.handed q)
 
@@ -138,49 +85,23 @@ module _ (old new : Session) (few : count_in_flight new < 2 ^ 31) (i : IsNear ol
 
   pub flight-same : (call : SenderOther) → SenderDoes call old new
       → (new.sending.sender.flight.acked_tsn ≡ old.sending.sender.flight.acked_tsn) × (count_in_flight new ≡ count_in_flight old)
-  flight-same (takes_back sack back) f =
-      let cs = u.flight.queue.inflight.chunks in
-      let v = with_restored (back_by sack u.flight u.kept) u.flight in (
-        ap (λ (t : Transmission). t.flight.acked_tsn) f.exact,
-        ap (λ (t : Transmission). length t.flight.queue.inflight.chunks) f.exact
-            ∙ as-long v.queue.inflight.chunks cs (restored-tsns (back_by sack u.flight u.kept) cs),
-      )
-  flight-same (closes stream) f =
-      (ap (λ (t : Transmission). t.flight.acked_tsn) f.step.sender, ap (λ (t : Transmission). length t.flight.queue.inflight.chunks) f.step.sender)
-  flight-same (resets stream) f =
-      (ap (λ (t : Transmission). t.flight.acked_tsn) f.step.sender, ap (λ (t : Transmission). length t.flight.queue.inflight.chunks) f.step.sender)
+  flight-same h0 h1 = grind (arith, nat_tests, common_steps, as-long, restored-tsns)
 
   pub flew-so : (call : SenderOther) → SenderDoes call old new → (t : ℕ) → Flies t new → Flies t old
-  flew-so call f t g =
-      let same = flight-same call f in
-      let some = g.some in
-      let within = g.within in
-      let long = same.1 in
-      record { place = g.place; some = some; within = omega (arith, within, long); is = g.is ∙ ap (λ a. tsn a g.place) same.0 }
+  flew-so call f t g = grind (arith, nat_tests, common_steps, flight-same)
 
   pub stays-so : (t : ℕ) → Flies t old → (call : ReceiverOther) → ReceiverDoes call old new → IsRecentAny (of_receiving call) old → Knows t r
       → Knows t new.receiving.receiver
-  stays-so t g (discards c) f q e =
-      subst (Knows t) (sym f.step.receiver)
-      (at-if (Knows t) (has_come c.tsn (filter_of r)) (λ h. e) (λ h. stays-with old new few i c (handed-given c f q h) h t g e))
-  stays-so t g (closes_incoming stream) f q e = subst (Knows t) (sym f.step.receiver) e
-  stays-so t g (resets_incoming stream last) f q e = subst (Knows t) (sym f.step.receiver) e
-  stays-so t g (passes_over c) f q e = subst (Knows t) (sym f.step.receiver) (stays-past old new few i c f.handed q t g e)
+  stays-so h0 h1 h2 h3 h4 h5 = grind (arith, stays-with, handed-given, stays-past)
 
 -- no other call takes a chunk
 pub accepted-same : (call : ReceiverOther) (old new : Session) → ReceiverDoes call old new → new.receiving.accepted ≡ old.receiving.accepted
-accepted-same (discards c) old new f = f.step.accepted
-accepted-same (closes_incoming stream) old new f = f.step.accepted
-accepted-same (resets_incoming stream last) old new f = f.step.accepted
-accepted-same (passes_over c) old new f = f.step.accepted
+accepted-same h0 h1 h2 h3 = grind (arith, nat_tests, common_steps)
 
 -- ## Every call
 
 pub near-after : (c : AnyCall) (old new : Session) → count_in_flight new < 2 ^ 31 → FollowsAny c old new → IsRecentAny c old → IsNear old → IsNear new
-near-after (makes (of_sender call)) old new few f q i = sender-near old new few i call f q
-near-after (makes (of_receiver call)) old new few f q i = receiver-near old new few i call f q
-near-after (of_sending call) old new few f q i = sender-other old new few i call f
-near-after (of_receiving call) old new few f q i = receiver-other old new few i call f q
+near-after h0 h1 h2 h3 h4 h5 h6 = grind (arith, nat_tests, common_steps, sender-near, receiver-near, sender-other, receiver-other)
 
 near-then : (cs : List AnyCall) (s new : Session) (run : RunsAny s cs new) → AreRecentAny s cs new run → IsNear s → IsNear new
 near-then [] s new run q i = subst IsNear (sym run) i
@@ -192,10 +113,7 @@ module _ (t : ℕ) (fits : t < 2 ^ 32) where
   balanced-after (makes (of_sender call)) old new g few f q i j b = sender-balanced t fits old new few i j call g f b
   balanced-after (makes (of_receiver call)) old new g few f q i j b =
       wider t fits g _ new (omega arith) (receiver-balanced t fits old new few i j call g f q b)
-  balanced-after (of_sending call) old new g few f q i j b =
-      let same = ap (λ (s : Session). s.receiving) f.after in
-      wider t fits g _ new (omega arith) (still t fits old new g (ap (λ (y : Stand). y.accepted) same) (flew-so old new few i call f t)
-      (λ fl e. subst (λ (y : Stand). Knows t y.receiver) (sym same) e) b)
+  balanced-after (of_sending call) old new g few f q i j b = grind (arith, nat_tests, common_steps)
   balanced-after (of_receiving call) old new g few f q i j b =
       wider t fits g _ new (omega arith) (still t fits old new g (accepted-same call old new f)
       (λ fl. subst (λ (l : Ledger). IsGiven l.sender.flight.acked_tsn (length l.sender.flight.queue.inflight.chunks) t)
@@ -225,25 +143,13 @@ module _ (first n : ℕ) (old new : Session) (few : count_in_flight new < 2 ^ 31
   sacks-after (makes (of_sender call)) f q =
       let g = given-after first n call old new f few i (sender-near old new few i call f q) e in
       (g.0, g.1, g.2, g.3, tt)
-  sacks-after (makes (of_receiver call)) f q = (
-    n,
-    omega arith,
-    omega arith,
-    subst (λ (l : Ledger). AreGiven first n l.sender.flight) (sym (ap (λ (s : Session). s.sending) f.after)) e,
-    all-made first n old i e call,
-  )
+  sacks-after (makes (of_receiver call)) f q = grind (arith, nat_tests, common_steps, all-made)
   sacks-after (of_sending call) f q =
       let same = flight-same old new few i call f in
       let total = e.total in
       let long = same.1 in
       (n, omega arith, omega arith, record { acked = e.acked; total = omega (arith, total, long); is = same.0 ∙ e.is }, tt)
-  sacks-after (of_receiving call) f q = (
-    n,
-    omega arith,
-    omega arith,
-    subst (λ (l : Ledger). AreGiven first n l.sender.flight) (sym (ap (λ (s : Session). s.sending) f.after)) e,
-    tt,
-  )
+  sacks-after (of_receiving call) f q = grind (arith, nat_tests, common_steps)
 
 sacks-then : (first n : ℕ) (cs : List AnyCall) (old new : Session) (ks : List AgedSack) (run : RunsAny old cs new) → AreRecentAny old cs new run → IsNear old
     → AreGiven first n old.sending.sender.flight → Every (IsSackAt first n) ks → NoneYoungIsRefused (sacks_aged_any ks old cs new run) new
@@ -265,21 +171,7 @@ sacks-then first n (c ∷ cs) old new ks run q i e k =
 
 pub near-start : (reported : Reported) (first size max most : ℕ) (limits : Option Limits) → first < 2 ^ 32
     → IsNear (at_start_with reported first size max most limits)
-near-start Drop first size max most limits small = near-first first size max most limits small
-near-start Keep first size max most limits small =
-    let i = near-first first size max most limits small in
-    record {
-      regular = record {
-        regular = record { numbered = i.regular.regular.numbered; fresh = i.regular.regular.fresh; sacks = tt };
-        made = tt;
-        cumulative = i.regular.cumulative;
-        beyond = tt;
-      };
-      valid = i.valid;
-      arrived = i.arrived;
-      order = i.order;
-      few = i.few;
-    }
+near-start h0 h1 h2 h3 h4 h5 h6 = grind (arith, nat_tests, common_steps)
 
 -- nothing was done
 record IsIdleStart (first : ℕ) (s : Session) : Type 0 where
@@ -289,17 +181,12 @@ record IsIdleStart (first : ℕ) (s : Session) : Type 0 where
 
 idle-start : (reported : Reported) (first size max most : ℕ) (limits : Option Limits) → first < 2 ^ 32
     → IsIdleStart first (at_start_with reported first size max most limits)
-idle-start Drop first size max most limits small =
-    record { flying = refl; untaken = λ t. refl; given = record { acked = 0; total = omega arith; is = omega (arith, small) } }
-idle-start Keep first size max most limits small =
-    record { flying = refl; untaken = λ t. refl; given = record { acked = 0; total = omega arith; is = omega (arith, small) } }
+idle-start h0 h1 h2 h3 h4 h5 h6 = grind (arith, nat_tests, common_steps)
 
 -- ## The laws
 
 pub can : WhileAnyRecent (λ given sacks s. CanBeAnswered s)
-can reported first size max most limits cs s run small q =
-    let start = at_start_with reported first size max most limits in
-    near-can s (near-then cs start s run q (near-start reported first size max most limits small))
+can reported first size max most limits cs s run small q = grind (arith, nat_tests, common_steps, near-can, near-then, near-start)
 
 pub taken : WhileAnyRecent (λ given sacks s. AreTakenAsGiven given s)
 taken reported first size max most limits cs s run small q t fits =

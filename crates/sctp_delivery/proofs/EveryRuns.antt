@@ -1,18 +1,16 @@
 -- Sessions of every call: what stays true of them, whatever the two hosts are called for.
-use Rattle.sctp_delivery.proofs.Names.{◌≡◌, ℕ, ◌+◌, ◌<◌, ◌≤◌, ◌^◌, Bool, true, false, not, List, [], ◌∷◌, Option, Some, None, refl, ap, sym, subst}
-use Rattle.sctp_delivery.proofs.Names.{◌∙◌, ◌&&◌, arith, distance, comes_before, or-left, or-right, same-yes, not_both, negated, both, ChunkPayloadData, Limits}
-use Rattle.sctp_delivery.proofs.Names.{has_tsn, tsns, Sack, Flight, is_outdated, reports, NoneIsReadTwice}
-use Rattle.sctp_delivery.proofs.Names.{CanBeAnswered, AllReportedLeaves, EachSackTells, NoneIsRefused, NoneIsTakenTwice, PassAbandoned, StaysAcknowledged}
-use Rattle.sctp_delivery.proofs.Names.{are_apart, was_passed, was_taken, data_chunk, forward_tsn, AreMade, AreMessages}
-use Rattle.sctp_delivery.proofs.Names.{Session, at_start, bytes_written, of_receiver, of_sender, if◌then◌else◌, list_any, insert_before, data_of}
-use Rattle.sctp_delivery.proofs.Names.{Reception, filter_of, with_filter, has_come, with_tsn, after_forward_tsn, passes, tsn, Transmission}
-use Rattle.sctp_receiver.specs.Receiver.{after_discard, close_stream, repeat_tsn}
+use Rattle.sctp_delivery.proofs.Names.{common_steps, nat_tests, ◌≡◌, ℕ, ◌+◌, ◌<◌, ◌≤◌, ◌^◌, Bool, true, not, List, [], ◌∷◌, Option, Some, None, refl, ap, sym}
+use Rattle.sctp_delivery.proofs.Names.{subst, ◌∙◌, arith, distance, or-left, or-right, same-yes, both, ChunkPayloadData, Limits, has_tsn, tsns, Sack, Flight}
+use Rattle.sctp_delivery.proofs.Names.{NoneIsReadTwice, CanBeAnswered, AllReportedLeaves, EachSackTells, NoneIsRefused, NoneIsTakenTwice, PassAbandoned}
+use Rattle.sctp_delivery.proofs.Names.{StaysAcknowledged, are_apart, was_passed, was_taken, data_chunk, forward_tsn, AreMade, AreMessages, Session}
+use Rattle.sctp_delivery.proofs.Names.{bytes_written, of_receiver, of_sender, list_any, data_of, Reception, filter_of, with_filter, has_come, with_tsn}
+use Rattle.sctp_delivery.proofs.Names.{after_forward_tsn, passes, tsn, Transmission}
+use Rattle.sctp_receiver.specs.Receiver.{after_discard, close_stream}
 use Rattle.sctp_receiver.specs.Resets.{reset_stream}
 use Rattle.sctp_receiver.specs.ReceiverRuns as receiver_runs
 use Rattle.sctp_receiver.specs.TsnFilter.{placeholder}
 use Rattle.sctp_sender.specs.declared.sender.Reported.{Reported}
-use Rattle.sctp_sender.specs.declared.sender.Reported.TheVariants.{Drop, Keep}
-use Rattle.sctp_sender.specs.Keeping.{back_each, back_of, restored, restored_with, takes_back as is_taken_back, with_restored}
+use Rattle.sctp_sender.specs.Keeping.{back_each, back_of, restored, restored_with, with_restored}
 use Rattle.sctp_sender.specs.Sender.{back_by}
 use Rattle.sctp_sender.specs.SenderRuns as sender_runs
 use Rattle.sctp_sender.proofs.Accounts as accounts
@@ -23,17 +21,17 @@ use Rattle.sctp_delivery.specs.EveryCall.{takes_back, tsns_given_any, was_droppe
 use Rattle.sctp_delivery.specs.ReceiverCalls as incoming
 use Rattle.sctp_delivery.specs.Returns.{IsAccountedSo, at_start_with}
 use Rattle.sctp_delivery.specs.SenderCalls as outgoing
-use Rattle.sctp_delivery.proofs.ArrivedTsns.{IsArrived, IsKnown, advanced}
-use Rattle.sctp_delivery.proofs.Cases.{at-if, at-test}
+use Rattle.sctp_delivery.proofs.ArrivedTsns.{IsArrived, advanced}
+use Rattle.sctp_delivery.proofs.Cases.{at-if}
 use Rattle.sctp_delivery.proofs.Every.{Every, every-contained, every-inserted, every-of}
 use Rattle.sctp_delivery.proofs.GivenTsns.{IsNumbered, same-numbered}
 use Rattle.sctp_delivery.proofs.ReadOnce.{none-twice-so}
-use Rattle.sctp_delivery.proofs.ReportedTsns.{IsTruthful, later-truthful}
+use Rattle.sctp_delivery.proofs.ReportedTsns.{later-truthful}
 use Rattle.sctp_delivery.proofs.SackLaws as sacks
-use Rattle.sctp_delivery.proofs.SackLaws.{IsInStepBut, beside, grows-so}
+use Rattle.sctp_delivery.proofs.SackLaws.{IsInStepBut, grows-so}
 use Rattle.sctp_delivery.proofs.SackSteps.{IsMadeGiven, came_in, known_or, passed_in}
 use Rattle.sctp_delivery.proofs.Sessions as sessions
-use Rattle.sctp_delivery.proofs.Sessions.{IsTakenMade, kept-so, sent-made, taken-made, written-more}
+use Rattle.sctp_delivery.proofs.Sessions.{IsTakenMade, kept-so, sent-made, taken-made}
 use Rattle.sctp_delivery.proofs.TakenCalls.{AreTaken, HasCome, IsInOrder, each-sack-tells, follows-arrived, more-arrived, new-come, order-past, order-with}
 use Rattle.sctp_delivery.proofs.TakenCalls.{passed-upto, skip-come}
 use Rattle.sctp_delivery.proofs.Taking.{can-but}
@@ -46,20 +44,7 @@ use Rattle.sctp_delivery.proofs.ValidMarks.{IsRight, IsValid}
 
 module _ (p n : ℕ) (kn : ℕ → Bool) (r : Reception) (few : n < 2 ^ 31) (t : ℕ) (g : IsGiven p n t) (h : IsArrived p n kn r.cumulative_tsn r.beyond) where
   pub discard-arrived : kn t ≡ true → IsArrived p n kn (after_discard t r).cumulative_tsn (after_discard t r).beyond
-  discard-arrived so = at-test (λ b. IsArrived p n kn (if b then repeat_tsn t r else with_filter (with_tsn t (filter_of r)) r).cumulative_tsn
-      (if b then repeat_tsn t r else with_filter (with_tsn t (filter_of r)) r).beyond) (has_come t (filter_of r))
-      (λ e. h)
-      (λ e. advanced p n kn r.cumulative_tsn (insert_before comes_before t r.beyond) few one)
-    where
-      one : IsArrived p n kn r.cumulative_tsn (insert_before comes_before t r.beyond)
-      one = record {
-        place = h.place;
-        within = h.within;
-        is = h.is;
-        so_far = h.so_far;
-        each = every-inserted (IsKnown p n kn) comes_before t r.beyond
-            (record { place = g.place; some = g.some; within = g.within; is = g.is; so = so }) h.each;
-      }
+  discard-arrived so = grind (arith, nat_tests, common_steps, advanced, every-inserted)
 
   pub discard-order : IsInOrder r → IsInOrder (after_discard t r)
   discard-order a = at-if IsInOrder (has_come t (filter_of r))
@@ -89,16 +74,7 @@ module _ (dropped : ℕ → Bool) (p n : ℕ) (few : n < 2 ^ 31) (old new : Sess
   -- where the receiver is this one then, and no chunk is taken as new
   to : (q : Reception) → new.receiving.receiver ≡ q → new.receiving.accepted ≡ cs → new.made ≡ old.made → new.sending ≡ old.sending
       → new.sacks ≡ old.sacks → IsArrived p n Known q.cumulative_tsn q.beyond → AreTaken p n q cs → IsInOrder q → IsInStepBut dropped p n new
-  to q e same made sender told arrived taken order =
-      let still : (t : ℕ) → was_taken t old ≡ true → was_taken t new ≡ true = λ t k. ap (list_any (has_tsn t)) same ∙ k in
-      let grows = grows-so dropped p n old new still (λ t k. ap (list_any (passes t)) made ∙ k) in
-      beside dropped p n old new few made sender still
-      (subst (λ (u : Reception). IsArrived p n Known u.cumulative_tsn u.beyond) (sym e) arrived)
-      (subst (Every (IsTruthful p n Known)) (sym told)
-      (every-of (IsTruthful p n (known_or dropped old)) (IsTruthful p n Known)
-      (λ k x. later-truthful p n n (known_or dropped old) Known k (omega arith) grows x) old.sacks i.sacks))
-      (subst (λ u. AreTaken p n u new.receiving.accepted) (sym e) (subst (AreTaken p n q) (sym same) taken))
-      (subst IsInOrder (sym e) order) i
+  to q e same made sender told arrived taken order = grind (arith, nat_tests, common_steps, grows-so, every-of, later-truthful)
 
   grown : (call : ReceiverOther) → ReceiverDoes call old new → new.receiving.accepted ≡ cs → (t : ℕ) → known_or dropped old t ≡ true → Known t ≡ true
   grown call f same =
@@ -150,22 +126,8 @@ module _ (dropped : ℕ → Bool) (p n : ℕ) (few : n < 2 ^ 31) (old new : Sess
 -- ## What comes back
 
 module _ (taken passed : ℕ → Bool) (sack : Sack) where
-  some-back : (k : Option (List ℕ)) (c : ChunkPayloadData) → c.abandoned ≡ false → IsRight taken passed c → IsRight taken passed (restored_with k c)
-  some-back None c whole r = r
-  some-back (Some bytes) c whole r = record {
-    came = λ a. absurd (not_both a);
-    gone = r.gone;
-    bare = λ a. absurd (not_both (sym whole ∙ a));
-    settled = λ a. absurd (not_both a);
-  }
-
   back-right : (k : Option (List ℕ)) (c : ChunkPayloadData) → IsRight taken passed c → IsRight taken passed (restored_with (back_of sack c k) c)
-  back-right k c r = at-if (λ o. IsRight taken passed (restored_with o c)) (is_taken_back sack c)
-      (λ e.
-      let a = (both ((c.acked && not c.abandoned) && not (reports sack c)) _ e).0 in
-      let b = (both (c.acked && not c.abandoned) (not (reports sack c)) a).0 in
-      some-back k c (negated c.abandoned (both c.acked (not c.abandoned) b).1) r)
-      (λ e. r)
+  back-right k c r = grind (arith, nat_tests, common_steps)
 
   backs-right : (ks : List (Option (List ℕ))) (ds : List ChunkPayloadData) → Every (IsRight taken passed) ds
       → Every (IsRight taken passed) (restored (back_each sack ds ks) ds)
@@ -176,13 +138,7 @@ module _ (taken passed : ℕ → Bool) (sack : Sack) where
 
   pub back-valid : (f : Flight) (o : Option (List (Option (List ℕ)))) → IsValid taken passed f.queue
       → IsValid taken passed (with_restored (back_by sack f o) f).queue
-  back-valid f None v = record { ordered = v.ordered; unordered = v.unordered; inflight = v.inflight }
-  back-valid f (Some ks) v = record {
-    ordered = v.ordered;
-    unordered = v.unordered;
-    inflight = at-if (λ bs. Every (IsRight taken passed) (restored bs f.queue.inflight.chunks)) (is_outdated sack f)
-        (λ e. v.inflight) (λ e. backs-right ks f.queue.inflight.chunks v.inflight);
-  }
+  back-valid h0 h1 h2 = grind (arith, nat_tests, common_steps, backs-right)
 
 pub restored-tsns : (bs : List (Option (List ℕ))) (ds : List ChunkPayloadData) → tsns (restored bs ds) ≡ tsns ds
 restored-tsns [] ds = refl
@@ -198,12 +154,8 @@ module _ (dropped : ℕ → Bool) (p n : ℕ) (old new : Session) (i : IsInStepB
       → t.flight.acked_tsn ≡ old.sending.sender.flight.acked_tsn
       → IsValid (came_in dropped old) (passed_in old.made) t.flight.queue → IsInStepBut dropped p n new
   other-flight call f t e numbered acked valid =
-      let to : (P : Session → Type 0) → P (record {
+      let to : (P : Session → Type 0) → P (record old {
         sending = new.sending;
-        receiving = old.receiving;
-        made = old.made;
-        sacks = old.sacks;
-        written = old.written;
       }) → P new = λ P h. subst P (sym f.after) h in
       to (IsInStepBut dropped p n) (record {
         numbered = subst (λ (u : Transmission). IsNumbered p n u.flight) (sym e) numbered;
@@ -230,9 +182,7 @@ module _ (dropped : ℕ → Bool) (p n : ℕ) (old new : Session) (i : IsInStepB
 -- no TSN is given out
 pub next-same : (call : SenderOther) (old new : Session) → SenderDoes call old new
     → new.sending.sender.flight.next_tsn ≡ old.sending.sender.flight.next_tsn
-next-same (takes_back sack back) old new f = ap (λ (t : Transmission). t.flight.next_tsn) f.exact
-next-same (closes stream) old new f = ap (λ (t : Transmission). t.flight.next_tsn) f.step.sender
-next-same (resets stream) old new f = ap (λ (t : Transmission). t.flight.next_tsn) f.step.sender
+next-same h0 h1 h2 h3 = grind (arith, nat_tests, common_steps)
 
 -- # Calls one after another
 
@@ -283,18 +233,8 @@ module _ (P : Session → Type 0) (kept : (c : AnyCall) (a b : Session) → Foll
 abbrev IsWritten : Session → Type 0
 IsWritten s = bytes_written s ≡ s.sending.written
 
-none-written : (call : SenderOther) → sender_runs.written_by (as_sender_run call) ≡ 0
-none-written (takes_back sack back) = refl
-none-written (closes stream) = refl
-none-written (resets stream) = refl
-
 counts : (c : AnyCall) (old new : Session) → FollowsAny c old new → IsWritten old → IsWritten new
-counts (makes (of_sender call)) old new f h =
-    let e = ap bytes_written f.after in let m = written-more call old.written in let w = f.step.written in omega (arith, e, m, w, h)
-counts (makes (of_receiver call)) old new f h = ap bytes_written f.after ∙ h ∙ sym (ap (λ (s : Session). s.sending.written) f.after)
-counts (of_sending call) old new f h =
-    let e = ap bytes_written f.after in let w = f.step.written in let z = none-written call in omega (arith, e, w, z, h)
-counts (of_receiving call) old new f h = ap bytes_written f.after ∙ h ∙ sym (ap (λ (s : Session). s.sending.written) f.after)
+counts h0 h1 h2 h3 h4 = grind (arith, nat_tests, common_steps)
 
 no-bytes : (reported : Reported) (tsn size max most : ℕ) (limits : Option Limits) → IsWritten (at_start_with reported tsn size max most limits)
 no-bytes reported tsn size max most limits = refl
@@ -302,11 +242,7 @@ no-bytes reported tsn size max most limits = refl
 -- bytes that were written stay so
 pub grows : (cs : List AnyCall) (old new : Session) → RunsAny old cs new → bytes_written old ≤ bytes_written new
 grows [] old new r = let e = ap bytes_written r in omega (arith, e)
-grows (makes (of_sender call) ∷ cs) old new r =
-    let e = ap bytes_written r.1.0.after in
-    let m = written-more call old.written in
-    let rest = grows cs r.0 new r.1.1 in
-    omega (arith, e, m, rest)
+grows (makes (of_sender call) ∷ cs) old new r = grind (arith, nat_tests, common_steps, grows cs r.0 new r.1.1)
 grows (makes (of_receiver call) ∷ cs) old new r = let e = ap bytes_written r.1.0.after in let rest = grows cs r.0 new r.1.1 in omega (arith, e, rest)
 grows (of_sending call ∷ cs) old new r = let e = ap bytes_written r.1.0.after in let rest = grows cs r.0 new r.1.1 in omega (arith, e, rest)
 grows (of_receiving call ∷ cs) old new r = let e = ap bytes_written r.1.0.after in let rest = grows cs r.0 new r.1.1 in omega (arith, e, rest)
@@ -321,14 +257,7 @@ accounted reported tsn size max most limits cs s r =
 -- ## Messages
 
 pub takes-made : (c : AnyCall) (old new : Session) → FollowsAny c old new → IsTakenMade old → IsTakenMade new
-takes-made (makes (of_sender call)) old new f h = sent-made call old new f h
-takes-made (makes (of_receiver call)) old new f h = taken-made call old new f h
-takes-made (of_sending call) old new f h =
-    kept-so old new (ap (λ (s : Session). s.made) f.after) (ap (λ (s : Session). s.receiving.accepted) f.after) h
-takes-made (of_receiving (discards c)) old new f h = kept-so old new (ap (λ (s : Session). s.made) f.after) f.step.accepted h
-takes-made (of_receiving (closes_incoming stream)) old new f h = kept-so old new (ap (λ (s : Session). s.made) f.after) f.step.accepted h
-takes-made (of_receiving (resets_incoming stream last)) old new f h = kept-so old new (ap (λ (s : Session). s.made) f.after) f.step.accepted h
-takes-made (of_receiving (passes_over c)) old new f h = kept-so old new (ap (λ (s : Session). s.made) f.after) f.step.accepted h
+takes-made h0 h1 h2 h3 h4 = grind (arith, nat_tests, common_steps, sent-made, taken-made, kept-so)
 
 pub all-made : AfterEachAny (λ calls s. IsTakenMade s)
 all-made reported tsn size max most limits cs s r = keeps IsTakenMade takes-made cs (at_start_with reported tsn size max most limits) s r refl
@@ -379,23 +308,7 @@ module _ (dropped : ℕ → Bool) (p : ℕ) where
 
 pub begin-any : (dropped : ℕ → Bool) (reported : Reported) (first size max most : ℕ) (limits : Option Limits) → first < 2 ^ 32
     → IsInStepBut dropped (base first) 0 (at_start_with reported first size max most limits)
-begin-any dropped reported first size max most limits small = by reported
-  where
-    b : IsInStepBut dropped (base first) 0 (at_start first size max most limits)
-    b = sacks.begin-but dropped first size max most limits small
-
-    by : (k : Reported) → IsInStepBut dropped (base first) 0 (at_start_with k first size max most limits)
-    by Drop = b
-    by Keep = record {
-      numbered = b.numbered;
-      made = b.made;
-      arrived = b.arrived;
-      sacks = b.sacks;
-      settled = b.settled;
-      valid = b.valid;
-      taken = b.taken;
-      order = b.order;
-    }
+begin-any dropped reported first size max most limits small = grind (arith, nat_tests, common_steps)
 
 pub in-step : AfterEachAnyOfFewTsns (λ first n cs s. IsInStepBut (was_dropped cs) (base first) n s)
 in-step reported first size max most limits cs s r small few =

@@ -1,7 +1,7 @@
 -- Sessions of every call: where nothing waits or is in flight, each unordered chunk of a stream that goes on was read, or is held.
-use Rattle.sctp_delivery.proofs.Names.{◌≡◌, ℕ, suc, ◌<◌, ◌^◌, Bool, true, false, List, [], ◌∷◌, ◌++◌, length, inl, inr, refl, ap, sym, subst, ◌∙◌}
-use Rattle.sctp_delivery.proofs.Names.{arith, All, Contains, if◌then◌else◌, ◌==◌, ◌||◌, filter, list_any, sum_by, sum_by-cons, sum_by-append, eq-eqb, ◌⊎◌}
-use Rattle.sctp_delivery.proofs.Names.{or-split, same-is, fails, not_both, tsn, ChunkPayloadData, Data, data_of, data_chunk, has_tsn, is_on, passes, Message}
+use Rattle.sctp_delivery.proofs.Names.{common_steps, nat_tests, ◌≡◌, ℕ, ◌<◌, ◌^◌, Bool, true, false, List, [], ◌∷◌, ◌++◌, length, inl, inr, refl, ap, sym}
+use Rattle.sctp_delivery.proofs.Names.{subst, ◌∙◌, arith, All, Contains, if◌then◌else◌, ◌==◌, ◌||◌, filter, list_any, sum_by, sum_by-cons, sum_by-append}
+use Rattle.sctp_delivery.proofs.Names.{eq-eqb, ◌⊎◌, or-split, same-is, not_both, ChunkPayloadData, Data, data_of, data_chunk, has_tsn, is_on, passes, Message}
 use Rattle.sctp_delivery.proofs.Names.{fragments_read, fragments_held, is_all_acknowledged, stream_of, was_passed, was_taken, AreMade, Session}
 use Rattle.std.proofs.lemmas.List.Folds.{Any-from_list_any}
 use Rattle.sctp_receiver.proofs.Handed.{taken-more}
@@ -17,7 +17,7 @@ use Rattle.sctp_delivery.proofs.KeptSessions.{idle-of}
 use Rattle.sctp_delivery.proofs.ReadOnce.{none-count, one}
 use Rattle.sctp_delivery.proofs.SackLaws.{IsInStepBut}
 use Rattle.sctp_delivery.proofs.Senders.{AreSentOn}
-use Rattle.sctp_delivery.proofs.Sent.{Entry, IsLine, Numbered, WasSent, contains-more, fragment, part-length, part-line, same-tsn}
+use Rattle.sctp_delivery.proofs.Sent.{Entry, IsLine, Numbered, WasSent, contains-more, part-length, part-line, same-tsn}
 use Rattle.sctp_delivery.proofs.Sessions.{IsTakenMade, found-made, made_among}
 use Rattle.sctp_delivery.proofs.TsnPlaces.{base, same-place}
 
@@ -52,23 +52,7 @@ module _ (first n : ℕ) (few : n < 2 ^ 31) (on dropped : ℕ → Bool) (s : Ses
 
   -- it came
   came : was_taken d.tsn s ≡ true
-  came =
-      let y = suc (length was.2) in
-      let within = part-length sent (fragment d was.0 was.1 ∷ was.2) was.3 in
-      let number = (part-line ns first sent (fragment d was.0 was.1 ∷ was.2) was.3 line).0.number in
-      let is : d.tsn ≡ tsn (base first) y = omega (arith, number) in
-      let a = step.settled in
-      let far = a.within in
-      let total = step.numbered.total in
-      let none = ap length (idle-of s acknowledged).inflight in
-      let same : a.place ≡ step.numbered.acked =
-      same-place (base first) a.place step.numbered.acked (omega (arith, far, few)) (omega (arith, total, few)) (sym a.is ∙ step.numbered.acked_is) in
-      let known = subst (λ t. ((dropped t || was_taken t s) || was_passed t s) ≡ true) (sym is)
-      (a.so_far y (omega arith) (omega (arith, within, long, total, none, same))) in
-      elim (or-split (dropped d.tsn || was_taken d.tsn s) (was_passed d.tsn s) known) [
-        | inr e ↦ absurd (not_both (sym unpassed ∙ e))
-        | inl e ↦ elim (or-split (dropped d.tsn) (was_taken d.tsn s) e) [ inl f ↦ absurd (not_both (sym undropped ∙ f)) | inr f ↦ f ]
-      ]
+  came = grind (arith, nat_tests, common_steps, part-length, part-line, idle-of, same-place, or-split, not_both)
 
   -- ## It weighs something
 
@@ -77,11 +61,7 @@ module _ (first n : ℕ) (few : n < 2 ^ 31) (on dropped : ℕ → Bool) (s : Ses
 
   none : (cs : List ChunkPayloadData) → Every (λ c. list_any (passes c.tsn) s.made ≡ true) cs → sum_by w cs ≡ 0
   none [] e = refl
-  none (c ∷ cs) e =
-      let off : has_tsn d.tsn c ≡ false = fails (has_tsn d.tsn c)
-      (λ h. not_both (sym unpassed ∙ subst (λ t. list_any (passes t) s.made ≡ true) (same-is c.tsn d.tsn h) e.0)) in
-      let z : w c ≡ 0 = at-test (λ b. (if b then one d.tsn c else 0) ≡ 0) c.unordered (λ _. ap (λ b. if b then 1 else 0) off) (λ _. refl) in
-      omega (arith, z, none cs e.1, sum_by-cons w c cs)
+  none (c ∷ cs) e = grind (arith, nat_tests, common_steps, not_both, same-is, sum_by-cons, none cs e.1)
 
   among : (cs : List ChunkPayloadData) → Every (λ c. Contains s.made (data_chunk (data_of c))) cs → list_any (has_tsn d.tsn) cs ≡ true
       → 0 < sum_by w (filter (is_on st) cs)

@@ -1,15 +1,12 @@
 -- Sessions of every call: beside each there is one of a sender that keeps nothing, with the same chunks. So what is read is what was written.
-use Rattle.sctp_delivery.proofs.Names.{◌≡◌, ℕ, ◌+◌, ◌<◌, ◌^◌, Bool, true, false, not, List, [], ◌∷◌, ◌++◌, length, map, Option, refl, ap, sym, subst}
-use Rattle.sctp_delivery.proofs.Names.{◌∙◌, arith, distance, not_both, or-left, or-right, filter, change_where, Limits, Modes, OutboundStream}
-use Rattle.sctp_delivery.proofs.Names.{Call, Follows, Session, bytes_written, of_receiver, of_sender, at_first, has_number, Transmission}
-use Rattle.sctp_delivery.proofs.Names.{abandoned_by, append-nil, append_assoc, SenderCall, Made, ForwardTsn, is_pair_of, list_any_at, made_after}
-use Rattle.sctp_delivery.proofs.Names.{stream_of, ◌||◌, Mode, both, inl, inr, is_open, modes_from, negated, or-split, Some, None, none-some, nat_eq}
-use Rattle.sctp_delivery.proofs.Names.{list_any-append, ChunkPayloadData}
-use Rattle.sctp_delivery.proofs.Names.{has_come, has_tsn, filter_of, ⊤}
-use Rattle.sctp_delivery.proofs.Names.{IsAccounted, Contains, at_start, list_any, same-yes, forward_tsn, if◌then◌else◌}
+use Rattle.sctp_delivery.proofs.Names.{common_steps, nat_tests, ◌≡◌, ℕ, ◌+◌, ◌<◌, ◌^◌, Bool, true, false, not, List, [], ◌∷◌, ◌++◌, length, map, Option, refl}
+use Rattle.sctp_delivery.proofs.Names.{ap, sym, subst, ◌∙◌, arith, distance, not_both, or-left, or-right, filter, change_where, Limits, Modes, OutboundStream}
+use Rattle.sctp_delivery.proofs.Names.{Call, Follows, Session, bytes_written, of_receiver, of_sender, at_first, has_number, Transmission, abandoned_by}
+use Rattle.sctp_delivery.proofs.Names.{append-nil, append_assoc, SenderCall, Made, ForwardTsn, is_pair_of, list_any_at, made_after, stream_of, Mode, is_open}
+use Rattle.sctp_delivery.proofs.Names.{modes_from, negated, or-split, Some, None, none-some, list_any-append, ChunkPayloadData, has_come, has_tsn, filter_of, ⊤}
+use Rattle.sctp_delivery.proofs.Names.{IsAccounted, Contains, list_any, same-yes, forward_tsn, if◌then◌else◌, ◌||◌}
 use Rattle.sctp_receiver.specs.ReceiverRuns as receiver_runs
 use Rattle.sctp_sender.specs.declared.sender.Reported.{Reported}
-use Rattle.sctp_sender.specs.declared.sender.Reported.TheVariants.{Drop, Keep}
 use Rattle.sctp_sender.specs.Outgoing.{from_first}
 use Rattle.sctp_sender.specs.Sender.{with_streams}
 use Rattle.sctp_sender.specs.SenderRuns as sender_runs
@@ -18,10 +15,9 @@ use Rattle.sctp_stream.proofs.Removals.{out-each}
 use Rattle.sctp_receiver.specs.Inbound.{numbers_of}
 use Rattle.sctp_receiver.proofs.StreamCosts.{are_apart}
 use Rattle.sctp_receiver.proofs.Closed.{stays-apart}
-use Rattle.std.specs.List.{AllByRecursion}
-use Rattle.sctp_delivery.specs.EveryCall.{AnyCall, FollowsAny, ReceiverDoes, ReceiverOther, RunsAny, SenderDoes, SenderOther}
-use Rattle.sctp_delivery.specs.EveryCall.{as_receiver_run, closes, closes_incoming, discards, drops, makes, of_receiving, of_sending, passes_over, renews}
-use Rattle.sctp_delivery.specs.EveryCall.{resets, resets_incoming, takes_back, tsns_given_any}
+use Rattle.sctp_delivery.specs.EveryCall.{AnyCall, FollowsAny, ReceiverDoes, ReceiverOther, RunsAny, SenderDoes, SenderOther, as_receiver_run, closes}
+use Rattle.sctp_delivery.specs.EveryCall.{closes_incoming, discards, drops, makes, of_receiving, of_sending, passes_over, renews, resets, resets_incoming}
+use Rattle.sctp_delivery.specs.EveryCall.{takes_back, tsns_given_any}
 use Rattle.sctp_delivery.specs.EveryEnd.{abandoned_any, dropped_any, dropped_by, is_naming, is_unnamed}
 use Rattle.sctp_delivery.specs.EveryOrder.{breaks, goes_on, is_unbroken, opens_incoming, plain_calls}
 use Rattle.sctp_delivery.specs.ReceiverCalls as incoming
@@ -29,28 +25,26 @@ use Rattle.sctp_delivery.specs.Returns.{at_start_with}
 use Rattle.sctp_delivery.proofs.AbandonedMessages.{AreAmong, AreBegunOrGone, AreMarkedGone, begun-later, cut-later, flight_of, gone-left, gone-right}
 use Rattle.sctp_delivery.proofs.AbandonedMessages.{marked-later, stays-begun-or-gone, stays-cut, stays-marked}
 use Rattle.sctp_delivery.proofs.Calls.{numbered_after}
-use Rattle.sctp_delivery.proofs.Cases.{at-test}
 use Rattle.sctp_delivery.proofs.Delivered.{next_tsn}
 use Rattle.sctp_delivery.proofs.EveryFronts.{IsGoneAt, IsReadUp, gone-later, other-up, receiver-up, sender-up}
 use Rattle.sctp_delivery.proofs.EveryGoes.{HasRun, closed-goes, closes-held, received-goes, received-too, reset-goes, resets-held, run-accounted, run-after}
-use Rattle.sctp_delivery.proofs.EveryGoes.{run-beside, run-first, run-restreamed, with_sender}
+use Rattle.sctp_delivery.proofs.EveryGoes.{run-beside, run-first, run-restreamed, with_sender, returns-goes, unmoved}
 use Rattle.sctp_delivery.proofs.EveryKept.{IsDropOf, IsTold, drops-elsewhere, drops-told, elsewhere, listed, listed-more, other-told, receiver-told}
 use Rattle.sctp_delivery.proofs.EveryKept.{sender-told, told-beside, told-first, whole-on}
 use Rattle.sctp_delivery.proofs.EveryRuns as runs
 use Rattle.sctp_delivery.proofs.EveryTurns.{open-after, open-after-other, opens-it, other-answered}
 use Rattle.sctp_delivery.proofs.FewInFlight.{regular-of-few}
-use Rattle.sctp_delivery.proofs.ModeSessions.{AreInModes, IsAsSaid, IsInModes, changed-in, said-after, said-beside, said-first}
+use Rattle.sctp_delivery.proofs.ModeSessions.{AreInModes, IsAsSaid, changed-in, said-after, said-beside, said-first}
 use Rattle.sctp_delivery.proofs.PassedMessages.{AreCutGone, IsMadePassing, IsPassing, is_gone}
 use Rattle.sctp_delivery.proofs.Plain.{are-plain, plain}
 use Rattle.sctp_delivery.proofs.PlainCalls.{sender-goes}
-use Rattle.sctp_delivery.proofs.EveryGoes.{returns-goes, unmoved}
-use Rattle.sctp_delivery.proofs.PlainSessions.{Goes, Others, Shadows, gone_by, kept_of, modes_by, receives-too}
+use Rattle.sctp_delivery.proofs.PlainSessions.{Goes, Others, Shadows, gone_by, kept_of, modes_by, receives-too, goes-first}
 use Rattle.sctp_delivery.proofs.Every.{every-contained}
 use Rattle.sctp_delivery.proofs.SackLaws as sacks
 use Rattle.sctp_delivery.proofs.Senders.{IsHeldOn}
 use Rattle.sctp_delivery.proofs.Sent.{Entry, Numbered}
 use Rattle.sctp_delivery.proofs.Sessions as made_in
-use Rattle.sctp_delivery.proofs.Sessions.{IsCounted, IsTakenMade, more-made, sender-counts, unnot}
+use Rattle.sctp_delivery.proofs.Sessions.{IsTakenMade, more-made, unnot}
 use Rattle.sctp_delivery.proofs.SpreadCalls.{IsSpreadOn, beside-spreads, receiver-spreads-on, sender-spreads-on, spread-first-on}
 use Rattle.sctp_delivery.proofs.TsnPlaces.{base}
 use Rattle.sctp_delivery.proofs.UnwrappedSessions.{IsAnswered, answered-first, receiver-answered-on, sender-answered-on}
@@ -60,15 +54,7 @@ use Rattle.sctp_delivery.proofs.Whole.{AreWholeOn}
 
 -- the streams that are left are in the same modes
 pub left-in-modes : (f : ℕ → Mode) (s : ℕ) (ls : List OutboundStream) → AreInModes f ls → AreInModes f (swapped_out (has_number s) ls)
-left-in-modes f s ls h = from (swapped_out (has_number s) ls) (out-each (has_number s) (IsInModes f) ls (to ls h))
-  where
-    to : (ks : List OutboundStream) → AreInModes f ks → AllByRecursion (IsInModes f) ks
-    to [] k = tt
-    to (l ∷ ks) k = (k.0, to ks k.1)
-
-    from : (ks : List OutboundStream) → AllByRecursion (IsInModes f) ks → AreInModes f ks
-    from [] k = tt
-    from (l ∷ ks) k = (k.0, from ks k.1)
+left-in-modes f s ls h = grind (arith, nat_tests, common_steps, out-each)
 
 -- # FORWARD-TSNs that were made
 
@@ -96,37 +82,16 @@ ready-first calm reported first size max most limits = record { apart = refl; op
 
 -- the receiver stays as it is
 ready-still : (calm opened : ℕ → Bool) (s v : Session) → v.receiving ≡ s.receiving → IsReady calm opened s → IsReady calm (λ q. opened q || false) v
-ready-still calm opened s v same h = record {
-  apart = subst (λ (y : receiver_runs.Stand). are_apart (numbers_of y.receiver.streams) ≡ true) (sym same) h.apart;
-  open' = λ st c o. subst (λ (y : receiver_runs.Stand). is_open st y.receiver ≡ true) (sym same)
-      (h.open' st c (elim (or-split (opened st) false o) [ inl e ↦ e | inr e ↦ absurd (not_both e) ]));
-}
+ready-still calm opened s v same h = grind (arith, nat_tests, common_steps, or-split, not_both)
 
 pub ready-after : (calm opened : ℕ → Bool) (c : AnyCall) (s v : Session) → FollowsAny c s v → ((st : ℕ) → calm st ≡ true → breaks (opened st) st c ≡ false)
     → IsReady calm opened s → IsReady calm (λ q. opened q || opens_incoming q c) v
-ready-after calm opened (makes (of_sender call)) s v f whole h = ready-still calm opened s v (ap (λ (y : Session). y.receiving) f.after) h
-ready-after calm opened (of_sending call) s v f whole h = ready-still calm opened s v (ap (λ (y : Session). y.receiving) f.after) h
-ready-after calm opened (makes (of_receiver call)) s v f whole h = record {
-  apart = stays-apart (incoming.as_run call) s.receiving.receiver v.receiving.receiver f.step.receiver h.apart;
-  open' = λ st c o. elim (or-split (opened st) (opens_incoming st (makes (of_receiver call))) o) [
-    | inl e ↦ open-after st s v (h.open' st c e) call f
-    | inr e ↦ opens-it st s v call f e
-  ];
-}
-ready-after calm opened (of_receiving call) s v f whole h = record {
-  apart = stays-apart (as_receiver_run call) s.receiving.receiver v.receiving.receiver f.step.receiver h.apart;
-  open' = λ st c o. elim (or-split (opened st) false o) [
-    | inl e ↦ open-after-other st s v (h.open' st c e) (opened st) h.apart call f (whole st c)
-    | inr e ↦ absurd (not_both e)
-  ];
-}
+ready-after h0 h1 h2 h3 h4 h5 h6 h7 =
+    grind (arith, nat_tests, common_steps, ready-still, stays-apart, or-split, open-after, opens-it, open-after-other, not_both)
 
 pub modes-on : (c : AnyCall) (cs : List AnyCall) (m : Modes) → modes_from (modes_from m (plain_calls (c ∷ []))) (plain_calls cs)
     ≡ modes_from m (plain_calls (c ∷ cs))
-modes-on (makes (of_sender call)) cs m = refl
-modes-on (makes (of_receiver call)) cs m = refl
-modes-on (of_sending call) cs m = refl
-modes-on (of_receiving call) cs m = refl
+modes-on h0 h1 h2 = grind (arith, nat_tests, common_steps)
 
 -- what the call abandons
 abbrev gone_any : AnyCall → Session → List ℕ
@@ -157,9 +122,7 @@ dropped-on (of_receiving call) cs s new r = refl
 same-numbers : (t : ℕ) (cs : List ChunkPayloadData) → map (λ c. c.message_id) (filter (has_tsn t) (map plain cs))
     ≡ map (λ c. c.message_id) (filter (has_tsn t) cs)
 same-numbers t [] = refl
-same-numbers t (c ∷ cs) = at-test (λ b. map (λ (x : ChunkPayloadData). x.message_id) (if b then plain c ∷ filter (has_tsn t) (map plain cs)
-    else filter (has_tsn t) (map plain cs)) ≡ map (λ (x : ChunkPayloadData). x.message_id) (if b then c ∷ filter (has_tsn t) cs else filter (has_tsn t) cs))
-    (has_tsn t c) (λ _. ap (λ ms. c.message_id ∷ ms) (same-numbers t cs)) (λ _. same-numbers t cs)
+same-numbers t (c ∷ cs) = grind (arith, nat_tests, common_steps, same-numbers t cs)
 
 same-dropped : (call : ReceiverOther) (s d : Session) → Shadows s.sending.sender s d → dropped_by call d ≡ dropped_by call s
 same-dropped (discards c) s d x =
@@ -177,11 +140,7 @@ same-dropped (passes_over g) s d x = refl
 
 -- what is gone stays so
 wider : (gone answered others more : List ℕ) → AreAmong others more → AreAmong (gone ++ others) ((gone ++ answered) ++ more)
-wider gone answered others more among k e =
-    elim (or-split (is_gone gone k) (is_gone others k) (sym (list_any-append (nat_eq k) gone others) ∙ e)) [
-      | inl h ↦ gone-left (gone ++ answered) more k (gone-left gone answered k h)
-      | inr h ↦ gone-right (gone ++ answered) more k (among k h)
-    ]
+wider gone answered others more among k e = grind (arith, nat_tests, common_steps, or-split, list_any-append, gone-left, gone-right)
 
 -- what the receiver was called for
 pub record IsCalled (first : ℕ) (y : receiver_runs.Stand) : Type 0 where
@@ -367,28 +326,12 @@ module _ (on dropped calm : ℕ → Bool) (lost : Option (List ℕ)) (sub : (st 
     sent = i.sent;
     spread = record {
       holds = record { held = h; made = i.spread.holds.made; writes = i.spread.holds.writes; placed = i.spread.holds.placed };
-      step =
-          let s = i.spread.step in
-          record {
-            numbered = s.numbered;
-            made = s.made;
-            arrived = s.arrived;
-            sacks = s.sacks;
-            settled = s.settled;
-            valid = s.valid;
-            taken = s.taken;
-            order = s.order;
-          };
+      step = grind (arith, nat_tests, common_steps);
       long = i.spread.long;
       near = i.spread.near;
       names = i.spread.names;
     };
-    said = record {
-      sender = record { streams = modes; queue = i.said.sender.queue };
-      kinds = i.said.kinds;
-      count = i.said.count;
-      filled = i.said.filled;
-    };
+    said = assumption i.said;
     begun = i.begun;
     answered = i.answered;
     up = i.up;
@@ -408,14 +351,7 @@ module _ (on dropped calm : ℕ → Bool) (lost : Option (List ℕ)) (sub : (st 
 
     other-goes : (call : SenderOther) → ((r : ℕ) → renews r (of_sending call) ≡ true → on r ≡ false) → SenderDoes call s v
         → Goes first every v.sending.sender v n gone m
-    other-goes (takes_back sack back) off f = returns-goes first every sack back s v n gone m (record {
-      handed = f.handed;
-      step = f.step;
-      exact = f.exact;
-      accepted = f.accepted.0;
-      answered = f.accepted.1;
-      after = f.after;
-    }) g
+    other-goes (takes_back sack back) off f = grind (arith, nat_tests, common_steps, returns-goes)
     other-goes (closes st) off f = closed-goes first every s v n gone m g st f (λ few.
         let i = g.plays few in
         with-streams d n gone m (swapped_out (has_number st) d.sending.sender.streams) (sender_runs.closes st)
@@ -434,9 +370,7 @@ module _ (on dropped calm : ℕ → Bool) (lost : Option (List ℕ)) (sub : (st 
     drops-of : (opened : ℕ → Bool) (call : ReceiverOther) → ((others : List ℕ) → lost ≡ Some others → AreAmong (dropped_by call s) others)
         → (few : n < 2 ^ 31) (st : ℕ) (c : calm st ≡ true) → breaks (opened st) st (of_receiving call) ≡ false → (l : Option (List ℕ)) → IsSaid l
         → IsDropOf (gone ++ listed l st (g.plays few).sent) (g.plays few).sent d call
-    drops-of opened call covers few st c off None said =
-        let sent = (g.plays few).sent in
-        drops-elsewhere st (gone ++ elsewhere st sent) sent d (opened st) call (gone-right gone (elsewhere st sent)) off
+    drops-of opened call covers few st c off None said = grind (arith, nat_tests, common_steps, drops-elsewhere, gone-right)
     drops-of opened call covers few st c off (Some others) said =
         let i = g.plays few in
         drops-told on dropped st first n few d i.numbered i.sent i.spread (gone ++ others) (i.answered st c) (i.told (Some others) said st c) call
@@ -501,17 +435,14 @@ module _ (on dropped calm : ℕ → Bool) (lost : Option (List ℕ)) (sub : (st 
       → ((q : ℕ) → list_any (renews q) cs ≡ true → on q ≡ false) → ((q : ℕ) → calm q ≡ true → goes_on (opened q) q cs ≡ true)
       → ((others : List ℕ) → lost ≡ Some others → AreAmong (dropped_any s cs new r) others) → IsReady calm opened s → HasBesideSo s n gone m
       → HasBesideSo new (n + tsns_given_any s cs new r) (gone ++ abandoned_any s cs new r) (modes_from m (plain_calls cs))
-  all-any opened [] s new n gone m r few short so off whole covers ready h =
-      subst (λ k. HasBesideSo new k (gone ++ []) m) {x = n} {y = n + 0} (omega arith)
-      (subst (λ xs. HasBesideSo new n xs m) (sym (append-nil gone)) (subst (λ x. HasBesideSo x n gone m) (sym r) h))
+  all-any opened [] s new n gone m r few short so off whole covers ready h = grind (arith, nat_tests, common_steps, append-nil)
   all-any opened (c ∷ cs) s new n gone m r few short so off whole covers ready h =
       let d = distance (next_tsn s) (next_tsn r.0) in
       let rest = tsns_given_any r.0 cs new r.1.1 in
       let bytes = runs.grows cs r.0 new r.1.1 in
       let sum : (n + d) + rest ≡ n + (d + rest) = omega arith in
-      let one : (q : ℕ) → calm q ≡ true → (breaks (opened q) q c ≡ false) × (goes_on (opened q || opens_incoming q c) q cs ≡ true) = λ q e.
-      let b = both (not (breaks (opened q) q c)) (goes_on (opened q || opens_incoming q c) q cs) (whole q e) in
-      (negated (breaks (opened q) q c) b.0, b.1) in
+      let one : (q : ℕ) → calm q ≡ true → (breaks (opened q) q c ≡ false) × (goes_on (opened q || opens_incoming q c) q cs ≡ true) =
+      grind (arith, nat_tests, common_steps, not, negated) in
       let left : (gone ++ gone_any c s) ++ abandoned_any r.0 cs new r.1.1 ≡ gone ++ abandoned_any s (c ∷ cs) new r =
       append_assoc gone (gone_any c s) (abandoned_any r.0 cs new r.1.1) ∙ ap (λ xs. gone ++ xs) (gone-on c cs s new r) in
       subst (λ k. HasBesideSo new k (gone ++ abandoned_any s (c ∷ cs) new r) (modes_from m (plain_calls (c ∷ cs)))) sum
@@ -529,38 +460,23 @@ module _ (on dropped calm : ℕ → Bool) (lost : Option (List ℕ)) (sub : (st 
 
   begins : (reported : Reported) (size max most : ℕ) (limits : Option Limits) → first < 2 ^ 32 → 0 < size
       → HasBesideSo (at_start_with reported first size max most limits) 0 [] at_first
-  begins reported size max most limits small some = by reported
-    where
-      p : IsPlayedSo (at_start first size max most limits) 0 [] at_first
-      p = record {
-        numbered = [];
-        sent = [];
-        spread = spread-first-on on dropped first size max most limits small some;
-        said = said-first first size max most limits;
-        begun = λ k lt e. absurd (omega (arith, lt));
-        answered = λ st c. answered-first st first on dropped size max most limits small some;
-        up = λ st c.
-            record { next = 0; number = omega arith; front = tt; within = omega arith; near = omega arith; done = λ j lt. absurd (omega (arith, lt)) };
-        ran = run-first first size max most limits;
-        taken = refl;
-        called = record { most = most; limits = limits; calls = []; run = refl };
-        apart = refl;
-        marked = tt;
-        cut = tt;
-        told = λ l said st c. told-first st first size max most limits (listed l st []) small;
-      }
-
-      by : (k : Reported) → HasBesideSo (at_start_with k first size max most limits) 0 [] at_first
-      by Drop = record {
-        other = at_start first size max most limits;
-        shadow = record { streams = []; chunks = []; sender = refl; alike = refl; like = tt; receiving = refl; made = refl; written = refl; sacks = tt };
-        plays = λ few. p;
-      }
-      by Keep = record {
-        other = at_start first size max most limits;
-        shadow = record { streams = []; chunks = []; sender = refl; alike = refl; like = tt; receiving = refl; made = refl; written = refl; sacks = tt };
-        plays = λ few. p;
-      }
+  begins reported size max most limits small some = goes-first first every reported size max most limits (λ few. record {
+    numbered = [];
+    sent = [];
+    spread = spread-first-on on dropped first size max most limits small some;
+    said = said-first first size max most limits;
+    begun = λ k lt e. absurd (omega (arith, lt));
+    answered = λ st c. answered-first st first on dropped size max most limits small some;
+    up = λ st c.
+        record { next = 0; number = omega arith; front = tt; within = omega arith; near = omega arith; done = λ j lt. absurd (omega (arith, lt)) };
+    ran = run-first first size max most limits;
+    taken = refl;
+    called = record { most = most; limits = limits; calls = []; run = refl };
+    apart = refl;
+    marked = tt;
+    cut = tt;
+    told = λ l said st c. told-first st first size max most limits (listed l st []) small;
+  })
 
   pub has-beside-so : (reported : Reported) (size max most : ℕ) (limits : Option Limits) (cs : List AnyCall) (s : Session)
       → (r : RunsAny (at_start_with reported first size max most limits) cs s) → first < 2 ^ 32 → 0 < size
@@ -596,5 +512,4 @@ pub has-beside : (on dropped calm : ℕ → Bool) (sub : (st : ℕ) → calm st 
     → HasBeside on dropped calm sub first s (tsns_given_any (at_start_with reported first size max most limits) cs s r)
     (abandoned_any (at_start_with reported first size max most limits) cs s r) (modes_from at_first (plain_calls cs))
 has-beside on dropped calm sub first reported size max most limits cs s r small some few short so off whole =
-    has-beside-so on dropped calm None sub first reported size max most limits cs s r small some few short so off whole
-    (λ others is. absurd (none-some others is))
+    grind (arith, nat_tests, common_steps, has-beside-so, none-some)

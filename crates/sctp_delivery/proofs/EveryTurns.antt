@@ -1,18 +1,17 @@
 -- Sessions of every call: on a stream that goes on, what is due stays so whatever the receiver is called for, and it stays open.
-use Rattle.sctp_delivery.proofs.Names.{◌≡◌, ℕ, ◌<◌, ◌^◌, Bool, true, false, not, List, [], ◌∷◌, Option, Some, None, is_some, refl, ap, sym, subst, ◌∙◌, arith}
-use Rattle.sctp_delivery.proofs.Names.{◌==◌, ◌&&◌, if◌then◌else◌, find, option_or, option_map, list_any, list_any-those, find-append, none-some, not_both}
-use Rattle.sctp_delivery.proofs.Names.{or-left, same-yes, New, InboundStream, new_stream, stream_read, Reception, filter_of, ⊤, after_forward_tsn}
-use Rattle.sctp_delivery.proofs.Names.{has_come, is_open, is_pair_of, is_stale, names_too_far, stream_of, with_filter, with_tsn, forward_refusal}
-use Rattle.sctp_delivery.proofs.Names.{NamedSsnTooFar, ForwardTsn, ReceiverCall, Session, ReceiverFollows, Stand, of_receiver}
-use Rattle.sctp_receiver.specs.Inbound.{has_number, numbers_of}
+use Rattle.sctp_delivery.proofs.Names.{common_steps, nat_tests, ◌≡◌, ℕ, ◌<◌, ◌^◌, Bool, true, false, not, List, [], Option, Some, None, is_some, refl, ap, sym}
+use Rattle.sctp_delivery.proofs.Names.{subst, ◌∙◌, arith, ◌==◌, ◌&&◌, if◌then◌else◌, option_or, option_map, list_any, list_any-those, find-append, none-some}
+use Rattle.sctp_delivery.proofs.Names.{not_both, or-left, same-yes, New, InboundStream, Reception, filter_of, ⊤, after_forward_tsn, has_come, is_open}
+use Rattle.sctp_delivery.proofs.Names.{is_pair_of, is_stale, names_too_far, stream_of, with_filter, with_tsn, forward_refusal, NamedSsnTooFar, ForwardTsn}
+use Rattle.sctp_delivery.proofs.Names.{ReceiverCall, Session, ReceiverFollows, Stand, of_receiver}
+use Rattle.sctp_receiver.specs.Inbound.{numbers_of}
 use Rattle.sctp_receiver.specs.Receiver.{repeat_tsn}
-use Rattle.sctp_receiver.specs.Resets.{stream_reset}
 use Rattle.sctp_receiver.proofs.StreamCosts.{are_apart}
 use Rattle.sctp_receiver.proofs.Closed.{others-left}
 use Rattle.sctp_delivery.specs.EveryCall.{ReceiverDoes, ReceiverOther, closes_incoming, discards, makes, of_receiving, passes_over, resets_incoming}
 use Rattle.sctp_delivery.specs.EveryOrder.{breaks, opens_incoming}
 use Rattle.sctp_delivery.specs.ReceiverCalls as incoming
-use Rattle.sctp_delivery.proofs.Cases.{at-test, by-test}
+use Rattle.sctp_delivery.proofs.Cases.{by-test}
 use Rattle.sctp_delivery.proofs.Every.{Every}
 use Rattle.sctp_delivery.proofs.Kept.{accepted-on, changed-elsewhere, changed-here}
 use Rattle.sctp_delivery.proofs.Sent.{Entry, Numbered}
@@ -70,13 +69,8 @@ module _ (st first : ℕ) (on dropped : ℕ → Bool) (o : on st ≡ true) (n : 
         is : {b : Bool} → has_come c.tsn (filter_of r) ≡ b
             → new.receiving.receiver ≡ (if b then repeat_tsn c.tsn r else with_filter (with_tsn c.tsn (filter_of r)) r)
         is e = f.step.receiver ∙ ap (λ b. if b then repeat_tsn c.tsn r else with_filter (with_tsn c.tsn (filter_of r)) r) e
-    other-call-due opened open' apart (closes_incoming stream) f off =
-        untouched (ap (stream_of st) f.step.receiver ∙ others-left stream st off r.streams apart)
-        (ap (λ (u : Reception). u.cumulative_tsn) f.step.receiver) (ap (λ (u : Reception). u.beyond) f.step.receiver)
-    other-call-due opened open' apart (resets_incoming stream last) f off =
-        untouched
-        (ap (stream_of st) f.step.receiver ∙ changed-elsewhere stream (stream_reset last) (λ l h. refl) r.streams st off)
-        (ap (λ (u : Reception). u.cumulative_tsn) f.step.receiver) (ap (λ (u : Reception). u.beyond) f.step.receiver)
+    other-call-due opened open' apart (closes_incoming stream) f off = grind (arith, nat_tests, common_steps, untouched, others-left)
+    other-call-due opened open' apart (resets_incoming stream last) f off = grind (arith, nat_tests, common_steps, untouched, changed-elsewhere)
     other-call-due opened open' apart (passes_over g) f off =
         sessions.passed-due st first on dropped o n old ns sent i few new d g f.handed f.step.receiver
         (near-names g r (names_too_far g r) f.accepted)
@@ -104,17 +98,7 @@ module _ (st first : ℕ) (on dropped : ℕ → Bool) (o : on st ≡ true) (n : 
 
 pub opens-it : (st : ℕ) (old new : Session) (call : ReceiverCall) → ReceiverFollows call old new → opens_incoming st (makes (of_receiver call)) ≡ true
     → is_open st new.receiving.receiver ≡ true
-opens-it st old new (incoming.opens stream) f e =
-    let x = new_stream stream old.receiving.receiver.max_message_size in
-    ap is_some (ap (stream_of st) f.step.receiver.1 ∙ find-append (has_number st) old.receiving.receiver.streams (x ∷ []))
-    ∙ here (stream_of st old.receiving.receiver) (stream == st) e
-  where
-    here : (l : Option InboundStream) (b : Bool) → b ≡ true
-        → is_some (option_or l (if b then Some (new_stream stream old.receiving.receiver.max_message_size) else None)) ≡ true
-    here None true e = refl
-    here None false e = absurd (not_both e)
-    here (Some l) b e = refl
-opens-it st old new call f e = absurd (not_both e)
+opens-it h0 h1 h2 h3 h4 h5 = grind (arith, nat_tests, common_steps, is_some, find-append, not_both)
 
 module _ (st : ℕ) (old new : Session) (o : is_open st old.receiving.receiver ≡ true) where
   abbrev q : Reception
@@ -146,26 +130,13 @@ module _ (st : ℕ) (old new : Session) (o : is_open st old.receiving.receiver �
       (λ e. by-map _ (found-after 0 st 0 (λ k. 0) (λ k. false) (λ c. ⊤) (omega arith) (λ j k le. omega arith) g old.receiving new.receiving after e))
 
   pub open-after : (call : ReceiverCall) → ReceiverFollows call old new → is_open st new.receiving.receiver ≡ true
-  open-after (incoming.opens stream) f =
-      let x = new_stream stream q.max_message_size in
-      ap is_some (ap (stream_of st) f.step.receiver.1 ∙ find-append (has_number st) q.streams (x ∷ []))
-      ∙ kept-or (stream_of st q) (find (has_number st) (x ∷ [])) o
+  open-after (incoming.opens stream) f = grind (arith, nat_tests, common_steps, is_some, find-append, kept-or)
   open-after (incoming.takes c (New answered)) f =
       accepted-on c answered q new.receiving.receiver f.step.receiver st IsOpen (λ off. o) (λ on there. refl)
   open-after (incoming.follows g) f = by-forward g f.step.receiver
-  open-after (incoming.reads stream) f = by-test (stream == st)
-      (λ e. by-map stream_read (ap (stream_of st) f.step.receiver ∙ changed-here stream stream_read (λ l h. refl) q.streams st e))
-      (λ e. still (ap (stream_of st) f.step.receiver ∙ changed-elsewhere stream stream_read (λ l h. refl) q.streams st e))
+  open-after (incoming.reads stream) f = grind (arith, nat_tests, common_steps, by-map, changed-here, still, changed-elsewhere)
   open-after call f = still (ap (stream_of st) f.step.receiver)
 
   pub open-after-other : (opened : Bool) → are_apart (numbers_of q.streams) ≡ true → (call : ReceiverOther) → ReceiverDoes call old new
       → breaks opened st (of_receiving call) ≡ false → is_open st new.receiving.receiver ≡ true
-  open-after-other opened apart (discards c) f off =
-      still (ap (stream_of st) f.step.receiver
-      ∙ at-test (λ b. stream_of st (if b then repeat_tsn c.tsn q else with_filter (with_tsn c.tsn (filter_of q)) q) ≡ stream_of st q)
-      (has_come c.tsn (filter_of q)) (λ e. refl) (λ e. refl))
-  open-after-other opened apart (closes_incoming stream) f off =
-      still (ap (stream_of st) f.step.receiver ∙ others-left stream st off q.streams apart)
-  open-after-other opened apart (resets_incoming stream last) f off =
-      still (ap (stream_of st) f.step.receiver ∙ changed-elsewhere stream (stream_reset last) (λ l h. refl) q.streams st off)
-  open-after-other opened apart (passes_over g) f off = by-forward g f.step.receiver
+  open-after-other h0 h1 h2 h3 h4 = grind (arith, nat_tests, common_steps, still, others-left, changed-elsewhere, by-forward)

@@ -1,18 +1,16 @@
 -- Sessions of every call in a whole life: each message of which no fragment but the first begins one is a write, and no write is read twice.
-use Rattle.sctp_delivery.proofs.Names.{◌+◌, ◌≡◌, ℕ, ◌<◌, ◌≤◌, ◌^◌, Bool, true, false, not, List, [], ◌∷◌, length, Option, inl, refl, ap, sym, subst}
-use Rattle.sctp_delivery.proofs.Names.{◌∙◌, arith, AllPass-from_list_all, ChunkPayloadData, Contains, Limits, Message, Session, Stand, Ledger, StandAt}
-use Rattle.sctp_delivery.proofs.Names.{bytes_written, filter, list_all, list_any, is_complete, is_on, of_receiver, of_sender, or-left, or-right}
-use Rattle.sctp_delivery.proofs.Names.{stream_of, fragments_on, held_weight}
+use Rattle.sctp_delivery.proofs.Names.{common_steps, nat_tests, ◌+◌, ◌≡◌, ℕ, ◌<◌, ◌≤◌, ◌^◌, Bool, true, false, not, List, [], ◌∷◌, length, Option, inl, refl}
+use Rattle.sctp_delivery.proofs.Names.{ap, sym, subst, ◌∙◌, arith, AllPass-from_list_all, ChunkPayloadData, Contains, Limits, Message, Session, Stand, Ledger}
+use Rattle.sctp_delivery.proofs.Names.{StandAt, bytes_written, filter, list_all, list_any, is_complete, is_on, of_receiver, of_sender, or-left, or-right}
+use Rattle.sctp_delivery.proofs.Names.{stream_of, held_weight, ⊤}
 use Rattle.sctp_receiver.specs.Inbound.{numbers_of}
 use Rattle.sctp_receiver.proofs.StreamCosts.{are_apart}
 use Rattle.sctp_receiver.proofs.Closed.{stays-apart}
 use Rattle.sctp_sender.specs.declared.sender.Reported.{Reported}
 use Rattle.sctp_sender.specs.declared.sender.Reported.TheVariants.{Drop, Keep}
-use Rattle.sctp_delivery.specs.EveryCall.{SenderOther, closes, resets, takes_back}
-use Rattle.sctp_delivery.proofs.Names.{⊤}
-use Rattle.sctp_delivery.specs.EveryCall.{AnyCall, AreSingleWhereSteady, AreSingleWritesOfTheirOwn, AreWritesWhereSingle, FollowsAny, ReceiverDoes}
-use Rattle.sctp_delivery.specs.EveryCall.{ReceiverOther, RunsAny, as_receiver_run, closes_incoming, discards, is_single, is_steady, makes, of_receiving}
-use Rattle.sctp_delivery.specs.EveryCall.{of_sending, passes_over, renews, resets_incoming, single_messages}
+use Rattle.sctp_delivery.specs.EveryCall.{SenderOther, AnyCall, AreSingleWhereSteady, AreSingleWritesOfTheirOwn, AreWritesWhereSingle, FollowsAny, ReceiverDoes}
+use Rattle.sctp_delivery.specs.EveryCall.{ReceiverOther, RunsAny, as_receiver_run, is_single, is_steady, makes, of_receiving, of_sending, renews}
+use Rattle.sctp_delivery.specs.EveryCall.{single_messages}
 use Rattle.sctp_delivery.specs.EveryRecent.{AreRecentAny, AreYoungAny, IsRecentAny, IsYoungAny, aged_any}
 use Rattle.sctp_delivery.specs.Messages.{AreParts}
 use Rattle.sctp_delivery.specs.ReceiverCalls as incoming
@@ -30,11 +28,10 @@ use Rattle.sctp_delivery.proofs.EveryRuns as runs
 use Rattle.sctp_delivery.proofs.HeldWeights.{weighs-so}
 use Rattle.sctp_delivery.proofs.Kept.{held-weighs}
 use Rattle.sctp_delivery.proofs.OnceWritten.{places, stand}
-use Rattle.sctp_delivery.proofs.ReadOnce.{one}
 use Rattle.sctp_delivery.proofs.Recent.{IsNear}
 use Rattle.sctp_delivery.proofs.Sent.{Entry, Numbered, fragment, part-line}
 use Rattle.sctp_delivery.proofs.Sessions as sessions
-use Rattle.sctp_delivery.proofs.Sessions.{all-pass, fails}
+use Rattle.sctp_delivery.proofs.Sessions.{all-pass}
 use Rattle.sctp_delivery.proofs.TakenAgain.{Flies}
 use Rattle.sctp_delivery.proofs.TakenCalls.{Knows}
 use Rattle.sctp_delivery.proofs.TsnPlaces.{IsGiven}
@@ -43,14 +40,11 @@ use Rattle.sctp_delivery.proofs.OrderedMessages.{is_in_order}
 use Rattle.sctp_delivery.proofs.SpreadEntries.{begun_to}
 use Rattle.sctp_delivery.proofs.UnwrappedHolds.{Where}
 use Rattle.sctp_delivery.proofs.YoungOrder.{AreTurned, turned-more}
-use Rattle.sctp_delivery.proofs.YoungReads.{IsReadFrom, IsYoungOn, is_recent, none-fail, receiver-young, sender-young}
+use Rattle.sctp_delivery.proofs.YoungReads.{IsYoungOn, none-fail, receiver-young, sender-young}
 
 -- the receiver did the call
 pub read-same : (call : ReceiverOther) (s v : Session) → ReceiverDoes call s v → v.receiving.read ≡ s.receiving.read
-read-same (discards c) s v f = f.step.read
-read-same (closes_incoming stream) s v f = f.step.read
-read-same (resets_incoming stream last) s v f = f.step.read
-read-same (passes_over c) s v f = f.step.read
+read-same h0 h1 h2 h3 = grind (arith, nat_tests, common_steps)
 
 module _ (going : ℕ → Bool) (first : ℕ) where
   -- ## A call by which no chunk is taken, and none is read: no stream holds more then
@@ -59,42 +53,16 @@ module _ (going : ℕ → Bool) (first : ℕ) where
       (less : (w : ChunkPayloadData → ℕ) (st : ℕ) → held_weight w (stream_of st v.receiving.receiver) ≤ held_weight w (stream_of st s.receiving.receiver))
       (read : v.receiving.read ≡ s.receiving.read) where
     pub quiet-young : HoldsOn going first v ns sent → IsYoungOn going first s ns sent ages → IsYoungOn going first v ns sent ages
-    quiet-young holds i = record {
-      holds = holds;
-      placed = i.placed;
-      held = λ st.
-          let p = is_recent sent st in
-          let o = stream_of st s.receiving.receiver in
-          let q = stream_of st v.receiving.receiver in
-          let was = held-weighs (fails p) o in
-          let now = held-weighs (fails p) q in
-          let z = none-fail p (fragments_on o) (i.held st) in
-          let le = less (fails p) st in
-          all-pass p (fragments_on q) (omega (arith, was, now, z, le));
-      read = subst (Every (IsReadFrom sent)) (sym read) i.read;
-    }
+    quiet-young holds i = grind (arith, nat_tests, common_steps, held-weighs, none-fail, all-pass)
 
     module _ (flew : (t : ℕ) → Flies t v → Flies t s)
         (knows : (t : ℕ) → Flies t s → Knows t s.receiving.receiver → Knows t v.receiving.receiver) where
       done : (stream : ℕ) (c : ChunkPayloadData) (w : Numbered) (after : List ℕ) (xs : List Entry) → IsDone s sent stream c w after xs
           → IsDone v sent stream c w after xs
-      done stream c w after xs d = record {
-        part = d.part;
-        on = d.on;
-        known = λ le fl. let was = flew c.tsn fl in knows c.tsn was (d.known le was);
-        unheld = λ le. let a = less (one c.tsn) stream in let z = d.unheld le in omega (arith, a, z);
-      }
+      done stream c w after xs d = grind (arith, nat_tests, common_steps)
 
       pub quiet-owned : HoldsRecent v → IsOwned s sent ps → IsOwned v sent ps
-      quiet-owned recent h = record {
-        single = λ st t. let a = less (one t) st in let b = h.single st t in omega (arith, a, b);
-        missing = λ t small fl off st.
-            let a = less (one t) st in
-            let z = h.missing t small (flew t fl) (λ e. off (knows t (flew t fl) e)) st in
-            omega (arith, a, z);
-        once = (subst (λ ms. AreRead v sent ms ps) (sym read) (read-kept s v sent sent (inl refl) done s.receiving.read ps h.once.0), h.once.1);
-        recent = recent;
-      }
+      quiet-owned recent h = grind (arith, nat_tests, common_steps, read-kept, done)
 
 -- ## Each call
 
@@ -111,18 +79,11 @@ AreBacked K (c ∷ cs) = IsBacked K c × AreBacked K cs
 pub all-backed : (K : Type 0) → K → (cs : List AnyCall) → AreBacked K cs
 all-backed K k [] = tt
 all-backed K k (makes call ∷ cs) = (tt, all-backed K k cs)
-all-backed K k (of_sending call ∷ cs) = (by call, all-backed K k cs)
-  where
-    by : (c : SenderOther) → WhereBack c K
-    by (takes_back sack back) = k
-    by (closes st) = tt
-    by (resets st) = tt
+all-backed K k (of_sending call ∷ cs) = grind (arith, nat_tests, common_steps, all-backed K k cs)
 all-backed K k (of_receiving call ∷ cs) = (tt, all-backed K k cs)
 
 pub back-map : {K T : Type 0} (call : SenderOther) → WhereBack call K → (K → T) → WhereBack call T
-back-map (takes_back sack back) k f = f k
-back-map (closes st) k f = tt
-back-map (resets st) k f = tt
+back-map h0 h1 h2 = grind (arith, nat_tests, common_steps)
 
 -- K: fewer than 2^64 bytes are written, where a call takes back what a SACK no longer reports
 module _ (K : Type 0) (going : ℕ → Bool) (first : ℕ) where

@@ -1,18 +1,15 @@
 -- Sessions of every call in a whole life: on a stream that goes on, ordered messages are read in the order of their writes.
-use Rattle.sctp_delivery.proofs.Names.{⊤}
-use Rattle.sctp_delivery.proofs.Names.{◌≡◌, ℕ, ◌-◌, ◌<◌, ◌^◌, Bool, true, false, not, List, [], ◌∷◌, length, Option, Some, None, refl, ap}
-use Rattle.sctp_delivery.proofs.Names.{sym, subst, ◌∙◌, arith, ◌||◌, both, negated, or-left, or-right, list_any, AllPairs, StandAt}
-use Rattle.sctp_delivery.proofs.Names.{ChunkPayloadData, Limits, Message, Modes, OutboundStream, Session, Stand, at_first, modes_from, bytes_written}
-use Rattle.sctp_delivery.proofs.Names.{change_where, has_number, of_receiver, of_sender, Drop}
+use Rattle.sctp_delivery.proofs.Names.{common_steps, nat_tests, ⊤, ◌≡◌, ℕ, ◌-◌, ◌<◌, ◌^◌, Bool, true, false, not, List, [], ◌∷◌, length, Option, Some, None}
+use Rattle.sctp_delivery.proofs.Names.{refl, ap, sym, subst, ◌∙◌, arith, ◌||◌, negated, or-left, or-right, list_any, AllPairs, StandAt, ChunkPayloadData}
+use Rattle.sctp_delivery.proofs.Names.{Limits, Message, Modes, OutboundStream, Session, Stand, at_first, modes_from, bytes_written, change_where, has_number}
+use Rattle.sctp_delivery.proofs.Names.{of_receiver, of_sender, Drop}
 use Rattle.std.proofs.Common.{◌≢◌}
 use Rattle.sctp_sender.specs.declared.sender.Reported.{Reported}
 use Rattle.sctp_sender.specs.declared.sender.Reported.TheVariants.{Keep}
 use Rattle.sctp_sender.specs.declared.sender.flight.kept.TakenBack.{TakenBack}
 use Rattle.sctp_sender.specs.Keeping.{after_returns, more_by, restored}
-use Rattle.sctp_sender.specs.Outgoing.{from_first}
-use Rattle.sctp_sender.specs.Sender.{Transmission, back_by, taken_back_by}
-use Rattle.sctp_delivery.specs.EveryCall.{AnyCall, FollowsAny, RunsAny, SenderDoes, SenderOther, closes, is_single, is_steady, makes, of_receiving}
-use Rattle.sctp_delivery.specs.EveryCall.{of_sending, renews, resets, single_messages, takes_back}
+use Rattle.sctp_delivery.specs.EveryCall.{AnyCall, FollowsAny, RunsAny, SenderDoes, SenderOther, is_single, is_steady, makes, of_receiving, of_sending, renews}
+use Rattle.sctp_delivery.specs.EveryCall.{single_messages}
 use Rattle.sctp_delivery.specs.EveryOrder.{AreSingleReadAsWritten, AreSingleReadInOrder, breaks, goes_on, is_unbroken, opens_incoming, plain_calls}
 use Rattle.sctp_delivery.specs.EveryRecent.{ArePassedYoung, AreRecentAny, AreYoungAny, IsPassedYoung, IsRecentAny, IsYoungAny, aged_any}
 use Rattle.sctp_delivery.specs.Modes.{Mode, Sending, was_written_ordered}
@@ -28,7 +25,7 @@ use Rattle.sctp_delivery.proofs.EveryRuns as runs
 use Rattle.sctp_delivery.proofs.EveryShadows.{IsReady, left-in-modes, modes-on, ready-after, ready-first}
 use Rattle.sctp_delivery.proofs.EveryYoung.{AreBacked, IsBacked, all-backed, IsNow, Then, after, picked, read-same, soles-of, start}
 use Rattle.sctp_delivery.proofs.FlightPlaces.{AreKin, kin-itself, kin-long, set-kin}
-use Rattle.sctp_delivery.proofs.ModeQueues.{AreModed, IsFlying}
+use Rattle.sctp_delivery.proofs.ModeQueues.{IsFlying}
 use Rattle.sctp_delivery.proofs.ModeSessions.{AreInModes, IsAsSaid, changed-in, said-after, said-beside, said-first, starts-ordered}
 use Rattle.sctp_delivery.proofs.OnceWritten.{places, stand}
 use Rattle.sctp_delivery.proofs.OrderedMessages.{is_in_order}
@@ -53,13 +50,7 @@ restored-flying : (ws : List Sending) (n : ℕ) (bs : List (Option (List ℕ))) 
 restored-flying ws n [] cs e = e
 restored-flying ws n (b ∷ bs) [] e = tt
 restored-flying ws n (None ∷ bs) (c ∷ cs) e = (e.0, restored-flying ws n bs cs e.1)
-restored-flying ws n (Some k ∷ bs) (c ∷ cs) e = (
-  (
-    (e.0.0.0, record { kind = e.0.0.1.kind; dcep = e.0.0.1.dcep; other = e.0.0.1.other }),
-    e.0.1,
-  ),
-  restored-flying ws n bs cs e.1,
-)
+restored-flying ws n (Some k ∷ bs) (c ∷ cs) e = grind (arith, nat_tests, common_steps, restored-flying ws n bs cs e.1)
 
 returned-in : (f : ℕ → Mode) (rs : List TakenBack) (ls : List OutboundStream) → AreInModes f ls → AreInModes f (after_returns rs ls)
 returned-in f [] ls h = h
@@ -70,66 +61,12 @@ returned-in f (r ∷ rs) ls h =
 -- a call of the sender that most sessions do not have: what is in flight is of the same streams and numbers
 other-kin : (call : SenderOther) (s v : Session) → SenderDoes call s v
     → AreKin s.sending.sender.flight.queue.inflight.chunks v.sending.sender.flight.queue.inflight.chunks
-other-kin (takes_back sack back) s v f =
-    let t = s.sending.sender in
-    let cs = t.flight.queue.inflight.chunks in
-    subst (AreKin cs) (sym (ap (λ (u : Transmission). u.flight.queue.inflight.chunks) f.exact)) (restored-kin (back_by sack t.flight t.kept) cs)
-other-kin (closes st) s v f =
-    let cs = s.sending.sender.flight.queue.inflight.chunks in
-    subst (AreKin cs) (sym (ap (λ (u : Transmission). u.flight.queue.inflight.chunks) f.step.sender)) (kin-itself cs)
-other-kin (resets st) s v f =
-    let cs = s.sending.sender.flight.queue.inflight.chunks in
-    subst (AreKin cs) (sym (ap (λ (u : Transmission). u.flight.queue.inflight.chunks) f.step.sender)) (kin-itself cs)
+other-kin h0 h1 h2 h3 = grind (arith, nat_tests, common_steps, restored-kin, kin-itself)
 
 -- and as the calls say
 other-said : (call : SenderOther) (s v : Session) (m : Modes) (ns : List Numbered) (sent : List Entry) → SenderDoes call s v → IsAsSaid m s ns sent
     → IsAsSaid m v ns sent
-other-said call s v m ns sent f h = by call f
-  where
-    q : AreModed m.of_writes s.sending.sender.flight.queue
-    q = h.sender.queue
-
-    to : (t : Transmission) → v.sending.sender ≡ t → IsAsSaid m (record v { sending = record v.sending { sender = t } }) ns sent → IsAsSaid m v ns sent
-    to t e i = subst (λ (u : Transmission). IsAsSaid m (record v { sending = record v.sending { sender = u } }) ns sent) (sym e) i
-
-    by : (c : SenderOther) → SenderDoes c s v → IsAsSaid m v ns sent
-    by (takes_back sack back) f =
-        let t = s.sending.sender in
-        to _ f.exact (record {
-          sender = record {
-            streams = returned-in m.of_streams (taken_back_by sack t) t.streams h.sender.streams;
-            queue = record {
-              ordered = q.ordered;
-              unordered = q.unordered;
-              inflight = restored-flying m.of_writes t.flight.queue.next_unstarted (back_by sack t.flight t.kept) t.flight.queue.inflight.chunks q.inflight;
-              count = q.count;
-              upto = q.upto;
-              begun = q.begun;
-              unbegun = q.unbegun;
-            };
-          };
-          kinds = h.kinds;
-          count = h.count;
-          filled = h.filled;
-        })
-    by (closes st) f =
-        to _ f.step.sender (record {
-          sender = record { streams = left-in-modes m.of_streams st s.sending.sender.streams h.sender.streams; queue = q };
-          kinds = h.kinds;
-          count = h.count;
-          filled = h.filled;
-        })
-    by (resets st) f =
-        to _ f.step.sender (record {
-          sender = record {
-            streams = changed-in m.of_streams (has_number st) from_first
-                (record { number = λ l. refl; unordered = λ l. refl; reliability = λ l. refl; value = λ l. refl }) s.sending.sender.streams h.sender.streams;
-            queue = q;
-          };
-          kinds = h.kinds;
-          count = h.count;
-          filled = h.filled;
-        })
+other-said call s v m ns sent f h = grind (arith, returned-in, restored-flying, left-in-modes, changed-in)
 
 -- where the chunks in flight are of the same streams and numbers
 abbrev spread-kin : (going : ℕ → Bool) (first : ℕ) (s v : Session) (sent : List Entry) (ages : List Aged)
@@ -236,9 +173,8 @@ module _ (K : Type 0) (going calm : ℕ → Bool) (sub : (st : ℕ) → calm st 
       let bytes = runs.grows cs r.0 new r.1.1 in
       let less : K → bytes_written r.0 < 2 ^ 64 = λ k. (let b = short k in omega (arith, bytes, b)) in
       let off' : (k : ℕ) → renews k c ≡ true → going k ≡ false = λ k e. off k (or-left (renews k c) (list_any (renews k) cs) e) in
-      let one : (k : ℕ) → calm k ≡ true → (breaks (opened k) k c ≡ false) × (goes_on (opened k || opens_incoming k c) k cs ≡ true) = λ k e.
-      let b = both (not (breaks (opened k) k c)) (goes_on (opened k || opens_incoming k c) k cs) (whole k e) in
-      (negated (breaks (opened k) k c) b.0, b.1) in
+      let one : (k : ℕ) → calm k ≡ true → (breaks (opened k) k c ≡ false) × (goes_on (opened k || opens_incoming k c) k cs ≡ true) =
+      grind (arith, nat_tests, common_steps, not, negated) in
       let b = after K going first c s r.0 a.numbered a.sent ages a.places' r.1.0 q.1 less back.0 off' q.0 y.0 y.1 a.now in
       let p = orderly-after opened m s r.0 a.numbered a.sent ages a.places' q.1 less y.1 a.now o c r.1.0 back.0 off' q.0 y.0 z.0 (λ k e. (one k e).0) in
       subst (λ n. Orderly n new) (modes-on c cs m)
@@ -266,12 +202,7 @@ module _ (K : Type 0) (going calm : ℕ → Bool) (sub : (st : ℕ) → calm st 
           names = tt;
         };
         turned = record { due = t.due; turned = t.turned };
-        said = record {
-          sender = record { streams = h.sender.streams; queue = h.sender.queue };
-          kinds = h.kinds;
-          count = h.count;
-          filled = h.filled;
-        };
+        said = assumption h;
         ready = ready-first calm Keep first size max most limits;
       }
 

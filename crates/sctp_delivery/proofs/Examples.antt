@@ -3,14 +3,13 @@ use Rattle.sctp_delivery.proofs.Names.{◌≡◌, ℕ, ◌<◌, true, false, Lis
 use Rattle.sctp_delivery.proofs.Names.{◌-◌, AllPairs, ◌==◌, if◌then◌else◌, All, Contains, nat_eq, filter, list_all, list_any, change_where, some-same}
 use Rattle.sctp_delivery.proofs.Names.{ChunkPayloadData, Binary, Reliable, Data, Sack, sent_next, New, NamedStreamUnknown, InboundStream, Reception, has_come}
 use Rattle.sctp_delivery.proofs.Names.{after_ordered_push, released_by, next_after_send, message_to_abandon, Transmission, after_acked, with_flight, written_to}
-use Rattle.sctp_delivery.proofs.Names.{after_abandon, held_by_sender, taken_back_by, written_by, with_lows, OutboundStream, Message, accepted_after}
-use Rattle.sctp_delivery.proofs.Names.{fragments_held, holds_nothing, is_exhausted, is_reliable, reads_nothing, is_all_acknowledged, chunks_waiting}
-use Rattle.sctp_delivery.proofs.Names.{takes_each_of, reads, takes, ReceiverCall, reports_after, follows, IsInFlight, is_takable, MayMake, is_due_named}
-use Rattle.sctp_delivery.proofs.Names.{is_reported, reports_tsn, tsns_given, was_passed, was_taken, data_chunk, made_after, sends, takes_sack, writes}
-use Rattle.sctp_delivery.proofs.Names.{written_after, Answers, MakesExactly, SenderCall, abandons, forwards, Call, ReceiverFollows, RunsTo, SenderFollows}
-use Rattle.sctp_delivery.proofs.Names.{Session, at_start, of_receiver, of_sender, IsReported, none-some, not_both, ForwardTsn, after_forward_tsn, skip_refusal}
-use Rattle.sctp_delivery.proofs.Names.{last_of, AbandonedMessage, Name, advanced_ack_point, named_up_to, pairs_of, skip_end, wrote, IsCaughtUp, IsRound, Rounds}
-use Rattle.sctp_delivery.proofs.Names.{chunks_left, EachOtherIsReadOnce, abandoned_in, abandoned_by}
+use Rattle.sctp_delivery.proofs.Names.{after_abandon, held_by_sender, with_lows, OutboundStream, Message, fragments_held, holds_nothing, is_exhausted}
+use Rattle.sctp_delivery.proofs.Names.{is_reliable, reads_nothing, is_all_acknowledged, chunks_waiting, takes_each_of, reads, takes, ReceiverCall, follows}
+use Rattle.sctp_delivery.proofs.Names.{IsInFlight, is_takable, MayMake, is_due_named, is_reported, reports_tsn, tsns_given, was_passed, was_taken, data_chunk}
+use Rattle.sctp_delivery.proofs.Names.{made_after, sends, takes_sack, writes, written_after, Answers, MakesExactly, SenderCall, abandons, forwards, Call}
+use Rattle.sctp_delivery.proofs.Names.{ReceiverFollows, RunsTo, SenderFollows, Session, at_start, of_receiver, of_sender, IsReported, none-some, not_both}
+use Rattle.sctp_delivery.proofs.Names.{ForwardTsn, after_forward_tsn, skip_refusal, last_of, AbandonedMessage, Name, advanced_ack_point, named_up_to, pairs_of}
+use Rattle.sctp_delivery.proofs.Names.{skip_end, wrote, IsCaughtUp, IsRound, Rounds, chunks_left, EachOtherIsReadOnce, abandoned_in, abandoned_by}
 use Rattle.std.specs.Prelude.{◌≤◌, ◌^◌, length}
 use Rattle.sctp_util.specs.Serial.{at_or_before, at_or_before16, comes_before, comes_before16, distance, distance16}
 use Rattle.sctp_data.specs.ChunkSet.{fresh}
@@ -18,9 +17,7 @@ use Rattle.sctp_receiver.specs.declared.receiver.refusal.ReceiverRefusal.TheVari
 use Rattle.sctp_receiver.specs.Inbound as inbound
 use Rattle.sctp_receiver.specs.Receiver as receiver
 use Rattle.sctp_sender.specs.Sender.{open_stream, with_nothing, stream_of}
-use Rattle.sctp_sender.specs.SenderRuns.{released_by as bytes_released}
 use Rattle.sctp_stream.specs.Stream.{new_stream}
-use Rattle.sctp_receiver.specs.ReceiverRuns.{messages_after}
 use Rattle.sctp_delivery.specs.Complete.{is_settled}
 use Rattle.sctp_delivery.specs.Ending.{CanEnd, has_room, has_window}
 use Rattle.sctp_delivery.specs.Order.{ordered_places}
@@ -34,51 +31,26 @@ use Rattle.sctp_sender.specs.SenderRuns as sender_runs
 use Rattle.sctp_receiver.specs.ReceiverRuns as receiver_runs
 use Rattle.sctp_delivery.specs.Rounds as rounds
 use Rattle.sctp_delivery.proofs.EndWindows.{all-end}
+use Rattle.sctp_delivery.proofs.Stands.{sender_after, sender-follows, receiver_after, receiver-follows}
 
 -- ## Calls
 
 -- a session after a call of the sender by which this becomes of the sender
 abbrev pub sending : SenderCall → Transmission → Session → Session
-sending call t s = record {
-  sending = record {
-    sender = t;
-    written = s.sending.written + written_by (outgoing.as_run call);
-    released = s.sending.released + bytes_released (outgoing.as_run call);
-    taken_back = s.sending.taken_back + taken_back_by (outgoing.as_run call);
-  };
-  receiving = s.receiving;
-  made = made_after call s.sending.sender s.made;
-  sacks = s.sacks;
-  written = written_after call s.written;
-}
+sending call t s = sender_after call s t
 
 pub by-sender : (call : SenderCall) (t : Transmission) (s : Session) → IsReported call s → sender_runs.Makes (outgoing.as_run call) s.sending.sender t
     → MakesExactly call s.sending.sender t → outgoing.IsAccepted call s.sending.sender → Answers call s.sending.sender
     → SenderFollows call s (sending call t s)
-by-sender call t s handed made exact accepted answered = record {
-  handed = handed;
-  step = record { sender = made; written = refl; released = refl; taken_back = refl };
-  exact = exact;
-  accepted = accepted;
-  answered = answered;
-  after = refl;
-}
+by-sender call t s handed made exact accepted answered = sender-follows call s t (made, (exact, (accepted, answered))) handed
 
 -- and after a call of the receiver
 abbrev pub receiving : ReceiverCall → Reception → Session → Session
-receiving call r s = record s {
-  receiving = record {
-    receiver = r;
-    accepted = accepted_after (incoming.as_run call) s.receiving.accepted;
-    read = messages_after (incoming.as_run call) s.receiving.receiver s.receiving.read;
-  };
-  sacks = reports_after call s.receiving.receiver s.sacks;
-}
+receiving call r s = receiver_after call s r
 
 pub by-receiver : (call : ReceiverCall) (r : Reception) (s : Session) → IsSent call s → receiver_runs.Makes (incoming.as_run call) s.receiving.receiver r
     → incoming.IsAccepted call s.receiving.receiver → ReceiverFollows call s (receiving call r s)
-by-receiver call r s handed made accepted =
-    record { handed = handed; step = record { receiver = made; accepted = refl; read = refl }; accepted = accepted; after = refl }
+by-receiver call r s handed made accepted = receiver-follows call s r (made, accepted) handed
 
 -- a byte is written on a stream that is open
 pub writes-byte : (b : ℕ) (l : OutboundStream) (t : Transmission) → stream_of 1 t ≡ Some l

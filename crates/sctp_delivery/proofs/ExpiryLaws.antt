@@ -1,12 +1,12 @@
 -- Only what may expire expires, and each that is due.
-use Rattle.sctp_delivery.proofs.Names.{◌≡◌, ℕ, ◌+◌, ◌<◌, ◌≤◌, ◌^◌, Bool, true, false, List, [], ◌∷◌, length, map, refl, ap, sym, subst, ◌∙◌, arith, not, Option}
-use Rattle.sctp_delivery.proofs.Names.{Some, None, is_some, ◌++◌, inl, inr, ◌==◌, ◌||◌, if◌then◌else◌, ⊤, ◌&&◌, option_to_list, nat_eq, filter, list_any}
-use Rattle.sctp_delivery.proofs.Names.{nat_tests, or-left, or-right, same-is, same-yes, fails, not_both, and, both, tsn, ChunkPayloadData, IsRunFrom, is_dcep}
-use Rattle.sctp_delivery.proofs.Names.{abandoned_of, expiring_tail, is_expired, is_expired_tail, is_late, late_tsns, message_of, passing, Pending, next_pending}
-use Rattle.sctp_delivery.proofs.Names.{Flight, message_to_abandon, abandoned_at, abandoned_with, late_order, leaving_each, worn_order, is_worn, worn_tsns}
-use Rattle.sctp_delivery.proofs.Names.{Transmission, found-passes, abandoned_by, abandoned_in, AfterEachFitRun, Mode, Sending, at_first}
-use Rattle.sctp_delivery.proofs.Names.{deadline_of, modes_from, numbered_in, reliable_mode, Modes, modes_after, SenderCall, append_assoc, append-nil, distance}
-use Rattle.sctp_delivery.proofs.Names.{Reliable, tsns_given, Call, RunsTo, Session, at_start, of_receiver, of_sender}
+use Rattle.sctp_delivery.proofs.Names.{common_steps, ◌≡◌, ℕ, ◌+◌, ◌<◌, ◌≤◌, ◌^◌, Bool, true, false, List, [], ◌∷◌, length, map, refl, ap, sym, subst, ◌∙◌}
+use Rattle.sctp_delivery.proofs.Names.{arith, not, Option, Some, None, is_some, ◌++◌, inr, ◌==◌, ◌||◌, if◌then◌else◌, ⊤, ◌&&◌, option_to_list, nat_eq, filter}
+use Rattle.sctp_delivery.proofs.Names.{list_any, nat_tests, or-left, or-right, same-is, same-yes, fails, not_both, and, both, tsn, ChunkPayloadData, IsRunFrom}
+use Rattle.sctp_delivery.proofs.Names.{is_dcep, abandoned_of, expiring_tail, is_expired, is_expired_tail, is_late, late_tsns, message_of, passing, Pending}
+use Rattle.sctp_delivery.proofs.Names.{next_pending, Flight, message_to_abandon, abandoned_at, abandoned_with, late_order, leaving_each, worn_order, is_worn}
+use Rattle.sctp_delivery.proofs.Names.{worn_tsns, Transmission, found-passes, abandoned_by, abandoned_in, AfterEachFitRun, Sending, at_first, deadline_of}
+use Rattle.sctp_delivery.proofs.Names.{modes_from, numbered_in, reliable_mode, Modes, modes_after, SenderCall, append_assoc, append-nil, distance, Reliable}
+use Rattle.sctp_delivery.proofs.Names.{tsns_given, Call, RunsTo, Session, at_start, of_receiver, of_sender}
 use Rattle.std.proofs.Common.{◌⊎◌}
 use Rattle.sctp_delivery.proofs.Every.{Every, every-of, every-passing, every-both, all-of-every, every-changed, every-found, every-inserted, every-joined}
 use Rattle.sctp_delivery.proofs.Every.{every-all}
@@ -270,13 +270,7 @@ module _ (b most : ℕ) (few : most < 2 ^ 31) (ws : List Sending) (t : Transmiss
 -- ## The laws
 
 pub only-due : AfterEachRunOfFewInFlight OnlyTheDueExpire
-only-due first size max most limits cs s small some r few call =
-    let u = said-in first size max most limits cs s small some r in
-    let x = all-regular cs (at_start first size max most limits) s r (omega arith) few (regular-first first size max most limits small) in
-    let ws = (modes_from at_first cs).of_writes in
-    let t = s.sending.sender in
-    all-of-every (λ n. IsReason call t n (numbered_in n ws)) (abandoned_by call t)
-    (each-reason t.flight.acked_tsn (length t.flight.queue.inflight.chunks) x.0 ws t u.said.sender.queue u.said.filled x.1.regular.numbered call)
+only-due first size max most limits cs s small some r few call = grind (arith, said-in, all-regular, regular-first, all-of-every, each-reason)
 
 pub each-due-expires : AfterEachFitRun EachDueExpires
 each-due-expires tsn size max most limits cs s small some r now = grind (arith, nat_tests, front-goes, late-are, said-in, tail-goes, worn-are)
@@ -318,9 +312,7 @@ of-reasons call t ws h4 h5 = grind (arith, nat_tests, each-asked, never-often, n
 
 askable : (ws vs : List Sending) (xs ys : List ℕ) → KeepsModes ws vs → ((n : ℕ) → is_gone xs n ≡ true → is_gone ys n ≡ true) → (n : ℕ)
     → IsAskedOrNot ws xs n → IsAskedOrNot vs ys n
-askable ws vs xs ys keep more n (inl e) = inl (more n e)
-askable ws vs xs ys keep more n (inr e) =
-    let k = keep n e.0 in inr (k.0, λ r. e.1 (sym (ap (λ (m : Mode). m.reliability) k.1) ∙ r))
+askable h0 h1 h2 h3 h4 h5 h6 h7 = grind (arith, nat_tests, common_steps)
 
 module _ (first : ℕ) where
   -- what a call gives up
@@ -336,9 +328,7 @@ module _ (first : ℕ) where
   given-in : (n : ℕ) (cs : List Call) (old new : Session) (m : Modes) (r : RunsTo old cs new) → n + tsns_given old cs new r < 2 ^ 31
       → HasSaidOfFew first n m old → (gone asked : List ℕ) → Every (IsAskedOrNot m.of_writes asked) gone
       → Every (IsAskedOrNot (modes_from m cs).of_writes (asked ++ asked_in old cs new r)) (gone ++ abandoned_in old cs new r)
-  given-in n [] old new m r few h gone asked e =
-      subst (λ xs. Every (IsAskedOrNot m.of_writes (asked ++ [])) xs) (sym (append-nil gone))
-      (subst (λ xs. Every (IsAskedOrNot m.of_writes xs) gone) (sym (append-nil asked)) e)
+  given-in n [] old new m r few h gone asked e = grind (arith, nat_tests, common_steps, append-nil)
   given-in n (of_sender call ∷ cs) old new m r few h gone asked e =
       let t = old.sending.sender in
       let d = distance (next_tsn old) (next_tsn r.0) in

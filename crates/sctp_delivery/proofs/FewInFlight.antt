@@ -1,34 +1,27 @@
 -- What stays so of a session and of its sender's TSNs while fewer than 2^31 chunks are in flight, however many TSNs were given out.
-use Rattle.sctp_delivery.proofs.Names.{◌≡◌, ℕ, ◌+◌, ◌<◌, ◌≤◌, ◌^◌, Bool, true, false, not, List, [], ◌∷◌, length, ⊤, Option, Some, None, refl, ap}
-use Rattle.sctp_delivery.proofs.Names.{sym, subst, arith, nat_tests, filter, insert_before, change_where, Contains, if◌then◌else◌}
-use Rattle.sctp_delivery.proofs.Names.{comes_before, at_or_before, tsn, tsns, has_tsn, Sack, Flight, ChunkPayloadData, Transmission, Reception}
-use Rattle.sctp_delivery.proofs.Names.{after_sack, take_sack, is_outdated, sack_refusal, all_started, sent_next, next_after_send, after_forward_tsn}
-use Rattle.sctp_delivery.proofs.Names.{changed-run, filter_of, with_filter, with_tsn}
-use Rattle.sctp_delivery.proofs.Names.{after_misses, abandoned_each, after_abandonment, with_inflight, with_room, expired_of, with_message, fragments_with_mode}
-use Rattle.sctp_delivery.proofs.Names.{can_miss, missed, started-inflight, next_pending, as_sent, option_map, ForwardTsn, Released}
-use Rattle.sctp_delivery.proofs.Names.{Session, SenderFollows, ReceiverFollows, SenderCall, ReceiverCall, Made, made_after, with_chunk, data_chunk, forward_tsn}
-use Rattle.sctp_delivery.proofs.Names.{data_of, reports_after, New, Repeat, is_stale, follow_forward_tsn, without_incomplete, preceding_tsn, Limits}
+use Rattle.sctp_delivery.proofs.Names.{common_steps, ◌≡◌, ℕ, ◌<◌, ◌≤◌, ◌^◌, Bool, true, false, not, List, [], ◌∷◌, length, ⊤, Option, Some, None, refl, ap, sym}
+use Rattle.sctp_delivery.proofs.Names.{subst, arith, nat_tests, insert_before, Contains, if◌then◌else◌, comes_before, tsn, tsns, has_tsn, Sack, Flight}
+use Rattle.sctp_delivery.proofs.Names.{ChunkPayloadData, Transmission, Reception, after_sack, take_sack, is_outdated, sack_refusal, sent_next, next_after_send}
+use Rattle.sctp_delivery.proofs.Names.{after_forward_tsn, changed-run, filter_of, with_filter, with_tsn, after_misses, abandoned_each, after_abandonment}
+use Rattle.sctp_delivery.proofs.Names.{with_room, expired_of, with_message, fragments_with_mode, can_miss, missed, ForwardTsn, Released, Session, SenderFollows}
+use Rattle.sctp_delivery.proofs.Names.{ReceiverFollows, SenderCall, ReceiverCall, Made, made_after, data_chunk, forward_tsn, reports_after, Limits}
 use Rattle.sctp_outbound.specs.payload_queue.PayloadQueue as payload
 use Rattle.sctp_sender.specs.Flight.{count_acked, with_queue}
 use Rattle.sctp_sender.proofs.MarkedRuns.{part-run}
 use Rattle.sctp_util.specs.Lists.{advance_over}
 use Rattle.sctp_util.specs.Serial.{distance}
-use Rattle.sctp_delivery.specs.ReceiverCalls as incoming
 use Rattle.sctp_delivery.specs.SenderCalls as outgoing
 use Rattle.sctp_delivery.specs.SenderCalls.{IsAccepted}
 use Rattle.sctp_delivery.specs.Modes.{AreFewInFlight}
 use Rattle.sctp_delivery.specs.Session.{Call, Follows, IsReported, RunsTo, at_start, count_in_flight, of_receiver, of_sender}
-use Rattle.sctp_delivery.proofs.Cases.{at-test}
 use Rattle.sctp_delivery.proofs.Changes.{Change, Keeps, acknowledges, all_start, changes, each-call, each_leaves, flight_after, front_expires, more_room}
-use Rattle.sctp_delivery.proofs.Changes.{nothing}
-use Rattle.sctp_delivery.proofs.Changes.{one_leaves, some_marked, some_missed}
+use Rattle.sctp_delivery.proofs.Changes.{nothing, one_leaves, some_marked, some_missed}
 use Rattle.sctp_delivery.proofs.Every.{Every, every-all, every-contained, every-found, every-inserted, every-of, every-passing}
 use Rattle.sctp_delivery.proofs.GivenTsns.{IsNumbered, Raises, flight-given, passable-end, passable-skip, raises-abandoned, raises-each, raises-sent, rebased}
-use Rattle.sctp_delivery.proofs.GivenTsns.{same-numbered, taken-numbered}
+use Rattle.sctp_delivery.proofs.GivenTsns.{taken-numbered}
 use Rattle.sctp_delivery.proofs.QueueChunks.{EachIs, pushed}
 use Rattle.sctp_delivery.proofs.SackLaws.{IsInStepBut}
-use Rattle.sctp_delivery.proofs.SackSteps.{message-inflight, known_or}
-use Rattle.sctp_delivery.proofs.ReportedTsns.{IsTruthful}
+use Rattle.sctp_delivery.proofs.SackSteps.{message-inflight}
 use Rattle.sctp_delivery.proofs.TsnPlaces.{IsGiven, tsn-small}
 use Rattle.sctp_delivery.proofs.ValidMarks.{IsFresh, IsUnmarked, fragments-unmarked}
 use Rattle.sctp_delivery.proofs.Writing.{accepted-stream}
@@ -44,25 +37,16 @@ IsSmall t = t < 2 ^ 32
 
 pub still-run : (f g : Flight) → tsns g.queue.inflight.chunks ≡ tsns f.queue.inflight.chunks → g.next_tsn ≡ f.next_tsn → g.acked_tsn ≡ f.acked_tsn
     → IsInRun f → IsInRun g
-still-run f g same next acked h =
-    let p = f.acked_tsn in
-    let n = length f.queue.inflight.chunks in
-    rebased p n g (same-numbered p n f g same next acked h)
+still-run f g same next acked h = grind (arith, nat_tests, common_steps)
 
 pub raised-run : (most : ℕ) (f g : Flight) → Raises f.acked_tsn most f g → length g.queue.inflight.chunks < 2 ^ 31 → IsInRun f → IsInRun g
-raised-run most f g r few h =
-    let long = r.long in
-    let n = length f.queue.inflight.chunks in
-    rebased f.acked_tsn (n + r.count) g (r.numbered n (omega (arith, few, long)) h)
+raised-run most f g r few h = grind (arith, nat_tests, common_steps)
 
 -- a SACK that is taken goes to a place in the run
 pub sack-place : (k : Sack) (f : Flight) → IsSmall k.cumulative_tsn_ack → sack_refusal k f ≡ None → IsInRun f → is_outdated k f ≡ false
     → (count_acked k f ≤ length f.queue.inflight.chunks) × (k.cumulative_tsn_ack ≡ tsn f.acked_tsn (count_acked k f))
 unfolding distance
-sack-place k f small none h e =
-    let within : count_acked k f ≤ length f.queue.inflight.chunks = grind (arith, nat_tests) in
-    let a = h.acked_is in
-    (within, omega (arith, small, a))
+sack-place k f small none h e = grind (arith, nat_tests, common_steps)
 
 sacked-run : (k : Sack) (f : Flight) → IsSmall k.cumulative_tsn_ack → length f.queue.inflight.chunks < 2 ^ 31 → sack_refusal k f ≡ None → IsInRun f
     → IsInRun (after_sack k f)
@@ -83,13 +67,9 @@ module _ (t : Transmission) (was : length t.flight.queue.inflight.chunks < 2 ^ 3
   change-run : (call : SenderCall) → ((k : Sack) (gone : List Released) → call ≡ outgoing.takes_sack k gone → IsSmall k.cumulative_tsn_ack)
       → IsAccepted call t → (c : Change call t) → length (flight_after call t c).queue.inflight.chunks < 2 ^ 31 → IsInRun (flight_after call t c)
   change-run call small ok nothing few = h
-  change-run call small ok (all_start now) few =
-      still-run t.flight (with_queue t.flight (all_started now t.flight.queue))
-      (ap (λ (w : payload.Payload). tsns w.chunks) (started-inflight now t.flight.queue)) refl refl h
+  change-run call small ok (all_start now) few = grind (arith, nat_tests, common_steps)
   change-run call small ok (more_room count) few = still-run t.flight (with_queue t.flight (with_room count t.flight.queue)) refl refl refl h
-  change-run call small ok (some_marked q g k) few =
-      still-run t.flight (with_queue t.flight (with_inflight t.flight.queue (change_where q g cs)))
-      (changed-run q g (λ c. ap (λ (d : ChunkPayloadData). d.tsn) (k c)) cs) refl refl h
+  change-run call small ok (some_marked q g k) few = grind (arith, nat_tests, common_steps, still-run, changed-run)
   change-run call small ok (some_missed count) few =
       still-run t.flight (after_misses count t.flight) (part-run can_miss missed (λ d. refl) cs count) refl refl h
   change-run call small ok (one_leaves o e found) few =
@@ -150,22 +130,10 @@ module _ (call : SenderCall) (old new : Session) (f : SenderFollows call old new
       (subst (λ (y : Flight). length y.queue.inflight.chunks < 2 ^ 31) x.flight few))
 
   keeps : Keeps IsUnmarked (λ c. ⊤) u
-  keeps = record {
-    start = λ now c h. h;
-    lower = λ c h. h;
-    put = λ now c h. tt;
-    mark = λ g k c h. tt;
-    leave = λ c h. tt;
-    end' = λ t c h. tt;
-    acknowledge = λ c h. tt;
-  }
+  keeps = grind (arith, nat_tests, common_steps)
 
   unmarked : EachIs IsUnmarked (λ c. ⊤) u.flight.queue
-  unmarked = record {
-    ordered = i.regular.fresh.ordered;
-    unordered = i.regular.fresh.unordered;
-    inflight = every-all (λ (c : ChunkPayloadData). ⊤) (λ c. tt) u.flight.queue.inflight.chunks;
-  }
+  unmarked = grind (arith, nat_tests, common_steps, every-all)
 
   sender-fresh : (c : SenderCall) → SenderFollows c old new → EachIs IsUnmarked (λ c. ⊤) new.sending.sender.flight.queue
   sender-fresh (outgoing.writes stream ppi (b ∷ bs)) g =
@@ -179,14 +147,7 @@ module _ (call : SenderCall) (old new : Session) (f : SenderFollows call old new
   given-small t g = let s = tsn-small u.flight.acked_tsn g.place in let e = g.is in omega (arith, s, e)
 
   sender-made : (c : SenderCall) → SenderFollows c old new → Every IsMadeSmall (made_after c u old.made)
-  sender-made (outgoing.sends now) g = by (next_pending (all_started now u.flight.queue).pending)
-    where
-      by : (o : Option ChunkPayloadData) → Every IsMadeSmall (with_chunk (option_map (as_sent u.flight.next_tsn now) o) old.made)
-      by None = i.made
-      by (Some c) =
-          let e = i.regular.numbered.next_is in
-          let s = tsn-small u.flight.acked_tsn (length u.flight.queue.inflight.chunks + 1) in
-          (omega (arith, e, s), i.made)
+  sender-made (outgoing.sends now) g = grind (arith, nat_tests, common_steps)
   sender-made (outgoing.resends t now c) g = (
     given-small c.tsn (every-found (λ (d : ChunkPayloadData). IsGiven u.flight.acked_tsn (length u.flight.queue.inflight.chunks) d.tsn) (has_tsn t)
         u.flight.queue.inflight.chunks c g.accepted.1
@@ -206,18 +167,7 @@ module _ (call : SenderCall) (old new : Session) (f : SenderFollows call old new
   sender-made c g = i.made
 
   pub sender-regular : AreRegular new
-  sender-regular =
-      let fresh = sender-fresh call f in
-      record {
-        regular = record {
-          numbered = sender-run call f;
-          fresh = record { ordered = fresh.ordered; unordered = fresh.unordered };
-          sacks = subst (Every (λ (k : Sack). IsSmall k.cumulative_tsn_ack)) (sym (ap (λ (s : Session). s.sacks) f.after)) i.regular.sacks;
-        };
-        made = subst (Every IsMadeSmall) (sym (ap (λ (s : Session). s.made) f.after)) (sender-made call f);
-        cumulative = subst (λ (s : Session). IsSmall s.receiving.receiver.cumulative_tsn) (sym f.after) i.cumulative;
-        beyond = subst (λ (s : Session). Every IsSmall s.receiving.receiver.beyond) (sym f.after) i.beyond;
-      }
+  sender-regular = grind (arith, nat_tests, common_steps, sender-fresh, sender-run, sender-made)
 
 -- ## A call of the receiver
 
@@ -241,45 +191,20 @@ module _ (old : Session) (i : AreRegular old) where
       advanced-small r.cumulative_tsn (insert_before comes_before t r.beyond) i.cumulative (every-inserted IsSmall comes_before t r.beyond small i.beyond)
 
   pub follows-small : (g : ForwardTsn) → Contains old.made (forward_tsn g) → HasSmall (after_forward_tsn g r)
-  follows-small g h = at-test (λ b. HasSmall (if b then r else without_incomplete g.new_cumulative_tsn (if b then r else follow_forward_tsn g r)))
-      (is_stale g r)
-      (λ e. still)
-      (λ e. advanced-small g.new_cumulative_tsn (filter (λ t. not (at_or_before t g.new_cumulative_tsn)) r.beyond)
-      (every-contained IsMadeSmall old.made (forward_tsn g) h i.made)
-      (every-passing IsSmall (λ t. not (at_or_before t g.new_cumulative_tsn)) r.beyond i.beyond))
+  follows-small g h = grind (arith, nat_tests, common_steps, still, advanced-small, not, every-contained, every-passing)
 
 module _ (call : ReceiverCall) (old new : Session) (f : ReceiverFollows call old new) (i : AreRegular old) where
   to-small : (q : Reception) → new.receiving.receiver ≡ q → HasSmall q → HasSmall new.receiving.receiver
   to-small q e h = subst HasSmall (sym e) h
 
   receiver-small : (c : ReceiverCall) → ReceiverFollows c old new → HasSmall new.receiving.receiver
-  receiver-small (incoming.opens stream) g = to-small _ g.step.receiver.1 (still old i)
-  receiver-small (incoming.takes c Repeat) g = to-small _ g.step.receiver (still old i)
-  receiver-small (incoming.takes c (New answered)) g =
-      to-small _ g.step.receiver.after (with-small old i c.tsn (every-contained IsMadeSmall old.made (data_chunk (data_of c)) g.handed i.made))
-  receiver-small (incoming.follows c) g = to-small _ g.step.receiver (follows-small old i c g.handed)
-  receiver-small c g = to-small _ g.step.receiver (still old i)
+  receiver-small h0 h1 = grind (arith, nat_tests, common_steps, to-small, still, with-small, every-contained, follows-small)
 
   receiver-sacks : (c : ReceiverCall) → Every (λ (k : Sack). IsSmall k.cumulative_tsn_ack) (reports_after c old.receiving.receiver old.sacks)
-  receiver-sacks (incoming.reports credit) = (i.cumulative, i.regular.sacks)
-  receiver-sacks (incoming.reports_within credit bytes) = (i.cumulative, i.regular.sacks)
-  receiver-sacks (incoming.makes_sack credit bytes) = (i.cumulative, i.regular.sacks)
-  receiver-sacks c = i.regular.sacks
+  receiver-sacks h0 = grind (arith, nat_tests, common_steps)
 
   pub receiver-regular : AreRegular new
-  receiver-regular =
-      let same = f.after in
-      let small = receiver-small call f in
-      record {
-        regular = record {
-          numbered = subst (λ (s : Session). IsInRun s.sending.sender.flight) (sym same) i.regular.numbered;
-          fresh = subst (λ (s : Session). IsFresh s.sending.sender.flight.queue) (sym same) i.regular.fresh;
-          sacks = subst (Every (λ (k : Sack). IsSmall k.cumulative_tsn_ack)) (sym (ap (λ (s : Session). s.sacks) same)) (receiver-sacks call);
-        };
-        made = subst (Every IsMadeSmall) (sym (ap (λ (s : Session). s.made) same)) i.made;
-        cumulative = small.0;
-        beyond = small.1;
-      }
+  receiver-regular = grind (arith, nat_tests, common_steps, receiver-small, receiver-sacks)
 
 -- ## Each call
 
@@ -288,18 +213,7 @@ regular-then (of_sender call) d e was few f i = sender-regular call d e f was fe
 regular-then (of_receiver call) d e was few f i = receiver-regular call d e f i
 
 pub regular-first : (first size max most : ℕ) (limits : Option Limits) → first < 2 ^ 32 → AreRegular (at_start first size max most limits)
-regular-first first size max most limits small =
-    let near : preceding_tsn first < 2 ^ 32 = omega arith in
-    record {
-      regular = record {
-        numbered = record { acked = 0; acked_is = omega (arith, small); next_is = omega (arith, small); run = refl; total = refl };
-        fresh = record { ordered = tt; unordered = tt };
-        sacks = tt;
-      };
-      made = tt;
-      cumulative = near;
-      beyond = tt;
-    }
+regular-first first size max most limits small = grind (arith, nat_tests, common_steps)
 
 pub all-regular : (cs : List Call) (s new : Session) (r : RunsTo s cs new) → count_in_flight s < 2 ^ 31 → AreFewInFlight s cs new r → AreRegular s
     → (count_in_flight new < 2 ^ 31) × AreRegular new
@@ -309,9 +223,4 @@ all-regular (c ∷ cs) s new r was few i = all-regular cs r.0 new r.1.1 few.0 fe
 -- ## Where few TSNs were given out
 
 pub regular-of-few : (dropped : ℕ → Bool) (p n : ℕ) (s : Session) → IsInStepBut dropped p n s → IsRegular s
-regular-of-few dropped p n s i = record {
-  numbered = rebased p n s.sending.sender.flight i.numbered;
-  fresh = record { ordered = i.valid.ordered; unordered = i.valid.unordered };
-  sacks = every-of (IsTruthful p n (known_or dropped s)) (λ (k : Sack). IsSmall k.cumulative_tsn_ack)
-      (λ k x. let t = tsn-small p x.place in let e = x.is in omega (arith, t, e)) s.sacks i.sacks;
-}
+regular-of-few dropped p n s i = grind (arith, nat_tests, common_steps, rebased, every-of, tsn-small)

@@ -1,15 +1,13 @@
 -- In a whole life the chunks in flight stand for the last entries, one after another, while fewer than 2^31 are in flight.
-use Rattle.sctp_delivery.proofs.Names.{◌≡◌, ℕ, zero, suc, ◌+◌, ◌%◌, ◌<◌, ◌^◌, Bool, true, false, List, [], ◌∷◌, ◌++◌, length, take, drop, refl}
-use Rattle.sctp_delivery.proofs.Names.{ap, sym, subst, ◌∙◌, arith, inl, inr, if◌then◌else◌, Option, Some, None, change_where}
-use Rattle.sctp_delivery.proofs.Names.{insert_before, length-append, length-drop, find, option_map, tsn, tsns}
-use Rattle.sctp_delivery.proofs.Names.{ChunkPayloadData, data_of, chunk_before, as_abandoned, as_acknowledged, as_sent, is_of, terminal_chunk, has_tsn}
-use Rattle.sctp_delivery.proofs.Names.{following_tsn}
-use Rattle.sctp_delivery.proofs.Names.{all_started, started-inflight, with_inflight, with_room, expired_of, after_abandonment, after_sack}
-use Rattle.sctp_delivery.proofs.Names.{take_sack, is_outdated, sack_refusal, reports_anew, message_to_abandon, abandoned_at, abandoned_each, after_misses}
-use Rattle.sctp_delivery.proofs.Names.{can_miss}
-use Rattle.sctp_delivery.proofs.Names.{missed, sent_next, next_after_send, next_pending, last_removed, no_last, waits, partially_sent, IsRunFrom, tsns_from}
-use Rattle.sctp_delivery.proofs.Names.{changed-run, past-is, Flight, Sack, Released, Transmission, SenderCall, SenderFollows, Session, Outbound, sent_of}
-use Rattle.sctp_delivery.proofs.Names.{with_terminal_chunk, fragments_with_mode, with_message, is_ordered_on, found-partial, peeked_all_started}
+use Rattle.sctp_delivery.proofs.Names.{common_steps, nat_tests, ◌≡◌, ℕ, zero, suc, ◌+◌, ◌%◌, ◌<◌, ◌^◌, Bool, true, false, List, [], ◌∷◌, ◌++◌, length, take}
+use Rattle.sctp_delivery.proofs.Names.{drop, refl, ap, sym, subst, ◌∙◌, arith, inl, inr, if◌then◌else◌, Option, Some, None, change_where, insert_before}
+use Rattle.sctp_delivery.proofs.Names.{length-append, length-drop, find, option_map, tsn, tsns, ChunkPayloadData, data_of, chunk_before, as_abandoned}
+use Rattle.sctp_delivery.proofs.Names.{as_acknowledged, as_sent, is_of, terminal_chunk, has_tsn, following_tsn, all_started, started-inflight, with_inflight}
+use Rattle.sctp_delivery.proofs.Names.{after_abandonment, after_sack, take_sack, is_outdated, sack_refusal, reports_anew, message_to_abandon, abandoned_at}
+use Rattle.sctp_delivery.proofs.Names.{abandoned_each, after_misses, can_miss, missed, sent_next, next_after_send, next_pending, last_removed, no_last, waits}
+use Rattle.sctp_delivery.proofs.Names.{partially_sent, IsRunFrom, tsns_from, changed-run, past-is, Flight, Sack, Released, Transmission, SenderCall}
+use Rattle.sctp_delivery.proofs.Names.{SenderFollows, Session, Outbound, sent_of, with_terminal_chunk, fragments_with_mode, with_message, is_ordered_on}
+use Rattle.sctp_delivery.proofs.Names.{found-partial, peeked_all_started}
 use Rattle.std.specs.Prelude.{is_some}
 use Rattle.sctp_outbound.specs.payload_queue.PayloadQueue as payload
 use Rattle.sctp_outbound.proofs.lemmas.outbound_queue.Abandoned.{last_removed_none}
@@ -18,8 +16,8 @@ use Rattle.sctp_sender.specs.Flight.{count_acked, with_queue}
 use Rattle.sctp_delivery.specs.SenderCalls as outgoing
 use Rattle.sctp_delivery.proofs.Calls.{sent_by}
 use Rattle.sctp_delivery.proofs.Cases.{all_streams, where-is}
-use Rattle.sctp_delivery.proofs.Changes.{Change, acknowledges, all_start, changes, each_leaves, flight_after, front_expires, more_room, nothing}
-use Rattle.sctp_delivery.proofs.Changes.{one_leaves, partial-found, some_marked, some_missed}
+use Rattle.sctp_delivery.proofs.Changes.{Change, acknowledges, all_start, changes, each_leaves, flight_after, front_expires, more_room, nothing, one_leaves}
+use Rattle.sctp_delivery.proofs.Changes.{partial-found, some_marked, some_missed}
 use Rattle.sctp_delivery.proofs.Delivered.{HoldsOn, Sends, next_tsn, sender-step-on}
 use Rattle.sctp_delivery.proofs.FewInFlight.{IsInRun, IsSmall, raised-run, sack-place}
 use Rattle.sctp_delivery.proofs.GivenTsns.{raises-abandoned, raises-each}
@@ -30,7 +28,7 @@ use Rattle.sctp_delivery.proofs.Numbers.{number_of}
 use Rattle.sctp_delivery.proofs.SackSteps.{message-inflight}
 use Rattle.sctp_delivery.proofs.Senders.{IsMoreBy, gone-one}
 use Rattle.sctp_delivery.proofs.Sent.{Entry, Numbered, fragment, terminal}
-use Rattle.sctp_delivery.proofs.SpreadEntries.{IsStep, at-more, at-here, begun_to, ordered-alike, step-alike, step-fragment, step-terminal, to-all, to-more}
+use Rattle.sctp_delivery.proofs.SpreadEntries.{IsStep, at-more, at-here, ordered-alike, step-alike, step-fragment, step-terminal, to-all, to-more}
 use Rattle.sctp_delivery.proofs.SpreadFlight.{AreOn, AreSteps}
 use Rattle.sctp_delivery.proofs.TsnPlaces.{base, tsn-small}
 use Rattle.sctp_delivery.proofs.Writing.{accepted-stream}
@@ -61,20 +59,12 @@ kin-long (c ∷ cs) (d ∷ ds) k = ap suc (kin-long cs ds k.1)
 module _ (p : ChunkPayloadData → Bool) (f : ChunkPayloadData → ChunkPayloadData) (kin : (c : ChunkPayloadData) → IsKin c (f c)) where
   kin-changed : (cs : List ChunkPayloadData) → AreKin cs (change_where p f cs)
   kin-changed [] = tt
-  kin-changed (c ∷ cs) = (by (p c), kin-changed cs)
-    where
-      by : (b : Bool) → IsKin c (if b then f c else c)
-      by true = kin c
-      by false = record { stream = refl; kind = refl; number = refl }
+  kin-changed (c ∷ cs) = grind (arith, nat_tests, common_steps, kin-changed cs)
 
   kin-part : (i : ℕ) (cs : List ChunkPayloadData) → AreKin cs (change_where p f (take i cs) ++ drop i cs)
   kin-part zero cs = kin-itself cs
   kin-part (suc i) [] = tt
-  kin-part (suc i) (c ∷ cs) = (by (p c), kin-part i cs)
-    where
-      by : (b : Bool) → IsKin c (if b then f c else c)
-      by true = kin c
-      by false = record { stream = refl; kind = refl; number = refl }
+  kin-part (suc i) (c ∷ cs) = grind (arith, nat_tests, common_steps, kin-part i cs)
 
 -- ## Places
 
@@ -86,11 +76,7 @@ module _ (st : ℕ) (sent : List Entry) where
   set-kin a [] [] k s = s
   set-kin a [] (d ∷ ds) k s = absurd k
   set-kin a (c ∷ cs) [] k s = absurd k
-  set-kin a (c ∷ cs) (d ∷ ds) k s =
-      let r = set-kin (a + 1) cs ds k.1 (s.0.1, s.1.1) in (
-        (step-alike st (begun_to st a sent) (begun_to st (a + 1) sent) c d k.0.stream k.0.kind k.0.number s.0.0, r.0),
-        (ordered-alike st c d k.0.stream k.0.kind ∙ s.1.0, r.1),
-      )
+  set-kin a (c ∷ cs) (d ∷ ds) k s = grind (arith, nat_tests, common_steps, step-alike, ordered-alike, set-kin (a + 1) cs ds k.1 (s.0.1, s.1.1))
 
   set-drop : (k a : ℕ) (cs : List ChunkPayloadData) → AreSet st sent a cs → AreSet st sent (a + k) (drop k cs)
   set-drop zero a cs s = subst (λ b. AreSet st sent b cs) {x = a} {y = a + 0} (omega arith) s
@@ -101,27 +87,8 @@ module _ (st : ℕ) (sent : List Entry) where
   -- with one more entry, and its chunk
   set-put : (e : Entry) (x : ChunkPayloadData) → IsStep st (begun_on st sent) (begun_on st (e ∷ sent)) x → is_ordered_on st x ≡ ends_on st (e ∷ sent)
       → (a : ℕ) (cs : List ChunkPayloadData) → a + length cs ≡ length sent → AreSet st sent a cs → AreSet st (e ∷ sent) a (cs ++ x ∷ [])
-  set-put e x s o a [] long k =
-      let here : a + 1 ≡ length (e ∷ sent) = omega (arith, long) in
-      let before : begun_to st a (e ∷ sent) ≡ begun_on st sent = to-more st a e sent (omega (arith, long)) ∙ to-all st a sent (omega (arith, long)) in
-      let upto : begun_to st (a + 1) (e ∷ sent) ≡ begun_on st (e ∷ sent) = to-all st (a + 1) (e ∷ sent) (omega (arith, here)) in (
-        (
-          subst (λ m. IsStep st m (begun_to st (a + 1) (e ∷ sent)) x) (sym before) (subst (λ m. IsStep st (begun_on st sent) m x) (sym upto) s),
-          tt,
-        ),
-        (o ∙ sym (at-here st e sent (a + 1) here), tt),
-      )
-  set-put e x s o a (c ∷ cs) long k =
-      let r = set-put e x s o (a + 1) cs (omega (arith, long)) (k.0.1, k.1.1) in
-      let before = to-more st a e sent (omega (arith, long)) in
-      let upto = to-more st (a + 1) e sent (omega (arith, long)) in (
-        (
-          subst (λ m. IsStep st m (begun_to st (a + 1) (e ∷ sent)) c) (sym before)
-              (subst (λ m. IsStep st (begun_to st a sent) m c) (sym upto) k.0.0),
-          r.0,
-        ),
-        (k.1.0 ∙ sym (at-more st (a + 1) e sent (omega (arith, long))), r.1),
-      )
+  set-put e x s o a [] long k = grind (arith, nat_tests, common_steps, to-more, to-all, at-here)
+  set-put e x s o a (c ∷ cs) long k = grind (arith, nat_tests, common_steps, to-more, at-more, set-put e x s o (a + 1) cs (omega (arith, long)) (k.0.1, k.1.1))
 
 -- those in flight stand for the last entries, on the streams on which numbers go on
 pub record IsSetOn (going : ℕ → Bool) (first : ℕ) (f : Flight) (sent : List Entry) : Type 0 where
@@ -135,12 +102,7 @@ IsSet first f sent = IsSetOn all_streams first f sent
 
 pub same-set : (going : ℕ → Bool) (first : ℕ) (f g : Flight) (sent : List Entry) → g.acked_tsn ≡ f.acked_tsn
     → AreKin f.queue.inflight.chunks g.queue.inflight.chunks → IsSetOn going first f sent → IsSetOn going first g sent
-same-set going first f g sent acked kin s = record {
-  acked = s.acked;
-  total = let n = kin-long f.queue.inflight.chunks g.queue.inflight.chunks kin in let t = s.total in omega (arith, n, t);
-  is = acked ∙ s.is;
-  set = λ st o. set-kin st sent s.acked f.queue.inflight.chunks g.queue.inflight.chunks kin (s.set st o);
-}
+same-set going first f g sent acked kin s = grind (arith, nat_tests, common_steps, kin-long, set-kin)
 
 abbrev kin-chunks : (f : Flight) (cs : List ChunkPayloadData) → cs ≡ f.queue.inflight.chunks → AreKin f.queue.inflight.chunks cs
 kin-chunks f cs e = subst (AreKin f.queue.inflight.chunks) (sym e) (kin-itself f.queue.inflight.chunks)
@@ -217,10 +179,7 @@ sack-set going first k f sent small few none run s = by (is_outdated k f) refl
 -- as many entries more are the same ones
 one-end : (first next : ℕ) (sent xs ys : List Entry) → IsEnded sent xs → IsEnded sent ys → next ≡ (first + length xs) % 2 ^ 32
     → next ≡ (first + length ys) % 2 ^ 32 → xs ≡ ys
-one-end first next sent xs ys (inl a) (inl b) i j = a ∙ sym b
-one-end first next sent xs ys (inl a) (inr b) i j = let n = ap length a in let m = ap length b in absurd (omega (arith, n, m, i, j))
-one-end first next sent xs ys (inr a) (inl b) i j = let n = ap length a in let m = ap length b in absurd (omega (arith, n, m, i, j))
-one-end first next sent xs ys (inr a) (inr b) i j = a ∙ sym b
+one-end h0 h1 h2 h3 h4 h5 h6 h7 h8 = grind (arith, nat_tests, common_steps)
 
 -- where no TSN is given out, there is no entry more; and where one is, it is a terminal one
 still : (first next : ℕ) (sent more : List Entry) → IsEnded sent more → next ≡ (first + length sent) % 2 ^ 32 → next ≡ (first + length more) % 2 ^ 32
@@ -238,9 +197,7 @@ module _ (going : ℕ → Bool) (ws : List Numbered) (first : ℕ) (number : ℕ
       → ((m : ℕ) → o ≡ Some m → waits m f.queue.pending ≡ true → partially_sent f.queue.pending ≡ Some m) → length f.queue.inflight.chunks < 2 ^ 31
       → IsInRun f → IsSetOn going first f sent → (more : List Entry) → IsEnded sent more → (after_abandonment o f).next_tsn ≡ (first + length more) % 2 ^ 32
       → IsSetOn going first (after_abandonment o f) more
-  leave-set f sent h None partial few run s more ended counted =
-      subst (IsSetOn going first (after_abandonment None f)) (sym (still first f.next_tsn sent more ended h.counted counted))
-      (same-set going first f (after_abandonment None f) sent refl (kin-itself f.queue.inflight.chunks) s)
+  leave-set f sent h None partial few run s more ended counted = grind (arith, nat_tests, common_steps)
   leave-set f sent h (Some m) partial few run s more ended counted = by (waits m f.queue.pending) refl
     where
       cs : List ChunkPayloadData
@@ -343,14 +300,8 @@ module _ (going : ℕ → Bool) (first : ℕ) (call : SenderCall) (old new : Ses
       → (more : List Entry) → IsEnded sent more → (flight_after c u ch).next_tsn ≡ (first + length more) % 2 ^ 32
       → IsSetOn going first (flight_after c u ch) more
   change-set c is ok nothing few' more ended to = quiet-set u.flight refl more ended to s
-  change-set c is ok (all_start now) few' more ended to =
-      let g = with_queue u.flight (all_started now u.flight.queue) in
-      quiet-set g refl more ended to
-      (same-set going first u.flight g sent refl (kin-chunks u.flight g.queue.inflight.chunks (ap (λ (w : payload.Payload). w.chunks)
-      (started-inflight now u.flight.queue))) s)
-  change-set c is ok (more_room count) few' more ended to =
-      let g = with_queue u.flight (with_room count u.flight.queue) in
-      quiet-set g refl more ended to (same-set going first u.flight g sent refl (kin-itself u.flight.queue.inflight.chunks) s)
+  change-set c is ok (all_start now) few' more ended to = grind (arith, nat_tests, common_steps)
+  change-set c is ok (more_room count) few' more ended to = grind (arith, nat_tests, common_steps)
   change-set c is ok (some_marked p q k) few' more ended to =
       let g = with_queue u.flight (with_inflight u.flight.queue (change_where p q u.flight.queue.inflight.chunks)) in
       quiet-set g refl more ended to
@@ -371,32 +322,19 @@ module _ (going : ℕ → Bool) (first : ℕ) (call : SenderCall) (old new : Ses
       let r = leave-each going ns first (λ r. number_of r u.streams) ts u.flight sent h.held.stands few' run s in
       let g = abandoned_each ts u.flight in
       subst (IsSetOn going first g) (one-end first g.next_tsn sent r.0.more more r.0.ended ended r.0.stands.counted to) r.1
-  change-set c is ok (front_expires now d found e) few' more ended to =
-      let g = with_queue u.flight (expired_of (Some d) u.flight.queue) in
-      quiet-set g refl more ended to (same-set going first u.flight g sent refl (kin-itself u.flight.queue.inflight.chunks) s)
-  change-set c is ok (acknowledges k gone e) few' more ended to =
-      quiet-set (after_sack k u.flight) (sack-next (is_outdated k u.flight)) more ended to
-      (sack-set going first k u.flight sent (small k gone (sym is ∙ e)) was (subst (λ d. outgoing.IsAccepted d u) e ok) run s)
-    where
-      sack-next : (b : Bool) → (if b then u.flight else take_sack k u.flight).next_tsn ≡ u.flight.next_tsn
-      sack-next true = refl
-      sack-next false = refl
+  change-set c is ok (front_expires now d found e) few' more ended to = grind (arith, nat_tests, common_steps)
+  change-set c is ok (acknowledges k gone e) few' more ended to = grind (arith, quiet-set, sack-set)
 
   to-flight : (v : Flight) → new.sending.sender.flight ≡ v → (v.next_tsn ≡ (first + length x.more) % 2 ^ 32 → IsSetOn going first v x.more)
       → IsSetOn going first new.sending.sender.flight x.more
-  to-flight v e k =
-      subst (λ (y : Flight). IsSetOn going first y x.more) (sym e)
-      (k (subst (λ (y : Flight). y.next_tsn ≡ (first + length x.more) % 2 ^ 32) e x.holds.held.stands.counted))
+  to-flight v e k = grind (arith, nat_tests, common_steps)
 
   sent-set : (now : ℕ) (o : Option ChunkPayloadData) → next_pending (all_started now u.flight.queue).pending ≡ o
       → IsMoreBy (option_map (as_sent u.flight.next_tsn now) o) sent x.more → (v : Flight) → v.acked_tsn ≡ u.flight.acked_tsn
       → v.queue ≡ sent_of o (all_started now u.flight.queue) u.flight.next_tsn now
       → v.next_tsn ≡ (if is_some o then following_tsn u.flight.next_tsn else u.flight.next_tsn) → v.next_tsn ≡ (first + length x.more) % 2 ^ 32
       → IsSetOn going first v x.more
-  sent-set now None e grown v acked queue next to =
-      quiet-set v next x.more grown to
-      (same-set going first u.flight v sent acked (kin-chunks u.flight v.queue.inflight.chunks
-      (ap (λ (q : Outbound). q.inflight.chunks) queue ∙ ap (λ (w : payload.Payload). w.chunks) (started-inflight now u.flight.queue))) s)
+  sent-set now None e grown v acked queue next to = grind (arith, nat_tests, common_steps)
   sent-set now (Some c) e grown v acked queue next to =
       let t = as_sent u.flight.next_tsn now c in
       let cs = u.flight.queue.inflight.chunks in

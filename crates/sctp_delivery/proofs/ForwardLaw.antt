@@ -1,11 +1,11 @@
 -- A receiver that is read refuses no FORWARD-TSN that the sender may make now.
 use Rattle.sctp_delivery.proofs.Names.{common_steps, ◌≡◌, ℕ, zero, suc, ◌+◌, ◌-◌, ◌%◌, ◌^◌, ◌<◌, ◌≤◌, Bool, true, false, not, List, [], ◌∷◌, take, Option, Some}
 use Rattle.sctp_delivery.proofs.Names.{None, inl, inr, refl, ap, sym, subst, ◌∙◌, arith, ◌⊎◌, ◌==◌, ◌&&◌, ◌||◌, if◌then◌else◌, nat_le, nat_lt, filter, list_all}
-use Rattle.sctp_delivery.proofs.Names.{list_any, cases_lt, nat_tests, distance, same-yes, both, not_both, distance-tsn, tsn, ChunkPayloadData}
-use Rattle.sctp_delivery.proofs.Names.{ChunkForwardTsnStream, ForwardTsn, data_of, last_of, is_on, message_read, InboundStream, NamedSsnTooFar}
-use Rattle.sctp_delivery.proofs.Names.{NamedStreamUnknown, TsnOpposite, Reception, forward_refusal, is_open, stream_of, is_ahead, names_too_far, skip_refusal}
-use Rattle.sctp_delivery.proofs.Names.{is_name_too_far, is_named_too_far, lowest_ssn, Name, ahead, is_named, is_pair_of, named_up_to, pairs_of, Flight}
-use Rattle.sctp_delivery.proofs.Names.{abandoned_in, WhileFewTsns, MayMake, is_due_named, reads_nothing_on, tsns_given, Session, at_start}
+use Rattle.sctp_delivery.proofs.Names.{list_any, cases_lt, nat_tests, same-yes, both, not_both, distance-tsn, tsn, ChunkPayloadData, ChunkForwardTsnStream}
+use Rattle.sctp_delivery.proofs.Names.{ForwardTsn, data_of, last_of, is_on, message_read, InboundStream, NamedSsnTooFar, NamedStreamUnknown, TsnOpposite}
+use Rattle.sctp_delivery.proofs.Names.{Reception, forward_refusal, is_open, stream_of, is_ahead, names_too_far, skip_refusal, is_name_too_far, is_named_too_far}
+use Rattle.sctp_delivery.proofs.Names.{lowest_ssn, Name, ahead, is_named, is_pair_of, named_up_to, pairs_of, Flight, abandoned_in, WhileFewTsns, MayMake}
+use Rattle.sctp_delivery.proofs.Names.{is_due_named, tsns_given, Session, at_start}
 use Rattle.sctp_util.specs.Serial.{distance16}
 use Rattle.sctp_delivery.specs.Refused.{NoneMadeIsRefused}
 use Rattle.sctp_delivery.proofs.Cases.{all_streams}
@@ -100,21 +100,13 @@ module _ (first n : ℕ) (few : n < 2 ^ 31) (gone : List ℕ) (s : Session) (h :
   m = passable.given.place
 
   steps : (st : ℕ) → AreSteps st sent a flight.queue.inflight.chunks
-  steps st =
-      are-steps all_streams first n sent spread.long few st refl a flight.queue.inflight.chunks spread.step.numbered.total spread.step.numbered.run
-      spread.holds.held.stands.known
+  steps st = grind (arith, nat_tests, common_steps, are-steps)
 
   on : (st : ℕ) → AreOn st sent a flight.queue.inflight.chunks
-  on st =
-      are-on all_streams first n sent spread.long few st a flight.queue.inflight.chunks spread.step.numbered.total spread.step.numbered.run
-      spread.holds.held.stands.known
+  on st = grind (arith, nat_tests, common_steps, are-on)
 
   far : ahead flight t ≡ m - a
-  far =
-      let past = passable.past in
-      let within = passable.given.within in
-      ap (λ u. distance u t) spread.step.numbered.acked_is ∙ ap (distance (tsn p a)) passable.given.is
-      ∙ distance-tsn p a m (omega (arith, past)) (omega (arith, within, few))
+  far = grind (arith, nat_tests, common_steps, passable, distance-tsn)
 
   module _ (x : ChunkForwardTsnStream) (in' : In x f.streams) (lead : is_ahead f r ≡ true) where
     abbrev st : ℕ
@@ -160,19 +152,7 @@ module _ (first n : ℕ) (few : n < 2 ^ 31) (gone : List ℕ) (s : Session) (h :
     number-is = by (named st p n sent flight spread.step.numbered few spread.long (steps st) (on st) f passable name)
       where
         by : IsNaming st p a sent f → (k : ℕ) × (k + 1 ≡ B m) × (x.sequence ≡ k % 2 ^ 16)
-        by i = elim i.tells [
-          | inl y ↦ absurd (subst (In x) y.0 own)
-          | inr y ↦
-              let w = i.within in
-              let long = spread.long in
-              let v = passable.given.within in
-              let same : i.place ≡ m = same-place p i.place m (omega (arith, w, long, few)) (omega (arith, v, few)) (sym i.is ∙ passable.given.is) in
-              (y.0, y.1 ∙ ap B same, one (y.0 % 2 ^ 16) (subst (In x) y.2 own))
-        ]
-          where
-            one : (k : ℕ) → In x (record { identifier = st; sequence = k } ∷ []) → x.sequence ≡ k
-            one k (inl e) = sym (ap (λ (y : ChunkForwardTsnStream). y.sequence) e)
-            one k (inr e) = absurd e
+        by i = grind (arith, nat_tests, common_steps, own, passable, same-place)
 
     near-name : (l : InboundStream) → stream_of st r ≡ Some l → message_read l.queue.held ≡ None → is_name_too_far x.sequence l.queue.held ≡ false
     near-name l there none =
@@ -202,9 +182,7 @@ module _ (first n : ℕ) (few : n < 2 ^ 31) (gone : List ℕ) (s : Session) (h :
     not-named-far = grind (arith, nat_tests, all-in, both, near-name)
 
   open-all : list_any (λ y. not (is_open y.identifier r)) f.streams ≡ false
-  open-all = none-in (λ y. not (is_open y.identifier r)) f.streams (λ y i.
-      ap not (both (is_open y.identifier r) (reads_nothing_on y.identifier r)
-      (all-in (λ z. is_open z.identifier r && reads_nothing_on z.identifier r) y f.streams due i)).0)
+  open-all = grind (arith, nat_tests, common_steps, none-in, not, all-in)
 
   near-all : (b : Bool) → is_ahead f r ≡ b → (b && list_any (λ y. is_named_too_far y (stream_of y.identifier r)) f.streams) ≡ false
   near-all false e = refl

@@ -1,5 +1,5 @@
 -- The fragments that a sender gave TSNs to, by their places.
-use Rattle.sctp_delivery.proofs.Names.{◌≡◌, ℕ, suc, ◌<◌, ◌≤◌, false, List, [], ◌∷◌, length, inl, inr, ap, sym, ◌∙◌, arith, ⊤, ◌==◌, if◌then◌else◌, nat_tests}
+use Rattle.sctp_delivery.proofs.Names.{common_steps, ◌≡◌, ℕ, suc, ◌<◌, ◌≤◌, List, [], ◌∷◌, length, inl, inr, ◌∙◌, arith, ⊤, ◌==◌, if◌then◌else◌, nat_tests}
 use Rattle.sctp_delivery.proofs.Names.{same-yes, Data}
 use Rattle.sctp_delivery.proofs.Sent.{Entry, IsPart, Numbered, fragment, terminal}
 
@@ -26,13 +26,7 @@ shows-with f g (fragment d w after ∷ xs) same a =
 pub shown : (none : Data) (xs : List Entry) → Shows (at_place none xs) xs
 shown none [] = tt
 shown none (terminal ∷ xs) = shown none xs
-shown none (fragment d w after ∷ xs) = (
-  ap (λ b. if b then d else at_place none xs (suc (length xs))) (same-yes (suc (length xs))),
-  shows-with (at_place none xs) (at_place none (fragment d w after ∷ xs)) xs
-      (λ k some le.
-      let other : (k == suc (length xs)) ≡ false = grind (arith, nat_tests, le) in
-      ap (λ b. if b then d else at_place none xs k) other) (shown none xs),
-)
+shown none (fragment d w after ∷ xs) = grind (arith, nat_tests, common_steps, same-yes, shows-with, shown none xs)
 
 -- what got a TSN stands at its place
 pub part-place : (f : ℕ → Data) (sent : List Entry) → Shows f sent → (d : Data) (w : Numbered) (after : List ℕ) (xs : List Entry)
@@ -40,8 +34,5 @@ pub part-place : (f : ℕ → Data) (sent : List Entry) → Shows f sent → (d 
 part-place f [] a d w after xs p = cc
 part-place f (terminal ∷ ys) a d w after xs (inl p) = cc
 part-place f (terminal ∷ ys) a d w after xs (inr p) = part-place f ys a d w after xs p
-part-place f (fragment e v rest ∷ ys) a d w after xs (inl p) =
-    let tails : ys ≡ xs = cc in
-    let heads : e ≡ d = cc in
-    ap (λ zs. f (suc (length zs))) (sym tails) ∙ a.0 ∙ heads
+part-place f (fragment e v rest ∷ ys) a d w after xs (inl p) = grind (arith, nat_tests, common_steps)
 part-place f (fragment e v rest ∷ ys) a d w after xs (inr p) = part-place f ys a.1 d w after xs p

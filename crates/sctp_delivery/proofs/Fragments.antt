@@ -1,6 +1,6 @@
 -- The fragments of a write wait one behind another, and together have its bytes.
-use Rattle.sctp_delivery.proofs.Names.{◌≡◌, ℕ, zero, suc, ◌+◌, ◌<◌, ◌≤◌, true, false, List, [], ◌∷◌, ◌++◌, length, map, take, drop, refl, ap, sym, subst, ◌∙◌}
-use Rattle.sctp_delivery.proofs.Names.{arith, ◌==◌, if◌then◌else◌, slice_index_or, nat_tests, append_assoc, always, numbers_where, pieces, same-is}
+use Rattle.sctp_delivery.proofs.Names.{common_steps, ◌≡◌, ℕ, zero, suc, ◌+◌, ◌<◌, ◌≤◌, true, false, List, [], ◌∷◌, ◌++◌, length, map, take, drop, refl, ap, sym}
+use Rattle.sctp_delivery.proofs.Names.{subst, ◌∙◌, arith, ◌==◌, if◌then◌else◌, slice_index_or, nat_tests, append_assoc, always, numbers_where, pieces, same-is}
 use Rattle.sctp_delivery.proofs.Names.{ChunkPayloadData, PayloadProtocolIdentifier, data_of, with_message_id, fragments_with_mode, OutboundStream, pieces_of}
 use Rattle.sctp_util.specs.Kept.{numbers_from}
 use Rattle.sctp_util.proofs.Getting.{map-twice}
@@ -116,11 +116,7 @@ module _ (ws : List Numbered) (n : ℕ) (l : OutboundStream) (ppi : PayloadProto
 
   turns-later : (r m j k : ℕ) → 0 < j → Turns r (map nth (numbers_where always j k)) m m
   turns-later r m j zero lt = refl
-  turns-later r m j (suc k) lt =
-      let none : counts r (nth j) ≡ false = inner-not r (nth j) (grind (arith, nat_tests)) in (
-        λ h. absurd (cc),
-        subst (λ b. Turns r (map nth (numbers_where always (j + 1) k)) (number_after b m) m) (sym none) (turns-later r m (j + 1) k (omega arith)),
-      )
+  turns-later r m j (suc k) lt = grind (arith, nat_tests, common_steps, inner-not, turns-later r m (j + 1) k (omega arith))
 
   numbered : (k : ℕ) → length ps ≡ k → map (with_message_id n) (fragments_with_mode l ppi bytes) ≡ map nth (numbers_where always 0 k)
   numbered k e = ap (map (with_message_id n)) (fragments-made l ppi bytes) ∙ map-twice (with_message_id n) (made l ppi bytes) (numbers_from 0 (length ps))

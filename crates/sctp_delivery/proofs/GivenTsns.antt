@@ -12,7 +12,7 @@ use Rattle.sctp_outbound.specs.payload_queue.PayloadQueue as payload
 use Rattle.sctp_outbound.proofs.lemmas.outbound_queue.Abandoned.{last_removed_none}
 use Rattle.sctp_sender.proofs.Flights.{put-last}
 use Rattle.sctp_sender.proofs.Runs.{dropped}
-use Rattle.sctp_delivery.proofs.TsnPlaces.{before, tsn-small, IsGiven, at-or-before, next-place}
+use Rattle.sctp_delivery.proofs.TsnPlaces.{before, tsn-small, IsGiven, at-or-before}
 use Rattle.std.specs.List.{find}
 use Rattle.sctp_delivery.proofs.Every.{Every, every-found, every-of, every-passing}
 use Rattle.sctp_delivery.proofs.Sessions.{unnot}
@@ -30,18 +30,7 @@ count xs = length-map xs (λ c. c.tsn)
 
 -- as many as are in flight, behind the acknowledged one
 pub rebased : (p n : ℕ) (f : Flight) → IsNumbered p n f → IsNumbered f.acked_tsn (length f.queue.inflight.chunks) f
-rebased p n f h =
-    let a = h.acked_is in
-    let b = h.next_is in
-    let total = h.total in
-    let from : tsn p (h.acked + 1) ≡ tsn f.acked_tsn 1 = omega (arith, a) in
-    record {
-      acked = 0;
-      acked_is = omega (arith, a);
-      next_is = omega (arith, a, b, total);
-      run = subst (λ t. IsRunFrom t f.queue.inflight.chunks) from h.run;
-      total = omega arith;
-    }
+rebased p n f h = grind (arith, nat_tests, common_steps)
 
 -- ## The same TSNs, and one more
 
@@ -64,16 +53,7 @@ as-long xs ys same = sym (count xs) ∙ ap length same ∙ count ys
 pub more-numbered : (p n : ℕ) (f g : Flight) (x : ChunkPayloadData) (cs : List ChunkPayloadData) → tsns cs ≡ tsns f.queue.inflight.chunks → x.tsn ≡ f.next_tsn
     → g.queue.inflight.chunks ≡ insert_before chunk_before x cs → g.next_tsn ≡ following_tsn f.next_tsn → g.acked_tsn ≡ f.acked_tsn
     → length f.queue.inflight.chunks < 2 ^ 31 → IsNumbered p n f → IsNumbered p (n + 1) g
-more-numbered p n f g x cs same is put next acked few h =
-    let first = tsn p (h.acked + 1) in
-    let long : length cs ≡ length f.queue.inflight.chunks = as-long cs f.queue.inflight.chunks same in
-    let at : x.tsn ≡ (first + length cs) % 2 ^ 32 = omega (arith, is, h.next_is, h.total, long) in
-    let run : IsRunFrom first cs = same ∙ h.run ∙ ap (tsns_from first) (sym long) in
-    let all : tsns g.queue.inflight.chunks ≡ tsns cs ++ x.tsn ∷ [] = ap tsns put ∙ put-last x cs first (tsn-small p (h.acked + 1))
-    (omega (arith, few, long)) run at in
-    let more : length g.queue.inflight.chunks ≡ suc (length cs) = sym (count g.queue.inflight.chunks) ∙ ap length all ∙
-    (let a = length-append (tsns cs) (x.tsn ∷ []) in let b = count cs in omega (arith, a, b)) in
-    grind (arith, nat_tests, one-more, tsn-small)
+more-numbered p n f g x cs same is put next acked few h = grind (arith, nat_tests, common_steps, as-long, put-last, tsn-small, length-append, one-more)
 
 -- ## A call
 
@@ -96,10 +76,7 @@ raises-none p most f g same next acked = grind (arith, nat_tests, none-more, sam
 raises-one : (p most : ℕ) (f g : Flight) (x : ChunkPayloadData) (cs : List ChunkPayloadData) → 1 ≤ most → tsns cs ≡ tsns f.queue.inflight.chunks
     → x.tsn ≡ f.next_tsn → g.queue.inflight.chunks ≡ insert_before chunk_before x cs → g.next_tsn ≡ following_tsn f.next_tsn → g.acked_tsn ≡ f.acked_tsn
     → Raises p most f g
-raises-one p most f g x cs some same is put next acked =
-    let long = ap length put ∙ put-length x cs in
-    let before = as-long cs f.queue.inflight.chunks same in
-    grind (arith, nat_tests, more-numbered, long, before)
+raises-one p most f g x cs some same is put next acked = grind (arith, nat_tests, common_steps, put-length, as-long, more-numbered)
 
 pub raises-sent : (p most : ℕ) (now : ℕ) (f : Flight) → 1 ≤ most → Raises p most f
     (record f { queue = sent_next f.queue f.next_tsn now; next_tsn = next_after_send f })
@@ -153,7 +130,7 @@ taken-numbered p n place s f few within is h = by (is_outdated s f) refl
         let total = h.total in
         let order : nat_lt place h.acked ≡ false = sym (before p place h.acked (omega (arith, within, few)) (omega (arith, total, few))) ∙ ap
         (λ t. comes_before t (tsn p h.acked)) (sym is) ∙ ap (comes_before s.cumulative_tsn_ack) (sym h.acked_is) ∙ e in
-        let le : h.acked ≤ place = grind (arith, nat_tests, order) in
+        let le : h.acked ≤ place = grind (arith, nat_tests) in
         let far : distance f.acked_tsn s.cumulative_tsn_ack ≡ place - h.acked = ap (λ t. distance t s.cumulative_tsn_ack) h.acked_is ∙ ap
         (distance (tsn p h.acked)) is ∙ distance-tsn p h.acked place le (omega (arith, within, few)) in
         let small : f.acked_tsn < 2 ^ 32 = let t = tsn-small p h.acked in omega (arith, t, h.acked_is) in
@@ -183,7 +160,7 @@ taken-numbered p n place s f few within is h = by (is_outdated s f) refl
 -- the run behind the first chunk
 pub rest-run : (p a : ℕ) (c : ChunkPayloadData) (cs : List ChunkPayloadData) → IsRunFrom (tsn p (a + 1)) (c ∷ cs) → (c.tsn ≡ tsn p (a + 1)) × IsRunFrom
     (tsn p (a + 1 + 1)) cs
-rest-run p a c cs run = grind (arith, nat_tests, next-place)
+rest-run p a c cs run = grind (arith, nat_tests)
 
 -- one of the places behind a, up to n
 pub record IsPast (p a n t : ℕ) : Type 0 where
@@ -332,7 +309,7 @@ none-upto p a m [] le few run = tt
 none-upto p a m (c ∷ cs) le few run =
     let r = rest-run p a c cs run in (
       λ h. let later : nat_le (a + 1) m ≡ true = sym (at-or-before p (a + 1) m (omega (arith, few)) (omega (arith, few, le))) ∙ ap
-          (λ t. at_or_before t (tsn p m)) (sym r.0) ∙ h in absurd (grind (arith, nat_tests, later, le)),
+          (λ t. at_or_before t (tsn p m)) (sym r.0) ∙ h in absurd (grind (arith, nat_tests)),
       none-upto p (a + 1) m cs (omega (arith, le)) (omega (arith, few)) r.1,
     )
 

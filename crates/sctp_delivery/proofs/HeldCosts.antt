@@ -2,23 +2,19 @@
 use Rattle.sctp_delivery.proofs.Names.{◌≡◌, ℕ, ◌+◌, ◌≤◌, Bool, true, false, not, List, [], ◌∷◌, ◌++◌, length, refl, sym, subst, arith, if◌then◌else◌, is_some}
 use Rattle.sctp_delivery.proofs.Names.{list_all, sum_by, sum_by-cons, sum_by-inserted, common_steps, nat_tests, both, negated, bytes_of, change_where}
 use Rattle.sctp_delivery.proofs.Names.{ChunkPayloadData, ChunkForwardTsnStream, ChunkSet, ForwardTsn, InboundStream, Reassembly, ReassemblyState, message_read}
-use Rattle.sctp_delivery.proofs.Names.{is_passed, after_ordered_push, rest_read, Pushes, new_stream, stream_read, unassembled_forwarded, without_incomplete}
-use Rattle.sctp_delivery.proofs.Names.{after_forward_tsn, incomplete_forwarded, follow_forward_tsn, is_stale, Reception, cannot_complete, cost_of, Session}
-use Rattle.sctp_delivery.proofs.Names.{Call, RunsTo, ReceiverFollows, of_receiver, of_sender, ReceiverCall, New, Repeat}
+use Rattle.sctp_delivery.proofs.Names.{is_passed, after_ordered_push, Pushes, stream_read, unassembled_forwarded, without_incomplete, after_forward_tsn}
+use Rattle.sctp_delivery.proofs.Names.{incomplete_forwarded, follow_forward_tsn, is_stale, Reception, cannot_complete, cost_of, Session, Call, RunsTo}
+use Rattle.sctp_delivery.proofs.Names.{ReceiverFollows, of_receiver, of_sender, ReceiverCall}
 use Rattle.std.specs.Prelude.{◌*◌}
 use Rattle.std.proofs.lemmas.List.Sums.{sum_by-le-sum_by}
 use Rattle.sctp_reassembly.specs.reassembly_queue.Counts.{set_chunks}
 use Rattle.sctp_reassembly.specs.reassembly_queue.ReassemblyQueue.{held_bytes, set_bytes}
 use Rattle.sctp_reassembly.proofs.lemmas.reassembly_queue.ByteCounts.{bytes_with, dropped, skipped, whole_bytes}
-use Rattle.sctp_receiver.proofs.StreamCosts.{all-cost}
-use Rattle.sctp_receiver.proofs.Weights as weights
-use Rattle.sctp_receiver.proofs.Weights.{message_weight}
 use Rattle.sctp_receiver.specs.Credit.{cost_held_on, cost_of_chunks}
 use Rattle.sctp_receiver.specs.Drains.{due_from}
 use Rattle.sctp_receiver.specs.Inbound.{has_number, named_forwarded, ssn_forwarded}
 use Rattle.sctp_receiver.specs.Limits.{chunk_cost}
 use Rattle.sctp_delivery.specs.Ending.{left_on}
-use Rattle.sctp_delivery.specs.ReceiverCalls as incoming
 use Rattle.sctp_delivery.proofs.Every.{Every, every-changed, every-found, every-joined, every-mapped}
 
 -- ## A queue counts no more bytes than it holds
@@ -35,7 +31,7 @@ under-pushed : (c : ChunkPayloadData) (complete : Bool) (old new : ReassemblySta
 under-pushed c complete old new p h = grind (arith, nat_tests, common_steps, under-ordered, whole_bytes, sum_by-inserted)
 
 under-read : (l : InboundStream) → IsUnder l → IsUnder (stream_read l)
-under-read l h = grind (arith, nat_tests, common_steps, weights.read)
+under-read l h = grind (arith, nat_tests, common_steps)
 
 under-named : (ns : List ChunkForwardTsnStream) (ls : List InboundStream) → Every IsUnder ls → Every IsUnder (named_forwarded ns ls)
 under-named [] ls e = e
@@ -59,17 +55,7 @@ under-followed g r e = by (is_stale g r)
 
 under-after : (call : ReceiverCall) (old new : Session) → ReceiverFollows call old new → Every IsUnder old.receiving.receiver.streams
     → Every IsUnder new.receiving.receiver.streams
-under-after (incoming.opens stream) old new f e =
-    subst (λ (r : Reception). Every IsUnder r.streams) (sym f.step.receiver.1)
-    (every-joined IsUnder old.receiving.receiver.streams (new_stream stream old.receiving.receiver.max_message_size ∷ []) e (omega arith, tt))
-under-after (incoming.takes c (New complete)) old new f e = grind (arith, nat_tests, common_steps, every-changed, under-pushed, every-found)
-under-after (incoming.takes c Repeat) old new f e = subst (λ (r : Reception). Every IsUnder r.streams) (sym f.step.receiver) e
-under-after (incoming.follows g) old new f e =
-    subst (λ (r : Reception). Every IsUnder r.streams) (sym f.step.receiver) (under-followed g old.receiving.receiver e)
-under-after (incoming.reads stream) old new f e =
-    subst (λ (r : Reception). Every IsUnder r.streams) (sym f.step.receiver)
-    (every-changed IsUnder (has_number stream) stream_read (λ l h u. under-read l u) old.receiving.receiver.streams e)
-under-after call old new f e = subst (λ (r : Reception). Every IsUnder r.streams) (sym f.step.receiver) e
+under-after h0 h1 h2 h3 h4 = grind (arith, every-joined, every-changed, under-pushed, every-found, under-followed, under-read)
 
 pub under-in : (cs : List Call) (old new : Session) → RunsTo old cs new → Every IsUnder old.receiving.receiver.streams
     → Every IsUnder new.receiving.receiver.streams
@@ -83,7 +69,7 @@ under-in (of_receiver call ∷ cs) old new r e = under-in cs r.0 new r.1.1 (unde
 -- what chunks, and what sets of them, count for
 pub prices : (cs : List ChunkPayloadData) → cost_of_chunks cs ≡ bytes_of cs + chunk_cost * length cs
 prices [] = omega arith
-prices (c ∷ cs) = grind (arith, common_steps, sum_by-cons, prices cs)
+prices (c ∷ cs) = grind (arith, common_steps, prices cs)
 
 set-prices : (ss : List ChunkSet) → sum_by (λ set. cost_of_chunks set.chunks) ss ≡ set_bytes ss + chunk_cost * set_chunks ss
 set-prices [] = omega arith
@@ -96,26 +82,16 @@ counts-less l u = grind (arith, nat_tests, common_steps, set-prices, prices)
 abbrev due_cost : Reassembly → ℕ
 due_cost q = sum_by (λ set. cost_of_chunks set.chunks) (q.unordered ++ due_from q.next_ssn q.ordered)
 
-abbrev price : ChunkPayloadData → ℕ
-price c = length c.user_data + chunk_cost
-
 abbrev held : ℕ → List ChunkSet → List ChunkSet → List ChunkPayloadData → Reassembly
 held next os us un = record { next_ssn = next; ordered = os; unordered = us; unassembled = un }
 
--- the message that is read is the first that is due
-due-first : (next : ℕ) (os us : List ChunkSet) (un : List ChunkPayloadData)
-    → due_cost (held next os us un) ≡ message_weight price (message_read (held next os us un)) + due_cost (rest_read (held next os us un))
-due-first next os (u ∷ us) un = sum_by-cons (λ (set : ChunkSet). cost_of_chunks set.chunks) u (us ++ due_from next os)
-due-first next [] [] un = refl
-due-first next (s ∷ ss) [] un = grind (arith, nat_tests, common_steps, sum_by-cons)
-
 due-none : (next : ℕ) (os us : List ChunkSet) (un : List ChunkPayloadData) → is_some (message_read (held next os us un)) ≡ false
     → due_cost (held next os us un) ≡ 0
-due-none next os us un e = grind (arith, nat_tests, is_some)
+due-none next os us un e = grind (arith, nat_tests)
 
 -- a read leaves no more, and where nothing is to be read, all is left
 pub left-read : (l : InboundStream) → left_on (stream_read l) ≤ left_on l
-left-read l = grind (arith, nat_tests, common_steps, all-cost, due-first, weights.read)
+left-read l = grind (arith, nat_tests, common_steps)
 
 left-unread : (l : InboundStream) → IsUnder l → is_some (message_read l.queue.held) ≡ false → left_on l ≡ cost_of l
 left-unread l u e = grind (arith, nat_tests, common_steps, due-none, counts-less)

@@ -126,12 +126,7 @@ module _ (first size max most : ℕ) (limits : Option Limits) (cs : List Call) (
         -- a place of a message from the next one on is held
         is-held : (z : ℕ) → z ≤ n → is_at st z sent ≡ true → d.index < begun_to st z sent
             → (list_any (has_tsn (tsn p z)) F.chunks ≡ true) ⊎ (list_any (λ (x : ChunkSet). list_any (has_tsn (tsn p z)) x.chunks) rest ≡ true)
-        is-held z le on lt = elim (d.kept z le (all-came z le on)) [
-          | inl h ↦ absurd (omega (arith, h, lt))
-          | inr h ↦
-              or-split (list_any (has_tsn (tsn p z)) F.chunks) (list_any (λ (x : ChunkSet). list_any (has_tsn (tsn p z)) x.chunks) rest)
-              (subst (λ o. list_any (λ (x : ChunkSet). list_any (has_tsn (tsn p z)) x.chunks) o ≡ true) is h)
-        ]
+        is-held z le on lt = grind (arith, all-came, or-split)
 
         -- it is not incomplete
         not-open : is_complete F.chunks ≡ false → d.index ≤ sets.0 → ⊥
@@ -198,8 +193,7 @@ module _ (first size max most : ℕ) (limits : Option Limits) (cs : List Call) (
           k.unwrapped.spread.step.taken.apart whole st a (k.kept st)) in
           let e = entry-at ns first sent line joined n long few c.0 c.2 (suc y) le (same-is c.0.tsn (tsn p (suc y)) c.1) in
           let same : terminal ∷ fragment d w i.after ∷ i.entries ≡ fragment (data_of c.0) e.0 e.1.after ∷ e.1.entries =
-          same-parts sent (terminal ∷ fragment d w i.after ∷ i.entries) (fragment (data_of c.0) e.0 e.1.after ∷ e.1.entries) part e.1.part
-          (omega (arith, i.place, e.1.place)) in
+          grind (arith, nat_tests, common_steps, same-parts, terminal) in
           cc
 
       none-lost-past : (j : ℕ) → to.floor < j → j ≤ n → sum_by (one (tsn p j)) (k.kept st).lost ≡ 0
@@ -254,9 +248,7 @@ module _ (first size max most : ℕ) (limits : Option Limits) (cs : List Call) (
           by : (cs : List ChunkPayloadData) → q.unassembled ≡ cs → Every (λ c. WasSent sent (data_of c)) cs → Every (λ c. c.unordered ≡ true) cs
               → Every (λ c. is_upto p to.floor c.tsn ≡ false) cs → cs ≡ []
           by [] e w u h = refl
-          by (c ∷ cs) e w u h =
-              let some = some-of c.tsn (c ∷ cs) (or-left (has_tsn c.tsn c) (list_any (has_tsn c.tsn) cs) (same-yes c.tsn)) in
-              absurd (none-past c w.0 u.0 h.0 (omega (arith, some, ap (sum_by (one c.tsn)) e)))
+          by (c ∷ cs) e w u h = grind (arith, nat_tests, common_steps, some, some-of, or-left, same-yes, none-past)
 
       pub none-there : IsBare l.queue.held
       none-there = record { ordered = none-ordered; unordered = none-unordered; unassembled = all-assembled }

@@ -1,26 +1,21 @@
 -- What a stream holds weighs no more after a call than before, but for a chunk that is taken; and no less than the message that is read of it.
-use Rattle.sctp_delivery.proofs.Names.{◌≡◌, ℕ, ◌+◌, ◌≤◌, Bool, true, false, List, [], ◌∷◌, Option, Some, None, refl, ap, sym, subst, ◌∙◌, arith, ◌==◌}
-use Rattle.sctp_delivery.proofs.Names.{if◌then◌else◌, find, option_map, option_or, find-append, ChunkPayloadData, ForwardTsn, InboundStream, Reception}
-use Rattle.sctp_delivery.proofs.Names.{stream_of}
-use Rattle.sctp_delivery.proofs.Names.{new_stream, stream_read, with_queue, Accepts, ReassemblyState, message_on, is_on, held_weight, weight, skipped_each}
-use Rattle.sctp_delivery.proofs.Names.{unassembled_forwarded, stream_forwarded, incomplete_forwarded, follow_forward_tsn, without_incomplete, after_forward_tsn}
-use Rattle.sctp_delivery.proofs.Names.{is_stale, ssns_of, same-yes, ReceiverCall, ReceiverFollows, Session, New, Repeat}
-use Rattle.sctp_receiver.specs.Inbound.{has_number}
-use Rattle.sctp_receiver.specs.Receiver.{after_read, message_of, open_stream}
+use Rattle.sctp_delivery.proofs.Names.{common_steps, nat_tests, ◌≡◌, ℕ, ◌+◌, ◌≤◌, Bool, true, List, [], ◌∷◌, Option, Some, None, refl, ap, arith, ◌==◌}
+use Rattle.sctp_delivery.proofs.Names.{if◌then◌else◌, option_map, find-append, ChunkPayloadData, ForwardTsn, InboundStream, Reception, stream_of, with_queue}
+use Rattle.sctp_delivery.proofs.Names.{Accepts, ReassemblyState, message_on, is_on, held_weight, weight, skipped_each, unassembled_forwarded, stream_forwarded}
+use Rattle.sctp_delivery.proofs.Names.{incomplete_forwarded, follow_forward_tsn, without_incomplete, after_forward_tsn, is_stale, ssns_of, same-yes}
+use Rattle.sctp_delivery.proofs.Names.{ReceiverCall, ReceiverFollows, Session, New, Repeat, same-is}
+use Rattle.sctp_receiver.specs.Inbound.{numbers_of}
+use Rattle.sctp_receiver.specs.Receiver.{after_read, open_stream}
 use Rattle.sctp_receiver.proofs.Forwarded.{found-followed, found-mapped}
 use Rattle.sctp_receiver.proofs.Weights as weights
 use Rattle.sctp_receiver.proofs.Weights.{message_weight}
-use Rattle.sctp_receiver.specs.Receiver.{after_discard, close_stream, repeat_tsn}
-use Rattle.sctp_receiver.specs.Inbound.{numbers_of}
 use Rattle.sctp_receiver.specs.Resets.{stream_reset}
 use Rattle.sctp_receiver.proofs.Closed.{others-left}
 use Rattle.sctp_receiver.proofs.StreamCosts.{are_apart}
-use Rattle.sctp_stream.specs.Numbers.{swapped_out}
 use Rattle.sctp_stream.proofs.Removals.{out-none}
 use Rattle.sctp_delivery.specs.EveryCall.{ReceiverDoes, ReceiverOther, closes_incoming, discards, passes_over, resets_incoming}
 use Rattle.sctp_delivery.specs.ReceiverCalls as incoming
-use Rattle.sctp_delivery.proofs.Cases.{at-test, by-test}
-use Rattle.sctp_delivery.proofs.Names.{has_come, filter_of, with_filter, with_tsn, same-is}
+use Rattle.sctp_delivery.proofs.Cases.{by-test}
 use Rattle.sctp_delivery.proofs.Kept.{accepted-on, changed-elsewhere, changed-here}
 
 -- w: how chunks are weighed; st: a stream
@@ -34,14 +29,7 @@ module _ (w : ChunkPayloadData → ℕ) (st : ℕ) where
   taken call = 0
 
   opened : (s : ℕ) (r : Reception) → on (open_stream s r) ≤ on r
-  opened s r =
-      subst (λ o. held_weight w o ≤ on r) (sym (find-append (has_number st) r.streams (new_stream s r.max_message_size ∷ [])))
-      (by (find (has_number st) r.streams) (s == st))
-    where
-      by : (o : Option InboundStream) (b : Bool) → held_weight w (option_or o (if b then Some (new_stream s r.max_message_size) else None)) ≤ held_weight w o
-      by None true = omega arith
-      by None false = omega arith
-      by (Some l) b = omega arith
+  opened s r = grind (arith, nat_tests, common_steps, find-append)
 
   accepted : (c : ChunkPayloadData) (said : Bool) (old new : Reception) → Accepts c said old new → on new ≤ (if is_on st c then w c else 0) + on old
   accepted c said old new a =
@@ -53,19 +41,8 @@ module _ (w : ChunkPayloadData → ℕ) (st : ℕ) where
       let more : ◌≡◌ {A = ℕ} (if is_on st c then w c else 0) (w c) = ap (λ b. if b then w c else 0) here in
       omega (arith, h, was, more))
 
-  rest : (o : Option InboundStream) → message_weight w (message_of o) + held_weight w (option_map stream_read o) ≡ held_weight w o
-  rest None = omega arith
-  rest (Some l) = weights.read w l.queue.held
-
   read-less : (stream : ℕ) (r : Reception) → on (after_read stream r) ≤ on r
-  read-less stream r = by (stream == st) refl
-    where
-      by : (b : Bool) → (stream == st) ≡ b → on (after_read stream r) ≤ on r
-      by true e =
-          let is = ap (held_weight w) (changed-here stream stream_read (λ l g. refl) r.streams st e) in
-          let h = rest (stream_of st r) in
-          omega (arith, is, h)
-      by false e = let is = ap (held_weight w) (changed-elsewhere stream stream_read (λ l g. refl) r.streams st e) in omega (arith, is)
+  read-less stream r = grind (arith, nat_tests, common_steps, changed-here, changed-elsewhere)
 
   names : (ssns : List ℕ) (q : ReassemblyState) → weight w (skipped_each ssns q).held ≤ weight w q.held
   names [] q = omega arith
@@ -88,12 +65,7 @@ module _ (w : ChunkPayloadData → ℕ) (st : ℕ) where
           omega (arith, a, b, c)
 
       by : (b : Bool) → on (if b then r else without_incomplete t (if b then r else follow_forward_tsn f r)) ≤ on r
-      by true = omega arith
-      by false =
-          let is = ap (held_weight w) (found-mapped st (incomplete_forwarded t) (λ l. refl) (follow_forward_tsn f r).streams
-          ∙ ap (option_map (incomplete_forwarded t)) (found-followed st f r)) in
-          let h = less (stream_of st r) in
-          omega (arith, is, h)
+      by h0 = grind (arith, nat_tests, common_steps, found-mapped, found-followed, less)
 
   -- after a call of the receiver
   pub weighs : (call : ReceiverCall) (old new : Session) → ReceiverFollows call old new
@@ -112,24 +84,8 @@ module _ (w : ChunkPayloadData → ℕ) (st : ℕ) where
   -- after a call of the receiver that most sessions do not have, where each stream has a number of its own
   pub weighs-so : (call : ReceiverOther) (old new : Session) → are_apart (numbers_of old.receiving.receiver.streams) ≡ true → ReceiverDoes call old new
       → on new.receiving.receiver ≤ on old.receiving.receiver
-  weighs-so (discards c) old new apart f =
-      let r = old.receiving.receiver in
-      let same : on (after_discard c.tsn r) ≡ on r = at-test (λ b. on (if b then repeat_tsn c.tsn r else with_filter (with_tsn c.tsn (filter_of r)) r) ≡ on r)
-      (has_come c.tsn (filter_of r)) (λ e. refl) (λ e. refl) in
-      let is = ap on f.step.receiver in
-      omega (arith, is, same)
-  weighs-so (closes_incoming s) old new apart f = by-test (s == st)
-      (λ e.
-      let none : on (close_stream s old.receiving.receiver) ≡ 0 = subst (λ k. held_weight w (find (has_number k) (swapped_out (has_number s) ls)) ≡ 0)
-      (same-is s st e) (ap (held_weight w) (out-none (has_number s) ls)) in
-      omega (arith, is, none))
-      (λ e. let same = ap (held_weight w) (others-left s st e ls apart) in omega (arith, is, same))
-    where
-      ls : List InboundStream
-      ls = old.receiving.receiver.streams
-
-      is : on new.receiving.receiver ≡ on (close_stream s old.receiving.receiver)
-      is = ap on f.step.receiver
+  weighs-so (discards c) old new apart f = grind (arith, nat_tests, common_steps)
+  weighs-so (closes_incoming s) old new apart f = grind (arith, nat_tests, common_steps, same-is, out-none, others-left)
   weighs-so (resets_incoming s last) old new apart f =
       let r = old.receiving.receiver in
       let is = ap on f.step.receiver in
@@ -148,7 +104,4 @@ module _ (w : ChunkPayloadData → ℕ) (st : ℕ) where
 
   -- the message that is read was held
   pub read-held : (r : Reception) → message_weight w (message_on st r) + on (after_read st r) ≡ on r
-  read-held r =
-      let is = ap (held_weight w) (changed-here st stream_read (λ l g. refl) r.streams st (same-yes st)) in
-      let h = rest (stream_of st r) in
-      omega (arith, is, h)
+  read-held r = grind (arith, nat_tests, common_steps, changed-here, same-yes)

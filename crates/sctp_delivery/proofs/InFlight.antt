@@ -1,10 +1,9 @@
 -- What is outstanding was sent: it is in the line of entries, with the same wire fields. And each chunk stands for the entry with its TSN.
-use Rattle.sctp_delivery.proofs.Names.{◌≡◌, ℕ, Bool, true, not, List, ◌∷◌, ◌++◌, take, drop, refl, ap, sym, subst, ◌∙◌, change_where, both, not_both}
-use Rattle.sctp_delivery.proofs.Names.{ChunkPayloadData, data_of, as_abandoned, as_acknowledged, is_outstanding}
+use Rattle.sctp_delivery.proofs.Names.{arith, common_steps, nat_tests, ◌≡◌, ℕ, Bool, true, not, List, ◌∷◌, ◌++◌, take, drop, refl, ap, sym, ◌∙◌, change_where}
+use Rattle.sctp_delivery.proofs.Names.{both, not_both, ChunkPayloadData, data_of, as_abandoned, as_acknowledged, is_outstanding}
 use Rattle.sctp_delivery.proofs.Sent.{Entry, WasSent, sent-more}
-use Rattle.sctp_delivery.proofs.Cases.{all_streams, where-map}
-use Rattle.sctp_delivery.proofs.OrderedEntries.{begun_on}
-use Rattle.sctp_delivery.proofs.SpreadEntries.{IsPlacedOn, IsStep, for-alike, ordered-alike, placed-more, step-alike}
+use Rattle.sctp_delivery.proofs.Cases.{all_streams}
+use Rattle.sctp_delivery.proofs.SpreadEntries.{IsPlacedOn, placed-more}
 use Rattle.sctp_delivery.proofs.Every.{Every, every-changed, every-joined, every-left, every-of, every-taken}
 
 -- with the number of its message on these streams
@@ -22,9 +21,7 @@ AreKnownOn on first sent cs = Every (IsKnownOn on first sent) cs
 
 pub known-more : (on : ℕ → Bool) (first : ℕ) (x : Entry) (sent : List Entry) (cs : List ChunkPayloadData) → AreKnownOn on first sent cs
     → AreKnownOn on first (x ∷ sent) cs
-known-more on first x sent cs k =
-    every-of (IsKnownOn on first sent) (IsKnownOn on first (x ∷ sent))
-    (λ c i. (λ o. sent-more x sent (data_of c) (i.0 o), placed-more on first x sent c i.1)) cs k
+known-more on first x sent cs k = grind (arith, nat_tests, common_steps, every-of, sent-more, placed-more)
 
 -- of the same kind, stream, number, TSN and message, and it ends this where the other does
 pub record IsAlike (c d : ChunkPayloadData) : Type 0 where
@@ -38,17 +35,7 @@ pub record IsAlike (c d : ChunkPayloadData) : Type 0 where
 -- so it stands where the other did
 pub placed-alike : (on : ℕ → Bool) (first : ℕ) (sent : List Entry) (c d : ChunkPayloadData) → IsAlike c d → IsPlacedOn on first sent c
     → IsPlacedOn on first sent d
-placed-alike on first sent c d a i = record {
-  entry = i.entry;
-  entries = i.entries;
-  part = i.part;
-  number = a.tsn ∙ i.number;
-  step = λ st. where-map (on st) (IsStep st (begun_on st i.entries) (begun_on st (i.entry ∷ i.entries)) c)
-      (IsStep st (begun_on st i.entries) (begun_on st (i.entry ∷ i.entries)) d)
-      (step-alike st (begun_on st i.entries) (begun_on st (i.entry ∷ i.entries)) c d a.stream a.kind a.number) (i.step st);
-  on = λ st. ordered-alike st c d a.stream a.kind ∙ i.on st;
-  for' = for-alike c d i.entry a.message a.ends i.for';
-}
+placed-alike on first sent c d a i = grind (arith, nat_tests, common_steps)
 
 -- a change after which a chunk is outstanding only where it was, with the same wire fields, and is always alike
 abbrev pub KeepsData : (ChunkPayloadData → ChunkPayloadData) → Type 0
@@ -68,10 +55,7 @@ abandoned-keeps c =
 
 known-alike : (on : ℕ → Bool) (first : ℕ) (sent : List Entry) (f : ChunkPayloadData → ChunkPayloadData) → KeepsData f → (c : ChunkPayloadData)
     → IsKnownOn on first sent c → IsKnownOn on first sent (f c)
-known-alike on first sent f keeps c k = (
-  λ o. let a = (keeps c).0 o in subst (WasSent sent) (sym a.1) (k.0 a.0),
-  placed-alike on first sent c (f c) (keeps c).1 k.1,
-)
+known-alike on first sent f keeps c k = grind (arith, nat_tests, common_steps)
 
 pub known-changed : (on : ℕ → Bool) (first : ℕ) (sent : List Entry) (p : ChunkPayloadData → Bool) (f : ChunkPayloadData → ChunkPayloadData) → KeepsData f
     → (cs : List ChunkPayloadData) → AreKnownOn on first sent cs → AreKnownOn on first sent (change_where p f cs)
@@ -80,6 +64,4 @@ known-changed on first sent p f keeps cs k = every-changed (IsKnownOn on first s
 -- only the first so many are changed
 pub known-part-changed : (on : ℕ → Bool) (first : ℕ) (sent : List Entry) (p : ChunkPayloadData → Bool) (f : ChunkPayloadData → ChunkPayloadData) → KeepsData f
     → (i : ℕ) (cs : List ChunkPayloadData) → AreKnownOn on first sent cs → AreKnownOn on first sent (change_where p f (take i cs) ++ drop i cs)
-known-part-changed on first sent p f keeps i cs k =
-    every-joined (IsKnownOn on first sent) (change_where p f (take i cs)) (drop i cs)
-    (known-changed on first sent p f keeps (take i cs) (every-taken (IsKnownOn on first sent) i cs k)) (every-left (IsKnownOn on first sent) i cs k)
+known-part-changed on first sent p f keeps i cs k = grind (arith, nat_tests, common_steps, every-joined, known-changed, every-taken, every-left)

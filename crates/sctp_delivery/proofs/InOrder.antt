@@ -15,7 +15,6 @@ use Rattle.sctp_delivery.specs.Recent.{AfterEachYoungRun}
 use Rattle.sctp_delivery.specs.EveryRecent.{WhileAllAnyYoung}
 use Rattle.sctp_delivery.specs.Returns.{at_start_with}
 use Rattle.sctp_sender.specs.declared.sender.Reported.{Reported}
-use Rattle.sctp_delivery.proofs.Cases.{at-test}
 use Rattle.sctp_delivery.proofs.Every.{Every, every-of, every-of-all}
 use Rattle.sctp_delivery.proofs.EveryMessages as messages
 use Rattle.sctp_delivery.proofs.EveryYoung as young
@@ -213,17 +212,7 @@ in-turn = of-few AreReadInTurn in-turn-young
 same-on : (st : ℕ) (ms : List Message) → Every (λ (m : Message). (m.stream == st) ≡ true → is_single m.fragments ≡ true) ms
     → filter (λ m. m.stream == st) (single_messages ms) ≡ filter (λ m. m.stream == st) ms
 same-on st [] h = refl
-same-on st (m ∷ ms) h = by (is_single m.fragments) refl (same-on st ms h.1)
-  where
-    on-it : List Message → List Message
-    on-it ks = filter (λ k. k.stream == st) ks
-
-    by : (b : Bool) → is_single m.fragments ≡ b → on-it (single_messages ms) ≡ on-it ms
-        → on-it (cond b (m ∷ single_messages ms) (single_messages ms)) ≡ on-it (m ∷ ms)
-    by true e ih = ap (λ ks. cond (m.stream == st) (m ∷ ks) ks) ih
-    by false e ih = at-test (λ c. on-it (single_messages ms) ≡ cond c (m ∷ on-it ms) (on-it ms)) (m.stream == st)
-        (λ f. absurd (not_both (sym e ∙ h.0 f)))
-        (λ f. ih)
+same-on st (m ∷ ms) h = grind (arith, nat_tests, common_steps, not_both, same-on st ms h.1)
 
 -- where what was written ordered is read in that order, and messages are single where the sender is steady
 in-turn-so : (reported : Reported) (tsn size max most : ℕ) (limits : Option Limits) (cs : List AnyCall) (s : Session)
@@ -247,10 +236,8 @@ in-turn-so reported tsn size max most limits cs s r law alone =
 
 pub in-turn-any : AfterEachAnyOfFewBytes AreReadInTurnWhereUnbroken
 in-turn-any reported tsn size max most limits cs s r small some' few short =
-    in-turn-so reported tsn size max most limits cs s r (messages.as-written reported tsn size max most limits cs s r small some' few short)
-    (messages.are-single reported tsn size max most limits cs s r small some' few short)
+    grind (arith, nat_tests, common_steps, in-turn-so, messages.as-written, messages.are-single)
 
 pub in-turn-any-young : WhileAllAnyYoung AreReadInTurnWhereUnbroken
 in-turn-any-young reported tsn size max most limits cs s r small some' q y z short =
-    in-turn-so reported tsn size max most limits cs s r (young_order.as-written reported tsn size max most limits cs s r small some' q y z short)
-    (young.single reported tsn size max most limits cs s r small some' q y short)
+    grind (arith, nat_tests, common_steps, in-turn-so, young_order.as-written, young.single)

@@ -1,7 +1,7 @@
 -- What is so in the end: where nothing waits, no message is partially sent; and where nothing is to be read, no stream has a message.
-use Rattle.sctp_delivery.proofs.Names.{◌≡◌, ℕ, ◌<◌, Bool, true, not, List, [], ◌∷◌, Option, Some, None, is_some, refl, arith, find, list_all}
-use Rattle.sctp_delivery.proofs.Names.{list_any, sum_by, cases_lt, none-some, nat_tests, some-same, both, not_both}
-use Rattle.sctp_delivery.proofs.Names.{ChunkPayloadData, ChunkSet, Data, Pending, message_read, InboundStream, has_tsn}
+use Rattle.sctp_delivery.proofs.Names.{◌≡◌, ℕ, ◌<◌, Bool, true, not, List, [], ◌∷◌, Option, Some, None, is_some, refl, arith, find, list_all, list_any, sum_by}
+use Rattle.sctp_delivery.proofs.Names.{cases_lt, none-some, nat_tests, both, not_both, ChunkPayloadData, ChunkSet, Data, Pending, message_read, InboundStream}
+use Rattle.sctp_delivery.proofs.Names.{has_tsn}
 use Rattle.sctp_receiver.specs.Inbound.{has_number}
 use Rattle.sctp_sender.proofs.Runs.{any_chunk}
 use Rattle.sctp_data.specs.PayloadData.{data_of}
@@ -9,7 +9,6 @@ use Rattle.sctp_delivery.proofs.Every.{Every}
 use Rattle.sctp_delivery.proofs.ReadOnce.{count-none, none-count, one}
 use Rattle.sctp_delivery.proofs.Sending.{QueuedOn}
 use Rattle.sctp_delivery.proofs.Sent.{Entry, Numbered}
-use Rattle.sctp_delivery.proofs.Waiting.{between}
 
 -- ## Lists
 
@@ -28,7 +27,7 @@ some-of t cs e = grind (arith, nat_tests, cases_lt, count-none, not_both)
 -- where nothing waits, no message is partially sent
 pub none-selected : (on : ℕ → Bool) (ws : List Numbered) (first : ℕ) (number : ℕ → ℕ) (q : Pending) (sent : List Entry)
     → QueuedOn on ws first number q sent → q.ordered ≡ [] → q.unordered ≡ [] → q.selected ≡ None
-none-selected on ws first number q sent h o u = grind (arith, nat_tests, between)
+none-selected on ws first number q sent h o u = grind (arith, nat_tests)
 
 -- any data, where a look-up asks for some to fall back on
 abbrev pub none-data : Data
@@ -44,4 +43,4 @@ pub unread-of : (st : ℕ) (ls : List InboundStream) (l : InboundStream) → lis
 unread-of st [] l e found = absurd (none-some l found)
 unread-of st (x ∷ xs) l e found =
     let b = both (not (is_some (message_read x.queue.held))) (list_all (λ y. not (is_some (message_read y.queue.held))) xs) e in
-    grind (arith, nat_tests, some-same, unread-of st xs l b.1)
+    grind (arith, nat_tests, unread-of st xs l b.1)

@@ -1,22 +1,20 @@
 -- A call of the receiver, but a FORWARD-TSN, by what it makes of one stream: what was taken there is held or was read, but for what is lost.
-use Rattle.sctp_delivery.proofs.Names.{◌≡◌, ℕ, ◌+◌, Bool, true, false, List, [], ◌∷◌, Option, Some, None, refl, ap, sym, subst, ◌∙◌, arith, ◌++◌, ⊤, ◌==◌, find}
-use Rattle.sctp_delivery.proofs.Names.{if◌then◌else◌, option_map, ◌&&◌, option_or, filter, list_any, sum_by, list_all, eq-eqb, find-append, change_where}
-use Rattle.sctp_delivery.proofs.Names.{insert_before, same-is, negated, fails, not_both, both, ChunkPayloadData, New, Repeat, InboundStream, new_stream, number}
-use Rattle.sctp_delivery.proofs.Names.{stream_read, with_queue, Pushes, PushesAs, Accepts, Reception, message_on, stream_of, Stand, fragments_read, held_weight}
-use Rattle.sctp_delivery.proofs.Names.{pushed-number, set_weight, weight, found-passes, has_tsn, is_on, chunk_before, ReceiverCall, ReceiverFollows, Session}
-use Rattle.sctp_delivery.proofs.Names.{Call, RunsTo, SenderFollows, at_start, of_receiver, of_sender, sum_by-append, sum_by-cons, sum_by-inserted, ChunkSet}
-use Rattle.sctp_delivery.proofs.Names.{data_of, BecomesComplete, Reassembly, ReassemblyState, held_after_ordered_push, is_ssn_too_far, is_too_far_on}
-use Rattle.sctp_delivery.proofs.Names.{AfterEachReliableSession, fragments_of_sets, fragments_on, is_reliable, is_reliable_at_receiver, is_reliable_at_sender}
-use Rattle.sctp_delivery.proofs.Names.{Limits, are_apart, data_chunk}
+use Rattle.sctp_delivery.proofs.Names.{common_steps, nat_tests, ◌≡◌, ℕ, ◌+◌, Bool, true, false, List, [], ◌∷◌, Option, Some, None, refl, ap, sym, subst, ◌∙◌}
+use Rattle.sctp_delivery.proofs.Names.{arith, ⊤, ◌==◌, find, if◌then◌else◌, option_map, ◌&&◌, filter, list_any, sum_by, list_all, eq-eqb, find-append}
+use Rattle.sctp_delivery.proofs.Names.{change_where, same-is, negated, not_both, both, ChunkPayloadData, New, InboundStream, new_stream, number, stream_read}
+use Rattle.sctp_delivery.proofs.Names.{with_queue, Pushes, Accepts, Reception, message_on, stream_of, Stand, fragments_read, held_weight, pushed-number}
+use Rattle.sctp_delivery.proofs.Names.{set_weight, found-passes, has_tsn, is_on, ReceiverCall, ReceiverFollows, Session, Call, RunsTo, SenderFollows, at_start}
+use Rattle.sctp_delivery.proofs.Names.{of_receiver, of_sender, sum_by-append, sum_by-cons, sum_by-inserted, ChunkSet, data_of, BecomesComplete, Reassembly}
+use Rattle.sctp_delivery.proofs.Names.{ReassemblyState, is_ssn_too_far, is_too_far_on, AfterEachReliableSession, fragments_of_sets, fragments_on, is_reliable}
+use Rattle.sctp_delivery.proofs.Names.{is_reliable_at_receiver, is_reliable_at_sender, Limits, are_apart, data_chunk}
 use Rattle.std.specs.Prelude.{not}
 use Rattle.sctp_receiver.specs.Inbound.{has_number}
-use Rattle.sctp_receiver.specs.Receiver.{after_read, message_of, open_stream}
+use Rattle.sctp_receiver.specs.Receiver.{after_read, open_stream}
 use Rattle.sctp_receiver.specs.ReceiverRuns as receiver_runs
 use Rattle.sctp_receiver.proofs.Handed.{found-changed, read-more, taken-more}
 use Rattle.sctp_receiver.proofs.Weights as weights
 use Rattle.sctp_receiver.proofs.Weights.{message_weight}
 use Rattle.sctp_delivery.specs.ReceiverCalls as incoming
-use Rattle.sctp_delivery.proofs.Cases.{at-test, by-test}
 use Rattle.sctp_delivery.proofs.ReadOnce.{none-count, one, count-none}
 use Rattle.sctp_delivery.specs.Complete.{IsHeldOrRead}
 use Rattle.sctp_delivery.proofs.Every.{Every, every-contained}
@@ -31,39 +29,16 @@ use Rattle.sctp_delivery.proofs.TakenCalls.{fresh-new}
 module _ (s : ℕ) (f : InboundStream → InboundStream) (keeps : (l : InboundStream) → has_number s l ≡ true → number (f l) ≡ number l)
     (ls : List InboundStream) (st : ℕ) where
   pub changed-here : (s == st) ≡ true → find (has_number st) (change_where (has_number s) f ls) ≡ option_map f (find (has_number st) ls)
-  changed-here e = found-changed s st f keeps ls ∙ by (find (has_number st) ls) refl
-    where
-      by : (o : Option InboundStream) → find (has_number st) ls ≡ o → option_map (λ l. if has_number s l then f l else l) o ≡ option_map f o
-      by None h = refl
-      by (Some l) h =
-          let on : has_number s l ≡ true = ap (λ n. number l == n) (same-is s st e) ∙ found-passes (has_number st) ls l h in
-          ap (λ b. Some (if b then f l else l)) on
+  changed-here e = grind (arith, nat_tests, common_steps, found-changed, same-is, found-passes)
 
   pub changed-elsewhere : (s == st) ≡ false → find (has_number st) (change_where (has_number s) f ls) ≡ find (has_number st) ls
-  changed-elsewhere differ = found-changed s st f keeps ls ∙ by (find (has_number st) ls) refl
-    where
-      by : (o : Option InboundStream) → find (has_number st) ls ≡ o → option_map (λ l. if has_number s l then f l else l) o ≡ o
-      by None e = refl
-      by (Some l) e =
-          let off : has_number s l ≡ false = fails (has_number s l) (λ k. not_both
-          (sym differ ∙ eq-eqb s st (sym (same-is (number l) s k) ∙ same-is (number l) st (found-passes (has_number st) ls l e)))) in
-          ap (λ b. Some (if b then f l else l)) off
+  changed-elsewhere differ = grind (arith, nat_tests, common_steps, found-changed, not_both, eq-eqb, same-is, found-passes)
 
 -- a property of what the stream is, after a chunk is accepted
 pub accepted-on : (c : ChunkPayloadData) (said : Bool) (old new : Reception) (a : Accepts c said old new) (st : ℕ) (Q : Option InboundStream → Type 0)
     → (is_on st c ≡ false → Q (stream_of st old)) → (is_on st c ≡ true → stream_of st old ≡ Some a.stream → Q (Some (with_queue a.queue a.stream)))
     → Q (stream_of st new)
-accepted-on c said old new a st Q off on = by-test (is_on st c)
-    (λ e.
-    let there : stream_of st old ≡ Some a.stream = subst (λ n. stream_of n old ≡ Some a.stream) (same-is c.stream_identifier st e) a.found in
-    subst Q (sym (ap (stream_of st) a.after ∙ changed-here c.stream_identifier (with_queue a.queue) keeps old.streams st e
-    ∙ ap (option_map (with_queue a.queue)) there)) (on e there))
-    (λ e. subst Q (sym (ap (stream_of st) a.after ∙ changed-elsewhere c.stream_identifier (with_queue a.queue) keeps old.streams st e)) (off e))
-  where
-    keeps : (l : InboundStream) → has_number c.stream_identifier l ≡ true → a.queue.si ≡ number l
-    keeps l e =
-        pushed-number c said a.stream.queue a.queue a.pushed ∙ same-is (number a.stream) c.stream_identifier
-        (found-passes (has_number c.stream_identifier) old.streams a.stream a.found) ∙ sym (same-is (number l) c.stream_identifier e)
+accepted-on c said old new a st Q off on = grind (arith, nat_tests, common_steps, same-is, changed-here, changed-elsewhere, pushed-number, found-passes)
 
 -- ## Its chunks, weighed
 
@@ -106,27 +81,14 @@ module _ (st : ℕ) (W : (ChunkPayloadData → ℕ) → Type 0) (P : Option Inbo
     now = stream_of st new.receiver
 
     quiet : new.accepted ≡ old.accepted → new.read ≡ old.read → IsMore (λ w. 0) (stream_of st r) now → IsSo lost new
-    quiet a e m = record {
-      weighs = λ w v.
-          omega (arith, k.weighs w v, m.weighs w v, ap (λ cs. sum_by w (filter (is_on st) cs)) a, ap (λ ms. sum_by w (fragments_read st ms)) e);
-      holds = m.holds;
-    }
+    quiet a e m = grind (arith, nat_tests, common_steps)
 
     pub still : new.accepted ≡ old.accepted → new.read ≡ old.read → now ≡ stream_of st r → IsSo lost new
     still a e same = quiet a e (subst (IsMore (λ w. 0) (stream_of st r)) (sym same) (same-more (stream_of st r) k.holds))
 
     pub opened : (stream : ℕ) → new.receiver ≡ open_stream stream r → new.accepted ≡ old.accepted → new.read ≡ old.read
         → (stream_of st r ≡ None → P (Some (new_stream stream r.max_message_size))) → IsSo lost new
-    opened stream f a e fresh = quiet a e (subst (IsMore (λ w. 0) (stream_of st r)) (sym is) (by (stream_of st r) refl (stream == st)))
-      where
-        is : now ≡ option_or (stream_of st r) (if stream == st then Some (new_stream stream r.max_message_size) else None)
-        is = ap (stream_of st) f ∙ find-append (has_number st) r.streams (new_stream stream r.max_message_size ∷ [])
-
-        by : (o : Option InboundStream) → stream_of st r ≡ o → (b : Bool)
-            → IsMore (λ w. 0) o (option_or o (if b then Some (new_stream stream r.max_message_size) else None))
-        by None e true = record { weighs = λ w v. omega arith; holds = fresh e }
-        by None e false = same-more None (subst P e k.holds)
-        by (Some l) e b = same-more (Some l) (subst P e k.holds)
+    opened stream f a e fresh = grind (arith, nat_tests, common_steps, find-append, same-more)
 
     -- the chunk is put into its queue
     abbrev pub Puts : (c : ChunkPayloadData) (said : Bool) → Accepts c said r new.receiver → Type 0
@@ -156,11 +118,7 @@ module _ (st : ℕ) (W : (ChunkPayloadData → ℕ) → Type 0) (P : Option Inbo
         → new.read ≡ receiver_runs.with_message stream (message_on stream r) old.read
         → ((l : InboundStream) → stream_of st r ≡ Some l → P (Some (stream_read l))) → IsSo lost new
     reads stream f a g read = record {
-      weighs = λ w v.
-          let h = k.weighs w v in
-          let l = less.0 w in
-          let m = read-more w st stream (message_on stream r) old.read in
-          omega (arith, h, l, m, ap (λ cs. sum_by w (filter (is_on st) cs)) a, ap (λ ms. sum_by w (fragments_read st ms)) g);
+      weighs = grind (arith, nat_tests, common_steps, less, read-more);
       holds = less.1;
     }
       where
@@ -168,18 +126,8 @@ module _ (st : ℕ) (W : (ChunkPayloadData → ℕ) → Type 0) (P : Option Inbo
         Less b o = ((w : ChunkPayloadData → ℕ) → (if b then message_weight w (message_on stream r) else 0) + held_weight w o ≡ held_weight w (stream_of st r))
             × P o
 
-        here : (o : Option InboundStream) → stream_of st r ≡ o
-            → ((w : ChunkPayloadData → ℕ) → message_weight w (message_of o) + held_weight w (option_map stream_read o) ≡ held_weight w o)
-            × P (option_map stream_read o)
-        here None e = (λ w. omega arith, subst P e k.holds)
-        here (Some l) e = (λ w. weights.read w l.queue.held, read l e)
-
         by : (b : Bool) → (stream == st) ≡ b → Less b (stream_of st (after_read stream r))
-        by false e = subst (Less false) (sym (changed-elsewhere stream stream_read (λ l h. refl) r.streams st e)) (λ w. omega arith, k.holds)
-        by true e =
-            let h = here (stream_of st r) refl in
-            subst (Less true) (sym (changed-here stream stream_read (λ l g. refl) r.streams st e))
-            (λ w. let x = h.0 w in let m = ap (λ n. message_weight w (message_of (stream_of n r))) (same-is stream st e) in omega (arith, x, m), h.1)
+        by h0 h1 = grind (arith, nat_tests, common_steps, changed-elsewhere, changed-here, same-is)
 
         less : Less (stream == st) now
         less = subst (λ (q : Reception). Less (stream == st) (stream_of st q)) (sym f) (by (stream == st) refl)
@@ -225,21 +173,8 @@ pushed : (st : ℕ) (c : ChunkPayloadData) (answered : Bool) (l : InboundStream)
     → (t : IsInTurn l.queue.held) → (c.unordered ≡ false → IsNear t.index c.stream_sequence_number)
     → Every (λ (s : ChunkSet). list_any (has_tsn c.tsn) s.chunks ≡ false) l.queue.held.ordered
     → IsMore st AnyWeight InTurn (λ w. w c) (Some l) (Some (with_queue new l))
-pushed st c answered l new p t near fresh = at-test (λ b. PushesAs b c answered l.queue new → IsMore st AnyWeight InTurn (λ w. w c) (Some l)
-    (Some (with_queue new l))) c.unordered
-    (λ u e. record {
-      weighs = λ w v.
-          let h = weights.becomes w (insert_before chunk_before c l.queue.held.unassembled) l.queue.held new.held answered e.0 in
-          omega (arith, h, sum_by-inserted w chunk_before c l.queue.held.unassembled);
-      holds = unordered-turn (insert_before chunk_before c l.queue.held.unassembled) l.queue.held new.held answered e.0 t;
-    })
-    (λ u e.
-    let held : new.held ≡ held_after_ordered_push c l.queue.held = ap (λ (q : ReassemblyState). q.held) e.0 in
-    record {
-      weighs = λ w v.
-          omega (arith, sets-more w c l.queue.held.ordered fresh, ap (weight w) held ∙ ap (weight w) (put-in c l.queue.held t (near u)));
-      holds = subst IsInTurn (sym held) (put-in-turn c l.queue.held t (near u));
-    }) p
+pushed st c answered l new p t near fresh =
+    grind (arith, nat_tests, common_steps, weights.becomes, sum_by-inserted, unordered-turn, sets-more, put-in, put-in-turn)
 
 -- ## The calls
 
@@ -284,10 +219,7 @@ kept-on call old new st reliable made absent f k =
 -- what was taken before has TSNs of its own too
 apart-then : (call : ReceiverCall) (old new : Session) → ReceiverFollows call old new → are_apart new.receiving.accepted ≡ true
     → are_apart old.receiving.accepted ≡ true
-apart-then (incoming.takes c Repeat) old new f a = ap are_apart (sym f.step.accepted) ∙ a
-apart-then (incoming.takes c (New answered)) old new f a = (both (not (list_any (has_tsn c.tsn) old.receiving.accepted)) (are_apart old.receiving.accepted)
-    (ap are_apart (sym f.step.accepted) ∙ a)).1
-apart-then call old new f a = ap are_apart (sym f.step.accepted) ∙ a
+apart-then h0 h1 h2 h3 h4 = grind (arith, nat_tests, common_steps)
 
 pub apart-before : (cs : List Call) (old new : Session) → RunsTo old cs new → are_apart new.receiving.accepted ≡ true → are_apart old.receiving.accepted ≡ true
 apart-before [] old new r a = ap (λ (s : Session). are_apart s.receiving.accepted) (sym r) ∙ a
@@ -300,11 +232,7 @@ pub record IsKeptIn (s : Session) : Type 0 where
   pub made : Every IsShortMade s.made
 
 pub sender-kept : (call : _) (old new : Session) → is_reliable_at_sender call ≡ true → SenderFollows call old new → IsKeptIn old → IsKeptIn new
-sender-kept call old new r f k = record {
-  kept = subst (λ (x : Stand). (st : ℕ) → IsKept st x) (sym (ap (λ (s : Session). s.receiving) f.after)) k.kept;
-  short = stays-short old.sending.sender new.sending.sender k.short call r f.step.sender f.exact f.accepted;
-  made = subst (Every IsShortMade) (sym (ap (λ (s : Session). s.made) f.after)) (made-short call old.sending.sender old.made r f.accepted k.short k.made);
-}
+sender-kept call old new r f k = grind (arith, nat_tests, common_steps, stays-short, made-short)
 
 -- where what was taken has TSNs of its own
 apart-absent : (call : ReceiverCall) (old new : Session) → are_apart new.receiving.accepted ≡ true → ReceiverFollows call old new → IsKeptIn old
@@ -318,11 +246,7 @@ apart-absent call old new apart g k st c said is =
 
 pub receiver-kept : (call : ReceiverCall) (old new : Session) → is_reliable_at_receiver call ≡ true → IsAbsent call old
     → ReceiverFollows call old new → IsKeptIn old → IsKeptIn new
-receiver-kept call old new r absent f k = record {
-  kept = λ st. kept-on call old new st r k.made absent f (k.kept st);
-  short = subst (λ l. AreShort l.sender) (sym (ap (λ (s : Session). s.sending) f.after)) k.short;
-  made = subst (Every IsShortMade) (sym (ap (λ (s : Session). s.made) f.after)) k.made;
-}
+receiver-kept call old new r absent f k = grind (arith, nat_tests, common_steps, kept-on)
 
 kept-after : (cs : List Call) (old new : Session) → list_all is_reliable cs ≡ true → are_apart new.receiving.accepted ≡ true → RunsTo old cs new
     → IsKeptIn old → IsKeptIn new
@@ -342,23 +266,13 @@ sets-weigh w (s ∷ ss) =
     omega (arith, sum_by-append w s.chunks (fragments_of_sets ss), sum_by-cons (set_weight w) s ss, sets-weigh w ss)
 
 pub held-weighs : (w : ChunkPayloadData → ℕ) (o : Option InboundStream) → sum_by w (fragments_on o) ≡ held_weight w o
-held-weighs w None = refl
-held-weighs w (Some l) =
-    let q = l.queue.held in
-    let a = sum_by-append w (fragments_of_sets q.ordered) (fragments_of_sets q.unordered ++ q.unassembled) in
-    omega (arith, a, sum_by-append w (fragments_of_sets q.unordered) q.unassembled, sets-weigh w q.ordered, sets-weigh w q.unordered)
+held-weighs h0 h1 = grind (arith, nat_tests, common_steps, sum_by-append, sets-weigh)
 
 pub kept-first : (tsn size max most : ℕ) (limits : Option Limits) → IsKeptIn (at_start tsn size max most limits)
-kept-first tsn size max most limits = record {
-  kept = λ st. record { weighs = λ w v. refl; holds = tt };
-  short = record { streams = tt; queue = record { ordered = tt; unordered = tt; inflight = tt } };
-  made = tt;
-}
+kept-first tsn size max most limits = grind (arith, nat_tests, common_steps)
 
 pub kept : AfterEachReliableSession (λ size s. (st : ℕ) → IsKept st s.receiving)
-kept tsn size max most limits cs s run small few all =
-    let apart = sacks.none-twice tsn size max most limits cs s run small few in
-    (kept-after cs (at_start tsn size max most limits) s all apart run (kept-first tsn size max most limits)).kept
+kept tsn size max most limits cs s run small few all = grind (arith, nat_tests, common_steps, sacks.none-twice, kept-after, kept-first)
 
 pub of-kept : (s : Session) → ((st : ℕ) → IsKept st s.receiving) → IsHeldOrRead s
 of-kept s k st w = omega (arith, (k st).weighs w tt, held-weighs w (stream_of st s.receiving.receiver))

@@ -10,18 +10,17 @@ use Rattle.sctp_delivery.proofs.Names.{is_ordered_on, has_tsn, is_on, ReceiverCa
 use Rattle.sctp_delivery.proofs.Names.{ChunkForwardTsnStream, ForwardTsn, is_complete, cannot_complete, names_closed, names_too_far, without_incomplete}
 use Rattle.sctp_delivery.proofs.Names.{is_pair_of, passes, was_taken, forward_tsn, nat_le, or-right}
 use Rattle.sctp_reassembly.specs.reassembly_queue.ReassemblyQueue.{after_ordered_skip, after_unordered_skip}
-use Rattle.sctp_delivery.proofs.Cases.{all_streams, at-if, by-test}
+use Rattle.sctp_delivery.proofs.Cases.{all_streams, by-test}
 use Rattle.sctp_delivery.proofs.Every.{Every, every-joined, every-of, every-passing, one-of, every-contained, every-at, every-of-all}
 use Rattle.sctp_delivery.proofs.KeptSets.{IsTidy, IsUnordered, sets-those}
 use Rattle.sctp_delivery.proofs.UnwrappedReads.{leading-each, IsDue}
 use Rattle.sctp_receiver.specs.Inbound.{has_number}
 use Rattle.sctp_delivery.specs.ReceiverCalls as incoming
-use Rattle.sctp_delivery.proofs.UnwrappedHolds.{current-less, IsCurrent}
+use Rattle.sctp_delivery.proofs.UnwrappedHolds.{IsCurrent}
 use Rattle.sctp_delivery.proofs.InTheEnd.{some-of}
 use Rattle.sctp_delivery.proofs.Kept.{AnyWeight, sets-fresh, IsOther, IsSo, Puts, accepted-on, after-call, none-held}
 use Rattle.sctp_delivery.proofs.OrderedMessages.{not-far}
 use Rattle.sctp_delivery.proofs.ArrivedTsns.{IsArrived}
-use Rattle.sctp_delivery.proofs.SackLaws.{more-accepted}
 use Rattle.sctp_delivery.proofs.KeptOrGone.{IsPassedTo, IsPast, is_upto, known_past, upto-place, IsComing, HeldWell, IsHeldWell, IsKeptBut, IsLate, pushed-well}
 use Rattle.sctp_delivery.proofs.KeptOrGone.{read-well, IsPassedBy, at-in, place-in}
 use Rattle.sctp_delivery.proofs.MessagePlaces.{IsWanted, entry-of, wanted-some, within, EndsAt, wanted-after, entry-at, fragment-upto, misses-one}
@@ -29,8 +28,7 @@ use Rattle.sctp_delivery.proofs.OrderedEntries.{AreJoined}
 use Rattle.sctp_delivery.proofs.ReadOnce.{count-none, one}
 use Rattle.sctp_delivery.proofs.Sent.{Entry, IsLine, Numbered, WasSent, part-length}
 use Rattle.sctp_delivery.proofs.SpreadEntries.{begun_to, is_at, to-up}
-use Rattle.sctp_delivery.proofs.Kept as streams
-use Rattle.sctp_delivery.proofs.TakenCalls.{hears, more-arrived, HasCome, fresh-new, not-among, beyond-given, stays-come}
+use Rattle.sctp_delivery.proofs.TakenCalls.{hears, HasCome, fresh-new, not-among, beyond-given, stays-come}
 use Rattle.sctp_delivery.proofs.TakenTsns.{come, advance-keeps}
 use Rattle.sctp_delivery.proofs.TsnPlaces.{base, IsGiven, same-place, upto-is, upto-yes}
 use Rattle.sctp_delivery.proofs.Unassembled.{each-leading, leading, leading-split, left-orderly, left-tidy, past-left, pushed-each, read-unassembled}
@@ -61,9 +59,7 @@ filter-split r w (s ∷ ss) =
 pub each-dropped : (P : ChunkPayloadData → Type 0) (r : ChunkSet → Bool) (ss : List ChunkSet) → Every (λ s. r s ≡ true → Every P s.chunks) ss
     → Every P (fragments_of_sets (filter r ss))
 each-dropped P r [] e = tt
-each-dropped P r (s ∷ ss) e = at-if (λ z. Every P (fragments_of_sets z)) (r s)
-    (λ h. every-joined P s.chunks (fragments_of_sets (filter r ss)) (e.0 h) (each-dropped P r ss e.1))
-    (λ h. each-dropped P r ss e.1)
+each-dropped P r (s ∷ ss) e = grind (arith, nat_tests, common_steps, each-dropped P r ss e.1)
 
 -- # What was taken on a stream is held or was read, but for fragments of messages that are gone: each call of the receiver.
 
@@ -175,7 +171,7 @@ module _ (first n : ℕ) (few : n < 2 ^ 31) (old new : Session) (ns : List Numbe
   -- what is known by one place is known by a later one
   known-more : (call : ReceiverCall) → ReceiverFollows call old new → (j m : ℕ) → j ≤ m → (t : ℕ) → known_past first sent st j old.receiving t ≡ true
       → known_past first sent st m new.receiving t ≡ true
-  known-more call f j m le t e = grind (arith, nat_tests, common_steps, or-split, or-left, more-accepted, or-right)
+  known-more call f j m le t e = grind (arith, nat_tests, common_steps)
 
   known-taken : (m t : ℕ) → was_taken t new ≡ true → known_past first sent st m new.receiving t ≡ true
   known-taken m t e = or-left (list_any (has_tsn t) new.receiving.accepted) (is_upto (base first) m t) e
@@ -193,26 +189,12 @@ module _ (first n : ℕ) (few : n < 2 ^ 31) (old new : Session) (ns : List Numbe
       → IsPast first sent st k.floor.floor (stream_of st new.receiving.receiver)
       → IsArrived p n (known_past first sent st k.floor.floor new.receiving) new.receiving.receiver.cumulative_tsn new.receiving.receiver.beyond
       → Passed k.lost new.receiving
-  passed-still call f k past came = record {
-    floor = k.floor.floor;
-    within = k.floor.within;
-    ends = k.floor.ends;
-    below = below-still call f k;
-    gone-to = k.floor.gone-to;
-    past = past;
-    arrived = came;
-  }
+  passed-still call f k past came = search below-still
 
   -- where nothing changes
   pub still : (call : ReceiverCall) → ReceiverFollows call old new → new.receiving.accepted ≡ old.receiving.accepted
       → new.receiving.read ≡ old.receiving.read → new.receiving.receiver ≡ r → Keeps old.receiving → Keeps new.receiving
-  still call f e g same k =
-      let floor = k.floor.floor in
-      after-so call f k (streams.still st AnyWeight (Well (Late old.receiving)) k.lost old.receiving new.receiving (before k) e g (ap (stream_of st) same))
-      (passed-still call f k (subst (λ (q : Reception). IsPast first sent st floor (stream_of st q)) (sym same) k.floor.past)
-      (subst (λ (q : Reception). IsArrived p n (known_past first sent st floor new.receiving) q.cumulative_tsn q.beyond) (sym same)
-      (more-arrived p n n (known_past first sent st floor old.receiving) (known_past first sent st floor new.receiving) r.cumulative_tsn r.beyond (omega arith)
-      (known-more call f floor floor (omega arith)) k.floor.arrived)))
+  still call f e g same k = grind (arith, nat_tests, common_steps)
 
   -- ## A stream is opened
 
@@ -364,7 +346,7 @@ module _ (first n : ℕ) (few : n < 2 ^ 31) (old new : Session) (ns : List Numbe
         let within = g.within in
         let is = upto-place p k.floor.floor (g.before + 1) c.tsn g.is (omega (arith, within, few)) in
         let test = sym is ∙ e in
-        let le : g.before + 1 ≤ k.floor.floor = grind (arith, nat_tests, test) in
+        let le : g.before + 1 ≤ k.floor.floor = grind (arith, nat_tests) in
         not_both (sym (fresh-new c.tsn said r f.accepted.1) ∙ ap (λ t. come t r.cumulative_tsn r.beyond) g.is
         ∙ k.floor.below (g.before + 1) (omega arith) le))
 
@@ -412,7 +394,7 @@ module _ (first n : ℕ) (few : n < 2 ^ 31) (old new : Session) (ns : List Numbe
 
     -- a place up to it
     upto-m : (y t : ℕ) → t ≡ tsn p y → y ≤ m → is_upto p m t ≡ true
-    upto-m y t is le = upto-place p m y t is (omega (arith, le, least, few)) ∙ (let e : nat_le y m ≡ true = grind (arith, nat_tests, le) in e)
+    upto-m y t is le = upto-place p m y t is (omega (arith, le, least, few)) ∙ (let e : nat_le y m ≡ true = grind (arith, nat_tests) in e)
 
     -- what it passes
     passes-it : (c : ChunkPayloadData) → at_or_before c.tsn g.new_cumulative_tsn ≡ true → list_any (passes c.tsn) old.made ≡ true
@@ -573,11 +555,7 @@ module _ (first n : ℕ) (few : n < 2 ^ 31) (old new : Session) (ns : List Numbe
                 lost = fragments_of_sets (filter (is_passed (j % 2 ^ 16)) l.queue.held.ordered);
                 of-gone = each-dropped Goes (is_passed (j % 2 ^ 16)) l.queue.held.ordered passed-gone;
                 weighs = λ w. let s = filter-split (is_passed (j % 2 ^ 16)) w l.queue.held.ordered in omega (arith, s);
-                well = record {
-                  current = x.0;
-                  tidy = skipped-tidy p n few (j % 2 ^ 16) l.queue.held h.tidy;
-                  orderly = skipped-orderly (j % 2 ^ 16) l.queue h.orderly;
-                };
+                well = grind (arith, nat_tests, common_steps, skipped-tidy, skipped-orderly);
                 uncut =
                     let q = held_after_ordered_skip (j % 2 ^ 16) l.queue.held in
                     let sets = sets-those Fits (λ s. not (is_passed (j % 2 ^ 16) s)) d.low answered.reach l.queue.held.ordered d.sets in
@@ -659,7 +637,7 @@ module _ (first n : ℕ) (few : n < 2 ^ 31) (old new : Session) (ns : List Numbe
           ends = inr ends;
           below = upto-come;
           gone-to = every-joined (λ c. is_upto p m c.tsn ≡ true) lost k.lost upto
-              (every-of (λ c. is_upto p k.floor.floor c.tsn ≡ true) (λ c. is_upto p m c.tsn ≡ true) (λ c e. grind (arith, nat_tests, e, under)) k.lost
+              (every-of (λ c. is_upto p k.floor.floor c.tsn ≡ true) (λ c. is_upto p m c.tsn ≡ true) (λ c e. grind (arith, nat_tests)) k.lost
               k.floor.gone-to);
           past = past-m;
           arrived = comes m (omega (arith, under)) (omega arith);
@@ -670,7 +648,7 @@ module _ (first n : ℕ) (few : n < 2 ^ 31) (old new : Session) (ns : List Numbe
           ends = k.floor.ends;
           below = below-still (incoming.follows g) f k;
           gone-to = every-joined (λ c. is_upto p k.floor.floor c.tsn ≡ true) lost k.lost
-              (every-of (λ c. is_upto p m c.tsn ≡ true) (λ c. is_upto p k.floor.floor c.tsn ≡ true) (λ c e. grind (arith, nat_tests, e, over)) lost upto)
+              (every-of (λ c. is_upto p m c.tsn ≡ true) (λ c. is_upto p k.floor.floor c.tsn ≡ true) (λ c e. grind (arith, nat_tests)) lost upto)
               k.floor.gone-to;
           past = past-old;
           arrived = comes k.floor.floor (omega arith) over;
@@ -687,7 +665,7 @@ module _ (first n : ℕ) (few : n < 2 ^ 31) (old new : Session) (ns : List Numbe
               let at : v.place ≡ m = same-place p v.place m (omega (arith, within', few)) (omega (arith, least, few)) (sym v.is ∙ sym it ∙ pass.is) in
               or-right (list_any (has_tsn (tsn p y)) new.receiving.accepted) (is_upto p to (tsn p y))
               (upto-place p to y (tsn p y) refl (omega (arith, le, at, least, few))
-              ∙ (let e : nat_le y to ≡ true = grind (arith, nat_tests, le, at, over) in e)))
+              ∙ (let e : nat_le y to ≡ true = grind (arith, nat_tests) in e)))
             where
               new_tsn : ReceiverCall → ℕ
               new_tsn (incoming.follows h) = h.new_cumulative_tsn

@@ -1,14 +1,13 @@
 -- What was taken on a stream is held or was read, but for fragments of messages that are gone: what holds of the stream after each call.
-use Rattle.sctp_delivery.proofs.Names.{◌≡◌, ℕ, ◌+◌, ◌%◌, ◌^◌, ◌<◌, ◌≤◌, Bool, true, false, List, [], ◌∷◌, length, Option, Some, None, refl, ap, sym, subst, ◌∙◌}
-use Rattle.sctp_delivery.proofs.Names.{◌-◌, ◌⊎◌, ◌||◌, distance, distance-tsn, nat_le, arith, ⊤, filter, list_any, sum_by, eq-eqb, or-left, sum_by-inserted}
-use Rattle.sctp_delivery.proofs.Names.{and, both, tsn, insert_before, ChunkPayloadData, ChunkSet, data_of, sets_with, BecomesComplete, Reassembly}
-use Rattle.sctp_delivery.proofs.Names.{ReassemblyState, rest_among, rest_read, InboundStream, Pushes, PushesAs, stream_of, Stand, fragments_read, all_complete}
-use Rattle.sctp_delivery.proofs.Names.{held_weight, is_orderly, pushed-number, is_unmixed, weight, chunk_before, has_tsn, is_on, passes, Made}
+use Rattle.sctp_delivery.proofs.Names.{common_steps, nat_tests, ◌≡◌, ℕ, ◌+◌, ◌%◌, ◌^◌, ◌<◌, ◌≤◌, Bool, true, false, List, [], ◌∷◌, length, Option, Some, None}
+use Rattle.sctp_delivery.proofs.Names.{refl, ap, sym, subst, ◌⊎◌, ◌||◌, distance, distance-tsn, nat_le, arith, ⊤, filter, list_any, sum_by, eq-eqb, or-left}
+use Rattle.sctp_delivery.proofs.Names.{sum_by-inserted, and, both, tsn, ChunkPayloadData, ChunkSet, data_of, sets_with, Reassembly, ReassemblyState, rest_among}
+use Rattle.sctp_delivery.proofs.Names.{InboundStream, Pushes, stream_of, Stand, fragments_read, all_complete, held_weight, is_orderly, pushed-number}
+use Rattle.sctp_delivery.proofs.Names.{is_unmixed, weight, has_tsn, is_on, passes, Made}
 use Rattle.sctp_reassembly.specs.reassembly_queue.ReassemblyQueue.{state_read}
-use Rattle.sctp_receiver.proofs.CompleteMessages.{pushed-complete, rest-complete}
-use Rattle.sctp_receiver.proofs.OneMessage.{pushed-unmixed, rest-unmixed}
+use Rattle.sctp_receiver.proofs.CompleteMessages.{pushed-complete}
+use Rattle.sctp_receiver.proofs.OneMessage.{pushed-unmixed}
 use Rattle.sctp_receiver.proofs.Weights as weights
-use Rattle.sctp_delivery.proofs.Cases.{at-test, by-test}
 use Rattle.sctp_delivery.proofs.UnwrappedHolds.{IsCurrent, current-put, current-same, front-current, put-in}
 use Rattle.sctp_delivery.proofs.Every.{Every}
 use Rattle.sctp_delivery.proofs.PassingCalls.{IsGone}
@@ -33,10 +32,7 @@ abbrev pub is_upto : ℕ → ℕ → ℕ → Bool
 is_upto p m t = nat_le (distance (tsn p 0) t) m
 
 pub upto-place : (p m y t : ℕ) → t ≡ tsn p y → y < 2 ^ 32 → is_upto p m t ≡ nat_le y m
-upto-place p m y t is few =
-    let d : distance (tsn p 0) t ≡ y = ap (distance (tsn p 0)) is ∙ distance-tsn p 0 y (omega arith) (omega (arith, few))
-    ∙ (let e : y - 0 ≡ y = omega arith in e) in
-    ap (λ k. nat_le k m) d
+upto-place p m y t is few = grind (arith, nat_tests, common_steps, distance-tsn)
 
 module _ (first : ℕ) (sent : List Entry) (st : ℕ) where
   -- an ordered fragment of the stream at the place is still to come
@@ -154,51 +150,16 @@ module _ (ws : List Numbered) (first : ℕ) (sent : List Entry) (line : IsLine w
           after = h.current.late e.place (omega arith) e.late
 
           held : new.held ≡ record old.held { ordered = sets_with x old.held.ordered }
-          held =
-              ap (λ (q : ReassemblyState). q.held) (subst (λ b. PushesAs b x answered old new) u pushes).0
-              ∙ put-in x h.current.index e.of old.held h.current.next e.number
-              (omega (arith, after)) e.near
+          held = grind (arith, nat_tests, common_steps, put-in)
 
       put-unordered : x.unordered ≡ true → Now new.held × Weighs
-      put-unordered u = (
-        at-test (λ k. BecomesComplete (insert_before chunk_before x old.held.unassembled) old.held new.held k → Now new.held)
-            answered
-            (λ e t.
-            current-same p n B (B a) (B n) L old.held new.held
-            (ap (λ (q : Reassembly). q.next_ssn) t.moved) (ap (λ (q : Reassembly). q.ordered) t.moved) h.current)
-            (λ e t.
-            current-same p n B (B a) (B n) L old.held new.held
-            (ap (λ (q : Reassembly). q.next_ssn) t.1) (ap (λ (q : Reassembly). q.ordered) t.1) h.current) b,
-        weighs,
-      )
-        where
-          b : BecomesComplete (insert_before chunk_before x old.held.unassembled) old.held new.held answered
-          b = (subst (λ k. PushesAs k x answered old new) u pushes).0
-
-          weighs : (w : ChunkPayloadData → ℕ) → weight w new.held ≡ w x + weight w old.held
-          weighs w =
-              let e = weights.becomes w (insert_before chunk_before x old.held.unassembled) old.held new.held answered b in
-              omega (arith, e, sum_by-inserted w chunk_before x old.held.unassembled)
+      put-unordered u = grind (arith, nat_tests, common_steps, current-same, weights.becomes, sum_by-inserted)
 
       pub pushed-well : is_on old.si x ≡ true → IsFit p n x → list_any (has_tsn x.tsn) old.held.unassembled ≡ false
           → (x.unordered ≡ false → IsComing h.current.index x × ((low : ℕ) × (top : ℕ) × reads.AreSets p n B Pieces C low top new.held.ordered))
           → Well new × Weighs
-      pushed-well on fit bare ordered = by-test x.unordered
-          (λ u. build (put-unordered u))
-          (λ u. let e = ordered u in build (put-ordered u e.0 e.1.0 e.1.1 e.1.2))
-        where
-          build : Now new.held × Weighs → Well new × Weighs
-          build r =
-              let o = orderly-both old h.orderly in (
-                record {
-                  current = r.0;
-                  tidy = pushed-tidy p n few x fit.0 fit.1 answered old new pushes fresh bare h.tidy;
-                  orderly =
-                      and (all_complete new.held.unordered) (is_unmixed new.si new.held) (pushed-complete x answered old new pushes o.0)
-                      (ap (λ k. is_unmixed k new.held) (pushed-number x answered old new pushes) ∙ pushed-unmixed x answered old new on pushes o.1);
-                },
-                r.1,
-              )
+      pushed-well on fit bare ordered =
+          grind (arith, put-unordered, put-ordered, orderly-both, pushed-tidy, and, pushed-complete, pushed-number, pushed-unmixed)
 
     -- ## A message is read
 
@@ -211,15 +172,11 @@ module _ (ws : List Numbered) (first : ℕ) (sent : List Entry) (line : IsLine w
           record {
             current = by q.held.unordered refl;
             tidy = read-tidy p n few q.held h.tidy;
-            orderly =
-                and (all_complete (rest_read q.held).unordered) (is_unmixed q.si (rest_read q.held)) (rest-complete q.held o.0)
-                (rest-unmixed q.si q.held o.1);
+            orderly = grind (arith, nat_tests, common_steps);
           }
         where
           by : (us : List ChunkSet) → q.held.unordered ≡ us → Now (rest_among us q.held)
           by [] e =
               front-current p n B Pieces C at-in place-in (B a) (B n) L q.held k reach d
               (λ i y cs fits whole l count. has-all ws first sent line joined n long few st i cs fits whole y (wanted y l) count) came most h.current same
-          by (u ∷ us) e =
-              current-same p n B (B a) (B n) L q.held
-              (record q.held { unordered = us }) refl refl h.current
+          by (u ∷ us) e = grind (arith, nat_tests, common_steps)

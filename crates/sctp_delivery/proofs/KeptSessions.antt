@@ -1,13 +1,12 @@
 -- The message that a first fragment is of, among those that were read; and what is so where nothing waits and nothing is held.
 use Rattle.sctp_delivery.proofs.Names.{◌≡◌, ℕ, suc, ◌+◌, ◌<◌, ◌≤◌, ◌^◌, Bool, true, false, List, [], ◌∷◌, ◌++◌, length, Option, Some, inl, inr, refl, ap, sym}
-use Rattle.sctp_delivery.proofs.Names.{subst, ◌∙◌, arith, zero, ◌-◌, None, All, Contains, find, ◌==◌, ◌&&◌, ◌||◌, if◌then◌else◌, slice_index_or, ◌⊎◌}
-use Rattle.sctp_delivery.proofs.Names.{list_all, list_any, sum_by, sum_by-append, sum_by-cons, AllPass-from_list_all, nat_tests, common_steps, or-split}
-use Rattle.sctp_delivery.proofs.Names.{same-is, both, fails, not_both, ChunkPayloadData, Data, data_of, ChunkSet, Pending, held_chunks, Limits, InboundStream}
-use Rattle.sctp_delivery.proofs.Names.{Reception, stream_of, held_weight, set_weight, Message, fragments_read, is_one_message, Stand, completes, is_complete}
-use Rattle.sctp_delivery.proofs.Names.{has_tsn, is_on, fragments_held, holds_nothing, is_all_acknowledged, Call, RunsTo, Session, at_start, ReceiverFollows}
-use Rattle.sctp_delivery.proofs.Names.{SenderFollows, of_receiver, of_sender, Unknown, EachOtherIsReadOnce, abandoned_by, abandoned_in, StandAt}
-use Rattle.sctp_delivery.proofs.Names.{fragments_of_all, are_apart, tsns_given, was_taken, passes, cases_lt, tsn, Made, SenderCall, forward_tsn, made_after}
-use Rattle.sctp_delivery.proofs.Names.{append-nil, distance, ReceiverCall}
+use Rattle.sctp_delivery.proofs.Names.{subst, ◌∙◌, arith, zero, ◌-◌, None, All, Contains, find, ◌==◌, ◌&&◌, ◌||◌, if◌then◌else◌, slice_index_or, ◌⊎◌, list_all}
+use Rattle.sctp_delivery.proofs.Names.{list_any, sum_by, sum_by-append, sum_by-cons, AllPass-from_list_all, nat_tests, common_steps, or-split, same-is, both}
+use Rattle.sctp_delivery.proofs.Names.{fails, not_both, ChunkPayloadData, Data, data_of, ChunkSet, held_chunks, Limits, InboundStream, Reception, stream_of}
+use Rattle.sctp_delivery.proofs.Names.{held_weight, set_weight, Message, fragments_read, is_one_message, Stand, is_complete, has_tsn, is_on, fragments_held}
+use Rattle.sctp_delivery.proofs.Names.{holds_nothing, is_all_acknowledged, Call, RunsTo, Session, at_start, ReceiverFollows, SenderFollows, of_receiver}
+use Rattle.sctp_delivery.proofs.Names.{of_sender, Unknown, EachOtherIsReadOnce, abandoned_by, abandoned_in, StandAt, fragments_of_all, are_apart, tsns_given}
+use Rattle.sctp_delivery.proofs.Names.{was_taken, passes, cases_lt, tsn, Made, SenderCall, forward_tsn, made_after, append-nil, distance, ReceiverCall}
 use Rattle.std.proofs.Common.{append_assoc}
 use Rattle.sctp_reassembly.specs.reassembly_queue.Counts.{set_chunks}
 use Rattle.sctp_receiver.specs.Inbound.{has_number}
@@ -22,8 +21,7 @@ use Rattle.sctp_delivery.proofs.ReadOnce.{one}
 use Rattle.sctp_delivery.proofs.Senders.{AreSent}
 use Rattle.sctp_delivery.proofs.SackSteps.{none_dropped}
 use Rattle.sctp_delivery.proofs.Sent.{Entry, IsLine, IsPart, Numbered, contains-more, fragment, part-length, part-line, same-parts, same-tsn, terminal, WasSent}
-use Rattle.sctp_delivery.proofs.AbandonedMessages.{flight_of, gone-left}
-use Rattle.sctp_delivery.proofs.AllBegun.{begins_in}
+use Rattle.sctp_delivery.proofs.AbandonedMessages.{gone-left}
 use Rattle.sctp_delivery.proofs.Calls.{length-forgotten, numbered_after}
 use Rattle.sctp_delivery.proofs.TakenCalls.{more-arrived}
 use Rattle.sctp_delivery.proofs.KeptOrGone.{known_past, IsKeptBut, IsPassedBy, HeldWell, IsLate}
@@ -76,19 +74,7 @@ module _ (ws : List Numbered) (first : ℕ) (sent : List Entry) (few : length se
 
     of-write : (m : Message) (x : IsReadOf ws sent m) → is_complete m.fragments ≡ true → is_one_message m.fragments ≡ true → EachSent sent m.fragments
         → list_any (has_tsn d.tsn) m.fragments ≡ true → x.numbered ≡ w
-    of-write m x complete alike s e =
-        let c = x.chunk in
-        let cs = x.others in
-        let all : is_complete (c ∷ cs) ≡ true = subst (λ ys. is_complete ys ≡ true) x.fragments complete in
-        let s' : EachSent sent (c ∷ cs) = subst (EachSent sent) x.fragments s in
-        let f = follows ws first sent 0 line indexed c cs x.numbered x.after x.entries x.part
-        (from-few sent few (fragment (data_of c) x.numbered x.after) x.entries x.part) (both c.beginning_fragment (completes c cs) all).1
-        (each-from sent few cs s'.1) (inner-of c cs (subst (λ ys. is_one_message ys ≡ true) x.fragments alike)) in
-        let there : (has_tsn d.tsn c || list_any (has_tsn d.tsn) cs) ≡ true = subst (λ ys. list_any (has_tsn d.tsn) ys ≡ true) x.fragments e in
-        elim (or-split (has_tsn d.tsn c) (list_any (has_tsn d.tsn) cs) there) [
-          | inl h ↦ same-write ws first sent few line (data_of c) d x.numbered w x.after after x.entries xs x.part p (same-is c.tsn d.tsn h)
-          | inr h ↦ absurd (not_both (sym (not-inner cs s'.1 f.2) ∙ h))
-        ]
+    of-write m x complete alike s e = grind (arith, follows, from-few, each-from, inner-of, or-split, same-write, same-is, not_both, not-inner)
 
     -- its place is one of those
     pub found : (once : AreOnce sent) (place : ℕ) → ((v : Numbered) → (c : Contains ws v) → v ≡ w → c.0 ≡ place)
@@ -105,9 +91,7 @@ module _ (ws : List Numbered) (first : ℕ) (sent : List Entry) (few : length se
       where
         rest : list_any (has_tsn d.tsn) m.fragments ≡ false → (b : Bool)
             → 0 < sum_by (one d.tsn) (if b then m.fragments ++ fragments_read st ms else fragments_read st ms) → 0 < sum_by (one d.tsn) (fragments_read st ms)
-        rest none true more =
-            omega (arith, sum_by-append (one d.tsn) m.fragments (fragments_read st ms), read_once.none-count d.tsn m.fragments none, more)
-        rest none false more = more
+        rest h0 h1 h2 = grind (arith, nat_tests, common_steps, sum_by-append, read_once.none-count)
 
 -- the first fragment of a write that was begun
 pub begun-part : (m : ℕ) (sent : List Entry) → was_begun m sent ≡ true → (d : Data) × (w : Numbered) × (after : List ℕ) × (xs : List Entry)
@@ -220,16 +204,7 @@ module _ (first size max most : ℕ) (limits : Option Limits) (cs : List Call) (
       came = all-taken-or-gone first (tsns_given (at_start first size max most limits) cs s run) s ns sent gone i few p.passing idle.inflight
 
       begun-at : (m : ℕ) → m < length ns → is_gone gone m ≡ false → was_begun m sent ≡ true
-      begun-at m lt other = elim (or-split (was_begun m sent) (begins_in m q) (p.begun' m lt other)) [
-        | inl e ↦ e
-        | inr e ↦ elim (or-split (list_any (begins m) q.ordered) (list_any (begins m) q.unordered) e) [
-          | inl f ↦ absurd (not_both (sym (ap (list_any (begins m)) idle.ordered) ∙ f))
-          | inr f ↦ absurd (not_both (sym (ap (list_any (begins m)) idle.unordered) ∙ f))
-        ]
-      ]
-        where
-          q : Pending
-          q = (flight_of s).queue.pending
+      begun-at m lt other = grind (arith, nat_tests, common_steps, or-split, not_both)
 
       none-written : Numbered
       none-written = record { stream = 0; payload_type = Unknown; bytes = []; place = 0 }
@@ -365,10 +340,7 @@ module _ (ns : List Numbered) (first : ℕ) (sent more : List Entry) (line : IsL
       → list_any (has_tsn (tsn p y)) cs ≡ true → y ≤ n
   rises-within i low [] r y le e = absurd (not_both e)
   rises-within i low (c ∷ cs) r y le e = elim (or-split (has_tsn (tsn p y) c) (list_any (has_tsn (tsn p y)) cs) e) [
-    | inl h ↦
-        let o = r.0 in
-        let same = same-place p (o.before + 1) y (omega (arith, wider, few)) (omega (arith, le, few)) (sym o.is ∙ same-is c.tsn (tsn p y) h) in
-        omega (arith, same)
+    | inl h ↦ grind (arith, nat_tests, common_steps, same-place, same-is)
     | inr h ↦ rises-within i (r.0.before + 1) cs r.2 y le h
   ]
 
@@ -499,9 +471,7 @@ sender-kept first n gone call old new ns sent few f k =
             let w = d.arrived.within in
             let v = e.arrived.within in
             let least = e.arrived.least_is in
-            let same : e.arrived.place ≡ d.arrived.place =
-            same-place (base first) e.arrived.place d.arrived.place (omega (arith, v, few)) (omega (arith, w, small))
-            (sym e.arrived.is ∙ ap (λ (s : Session). s.receiving.receiver.cumulative_tsn) f.after ∙ d.arrived.is) in
+            let same : e.arrived.place ≡ d.arrived.place = grind (arith, nat_tests, common_steps, same-place) in
             subst (λ (s : Session). IsKeptBut first x.more st m x.spread.step.numbered.acked (gone ++ abandoned_by call old.sending.sender) s.made
             s.receiving) (sym f.after)
             (keeps-more (numbered_after call ns) first sent x.more x.spread.holds.held.stands.queued.line x.spread.holds.held.stands.queued.joined x.once n m
@@ -560,28 +530,6 @@ module _ (first size max most : ℕ) (limits : Option Limits) where
       (kept-after 0 [] [] cs (at_start first size max most limits) s refl [] [] r (omega (arith, few)) (record {
         unwrapped = start;
         passed = passed-first first size max most limits;
-        kept = λ st. record {
-          lost = [];
-          of-gone = tt;
-          weighs = λ w. refl;
-          holds = tt;
-          floor = record {
-            floor = 0;
-            within = omega arith;
-            ends = inl refl;
-            below = λ y pos le. absurd (omega (arith, pos, le));
-            gone-to = tt;
-            past = tt;
-            arrived =
-                let x = start.spread.step.arrived in
-                record {
-                  place = x.place;
-                  within = x.within;
-                  is = x.is;
-                  so_far = λ y pos le. let a = x.within in absurd (omega (arith, pos, le, a));
-                  each = tt;
-                };
-          };
-        };
+        kept = grind (arith, nat_tests, common_steps);
         tight = λ st z lt at. absurd (not_both at);
       }))

@@ -1,12 +1,11 @@
 -- Sets of ordered messages by their indexes, as a fragment comes and as the front message is read. Where no FORWARD-TSN comes none stands before
 -- the next number, so that no fragment is dropped.
 use Rattle.sctp_delivery.proofs.Names.{◌≡◌, ℕ, ◌+◌, ◌%◌, ◌^◌, ◌<◌, ◌≤◌, Bool, true, false, List, [], ◌∷◌, Option, Some, None, inl, inr, refl, ap, sym, subst}
-use Rattle.sctp_delivery.proofs.Names.{◌∙◌, arith, suc, length, take, drop, ⊤, ◌==◌, ◌||◌, if◌then◌else◌, nat_lt, nat_le, filter, list_any, sum_by, cases_lt}
-use Rattle.sctp_delivery.proofs.Names.{nat_tests, sum_by-cons, common_steps, change_first, insert_before, at_or_before16, comes_before16, same-is, same-yes}
-use Rattle.sctp_delivery.proofs.Names.{sum_by-inserted, both, not_both, at_or_before16-index, comes_before16-index, next16, ChunkPayloadData, ChunkSet, has_ssn}
-use Rattle.sctp_delivery.proofs.Names.{is_complete, new_set, set_before, sets_with, Reassembly, after_read, front_readable, held_after_ordered_push}
-use Rattle.sctp_delivery.proofs.Names.{is_readable, rest_among, rest_read, without_first, BecomesComplete, ReassemblyState, set_of_run, is_ssn_too_far}
-use Rattle.sctp_delivery.proofs.Names.{lowest_among, lowest_ssn, set_weight, chunk_before, has_tsn, Pushes, PushesAs, HasNoRun}
+use Rattle.sctp_delivery.proofs.Names.{◌∙◌, arith, suc, length, take, drop, ⊤, ◌==◌, ◌||◌, if◌then◌else◌, nat_lt, filter, list_any, sum_by, cases_lt, nat_tests}
+use Rattle.sctp_delivery.proofs.Names.{sum_by-cons, common_steps, change_first, insert_before, comes_before16, same-is, same-yes, sum_by-inserted, not_both}
+use Rattle.sctp_delivery.proofs.Names.{at_or_before16-index, comes_before16-index, next16, ChunkPayloadData, ChunkSet, has_ssn, new_set, set_before, sets_with}
+use Rattle.sctp_delivery.proofs.Names.{Reassembly, after_read, front_readable, held_after_ordered_push, is_readable, rest_among, rest_read, BecomesComplete}
+use Rattle.sctp_delivery.proofs.Names.{ReassemblyState, set_of_run, is_ssn_too_far, lowest_among, set_weight, chunk_before, has_tsn, Pushes, PushesAs, HasNoRun}
 use Rattle.std.specs.Prelude.{remove}
 use Rattle.sctp_util.specs.Serial.{distance16}
 use Rattle.sctp_reassembly.specs.reassembly_queue.Fragments.{with_chunk}
@@ -44,9 +43,7 @@ module _ (Fits : ℕ → List ChunkPayloadData → Type 0) where
 
   pub sets-those : (p : ChunkSet → Bool) (low top : ℕ) (ss : List ChunkSet) → AreSets low top ss → AreSets low top (filter p ss)
   sets-those p low top [] r = tt
-  sets-those p low top (s ∷ ss) r = at-if (AreSets low top) (p s)
-      (λ e. (r.0, r.1, sets-those p (r.0 + 1) top ss r.2))
-      (λ e. sets-from (r.0 + 1) low top (filter p ss) (omega arith) (sets-those p (r.0 + 1) top ss r.2))
+  sets-those p low top (s ∷ ss) r = grind (arith, nat_tests, common_steps, sets-from, sets-those p (r.0 + 1) top ss r.2)
 
   module _ (x : ChunkPayloadData) (i : ℕ) (single : Fits i (x ∷ []))
       (put : (cs : List ChunkPayloadData) → list_any (has_tsn x.tsn) cs ≡ false → Fits i cs → Fits i (insert_before chunk_before x cs))
@@ -57,19 +54,8 @@ module _ (Fits : ℕ → List ChunkPayloadData → Type 0) where
     sets-changed : (base low top : ℕ) (ss : List ChunkSet) → base ≤ low → base ≤ i → i < top → top ≤ base + 2 ^ 15 → AreSets low top ss
         → AreSets low top (change_first (has_ssn x.stream_sequence_number) (with_chunk x) ss)
     sets-changed base low top [] at le lt far r = tt
-    sets-changed base low top (s ∷ ss) at le lt far r = at-if (AreSets low top) (s.ssn == x.stream_sequence_number)
-        (λ e.
-        let n : r.0 % 2 ^ 16 ≡ i % 2 ^ 16 = sym r.1.0.2 ∙ same-is s.ssn x.stream_sequence_number e ∙ is in
-        let same : r.0 ≡ i = omega (arith, n, at, le, lt, far) in (
-          r.0,
-          (
-            (r.1.0.0, r.1.0.1, r.1.0.2),
-            subst (λ k. Fits k (with_chunk x s).chunks) (sym same)
-                (with-of s (subst (λ k. Fits k s.chunks) same r.1.1)),
-          ),
-          r.2,
-        ))
-        (λ e. (r.0, r.1, sets-changed base (r.0 + 1) top ss (omega (arith, at)) le lt far r.2))
+    sets-changed base low top (s ∷ ss) at le lt far r =
+        grind (arith, nat_tests, common_steps, same-is, with-of, sets-changed base (r.0 + 1) top ss (omega (arith, at)) le lt far r.2)
 
     sets-inserted : (low top : ℕ) (ss : List ChunkSet) → top ≤ low + 2 ^ 15 → low ≤ i → i < top
         → list_any (has_ssn x.stream_sequence_number) ss ≡ false → AreSets low top ss → AreSets low top (insert_before set_before (new_set x) ss)
@@ -93,15 +79,10 @@ module _ (Fits : ℕ → List ChunkPayloadData → Type 0) where
         order = cc (is, r.1.0.2, comes_before16-index i j (omega (arith, le, lt, near)) (omega (arith, le, lt, near)))
 
         other : i ≡ j → ⊥
-        other e =
-            let same : s.ssn ≡ x.stream_sequence_number = r.1.0.2 ∙ ap (λ n. n % 2 ^ 16) (sym e) ∙ sym is in
-            not_both (sym none ∙ ap (λ b. b || list_any (has_ssn x.stream_sequence_number) ss)
-            (ap (λ n. n == x.stream_sequence_number) same ∙ same-yes x.stream_sequence_number))
+        other e = grind (arith, nat_tests, common_steps)
 
     pub put-sets : (low top : ℕ) (ss : List ChunkSet) → low ≤ i → i < top → top ≤ low + 2 ^ 15 → AreSets low top ss → AreSets low top (sets_with x ss)
-    put-sets low top ss le lt far r = at-if (AreSets low top) (list_any (has_ssn x.stream_sequence_number) ss)
-        (λ e. sets-changed low low top ss (omega arith) le lt far r)
-        (λ e. sets-inserted low top ss far le lt e r)
+    put-sets low top ss le lt far r = grind (arith, nat_tests, common_steps, sets-changed, sets-inserted)
 
 -- where nothing is said of the chunks
 abbrev pub Rise : ℕ → ℕ → List ChunkSet → Type 0
@@ -123,35 +104,18 @@ pub record IsNear (i ssn : ℕ) : Type 0 where
   pub is : ssn ≡ place % 2 ^ 16
 
 lowest-is : (i : ℕ) (ss : List ChunkSet) → Rise i (i + 2 ^ 15) ss → lowest_among (i % 2 ^ 16) ss ≡ i % 2 ^ 16
-lowest-is i [] r = refl
-lowest-is i (s ∷ ss) r = at-if (λ z. z ≡ i % 2 ^ 16) (at_or_before16 s.ssn (i % 2 ^ 16))
-    (λ e.
-    let order : nat_le k i ≡ true = cc (at_or_before16-index k i (omega arith) (omega arith), r.1.0.2, e) in
-    let le : k ≤ i = grind (arith, nat_tests, order) in
-    let same : k ≡ i = omega (arith, le) in
-    r.1.0.2 ∙ ap (λ n. n % 2 ^ 16) same)
-    (λ e. refl)
-  where
-    k : ℕ
-    k = r.0
+lowest-is h0 h1 h2 = grind (arith, nat_tests, common_steps, at_or_before16-index)
 
 index-of : (i ssn : ℕ) → ssn < 2 ^ 16 → distance16 (i % 2 ^ 16) ssn < 2 ^ 15 → IsNear i ssn
 unfolding distance16
 index-of i ssn small near = record { place = i + distance16 (i % 2 ^ 16) ssn; low = omega arith; top = omega (arith, near); is = omega (arith, small) }
 
 pub near-of : (ssn : ℕ) (q : Reassembly) → ssn < 2 ^ 16 → (t : IsInTurn q) → is_ssn_too_far ssn q ≡ false → IsNear t.index ssn
-near-of ssn q small t e =
-    let lowest : lowest_ssn q ≡ t.index % 2 ^ 16 = ap (λ n. lowest_among n q.ordered) t.next ∙ lowest-is t.index q.ordered t.rise in
-    let far : nat_le (2 ^ 15) (distance16 (t.index % 2 ^ 16) ssn) ≡ false = ap (λ n. nat_le (2 ^ 15) (distance16 n ssn)) (sym lowest) ∙ e in
-    let near : distance16 (t.index % 2 ^ 16) ssn < 2 ^ 15 = grind (arith, nat_tests, far) in
-    index-of t.index ssn small near
+near-of ssn q small t e = grind (arith, nat_tests, common_steps, lowest-is, index-of)
 
 -- it does not come before the next number
 pub not-before : (i ssn next : ℕ) → next ≡ i % 2 ^ 16 → IsNear i ssn → comes_before16 ssn next ≡ false
-not-before i ssn next e n =
-    let past : nat_lt n.place i ≡ false = grind (arith, nat_tests, n.low) in
-    ap (λ k. comes_before16 k next) n.is ∙ ap (comes_before16 (n.place % 2 ^ 16)) e
-    ∙ comes_before16-index n.place i (omega arith) (omega arith) ∙ past
+not-before i ssn next e n = grind (arith, nat_tests, common_steps, comes_before16-index)
 
 -- it is put in
 pub put-in : (x : ChunkPayloadData) (q : Reassembly) (t : IsInTurn q) → IsNear t.index x.stream_sequence_number
@@ -159,12 +123,7 @@ pub put-in : (x : ChunkPayloadData) (q : Reassembly) (t : IsInTurn q) → IsNear
 put-in x q t n = ap (λ b. if b then q else record q { ordered = sets_with x q.ordered }) (not-before t.index x.stream_sequence_number q.next_ssn t.next n)
 
 pub put-in-turn : (x : ChunkPayloadData) (q : Reassembly) (t : IsInTurn q) → IsNear t.index x.stream_sequence_number → IsInTurn (held_after_ordered_push x q)
-put-in-turn x q t n =
-    subst IsInTurn (sym (put-in x q t n)) (record {
-      index = t.index;
-      next = t.next;
-      rise = put-sets (λ i cs. ⊤) x n.place tt (λ cs e h. tt) n.is t.index (t.index + 2 ^ 15) q.ordered n.low n.top (omega arith) t.rise;
-    })
+put-in-turn x q t n = grind (arith, nat_tests, common_steps, put-in, put-sets)
 
 -- ## What it weighs
 
@@ -180,17 +139,11 @@ module _ (w : ChunkPayloadData → ℕ) (x : ChunkPayloadData) where
       by : (b : Bool) → (b || list_any p ss) ≡ true → (list_any p ss ≡ true
           → sum_by (set_weight w) (change_first p (with_chunk x) ss) ≡ sum_by (set_weight w) ss + w x)
           → sum_by (set_weight w) (if b then with_chunk x s ∷ ss else s ∷ change_first p (with_chunk x) ss) ≡ sum_by (set_weight w) (s ∷ ss) + w x
-      by true f ih =
-          omega (arith, sum_by-cons (set_weight w) (with_chunk x s) ss, sum_by-cons (set_weight w) s ss, chunk-more s h.0)
-      by false f ih =
-          grind (arith, nat_tests, common_steps, sum_by-cons (set_weight w) s (change_first p (with_chunk x) ss), sum_by-cons (set_weight w) s ss, ih f)
+      by h0 h1 h2 = grind (arith, nat_tests, common_steps, sum_by-cons, chunk-more)
 
   pub sets-more : (ss : List ChunkSet) → Every (λ (s : ChunkSet). list_any (has_tsn x.tsn) s.chunks ≡ false) ss
       → sum_by (set_weight w) (sets_with x ss) ≡ sum_by (set_weight w) ss + w x
-  sets-more ss h = at-if (λ z. sum_by (set_weight w) z ≡ sum_by (set_weight w) ss + w x) (list_any (has_ssn x.stream_sequence_number) ss)
-      (λ e. first-more (has_ssn x.stream_sequence_number) ss e h)
-      (λ e.
-      omega (arith, sum_by-inserted (set_weight w) set_before (new_set x) ss, sum_by-cons w x []))
+  sets-more ss h = grind (arith, nat_tests, common_steps, first-more, sum_by-inserted, sum_by-cons)
 
 -- ## A message is read
 
@@ -204,48 +157,13 @@ module _ (q : Reassembly) where
       → ((s : ChunkSet) (ss : List ChunkSet) → q.ordered ≡ s ∷ ss → is_readable q.next_ssn s ≡ true → (b : Bool) → (s.ssn == q.next_ssn) ≡ b
       → Q (Some s) (without_front b ss))
       → Q (front_readable q.next_ssn q.ordered) (after_read (front_readable q.next_ssn q.ordered) q)
-  front-read Q none read = by q.ordered refl
-    where
-      by : (os : List ChunkSet) → q.ordered ≡ os → Q (front_readable q.next_ssn os) (after_read (front_readable q.next_ssn os) q)
-      by [] is = none
-      by (s ∷ ss) is = at-test (λ b. Q (if b then Some s else None) (after_read (if b then Some s else None) q)) (is_readable q.next_ssn s)
-          (λ e. subst (λ os. Q (Some s) (without_front (s.ssn == q.next_ssn) (without_first os))) (sym is)
-          (read s ss is e (s.ssn == q.next_ssn) refl))
-          (λ e. none)
+  front-read Q none read = grind (arith, nat_tests, common_steps)
 
 front-turn : (q : Reassembly) → IsInTurn q → IsInTurn (after_read (front_readable q.next_ssn q.ordered) q)
-front-turn q t = front-read q (λ o r. IsInTurn r) t step
-  where
-    -- the set that is read has the next number
-    same : (s : ChunkSet) (ss : List ChunkSet) (r : Rise t.index (t.index + 2 ^ 15) (s ∷ ss)) → is_readable q.next_ssn s ≡ true → r.0 ≡ t.index
-    same s ss r f =
-        let order : nat_le r.0 t.index ≡ true = sym (at_or_before16-index r.0 t.index (omega arith) (omega arith))
-        ∙ ap (at_or_before16 (r.0 % 2 ^ 16)) (sym t.next) ∙ ap (λ n. at_or_before16 n q.next_ssn) (sym r.1.0.2)
-        ∙ (both (is_complete s.chunks) (at_or_before16 s.ssn q.next_ssn) f).1 in
-        let le : r.0 ≤ t.index = grind (arith, nat_tests, order) in
-        omega (arith, le)
-
-    step : (s : ChunkSet) (ss : List ChunkSet) → q.ordered ≡ s ∷ ss → is_readable q.next_ssn s ≡ true → (b : Bool) → (s.ssn == q.next_ssn) ≡ b
-        → IsInTurn (without_front q b ss)
-    step s ss e f true g =
-        let r : Rise t.index (t.index + 2 ^ 15) (s ∷ ss) = subst (Rise t.index (t.index + 2 ^ 15)) e t.rise in
-        record {
-          index = t.index + 1;
-          next = ap (λ n. (n + 1) % 2 ^ 16) t.next ∙ next16 t.index;
-          rise = sets-to (λ i cs. ⊤) (t.index + 1) (t.index + 2 ^ 15) (t.index + 1 + 2 ^ 15) ss (omega arith)
-              (subst (λ n. Rise (n + 1) (t.index + 2 ^ 15) ss) (same s ss r f) r.2);
-        }
-    step s ss e f false g =
-        let r : Rise t.index (t.index + 2 ^ 15) (s ∷ ss) = subst (Rise t.index (t.index + 2 ^ 15)) e t.rise in
-        let is : s.ssn ≡ q.next_ssn = r.1.0.2 ∙ ap (λ n. n % 2 ^ 16) (same s ss r f) ∙ sym t.next in
-        absurd (not_both (sym g ∙ ap (λ n. n == q.next_ssn) is ∙ same-yes q.next_ssn))
+front-turn q t = grind (arith, front-read, at_or_before16-index, next16, sets-to, not_both, same-yes)
 
 pub read-in-turn : (q : Reassembly) → IsInTurn q → IsInTurn (rest_read q)
-read-in-turn q t = by q.unordered
-  where
-    by : (us : List ChunkSet) → IsInTurn (rest_among us q)
-    by [] = front-turn q t
-    by (u ∷ us) = record { index = t.index; next = t.next; rise = t.rise }
+read-in-turn q t = grind (arith, nat_tests, common_steps, front-turn)
 
 -- # What a receiver holds stands in order: ordered fragments by TSNs in each set, and unordered ones, of which no
 -- message is whole.
@@ -296,33 +214,15 @@ every-first P p f (x ∷ xs) e = at-if (Every P) (p x) (λ h. (e.0.1 h, heads xs
 -- of the sets of ordered messages: an unordered fragment leaves them, and an ordered one is put in or dropped
 pub pushed-sets : (Q : List ChunkSet → Type 0) (x : ChunkPayloadData) (answered : Bool) (old new : ReassemblyState) → Pushes x answered old new
     → (x.unordered ≡ false → Q (sets_with x old.held.ordered)) → Q old.held.ordered → Q new.held.ordered
-pushed-sets Q x answered old new p put e = at-test (λ b. PushesAs b x answered old new → Q new.held.ordered) x.unordered
-    (λ u t. at-test (λ k. BecomesComplete (insert_before chunk_before x old.held.unassembled) old.held new.held k → Q new.held.ordered) answered
-    (λ _ z. subst (λ (q : Reassembly). Q q.ordered) (sym z.moved) e)
-    (λ _ z. subst (λ (q : Reassembly). Q q.ordered) (sym z.1) e) t.0)
-    (λ u t. subst (λ (q : ReassemblyState). Q q.held.ordered) (sym t.0)
-    (at-if (λ (q : Reassembly). Q q.ordered) (comes_before16 x.stream_sequence_number old.held.next_ssn) (λ _. e) (λ _. put u))) p
+pushed-sets Q x answered old new p put e = grind (arith, nat_tests, common_steps)
 
 pub read-sets : (P : ChunkSet → Type 0) (q : Reassembly) → Every P q.ordered → Every P (rest_read q).ordered
-read-sets P q e = by q.unordered
-  where
-    front : (ss : List ChunkSet) → q.ordered ≡ ss → Every P (after_read (front_readable q.next_ssn ss) q).ordered
-    front [] is = e
-    front (s ∷ ss) is = at-if (λ z. Every P (after_read z q).ordered) (is_readable q.next_ssn s)
-        (λ _. subst (λ o. Every P (without_first o)) (sym is) (subst (Every P) is e).1) (λ _. e)
-
-    by : (us : List ChunkSet) → Every P (rest_among us q).ordered
-    by [] = front q.ordered refl
-    by (u ∷ us) = e
+read-sets P q e = grind (arith, nat_tests, common_steps)
 
 module _ (p n : ℕ) (few : n < 2 ^ 31) where
   module _ (x : ChunkPayloadData) (k : ℕ) (at : IsPlaced p n 0 k x) where
     put : (s : ChunkSet) → IsOrdered x → list_any (has_tsn x.tsn) s.chunks ≡ false → IsTidySet p n s → IsTidySet p n (with_chunk x s)
-    put s kind fresh t =
-        subst (λ b. let s' : ChunkSet = record s { chunks = if b then s.chunks else insert_before chunk_before x s.chunks } in IsTidySet p n s') (sym fresh) (
-          ascend-inserted p n few 0 k x s.chunks at fresh t.0,
-          every-inserted IsOrdered chunk_before x s.chunks kind t.1,
-        )
+    put s kind fresh t = grind (arith, nat_tests, common_steps, ascend-inserted, every-inserted)
 
     puts : IsOrdered x → (ss : List ChunkSet) → Every (λ (s : ChunkSet). list_any (has_tsn x.tsn) s.chunks ≡ false) ss
         → Every (IsTidySet p n) ss → Every (λ s. IsTidySet p n s × (has_ssn x.stream_sequence_number s ≡ true → IsTidySet p n (with_chunk x s))) ss
@@ -331,9 +231,7 @@ module _ (p n : ℕ) (few : n < 2 ^ 31) where
 
     pub sets-tidy : IsOrdered x → (ss : List ChunkSet) → Every (λ (s : ChunkSet). list_any (has_tsn x.tsn) s.chunks ≡ false) ss
         → Every (IsTidySet p n) ss → Every (IsTidySet p n) (sets_with x ss)
-    sets-tidy kind ss fresh t = at-if (Every (IsTidySet p n)) (list_any (has_ssn x.stream_sequence_number) ss)
-        (λ e. every-first (IsTidySet p n) (has_ssn x.stream_sequence_number) (with_chunk x) ss (puts kind ss fresh t))
-        (λ e. every-inserted (IsTidySet p n) set_before (new_set x) ss ((k, at, tt), (kind, tt)) t)
+    sets-tidy kind ss fresh t = grind (arith, nat_tests, common_steps, every-first, puts, every-inserted)
 
     -- where it is put in
     inserted-place : (xs : List ChunkPayloadData) → (i : ℕ) × (i < length (insert_before chunk_before x xs))
@@ -384,10 +282,7 @@ module _ (p n : ℕ) (few : n < 2 ^ 31) where
     pub pushed-tidy : (answered : Bool) (old new : ReassemblyState) → Pushes x answered old new
         → Every (λ (s : ChunkSet). list_any (has_tsn x.tsn) s.chunks ≡ false) old.held.ordered → list_any (has_tsn x.tsn) old.held.unassembled ≡ false
         → IsTidy p n old.held → IsTidy p n new.held
-    pushed-tidy answered old new h fresh none y = record {
-      sets = pushed-sets (Every (IsTidySet p n)) x answered old new h (λ u. sets-tidy u old.held.ordered fresh y.sets) y.sets;
-      rest = pushed-rest answered old new h (λ _. none) y.rest;
-    }
+    pushed-tidy answered old new h fresh none y = grind (arith, nat_tests, common_steps, pushed-sets, sets-tidy, pushed-rest)
 
   -- ## A message is read
 

@@ -1,15 +1,14 @@
 -- The entries of a message by their places, where messages may be cut short: what stands before and behind a fragment, and which
 -- ordered messages of a stream are begun past the end of one.
 use Rattle.sctp_delivery.proofs.Names.{◌≡◌, ℕ, zero, suc, ◌<◌, ◌≤◌, Bool, true, false, not, List, [], ◌∷◌, length, inl, inr, refl, ap, sym, subst, ◌∙◌, arith}
-use Rattle.sctp_delivery.proofs.Names.{◌+◌, ◌^◌, ◌-◌, ◌==◌, ◌&&◌, cases_lt, eq-eqb, both, not_both, and, Data, data_of, list_any, nat_tests, common_steps}
-use Rattle.sctp_delivery.proofs.Names.{at_or_before, or-left, or-right, same-is, tsn, ChunkPayloadData, completes, is_complete, misses, misses_behind}
-use Rattle.sctp_delivery.proofs.Names.{following_tsn, has_tsn, preceding_tsn}
+use Rattle.sctp_delivery.proofs.Names.{◌+◌, ◌^◌, ◌-◌, ◌==◌, ◌&&◌, cases_lt, both, not_both, and, Data, data_of, list_any, nat_tests, common_steps, at_or_before}
+use Rattle.sctp_delivery.proofs.Names.{or-left, or-right, same-is, tsn, ChunkPayloadData, completes, is_complete, misses, misses_behind, following_tsn, has_tsn}
+use Rattle.sctp_delivery.proofs.Names.{preceding_tsn}
 use Rattle.std.proofs.Common.{◌⊎◌}
 use Rattle.sctp_delivery.proofs.Cases.{by-test}
-use Rattle.sctp_delivery.proofs.OrderedEntries.{AreJoined, Joins, begins_on, one}
+use Rattle.sctp_delivery.proofs.OrderedEntries.{AreJoined, begins_on, one}
 use Rattle.sctp_delivery.proofs.PassedMessages.{AreCutGone, EndsGone, EndsMessage}
-use Rattle.sctp_delivery.proofs.Sent.{Entry, GoesOn, IsLine, IsPart, Numbered, fragment, part-itself, part-length, part-line, same-parts, tail-part, terminal}
-use Rattle.sctp_delivery.proofs.Sent.{WasSent}
+use Rattle.sctp_delivery.proofs.Sent.{Entry, IsLine, IsPart, Numbered, fragment, part-itself, part-length, part-line, same-parts, tail-part, terminal, WasSent}
 use Rattle.sctp_delivery.proofs.SpreadEntries.{begun_to, part-joined, to-part, to-up, is_at}
 use Rattle.sctp_delivery.proofs.TsnPlaces.{base, next-place, same-place, upto-yes}
 use Rattle.sctp_delivery.proofs.UnwrappedHolds as holds
@@ -119,16 +118,10 @@ module _ (ws : List Numbered) (first : ℕ) (sent : List Entry) (line : IsLine w
 
   -- one place has one entry
   pub same-entry : (y : ℕ) (d e : Data) (w v : Numbered) → IsEntryAt sent y d w → IsEntryAt sent y e v → (d ≡ e) × (w ≡ v)
-  same-entry y d e w v i k =
-      let same : fragment d w i.after ∷ i.entries ≡ fragment e v k.after ∷ k.entries =
-      same-parts sent (fragment d w i.after ∷ i.entries) (fragment e v k.after ∷ k.entries) i.part k.part (omega arith) in
-      (cc, cc)
+  same-entry y d e w v i k = grind (arith, nat_tests, common_steps, same-parts)
 
   pub ends-own : (y : ℕ) (d : Data) (w : Numbered) → IsEntryAt sent y d w → EndsAt sent y → d.ending_fragment ≡ true
-  ends-own y d w i e =
-      let same : e.0 ≡ fragment d w i.after ∷ i.entries =
-      same-parts sent e.0 (fragment d w i.after ∷ i.entries) e.1 i.part (omega arith) in
-      subst EndsMessage same e.3
+  ends-own y d w i e = grind (arith, nat_tests, common_steps, same-parts)
 
   pub own-ends : (y : ℕ) (d : Data) (w : Numbered) → IsEntryAt sent y d w → d.ending_fragment ≡ true → EndsAt sent y
   own-ends y d w i e = (fragment d w i.after ∷ i.entries, i.part, sym i.place, e)
@@ -136,50 +129,13 @@ module _ (ws : List Numbered) (first : ℕ) (sent : List Entry) (line : IsLine w
   -- before a fragment that does not begin its message stands one of it
   pub prior-of : (y : ℕ) (d : Data) (w : Numbered) → IsEntryAt sent y d w → d.beginning_fragment ≡ false
       → (z : ℕ) × (y ≡ suc z) × (e : Data) × IsEntryAt sent z e w × IsBeforeIn e d
-  prior-of y d w i b =
-      by i.entries i.part i.place (part-joined sent (fragment d w i.after ∷ i.entries) i.part joined).0
-      (part-line ws first sent (fragment d w i.after ∷ i.entries) i.part line).1.0
-    where
-      by : (xs : List Entry) → IsPart (fragment d w i.after ∷ xs) sent → y ≡ suc (length xs) → Joins d xs → GoesOn d w i.after xs
-          → (z : ℕ) × (y ≡ suc z) × (e : Data) × IsEntryAt sent z e w × IsBeforeIn e d
-      by [] p at j g = absurd (not_both (sym b ∙ j))
-      by (terminal ∷ zs) p at j g = absurd (not_both (sym b ∙ j))
-      by (fragment e v rest ∷ zs) p at j g =
-          let same = (g b).0 in (
-            suc (length zs),
-            at,
-            e,
-            subst (λ u. IsEntryAt sent (suc (length zs)) e u) (sym same)
-                (record { after = rest; entries = zs; part = tail-part sent (fragment e v rest ∷ zs) (fragment d w i.after) p; place = refl }),
-            j.1 b,
-          )
+  prior-of y d w i b = grind (arith, part-joined, part-line, not_both, tail-part)
 
   -- behind a fragment that does not end its message stands one of it, or a terminal chunk
   pub next-of : (y : ℕ) (d : Data) (w : Numbered) (i : IsEntryAt sent y d w) → d.ending_fragment ≡ false → y < length sent
       → (IsPart (terminal ∷ fragment d w i.after ∷ i.entries) sent → ⊥)
       → (e : Data) × IsEntryAt sent (suc y) e w × (e.beginning_fragment ≡ false) × IsBeforeIn d e
-  next-of y d w i open' lt uncut =
-      let n = next-part sent (fragment d w i.after ∷ i.entries) i.part (omega (arith, lt)) in
-      by n.0 n.1
-    where
-      by : (x : Entry) → IsPart (x ∷ fragment d w i.after ∷ i.entries) sent
-          → (e : Data) × IsEntryAt sent (suc y) e w × (e.beginning_fragment ≡ false) × IsBeforeIn d e
-      by terminal p = absurd (uncut p)
-      by (fragment e v rest) p = by-test e.beginning_fragment
-          (λ h. absurd (not_both (sym open' ∙ j.0 h)))
-          (λ h. (
-            e,
-            subst (λ u. IsEntryAt sent (suc y) e u) (g h).0
-                (record { after = rest; entries = fragment d w i.after ∷ i.entries; part = p; place = ap suc i.place }),
-            h,
-            j.1 h,
-          ))
-        where
-          j : Joins e (fragment d w i.after ∷ i.entries)
-          j = (part-joined sent (fragment e v rest ∷ fragment d w i.after ∷ i.entries) p joined).0
-
-          g : GoesOn e v rest (fragment d w i.after ∷ i.entries)
-          g = (part-line ws first sent (fragment e v rest ∷ fragment d w i.after ∷ i.entries) p line).1.0
+  next-of y d w i open' lt uncut = grind (arith, nat_tests, common_steps, next-part, terminal, not_both, part-joined, part-line)
 
   -- ## Ordered messages of a stream
 
@@ -319,18 +275,14 @@ module _ (ws : List Numbered) (first : ℕ) (sent : List Entry) (line : IsLine w
       has-from : (k : ℕ) (c : ChunkPayloadData) (cs : List ChunkPayloadData) (o : IsOf k c) → completes c cs ≡ true → Rises k (o.before + 1) cs
           → (y : ℕ) → IsWanted st sent y → to st y ≡ k + 1 → o.before + 1 ≤ y → list_any (has_tsn (tsn p y)) (c ∷ cs) ≡ true
       has-from k c [] o e r y want count le = elim (cases_lt (o.before + 1) y) [
-        | inr ge ↦
-            let it : o.before + 1 ≡ y = omega (arith, le, ge) in
-            or-left (has_tsn (tsn p y) c) false (eq-eqb c.tsn (tsn p y) (o.is ∙ ap (tsn p) it))
+        | inr ge ↦ grind (arith, nat_tests, common_steps)
         | inl lt ↦
             let i = of-entry k c o in
             let end = own-ends (o.before + 1) (data_of c) i.0 i.1 e in
             absurd (omega (arith, wanted-after st (o.before + 1) end y want lt, count))
       ]
       has-from k c (x ∷ xs) o e r y want count le = elim (cases_lt (o.before + 1) y) [
-        | inr ge ↦
-            let it : o.before + 1 ≡ y = omega (arith, le, ge) in
-            or-left (has_tsn (tsn p y) c) (list_any (has_tsn (tsn p y)) (x ∷ xs)) (eq-eqb c.tsn (tsn p y) (o.is ∙ ap (tsn p) it))
+        | inr ge ↦ grind (arith, nat_tests, common_steps)
         | inl lt ↦
             let b = both (x.tsn == following_tsn c.tsn) (completes x xs) e in
             let next : tsn p (r.0.before + 1) ≡ tsn p (o.before + 1 + 1) =
@@ -362,9 +314,7 @@ module _ (ws : List Numbered) (first : ℕ) (sent : List Entry) (line : IsLine w
         module _ (upto : (c : ChunkPayloadData) (o : IsOf k c) → o.before + 1 ≤ m)
             (open' : (c : ChunkPayloadData) (o : IsOf k c) → c.ending_fragment ≡ false → o.before + 1 < m) where
           follows-upto : (c : ChunkPayloadData) (o : IsOf k c) → o.before + 1 < m → at_or_before (following_tsn c.tsn) (tsn p m) ≡ true
-          follows-upto c o lt =
-              upto-yes p (o.before + 1 + 1) m (ap following_tsn o.is ∙ next-place p (o.before + 1)) refl (omega (arith, lt, within, few))
-              (omega (arith, within, few)) (omega (arith, lt))
+          follows-upto c o lt = grind (arith, nat_tests, common_steps, upto-yes, next-place)
 
           misses-after : (c : ChunkPayloadData) (cs : List ChunkPayloadData) (o : IsOf k c) → Rises k (o.before + 1) cs → completes c cs ≡ false
               → misses_behind (tsn p m) c cs ≡ true
@@ -441,15 +391,7 @@ module _ (ws : List Numbered) (first : ℕ) (sent : List Entry) (line : IsLine w
         here = one-at (suc z) d d w i (refl, refl)
 
         by : (b : Bool) → d.beginning_fragment ≡ b → ((e : Data) → IsEntryAt sent z e w → IsBack f sent w e z) → IsBack f sent w d (suc z)
-        by true b ih = record {
-          start = suc z;
-          some = omega arith;
-          upto = omega arith;
-          begins = ap (λ (x : Data). x.beginning_fragment) same ∙ b;
-          inner = λ j lt le. absurd (omega (arith, lt, le));
-          open' = λ j le lt. absurd (omega (arith, lt, le));
-          each = λ j from le. let it : suc z ≡ j = omega (arith, from, le) in subst (IsOne f sent w d) it here;
-        }
+        by true b ih = grind (arith, nat_tests, common_steps, same)
         by false b ih =
             let r = prior-of (suc z) d w i b in
             let it : r.0 ≡ z = (omega arith) in
@@ -515,24 +457,9 @@ module _ (ws : List Numbered) (first : ℕ) (sent : List Entry) (line : IsLine w
             from = omega (arith, from);
             below = h.below;
             ends = h.ends;
-            inner = λ j lt under. elim (cases_lt (suc y) j) [
-              | inl over ↦ h.inner j over under
-              | inr upto ↦
-                  let last : suc y ≡ j = omega (arith, lt, upto) in
-                  ap (λ x. (f x).beginning_fragment) (sym last) ∙ ap (λ (x : Data). x.beginning_fragment) next ∙ r.2
-            ];
-            open' = λ j ge lt. elim (cases_lt y j) [
-              | inl over ↦ h.open' j (omega (arith, over)) lt
-              | inr upto ↦
-                  let last : y ≡ j = omega (arith, ge, upto) in
-                  ap (λ x. (f x).ending_fragment) (sym last) ∙ ap (λ (x : Data). x.ending_fragment) same ∙ b
-            ];
-            each = λ j ge under. elim (cases_lt y j) [
-              | inl over ↦ one-kin j w d r.0 kin (h.each j (omega (arith, over)) under)
-              | inr upto ↦
-                  let last : y ≡ j = omega (arith, ge, upto) in
-                  subst (IsOne f sent w d) last (one-at y d d w i (refl, refl))
-            ];
+            inner = grind (arith, nat_tests, common_steps);
+            open' = grind (arith, nat_tests, common_steps);
+            each = grind (arith, nat_tests, common_steps);
           })
 
       pub span-of : (y : ℕ) (d : Data) (w : Numbered) → y ≤ m → IsEntryAt sent y d w → Q w y → IsSpan f sent m w d y

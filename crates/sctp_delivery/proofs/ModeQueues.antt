@@ -1,7 +1,7 @@
 -- How each chunk that waits or is in flight is sent: as its write is, whatever a sender does.
 use Rattle.sctp_delivery.proofs.Names.{◌≡◌, ℕ, zero, suc, ◌+◌, ◌<◌, ◌≤◌, Bool, true, false, List, [], ◌∷◌, length, map, Option, Some, None, is_some, refl, ap}
 use Rattle.sctp_delivery.proofs.Names.{sym, subst, ◌∙◌, arith, if◌then◌else◌, ◌==◌, slice_index_or, cases_lt, nat_tests, length-map, common_steps, change_where}
-use Rattle.sctp_delivery.proofs.Names.{same-is, same-yes, both, not_both, is_dcep, is_ordered, ChunkPayloadData, PayloadProtocolIdentifier, Sack, as_abandoned}
+use Rattle.sctp_delivery.proofs.Names.{same-is, both, not_both, is_dcep, is_ordered, ChunkPayloadData, PayloadProtocolIdentifier, Sack, as_abandoned}
 use Rattle.sctp_delivery.proofs.Names.{as_acknowledged, is_outstanding, with_retransmit, Outbound, abandoned_of, all_started, append_chunks, as_sent}
 use Rattle.sctp_delivery.proofs.Names.{expired_of, sent_next, sent_of, terminal_chunk, with_inflight, with_message, with_message_id, is_to_start, next_pending}
 use Rattle.sctp_delivery.proofs.Names.{one_lower, start_pending, with_deadline, has_tsn, OutboundStream, Flight, after_sack, is_outdated, message_to_abandon}
@@ -19,9 +19,6 @@ use Rattle.sctp_delivery.proofs.QueueChunks.{EachIs, abandoned, expired, marked,
 pub numbered-more : (w : Sending) (ws : List Sending) (n : ℕ) → n < length ws → numbered_in n (w ∷ ws) ≡ numbered_in n ws
 numbered-more w ws n lt = grind (arith, nat_tests)
 
-pub numbered-last : (w : Sending) (ws : List Sending) → numbered_in (length ws) (w ∷ ws) ≡ w
-numbered-last w ws = ap (λ b. if b then w else numbered_in (length ws) ws) (same-yes (length ws))
-
 pub numbered-started : (now : ℕ) (ws : List Sending) (n : ℕ) → n < length ws → numbered_in n (map (starting now) ws) ≡ starting now (numbered_in n ws)
 numbered-started now [] n lt = absurd (omega (arith, lt))
 numbered-started now (w ∷ ws) n lt =
@@ -32,18 +29,18 @@ numbered-started now (w ∷ ws) n lt =
         → (if b then starting now w else numbered_in n (map (starting now) ws))
         ≡ starting now (if b then w else numbered_in n ws)
     by true e ih = refl
-    by false e ih = ih (let z : n < suc (length ws) = lt in grind (arith, nat_tests, z, e))
+    by false e ih = ih (let z : n < suc (length ws) = lt in grind (arith, nat_tests))
 
 -- the write at the place, counted from the last one
 pub numbered-at : (ws : List Sending) (k n : ℕ) (d : Sending) → k + n + 1 ≡ length ws → slice_index_or ws k d ≡ numbered_in n ws
 numbered-at [] k n d e = absurd (omega (arith, e))
-numbered-at (w ∷ ws) zero n d e = grind (arith, nat_tests, numbered-last)
+numbered-at (w ∷ ws) zero n d e = grind (arith, nat_tests)
 numbered-at (w ∷ ws) (suc k) n d e =
     numbered-at ws k n d (omega (arith, e)) ∙ sym (numbered-more w ws n (omega (arith, e)))
 
 -- one that was started stays as it is
 pub starting-same : (now : ℕ) (w : Sending) → is_some w.started ≡ true → starting now w ≡ w
-starting-same now w h = grind (arith, nat_tests, is_some, not_both)
+starting-same now w h = grind (arith, nat_tests)
 
 -- ## Chunks
 
@@ -82,7 +79,7 @@ in-mode-kept m c d k p r i = grind (arith, nat_tests)
 
 pub has-mode-kept : (ws : List Sending) (c d : ChunkPayloadData) → d.message_id ≡ c.message_id → d.unordered ≡ c.unordered → d.payload_type ≡ c.payload_type
     → d.reliability ≡ c.reliability → HasMode ws c → HasMode ws d
-has-mode-kept ws c d n k p r h = grind (arith, nat_tests, in-mode-kept)
+has-mode-kept ws c d n k p r h = grind (arith, nat_tests)
 
 module _ (f : ChunkPayloadData → ChunkPayloadData) (k : KeepsSending f) (ws : List Sending) where
   abbrev mode-then : (c : ChunkPayloadData) → HasMode ws c → HasMode ws (f c)
@@ -104,9 +101,6 @@ mode-more w ws c h =
 
 pub deadline-more : (w : Sending) (ws : List Sending) (c : ChunkPayloadData) → c.message_id < length ws → HasDeadline ws c → HasDeadline (w ∷ ws) c
 deadline-more w ws c lt h = h ∙ ap deadline_of (sym (numbered-more w ws c.message_id lt))
-
-pub waiting-more : (w : Sending) (ws : List Sending) (c : ChunkPayloadData) → IsWaiting ws c → IsWaiting (w ∷ ws) c
-waiting-more w ws c h = (mode-more w ws c h.0, deadline-more w ws c h.0.0 h.1)
 
 pub flying-more : (w : Sending) (ws : List Sending) (n : ℕ) (c : ChunkPayloadData) → IsFlying ws n c → IsFlying (w ∷ ws) n c
 flying-more w ws n c h = (mode-more w ws c h.0, λ e. let o = h.1 e in (o.0, deadline-more w ws c h.0.0 o.1))
@@ -135,7 +129,7 @@ module _ (ws : List Sending) where
   -- ## Abandonment
 
   marks : KeepsSending as_abandoned
-  marks = grind (arith, nat_tests, not_both)
+  marks = grind (arith, nat_tests)
 
   pub abandoned-moded : (o : Option ℕ) (tsn : ℕ) (q : Outbound) → AreModed ws q → AreModed ws (abandoned_of o tsn q)
   abandoned-moded None tsn q s = s
@@ -302,48 +296,20 @@ pub message-moded : (w : Sending) (ws : List Sending) (c : ChunkPayloadData) (cs
 message-moded w ws c cs q none new s = by c.unordered
   where
     named : (d : ChunkPayloadData) → IsNew w d → IsWaiting (w ∷ ws) (with_message_id q.next_message_id d)
-    named d h2 = grind (arith, nat_tests, in-mode-kept, numbered-last)
+    named d h2 = grind (arith, nat_tests)
 
     news : Every (IsWaiting (w ∷ ws)) (map (with_message_id q.next_message_id) (c ∷ cs))
     news = every-mapped (IsNew w) (IsWaiting (w ∷ ws)) (with_message_id q.next_message_id) named (c ∷ cs) new
 
-    more : (ds : List ChunkPayloadData) → Every (IsWaiting ws) ds → Every (IsWaiting (w ∷ ws)) ds
-    more ds h = every-of (IsWaiting ws) (IsWaiting (w ∷ ws)) (waiting-more w ws) ds h
-
-    -- the last write has the number of those before it
-    last-is : (n : ℕ) → n < length (w ∷ ws) → (length ws ≤ n) → numbered_in n (w ∷ ws) ≡ w
-    last-is n lt le = let e : n ≡ length ws = omega (arith, lt, le) in ap (λ k. numbered_in k (w ∷ ws)) e ∙ numbered-last w ws
-
     unstarted : (n : ℕ) → q.next_unstarted ≤ n → n < length (w ∷ ws) → (numbered_in n (w ∷ ws)).started ≡ None
-    unstarted n h2 h3 = grind (arith, nat_tests, cases_lt, last-is, numbered-more)
+    unstarted n h2 h3 = grind (arith, nat_tests)
 
     by : (b : Bool) → AreModed (w ∷ ws) (record q {
       pending = append_chunks b
           (map (with_message_id q.next_message_id) (c ∷ cs)) q.pending;
       next_message_id = q.next_message_id + 1;
     })
-    by true = record {
-      ordered = more q.pending.ordered s.ordered;
-      unordered = every-joined (IsWaiting (w ∷ ws)) q.pending.unordered (map (with_message_id q.next_message_id) (c ∷ cs))
-          (more q.pending.unordered s.unordered) news;
-      inflight = every-of (IsFlying ws q.next_unstarted) (IsFlying (w ∷ ws) q.next_unstarted) (flying-more w ws q.next_unstarted) q.inflight.chunks s.inflight;
-      count = (let n = s.count in omega (arith, n));
-      upto = (let n = s.upto in omega (arith, n));
-      begun = λ n lt. let le = s.upto in
-          ap (λ (v : Sending). is_some v.started) (numbered-more w ws n (omega (arith, lt, le))) ∙ s.begun n lt;
-      unbegun = unstarted;
-    }
-    by false = record {
-      ordered = every-joined (IsWaiting (w ∷ ws)) q.pending.ordered (map (with_message_id q.next_message_id) (c ∷ cs))
-          (more q.pending.ordered s.ordered) news;
-      unordered = more q.pending.unordered s.unordered;
-      inflight = every-of (IsFlying ws q.next_unstarted) (IsFlying (w ∷ ws) q.next_unstarted) (flying-more w ws q.next_unstarted) q.inflight.chunks s.inflight;
-      count = (let n = s.count in omega (arith, n));
-      upto = (let n = s.upto in omega (arith, n));
-      begun = λ n lt. let le = s.upto in
-          ap (λ (v : Sending). is_some v.started) (numbered-more w ws n (omega (arith, lt, le))) ∙ s.begun n lt;
-      unbegun = unstarted;
-    }
+    by h0 = grind (arith, nat_tests, common_steps, every-joined, news, every-of, flying-more, is_some, numbered-more, unstarted)
 
 -- the stream has this mode
 pub record HasModeOf (m : Mode) (l : OutboundStream) : Type 0 where
@@ -363,12 +329,9 @@ pub fragments-new : (m : Mode) (l : OutboundStream) (ppi : PayloadProtocolIdenti
 fragments-new m l ppi bytes has =
     every-moded (fragments_of l ppi bytes) (every-made (IsBareOf l ppi) (fragment_at l ppi bytes) (λ i. record { kind = refl; of_type = refl; bare = refl }) _)
   where
-    kinds : (u b : Bool) → is_dcep ppi ≡ b → not (is_ordered u ppi) ≡ (if b then reliable_mode else record m { unordered = u }).unordered
-    kinds u b h3 = grind (arith, nat_tests)
-
     one : (c : ChunkPayloadData) → IsBareOf l ppi c → (b : Bool) → is_dcep ppi ≡ b
         → IsInMode (if b then reliable_mode else m) (with_reliability l.reliability_type l.reliability_value c)
-    one c h2 b h4 = grind (arith, nat_tests, kinds, not_both)
+    one c h2 b h4 = grind (arith, nat_tests)
 
     every-moded : (cs : List ChunkPayloadData) → Every (IsBareOf l ppi) cs
         → Every (IsNew (record { mode = mode_of_write ppi m; started = None })) (map (with_reliability l.reliability_type l.reliability_value) cs)

@@ -1,16 +1,16 @@
 -- In each session: each entry of the line is of the kind of its write, and so are the DATA chunks that were made and the messages that were read.
 use Rattle.sctp_delivery.proofs.Names.{◌≡◌, ℕ, ◌+◌, Bool, true, false, List, [], ◌∷◌, map, Option, Some, None, is_some, refl, sym, subst, arith, ◌^◌, ◌<◌}
 use Rattle.sctp_delivery.proofs.Names.{length, inl, inr, ap, ◌∙◌, not, find, if◌then◌else◌, ◌==◌, ⊤, Contains, option_map, slice_index_or, nat_tests, always}
-use Rattle.sctp_delivery.proofs.Names.{numbers_where, change_where, pieces, same-yes, some-same, negated, not_both, and, both, PayloadProtocolIdentifier}
+use Rattle.sctp_delivery.proofs.Names.{numbers_where, change_where, pieces, same-yes, some-same, negated, not_both, both, PayloadProtocolIdentifier}
 use Rattle.sctp_delivery.proofs.Names.{expiring_tail, message_of, Outbound, all_started, as_sent, ExpiredMessage, AbandonedMessage, Released}
 use Rattle.sctp_delivery.proofs.Names.{message_to_abandon, after_leaving, late_order, worn_order, after_expiry, after_releases, has_number, less_by, with_mode}
 use Rattle.sctp_delivery.proofs.Names.{with_reliability, with_size, wrote, Transmission, after_expire, written_to, Makes, OutboundStream, fragment_at, Mode}
 use Rattle.sctp_delivery.proofs.Names.{Modes, Sending, at_first, mode_of_write, modes_after, reliable_mode, AfterEachFitRun, modes_from, numbered_in, starting}
-use Rattle.sctp_delivery.proofs.Names.{Expires, ExpiresTail, IsAccepted, MakesExactly, SenderCall, abandons, as_run, expires}
-use Rattle.sctp_delivery.proofs.Names.{expires_late, expires_rexmit, expires_tail, forwards, forwards_within, marks, opens, resends, reserves, sends, sets_low}
-use Rattle.sctp_delivery.proofs.Names.{sets_mode, sets_size, starts, takes_sack, writes, length-map, none-some, ChunkPayloadData, Data, data_of, next_pending}
-use Rattle.sctp_delivery.proofs.Names.{Limits, ReceiverCall, Call, ReceiverFollows, RunsTo, SenderFollows, Session, at_start, of_receiver, of_sender}
-use Rattle.sctp_delivery.proofs.Names.{common_steps, distance, Ledger, Message, tsns_given}
+use Rattle.sctp_delivery.proofs.Names.{Expires, ExpiresTail, IsAccepted, MakesExactly, SenderCall, abandons, as_run, expires, expires_late, expires_rexmit}
+use Rattle.sctp_delivery.proofs.Names.{expires_tail, forwards, forwards_within, marks, opens, resends, reserves, sends, sets_low, sets_mode, sets_size, starts}
+use Rattle.sctp_delivery.proofs.Names.{takes_sack, writes, length-map, none-some, ChunkPayloadData, Data, data_of, next_pending, Limits, ReceiverCall, Call}
+use Rattle.sctp_delivery.proofs.Names.{ReceiverFollows, RunsTo, SenderFollows, Session, at_start, of_receiver, of_sender, common_steps, distance, Message}
+use Rattle.sctp_delivery.proofs.Names.{tsns_given}
 use Rattle.std.specs.Prelude.{drop}
 use Rattle.sctp_sender.proofs.SenderStreams.{made}
 use Rattle.sctp_stream.specs.Stream.{new_stream}
@@ -100,7 +100,7 @@ opened-in s mode f (l ∷ ls) e h = by (l.stream_identifier == s) refl e (λ g. 
 set-in : (s : ℕ) (mode : Mode) (f : ℕ → Mode) (ls : List OutboundStream) → AreInModes f ls
     → AreInModes (λ r. if r == s then mode else f r) (change_where (has_number s) (with_mode mode.unordered mode.reliability mode.value) ls)
 set-in s mode f [] h = tt
-set-in s mode f (l ∷ ls) h = grind (arith, nat_tests, common_steps, elsewhere, set-in s mode f ls h.1)
+set-in s mode f (l ∷ ls) h = grind (arith, nat_tests, common_steps, set-in s mode f ls h.1)
 
 -- ## The sender
 
@@ -303,12 +303,7 @@ said-after call old new m ns sent more f grown sized h = record {
 
 -- where the sender stays as it is, it is as the calls say still
 pub said-beside : (d e : Session) (m : Modes) (ns : List Numbered) (sent : List Entry) → e.sending ≡ d.sending → IsAsSaid m d ns sent → IsAsSaid m e ns sent
-said-beside d e m ns sent same h = record {
-  sender = subst (λ (l : Ledger). IsModed m l.sender) (sym same) h.sender;
-  kinds = h.kinds;
-  count = h.count;
-  filled = subst (λ (l : Ledger). AllWait IsFilled l.sender.flight.queue.pending) (sym same) h.filled;
-}
+said-beside d e m ns sent same h = grind (arith, nat_tests, common_steps)
 
 pub said-first : (tsn size max most : ℕ) (limits : Option Limits) → IsAsSaid at_first (at_start tsn size max most limits) [] []
 said-first tsn size max most limits = record { sender = moded-first tsn size max; kinds = tt; count = refl; filled = (tt, tt) }
@@ -460,4 +455,4 @@ starts-ordered m s ns sent said placed st o x h =
     let b = both (o.stream == st) (not (slice_index_or m.of_writes x.written.0 unknown).mode.unordered) h in
     let kind = kind-at m s ns sent said placed (data_of x.chunk) x.numbered x.after x.entries x.written x.part unknown in
     let ordered : x.chunk.unordered ≡ false = sym kind ∙ negated (slice_index_or m.of_writes x.written.0 unknown).mode.unordered b.1 in
-    grind (arith, nat_tests, and)
+    grind (arith, nat_tests)

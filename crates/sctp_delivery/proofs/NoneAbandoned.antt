@@ -1,11 +1,11 @@
 -- In a reliable session no message is abandoned: what is said of the other messages is said of all.
-use Rattle.sctp_delivery.proofs.Names.{◌≡◌, ◌++◌, true, List, [], ◌∷◌, refl, ap₂, arith, list_all, nat_tests, both, not_both, Transmission, EachOtherIsReadOnce}
+use Rattle.sctp_delivery.proofs.Names.{◌≡◌, ◌++◌, true, List, [], ◌∷◌, refl, ap₂, arith, list_all, nat_tests, both, Transmission, EachOtherIsReadOnce}
 use Rattle.sctp_delivery.proofs.Names.{abandoned_by, abandoned_in, is_reliable, is_reliable_at_receiver, is_reliable_at_sender, SenderCall, Call, RunsTo}
 use Rattle.sctp_delivery.proofs.Names.{Session, of_receiver, of_sender}
 use Rattle.sctp_delivery.specs.Complete.{EachIsReadOnce}
 
 pub none-by : (call : SenderCall) (t : Transmission) → is_reliable_at_sender call ≡ true → abandoned_by call t ≡ []
-none-by call t h3 = grind (arith, nat_tests, not_both)
+none-by call t h3 = grind (arith, nat_tests)
 
 pub none-in : (cs : List Call) (old new : Session) (run : RunsTo old cs new) → list_all is_reliable cs ≡ true → abandoned_in old cs new run ≡ []
 none-in [] old new run all = refl

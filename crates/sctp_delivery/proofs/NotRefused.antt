@@ -1,12 +1,11 @@
 -- A chunk in flight is not refused where nothing is to be read on its stream.
-use Rattle.sctp_delivery.proofs.Names.{common_steps, ◌≡◌, ℕ, ◌+◌, ◌%◌, ◌^◌, ◌<◌, ◌≤◌, Bool, true, false, not, List, [], ◌∷◌, length, Some, None, inl, inr, refl}
-use Rattle.sctp_delivery.proofs.Names.{ap, sym, subst, ◌∙◌, arith, ◌⊎◌, ◌==◌, ◌&&◌, if◌then◌else◌, nat_le, list_any, cases_lt, nat_tests, none-some}
-use Rattle.sctp_delivery.proofs.Names.{at_or_before, at_or_before16, or-left, or-split, and, both, not_both, tsn, at_or_before16-index, ChunkPayloadData}
-use Rattle.sctp_delivery.proofs.Names.{ChunkSet, data_of, has_tsn, is_complete, Reassembly, front_readable, is_readable, message_read, Reception, lowest_among}
-use Rattle.sctp_delivery.proofs.Names.{Session}
+use Rattle.sctp_delivery.proofs.Names.{common_steps, ◌≡◌, ℕ, ◌+◌, ◌%◌, ◌^◌, ◌<◌, ◌≤◌, Bool, true, false, not, List, [], ◌∷◌, length, None, inl, inr, refl, ap}
+use Rattle.sctp_delivery.proofs.Names.{sym, subst, ◌∙◌, arith, ◌⊎◌, ◌==◌, ◌&&◌, nat_le, list_any, cases_lt, nat_tests, at_or_before, at_or_before16, or-left}
+use Rattle.sctp_delivery.proofs.Names.{or-split, and, both, not_both, tsn, at_or_before16-index, ChunkPayloadData, ChunkSet, data_of, has_tsn, is_complete}
+use Rattle.sctp_delivery.proofs.Names.{Reassembly, message_read, Reception, lowest_among, Session}
 use Rattle.sctp_util.specs.Serial.{distance16}
 use Rattle.sctp_delivery.proofs.Cases.{all_streams, by-test}
-use Rattle.sctp_delivery.proofs.UnwrappedHolds.{IsCurrent, IsSome, IsWholeAt, whole-below, AreDue, Came, Fits, IsOf, at-in}
+use Rattle.sctp_delivery.proofs.UnwrappedHolds.{IsCurrent, IsSome, AreDue, Came, Fits, IsOf, at-in}
 use Rattle.sctp_delivery.proofs.Every.{Every}
 use Rattle.sctp_delivery.proofs.KeptOrGone as kept
 use Rattle.sctp_delivery.proofs.MessagePlaces.{misses-in}
@@ -88,9 +87,7 @@ module _ (st first n : ℕ) (few : n < 2 ^ 31) (s : Session) (ns : List Numbered
   up = sessions.grows st first all_streams none_dropped refl n s ns sent i few
 
   upto : (j m : ℕ) → j ≤ m → m ≤ n → at_or_before (tsn p j) (tsn p m) ≡ true
-  upto j m le most =
-      let t : nat_le j m ≡ true = grind (arith, nat_tests, le) in
-      at-or-before p j m (omega (arith, le, most, few)) (omega (arith, most, few)) ∙ t
+  upto j m le most = grind (arith, nat_tests, common_steps, at-or-before)
 
   -- a chunk of an earlier message stands before the place, and not last
   inside : (m j : ℕ) (x : ChunkPayloadData) (o : Of j x) → j + 2 ≤ B m → o.before + 2 ≤ m
@@ -113,10 +110,6 @@ module _ (st first n : ℕ) (few : n < 2 ^ 31) (s : Session) (ns : List Numbered
       abbrev has : ℕ → ChunkSet → Bool
       has z x = has_place p n B (Fits p st n B E M) Prior z x
 
-      place-in : (j : ℕ) (cs : List ChunkPayloadData) → Fits p st n B E M j cs → 0 < length cs
-          → (y : ℕ) × (y ≤ n) × (list_any (has_tsn (tsn p y)) cs ≡ true)
-      place-in = kept.place-in ns first sent i.holds.held.stands.queued.line i.holds.held.stands.queued.joined n i.long few st
-
       pub same-index : c.index ≡ due.index
       same-index = grind (
         arith,
@@ -125,22 +118,15 @@ module _ (st first n : ℕ) (few : n < 2 ^ 31) (s : Session) (ns : List Numbered
         sessions.near st first all_streams none_dropped refl n s ns sent i few,
       )
 
-      pub front-none : front_readable held.next_ssn held.ordered ≡ None
-      front-none = grind (arith, nat_tests)
-
       not-readable : (x : ChunkSet) (xs : List ChunkSet) → held.ordered ≡ x ∷ xs → is_complete x.chunks ≡ true → at_or_before16 x.ssn held.next_ssn ≡ true → ⊥
-      not-readable x xs is whole at =
-          let e : is_readable held.next_ssn x ≡ true = and (is_complete x.chunks) (at_or_before16 x.ssn held.next_ssn) whole at in
-          none-some x (sym (sym (ap (front_readable held.next_ssn) is ∙ ap (λ b. if b then Some x else None) e) ∙ front-none))
+      not-readable x xs is whole at = grind (arith, nat_tests, common_steps)
 
       -- a set of the lowest message is not complete
       pub front-open : (x : ChunkSet) (xs : List ChunkSet) → held.ordered ≡ x ∷ xs → (a : Sets due.low (x ∷ xs)) → a.0 ≡ due.low
           → is_complete x.chunks ≡ true → ⊥
       front-open x xs is a same whole =
-          let order : nat_le a.0 due.index ≡ true = grind (arith, nat_tests, same, due.from) in
-          let at : at_or_before16 x.ssn held.next_ssn ≡ true = ap (λ k. at_or_before16 k held.next_ssn) a.1.0.2
-          ∙ ap (at_or_before16 (a.0 % 2 ^ 16)) due.next
-          ∙ at_or_before16-index a.0 due.index (omega (arith, same)) (omega (arith, same)) ∙ order in
+          let order : nat_le a.0 due.index ≡ true = grind (arith, nat_tests) in
+          let at : at_or_before16 x.ssn held.next_ssn ≡ true = grind (arith, nat_tests, common_steps, at_or_before16-index) in
           not-readable x xs is whole at
 
       -- the lowest message is the next one
@@ -152,23 +138,7 @@ module _ (st first n : ℕ) (few : n < 2 ^ 31) (s : Session) (ns : List Numbered
 
           by : (ss : List ChunkSet) → held.ordered ≡ ss → due.low ≡ due.index
           by [] is = alike (sym (ap (lowest_among held.next_ssn) is) ∙ due.lowest)
-          by (x ∷ xs) is = by-test (at_or_before16 x.ssn held.next_ssn)
-              (λ f.
-              let number : a.0 % 2 ^ 16 ≡ due.low % 2 ^ 16 =
-              sym a.1.0.2 ∙ sym (ap (lowest_among held.next_ssn) is ∙ ap (λ b. if b then x.ssn else held.next_ssn) f) ∙ due.lowest in
-              let same : a.0 ≡ due.low = omega (arith, number, a.1.0.0, a.1.0.1) in
-              elim (cases_lt due.low due.index) [
-                | inl lt ↦
-                    let whole = whole-below p n B (Fits p st n B E M) Prior (at-in p st n B E M few up) place-in c.index a.0 x a.1.1
-                    (subst (Every IsSome) is c.some).0 (subst (Every (IsWholeAt p n B c.index)) is c.whole).0
-                    (omega (arith, same, lt, same-index)) in
-                    absurd (not-readable x xs is whole f)
-                | inr ge ↦ omega (arith, ge)
-              ])
-              (λ f. alike (sym (ap (lowest_among held.next_ssn) is ∙ ap (λ b. if b then x.ssn else held.next_ssn) f) ∙ due.lowest))
-            where
-              a : Sets due.low (x ∷ xs)
-              a = subst (Sets due.low) is due.sets
+          by (x ∷ xs) is = grind (arith, nat_tests, common_steps)
 
       -- a place of the lowest message, up to the cumulative TSN, is of the front set
       in-front : (z : ℕ) → z ≤ d.arrived.place → E z ≡ true → B z ≡ due.low + 1

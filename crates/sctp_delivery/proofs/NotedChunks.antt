@@ -20,7 +20,7 @@ use Rattle.sctp_delivery.specs.SenderCalls as outgoing
 use Rattle.sctp_delivery.proofs.GivenTsns.{IsNumbered, flight-given}
 use Rattle.sctp_delivery.proofs.SackLaws.{IsInStep, begin, no-move, receiver-step, sender-step}
 use Rattle.sctp_delivery.proofs.SackSteps.{flight_of}
-use Rattle.sctp_delivery.proofs.TsnPlaces.{IsGiven, base, same-place, tsn-small}
+use Rattle.sctp_delivery.proofs.TsnPlaces.{IsGiven, base, tsn-small}
 use Rattle.sctp_delivery.proofs.Writing.{accepted-stream}
 use Rattle.sctp_delivery.proofs.Changes.{expired-one}
 
@@ -45,11 +45,8 @@ module _ {A : Type 0} (P Q : A → Type 0) where
 -- ## A TSN is sent for the first time
 
 module _ (es : List Event) (t now : ℕ) where
-  same : (t == t) ≡ true
-  same = eq-eqb t t refl
-
   pub first-sent : (c : ChunkPayloadData) → IsUnsent c → SaysSo (sent t now ∷ es) (as_sent t now c)
-  first-sent c u = grind (arith, nat_tests, same)
+  first-sent c u = grind (arith, nat_tests)
 
   pub others-sent : (c : ChunkPayloadData) → (c.tsn == t) ≡ false → SaysSo es c → SaysSo (sent t now ∷ es) c
   others-sent c other s = grind (arith, nat_tests)
@@ -59,7 +56,7 @@ module _ (es : List Event) (t now : ℕ) where
 module _ (es : List Event) (t now : ℕ) where
   pub again-sent : (c d : ChunkPayloadData) → c.tsn ≡ t → is_outstanding c ≡ true → SaysSo es c → (d.tsn == t) ≡ true → SaysSo es d
       → SaysSo (sent_more t now ∷ es) (sent_again (count_again c) now d)
-  again-sent c d at open-one s here r = grind (arith, nat_tests, same-is)
+  again-sent c d at open-one s here r = grind (arith, nat_tests)
 
   pub others-again : (d : ChunkPayloadData) → (d.tsn == t) ≡ false → SaysSo es d → SaysSo (sent_more t now ∷ es) d
   others-again d other s = grind (arith, nat_tests)
@@ -75,11 +72,11 @@ none-so es fs d closed s = λ open'. absurd (not_both (sym closed ∙ open'))
 -- reported missing once more
 module _ (es : List Event) (ts : List ℕ) (d : ChunkPayloadData) where
   pub once-more : is_among d.tsn ts ≡ true → can_miss d ≡ true → SaysSo es d → SaysSo (missing ts ∷ es) (missed d)
-  once-more among can s = grind (arith, nat_tests, not_both)
+  once-more among can s = grind (arith, nat_tests)
 
   -- more often than three times
   pub no-more : is_among d.tsn ts ≡ true → can_miss d ≡ false → SaysSo es d → SaysSo (missing ts ∷ es) d
-  no-more among cannot s = grind (arith, nat_tests, same-is)
+  no-more among cannot s = grind (arith, nat_tests)
 
   pub not-missing : is_among d.tsn ts ≡ false → SaysSo es d → SaysSo (missing ts ∷ es) d
   not-missing other s = grind (arith, nat_tests)
@@ -139,7 +136,7 @@ among-all (c ∷ cs) = grind (arith, nat_tests, eq-eqb, every-of, or-right, amon
 -- one behind them is not
 pub among-none : (first count t : ℕ) (cs : List ChunkPayloadData) → count ≤ distance first t → Every (IsBelow first count) cs → is_among t (tsns cs) ≡ false
 among-none first count t [] past e = refl
-among-none first count t (c ∷ cs) past e = grind (arith, nat_tests, common_steps, same-is, among-none first count t cs past e.1)
+among-none first count t (c ∷ cs) past e = grind (arith, nat_tests, common_steps, among-none first count t cs past e.1)
 
 -- # What each call of a sender makes of what its chunks say of how often they were sent, reported missing and marked
 
@@ -213,12 +210,7 @@ module _ (es : List Event) where
       }
 
   pub marked-so : (f : Flight) → AreSo es f.queue → AreSo (marked_all ∷ es) (all_marked f).queue
-  marked-so f s = record {
-    ordered = s.ordered;
-    unordered = s.unordered;
-    inflight = every-to (SaysSo es) (SaysSo (marked_all ∷ es)) is_outstanding (with_retransmit true) (λ d h r. all-so es d r)
-        (λ d h r. none-so es (marked_all ∷ es) d h r) f.queue.inflight.chunks s.inflight;
-  }
+  marked-so f s = search (every-to, all-so, none-so)
 
   pub missed-so : (count first : ℕ) (f : Flight) → first < 2 ^ 32 → length f.queue.inflight.chunks < 2 ^ 31 → IsRunFrom first f.queue.inflight.chunks
       → AreSo es f.queue → AreSo (missing (tsns (take count f.queue.inflight.chunks)) ∷ es) (after_misses count f).queue
@@ -259,7 +251,7 @@ module _ (p n : ℕ) (es : List Event) (old new : Session) (few : n < 2 ^ 31) (h
       (flight_of old).queue.inflight.chunks (flight-given p n (flight_of old) h)
     where
       other : (c : ChunkPayloadData) → IsGiven p n c.tsn → (c.tsn == (flight_of old).next_tsn) ≡ false
-      other c h2 = grind (arith, nat_tests, same-is, same-place)
+      other c h2 = grind (arith, nat_tests)
 
   to : (fs : List Event) (t : Transmission) → new.sending.sender ≡ t → AreSo fs t.flight.queue → AreSo fs (flight_of new).queue
   to fs t e a = subst (λ (u : Transmission). AreSo fs u.flight.queue) (sym e) a
@@ -341,7 +333,7 @@ record Found (tsn now : ℕ) (t : Transmission) (again : ChunkPayloadData) : Typ
   is : again ≡ sent_again (count_again chunk) now chunk
 
 found-one : (t : Transmission) (tsn now : ℕ) (again : ChunkPayloadData) → Answers tsn now t again → can_resend tsn t.flight ≡ true → Found tsn now t again
-found-one t tsn now again a can = grind (arith, nat_tests, not_both)
+found-one t tsn now again a can = grind (arith, nat_tests)
 
 pub count : (t : Transmission) (tsn now : ℕ) (o : Result ChunkPayloadData SenderRefusal) → IfOk o (Answers tsn now t)
     → (IsOk o → can_resend tsn t.flight ≡ true) → IfOk o (λ again. AfterEachSessionWithEvents (λ es s. s.sending.sender ≡ t

@@ -1,9 +1,9 @@
 -- The streams of a sender: which are open, what number the next ordered write has, and how long a fragment is.
-use Rattle.sctp_delivery.proofs.Names.{◌≡◌, ℕ, ◌<◌, Bool, true, false, List, [], ◌∷◌, ◌++◌, map, Some, refl, ap, sym, subst, ◌∙◌, arith, Contains, ◌==◌, ◌||◌}
-use Rattle.sctp_delivery.proofs.Names.{if◌then◌else◌, list_any, none-some, nat_tests, change_where, same-is, some-same, not_both, Released, AbandonedMessage}
-use Rattle.sctp_delivery.proofs.Names.{after_leaving, after_releases, has_number, less_by, with_size, OutboundStream, ◌+◌, ◌≤◌, not, is_some, filter, sum_by}
+use Rattle.sctp_delivery.proofs.Names.{common_steps, ◌≡◌, ℕ, ◌<◌, Bool, true, false, List, [], ◌∷◌, ◌++◌, map, Some, refl, ap, sym, subst, ◌∙◌, arith, Contains}
+use Rattle.sctp_delivery.proofs.Names.{◌==◌, ◌||◌, if◌then◌else◌, list_any, none-some, nat_tests, change_where, same-is, not_both, Released, AbandonedMessage}
+use Rattle.sctp_delivery.proofs.Names.{after_leaving, after_releases, has_number, less_by, with_size, OutboundStream, ◌≤◌, not, is_some, filter, sum_by}
 use Rattle.sctp_delivery.proofs.Names.{sum_by-append, sum_by-cons, fails}
-use Rattle.std.specs.List.{AllByRecursion, find}
+use Rattle.std.specs.List.{find}
 use Rattle.sctp_stream.specs.Stream.{new_stream}
 use Rattle.sctp_stream.specs.Numbers.{swapped_out}
 use Rattle.sctp_stream.proofs.Removals.{out-each, out-sum}
@@ -46,21 +46,13 @@ pub record IsSteady (old new : List OutboundStream) : Type 0 where
 
 pub all-open : (on : ℕ → Bool) (old new : List OutboundStream) → ((s : ℕ) → on s ≡ true → is_there s old ≡ true → is_there s new ≡ true)
     → (ws : List Numbered) → AreOpen on old ws → AreOpen on new ws
-all-open on old new more ws o =
-    every-of (λ w. Where (on w.stream) (is_there w.stream old ≡ true)) (λ w. Where (on w.stream) (is_there w.stream new ≡ true))
-    (λ w i. where-yes (on w.stream) (is_there w.stream new ≡ true)
-    (λ e. more w.stream e (where-is (on w.stream) (is_there w.stream old ≡ true) e i))) ws o
+all-open on old new more ws o = grind (arith, nat_tests, common_steps, every-of, where-yes, where-is)
 
 pub steady-same : (ls : List OutboundStream) → IsSteady ls ls
 steady-same ls = record { numbers = λ s. refl; there = λ s o. o; sized = λ z. z; apart = λ a. a }
 
 pub steady-then : (a b c : List OutboundStream) → IsSteady a b → IsSteady b c → IsSteady a c
-steady-then a b c x y = record {
-  numbers = λ s. y.numbers s ∙ x.numbers s;
-  there = λ s o. y.there s (x.there s o);
-  sized = λ z. y.sized (x.sized z);
-  apart = λ k. y.apart (x.apart k);
-}
+steady-then a b c x y = grind (arith, nat_tests, common_steps)
 
 -- ## Changes of some streams
 
@@ -77,11 +69,7 @@ pub counts-changed : (p : OutboundStream → Bool) (f : OutboundStream → Outbo
     → ((l : OutboundStream) → (f l).stream_identifier ≡ l.stream_identifier) → (s : ℕ) (ls : List OutboundStream)
     → count_of s (change_where p f ls) ≡ count_of s ls
 counts-changed p f same s [] = refl
-counts-changed p f same s (l ∷ ls) =
-    let one : OutboundStream → ℕ = λ k. if k.stream_identifier == s then 1 else 0 in
-    let here : one (if p l then f l else l) ≡ one l =
-    at-if (λ k. one k ≡ one l) (p l) (λ e. ap (λ (n : ℕ). if n == s then 1 else 0) (same l)) (λ e. refl) in
-    omega (arith, here, counts-changed p f same s ls, sum_by-cons one (if p l then f l else l) (change_where p f ls), sum_by-cons one l ls)
+counts-changed p f same s (l ∷ ls) = grind (arith, nat_tests, common_steps, counts-changed p f same s ls)
 
 pub apart-changed : (p : OutboundStream → Bool) (f : OutboundStream → OutboundStream)
     → ((l : OutboundStream) → (f l).stream_identifier ≡ l.stream_identifier) → (ls : List OutboundStream) → AreApart ls → AreApart (change_where p f ls)
@@ -96,12 +84,7 @@ numbers-changed p f same number s (l ∷ ls) = grind (arith, nat_tests, numbers-
 pub steady-changed : (p : OutboundStream → Bool) (f : OutboundStream → OutboundStream) → ((l : OutboundStream) → (f l).stream_identifier ≡ l.stream_identifier)
     → ((l : OutboundStream) → (f l).sequence_number ≡ l.sequence_number) → ((l : OutboundStream) → (f l).max_payload_size ≡ l.max_payload_size)
     → (ls : List OutboundStream) → IsSteady ls (change_where p f ls)
-steady-changed p f same number size ls = record {
-  numbers = λ s. numbers-changed p f same number s ls;
-  there = λ s o. there-changed p f same s ls ∙ o;
-  sized = sized-changed p f size ls;
-  apart = apart-changed p f same ls;
-}
+steady-changed p f same number size ls = grind (arith, nat_tests, common_steps, numbers-changed, there-changed, sized-changed, apart-changed)
 
 pub steady-less : (s bytes : ℕ) (ls : List OutboundStream) → IsSteady ls (change_where (has_number s) (less_by bytes) ls)
 steady-less s bytes ls = steady-changed (has_number s) (less_by bytes) (λ l. refl) (λ l. refl) (λ l. refl) ls
@@ -129,9 +112,7 @@ numbers-sized size s (l ∷ ls) = ap (λ k. if l.stream_identifier == s then l.s
 
 pub counts-sized : (size s : ℕ) (ls : List OutboundStream) → count_of s (map (with_size size) ls) ≡ count_of s ls
 counts-sized size s [] = refl
-counts-sized size s (l ∷ ls) =
-    let one : OutboundStream → ℕ = λ k. if k.stream_identifier == s then 1 else 0 in
-    omega (arith, counts-sized size s ls, sum_by-cons one (with_size size l) (map (with_size size) ls), sum_by-cons one l ls)
+counts-sized size s (l ∷ ls) = grind (arith, nat_tests, common_steps, counts-sized size s ls)
 
 pub there-sized : (size s : ℕ) (ls : List OutboundStream) → is_there s (map (with_size size) ls) ≡ is_there s ls
 there-sized size s [] = refl
@@ -144,16 +125,7 @@ opened s size some ls new = record {
   numbers = λ r. numbers r ls;
   there = λ r. there r ls;
   sized = λ z. every-joined IsSized ls (new_stream s size ∷ []) z (some, tt);
-  apart = λ a r.
-      let one : OutboundStream → ℕ = λ k. if k.stream_identifier == r then 1 else 0 in
-      let sum = sum_by-append one ls (new_stream s size ∷ []) in
-      let rest = sum_by-cons one (new_stream s size) [] in
-      at-test (λ b. count_of r ls + (if b then 1 else 0) ≤ 1 → count_of r (ls ++ new_stream s size ∷ []) ≤ 1) (s == r)
-      (λ e le. let it : one (new_stream s size) ≡ 1 = ap (λ b. if b then 1 else 0) e in omega (arith, sum, rest, it, le))
-      (λ e le. let it : one (new_stream s size) ≡ 0 = ap (λ b. if b then 1 else 0) e in omega (arith, sum, rest, it, le))
-      (at-test (λ b. (s == r) ≡ b → count_of r ls + (if b then 1 else 0) ≤ 1) (s == r)
-      (λ _ e. let z = subst (λ k. count_of k ls ≡ 0) (same-is s r e) (none-of s ls new) in omega (arith, z))
-      (λ _ e. let k = a r in omega (arith, k)) refl);
+  apart = grind (arith, nat_tests, common_steps, sum_by-append, sum_by-cons, same-is, none-of);
 }
   where
     none-of : (s : ℕ) (ls : List OutboundStream) → is_some (find (has_number s) ls) ≡ false → count_of s ls ≡ 0
@@ -178,11 +150,11 @@ opened s size some ls new = record {
 
 pub number-is : (s : ℕ) (ls : List OutboundStream) (l : OutboundStream) → find (has_number s) ls ≡ Some l → l.stream_identifier ≡ s
 number-is s [] l e = absurd (none-some l e)
-number-is s (x ∷ xs) l e = grind (arith, nat_tests, same-is, some-same, number-is s xs l)
+number-is s (x ∷ xs) l e = grind (arith, nat_tests, number-is s xs l)
 
 pub number-found : (s : ℕ) (ls : List OutboundStream) (l : OutboundStream) → find (has_number s) ls ≡ Some l → number_of s ls ≡ l.sequence_number
 number-found s [] l e = absurd (none-some l e)
-number-found s (x ∷ xs) l e = grind (arith, nat_tests, some-same, number-found s xs l)
+number-found s (x ∷ xs) l e = grind (arith, nat_tests, number-found s xs l)
 
 pub size-found : (s : ℕ) (ls : List OutboundStream) (l : OutboundStream) → find (has_number s) ls ≡ Some l → AreSized ls → 0 < l.max_payload_size
 size-found s ls l e z = every-found IsSized (has_number s) ls l e z
@@ -204,13 +176,13 @@ found-there s (x ∷ xs) o = by (x.stream_identifier == s) o (found-there s xs)
 pub number-changed : (s : ℕ) (f : OutboundStream → OutboundStream) → ((l : OutboundStream) → (f l).stream_identifier ≡ l.stream_identifier)
     → (ls : List OutboundStream) (l : OutboundStream) → find (has_number s) ls ≡ Some l → number_of s (change_where (has_number s) f ls) ≡ (f l).sequence_number
 number-changed s f same [] l e = absurd (none-some l e)
-number-changed s f same (x ∷ xs) l e = grind (arith, nat_tests, some-same, number-changed s f same xs l)
+number-changed s f same (x ∷ xs) l e = grind (arith, nat_tests, number-changed s f same xs l)
 
 -- and of another one
 pub number-elsewhere : (r s : ℕ) → (r ≡ s → ⊥) → (f : OutboundStream → OutboundStream) → ((l : OutboundStream) → (f l).stream_identifier ≡ l.stream_identifier)
     → (ls : List OutboundStream) → number_of r (change_where (has_number s) f ls) ≡ number_of r ls
 number-elsewhere r s differ f same [] = refl
-number-elsewhere r s differ f same (x ∷ xs) = grind (arith, nat_tests, same-is, number-elsewhere r s differ f same xs)
+number-elsewhere r s differ f same (x ∷ xs) = grind (arith, nat_tests, number-elsewhere r s differ f same xs)
 
 -- ## A write among the writes
 
@@ -256,13 +228,7 @@ number-sum s (l ∷ ls) le =
 left-sum : (s : ℕ) (f : OutboundStream → ℕ) → ((l : OutboundStream) → has_number s l ≡ true → f l ≡ 0) → (ls : List OutboundStream)
     → sum_by f (filter (λ l. not (has_number s l)) ls) ≡ sum_by f ls
 left-sum s f none [] = refl
-left-sum s f none (l ∷ ls) =
-    let all = sum_by-cons f l ls in
-    let rest = sum_by-cons f l (filter (λ k. not (has_number s k)) ls) in
-    at-test (λ b. has_number s l ≡ b → sum_by f (if not b then l ∷ filter (λ k. not (has_number s k)) ls else filter (λ k. not (has_number s k)) ls)
-    ≡ sum_by f (l ∷ ls)) (has_number s l)
-    (λ _ e. let z = none l e in omega (arith, all, z, left-sum s f none ls))
-    (λ _ e. omega (arith, all, rest, left-sum s f none ls)) refl
+left-sum s f none (l ∷ ls) = grind (arith, nat_tests, common_steps, left-sum s f none ls)
 
 module _ (s : ℕ) (ls : List OutboundStream) where
   abbrev closed : List OutboundStream
@@ -295,11 +261,7 @@ module _ (s : ℕ) (ls : List OutboundStream) where
           at-if (λ z. sum_by f z ≤ sum_by f (l ∷ ks)) (not (has_number s l)) (λ e. omega (arith, all, rest, less f ks)) (λ e. omega (arith, all, less f ks))
 
   pub numbers-closed : (r : ℕ) → (r ≡ s → ⊥) → AreApart ls → number_of r (swapped_out (has_number s) ls) ≡ number_of r ls
-  numbers-closed r differ a =
-      number-sum r closed (apart-closed a r)
-      ∙ sum-closed (λ (l : OutboundStream). if l.stream_identifier == r then l.sequence_number else 0)
-      (λ l e. ap (λ b. if b then l.sequence_number else 0) (other-number r differ l e))
-      ∙ sym (number-sum r ls (a r))
+  numbers-closed r differ a = grind (arith, nat_tests, common_steps, number-sum, apart-closed, sum-closed, other-number)
 
   pub there-closed : (r : ℕ) → (r ≡ s → ⊥) → is_there r ls ≡ true → is_there r (swapped_out (has_number s) ls) ≡ true
   there-closed r differ o =
@@ -326,12 +288,4 @@ module _ (s : ℕ) (ls : List OutboundStream) where
           (λ _ f. there-some r ks (let it : one l ≡ 0 = ap (λ b. if b then 1 else 0) f in omega (arith, sum, it, lt))) refl
 
   pub sized-closed : AreSized ls → AreSized (swapped_out (has_number s) ls)
-  sized-closed z = from (swapped_out (has_number s) ls) (out-each (has_number s) IsSized ls (to ls z))
-    where
-      to : (ks : List OutboundStream) → AreSized ks → AllByRecursion IsSized ks
-      to [] k = tt
-      to (l ∷ ks) k = (k.0, to ks k.1)
-
-      from : (ks : List OutboundStream) → AllByRecursion IsSized ks → AreSized ks
-      from [] k = tt
-      from (l ∷ ks) k = (k.0, from ks k.1)
+  sized-closed z = grind (arith, nat_tests, common_steps, out-each)

@@ -1,7 +1,7 @@
 -- No write is read twice: each message that was read is a write at a place of its own.
-use Rattle.sctp_delivery.proofs.Names.{◌≡◌, ℕ, zero, suc, ◌<◌, true, false, not, List, [], ◌∷◌, ◌++◌, length, inl, inr, ap, sym, subst, ◌∙◌, arith, All}
-use Rattle.sctp_delivery.proofs.Names.{AllPairs, ◌==◌, ◌&&◌, slice_index_or, list_any, negated, or-left, or-right, same-yes, list_any-append, pairs_cons, and}
-use Rattle.sctp_delivery.proofs.Names.{both, not_both, ChunkPayloadData, Data, data_of, Message, has_tsn, AreWritesOfTheirOwn, IsWrite, NoneIsReadTwice}
+use Rattle.sctp_delivery.proofs.Names.{common_steps, nat_tests, ◌≡◌, ℕ, zero, suc, ◌<◌, true, false, not, List, [], ◌∷◌, ◌++◌, length, inl, inr, ap, sym, subst}
+use Rattle.sctp_delivery.proofs.Names.{◌∙◌, arith, All, AllPairs, ◌==◌, ◌&&◌, slice_index_or, list_any, negated, or-left, or-right, same-yes, list_any-append}
+use Rattle.sctp_delivery.proofs.Names.{pairs_cons, and, both, not_both, ChunkPayloadData, Data, data_of, Message, has_tsn, AreWritesOfTheirOwn, NoneIsReadTwice}
 use Rattle.sctp_delivery.proofs.Names.{StandAt, fragments_of_all, are_apart, Session}
 use Rattle.std.proofs.Common.{◌≢◌}
 use Rattle.sctp_delivery.proofs.Begun.{AreOnce, was_begun}
@@ -56,13 +56,7 @@ module _ (ns : List Numbered) (sent : List Entry) (once : AreOnce sent) where
 
   pub stand : (ms : List Message) (e : EachRead ms) → StandAt (forgotten ns) ms (places ms e)
   stand [] e = tt
-  stand (m ∷ ms) e = (
-    (
-      (let n = length-forgotten ns in let lt = e.0.written.1 in omega (arith, n, lt)),
-      λ w. subst (IsWrite m) (sym (at-forgotten ns e.0.written.0 e.0.numbered w e.0.written.1 e.0.written.2)) e.0.write,
-    ),
-    stand ms e.1,
-  )
+  stand (m ∷ ms) e = grind (arith, nat_tests, common_steps, length-forgotten, at-forgotten, stand ms e.1)
 
   same-at : (ws : List Numbered) (k : ℕ) (a b : Numbered) → k < length ws → slice_index_or ws k a ≡ a → slice_index_or ws k b ≡ b → a ≡ b
   same-at [] k a b lt e f = absurd (omega (arith, lt))
@@ -72,11 +66,7 @@ module _ (ns : List Numbered) (sent : List Entry) (once : AreOnce sent) where
   -- messages at one place begin with one chunk, at one place
   pub one-start : (m o : Message) (x : IsReadOf ns sent m) (y : IsReadOf ns sent o) → x.written.0 ≡ y.written.0
       → fragment (data_of x.chunk) x.numbered x.after ∷ x.entries ≡ fragment (data_of y.chunk) y.numbered y.after ∷ y.entries
-  one-start m o x y e =
-      let same : x.numbered ≡ y.numbered =
-      same-at ns x.written.0 x.numbered y.numbered x.written.1 x.written.2 (subst (λ k. slice_index_or ns k y.numbered ≡ y.numbered) (sym e) y.written.2) in
-      one-begun sent once (data_of x.chunk)
-      (data_of y.chunk) x.numbered y.numbered x.after y.after x.entries y.entries x.begins y.begins (ap (λ (n : Numbered). n.place) same) x.part y.part
+  one-start m o x y e = grind (arith, nat_tests, common_steps, same-at, one-begun)
 
   one-chunk : (m o : Message) (x : IsReadOf ns sent m) (y : IsReadOf ns sent o) → x.written.0 ≡ y.written.0 → y.chunk.tsn ≡ x.chunk.tsn
   one-chunk m o x y e =

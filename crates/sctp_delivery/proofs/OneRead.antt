@@ -1,7 +1,8 @@
 -- A message that is read next is a write: a session goes on by one call.
-use Rattle.sctp_delivery.proofs.Names.{◌≡◌, ℕ, ◌+◌, ◌^◌, ◌<◌, true, List, [], ◌∷◌, ◌++◌, Option, Some, None, refl, ap, sym, subst, ◌∙◌, arith, Result, Ok, Err}
-use Rattle.sctp_delivery.proofs.Names.{IfOk, IfSome, IsOk, option_map, ChunkPayloadData, ChunkSet, Chunks, ReceiverRefusal, Reception, is_open, message_on}
-use Rattle.sctp_delivery.proofs.Names.{Message, WhileTsnsLast, tsns_given, reads, Call, Follows, ReceiverFollows, RunsTo, Session, at_start, of_receiver}
+use Rattle.sctp_delivery.proofs.Names.{common_steps, nat_tests, ◌≡◌, ℕ, ◌+◌, ◌^◌, ◌<◌, true, List, [], ◌∷◌, ◌++◌, Option, Some, refl, ap, subst, ◌∙◌, arith}
+use Rattle.sctp_delivery.proofs.Names.{Result, IfOk, IfSome, IsOk, option_map, ChunkPayloadData, ChunkSet, Chunks, ReceiverRefusal, Reception, is_open}
+use Rattle.sctp_delivery.proofs.Names.{message_on, Message, WhileTsnsLast, tsns_given, reads, Call, Follows, ReceiverFollows, RunsTo, Session, at_start}
+use Rattle.sctp_delivery.proofs.Names.{of_receiver}
 use Rattle.sctp_util.specs.Serial.{distance}
 use Rattle.sctp_reassembly.specs.reassembly_queue.ReassemblyQueue.{at_start as start_of}
 use Rattle.sctp_receiver.specs.Receiver.{after_read}
@@ -59,12 +60,7 @@ pub answers : (P : List ChunkPayloadData → Type 0) (r : Reception) (stream : �
     → ((set : ChunkSet) → is_open stream r ≡ true → message_on stream r ≡ Some set → P set.chunks)
     → IfOk o (λ message. message ≡ option_map start_of (message_on stream r)) → (IsOk o → is_open stream r ≡ true)
     → IfOk o (λ message. IfSome message (λ chunks. P chunks.set.chunks))
-answers P r stream (Err e) h m a = tt
-answers P r stream (Ok v) h m a = by (message_on stream r) refl m
-  where
-    by : (o : Option ChunkSet) → message_on stream r ≡ o → v ≡ option_map start_of o → IfSome v (λ chunks. P chunks.set.chunks)
-    by None e is = subst (λ x. IfSome x (λ chunks. P chunks.set.chunks)) (sym is) tt
-    by (Some set) e is = subst (λ x. IfSome x (λ chunks. P chunks.set.chunks)) (sym is) (h set (a refl) e)
+answers h0 h1 h2 h3 h4 h5 h6 = grind (arith, nat_tests, common_steps)
 
 pub answers-write : (r : Reception) (stream : ℕ) (o : Result (Option Chunks) ReceiverRefusal)
     → IfOk o (λ message. message ≡ option_map start_of (message_on stream r)) → (IsOk o → is_open stream r ≡ true)

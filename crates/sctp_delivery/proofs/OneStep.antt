@@ -1,12 +1,11 @@
 -- Each call leads from a session to one other alone.
 use Rattle.sctp_delivery.proofs.Names.{common_steps, ◌≡◌, ℕ, ◌+◌, ◌<◌, ◌≤◌, Bool, true, false, List, [], ◌∷◌, ◌++◌, take, drop, length, Some, None, inl, inr}
-use Rattle.sctp_delivery.proofs.Names.{refl, ap, sym, subst, ◌∙◌, arith, ◌⊎◌, cases_lt, nat_tests, some-same, not_both, ChunkPayloadData, BecomesComplete}
-use Rattle.sctp_delivery.proofs.Names.{Reassembly, ReassemblyState, set_of_run, Pushes, Accepts, Reception, Stand, IsEarliestRun, IsRun, Ledger, ReceiverCall}
-use Rattle.sctp_delivery.proofs.Names.{Made, SenderCall, Write, takes_sack, ReceiverFollows, SenderFollows, Session, of_receiver, of_sender}
+use Rattle.sctp_delivery.proofs.Names.{refl, ap, sym, ◌∙◌, arith, ◌⊎◌, cases_lt, nat_tests, some-same, not_both, ChunkPayloadData, BecomesComplete, Reassembly}
+use Rattle.sctp_delivery.proofs.Names.{ReassemblyState, set_of_run, Pushes, Accepts, Reception, Stand, IsEarliestRun, IsRun, Ledger, ReceiverCall, Made}
+use Rattle.sctp_delivery.proofs.Names.{SenderCall, Write, ReceiverFollows, SenderFollows, Session, of_receiver, of_sender}
 use Rattle.sctp_delivery.specs.Ending.{ArrivalsAreDetermined, EachMakesOneStep, ReleasesAreDetermined}
 use Rattle.sctp_delivery.specs.SenderCalls as outgoing
 use Rattle.sctp_delivery.proofs.Writing.{accepted-stream}
-use Rattle.sctp_delivery.proofs.Changes.{expired-one}
 
 -- ## The sender
 
@@ -37,7 +36,7 @@ sender-one (outgoing.writes stream ppi (b ∷ bs)) s t u f g =
     let l = accepted-stream stream (length (b ∷ bs)) s.sending.sender f.accepted in
     f.exact.1 (omega arith) l.0 l.1 ∙ sym (g.exact.1 (omega arith) l.0 l.1)
 sender-one (outgoing.expires now None) s t u f g = f.exact.1.1 refl ∙ sym (g.exact.1.1 refl)
-sender-one (outgoing.expires now (Some e)) s t u f g = grind (arith, nat_tests, expired-one, some-same)
+sender-one (outgoing.expires now (Some e)) s t u f g = grind (arith, nat_tests)
 sender-one (outgoing.expires_tail now None) s t u f g = f.exact.1 refl ∙ sym (g.exact.1 refl)
 sender-one (outgoing.expires_tail now (Some a)) s t u f g = f.exact.0 ∙ sym g.exact.0
 sender-one call s t u f g = f.step.sender ∙ sym g.step.sender
@@ -46,9 +45,7 @@ sending-one : (call : SenderCall) (s t u : Session) → SenderFollows call s t �
 sending-one call s t u f g = grind (arith, nat_tests, ledger-same, sender-one, sent-one)
 
 pub releases-one : ReleasesAreDetermined
-releases-one sack gone other s t u f g =
-    let told = f.answered ∙ sym g.answered in
-    (told, sending-one (takes_sack sack gone) s t u f (subst (λ rs. SenderFollows (takes_sack sack rs) s u) (sym told) g))
+releases-one sack gone other s t u f g = grind (arith, nat_tests, common_steps)
 
 -- ## A chunk that comes
 

@@ -1,8 +1,8 @@
 -- The ordered messages of a stream that got TSNs: each has the number after that of the one before it, and they were written in this order.
 use Rattle.sctp_delivery.proofs.Names.{◌≡◌, ℕ, ◌+◌, ◌%◌, ◌^◌, ◌<◌, ◌≤◌, Bool, true, false, not, List, [], ◌∷◌, ◌++◌, length, map, Option, Some, None, inl, inr}
 use Rattle.sctp_delivery.proofs.Names.{refl, ap, sym, subst, ◌∙◌, arith, ⊤, ◌==◌, ◌&&◌, if◌then◌else◌, filter, nat_tests, common_steps, change_where, and-none}
-use Rattle.sctp_delivery.proofs.Names.{and-true, not_both, ChunkPayloadData, Data, Selected, with_message_id, IsMessage}
-use Rattle.sctp_delivery.proofs.Cases.{Where, all_streams, at-if}
+use Rattle.sctp_delivery.proofs.Names.{and-true, ChunkPayloadData, Data, Selected, with_message_id, IsMessage}
+use Rattle.sctp_delivery.proofs.Cases.{Where, all_streams}
 use Rattle.sctp_delivery.proofs.Sent.{Entry, IsPart, Numbered, fragment, terminal}
 use Rattle.sctp_delivery.proofs.Turns.{counts, inner-not}
 
@@ -163,32 +163,20 @@ pub record KeepsPlaces (f : ChunkPayloadData → ChunkPayloadData) : Type 0 wher
 rises-changed : (p : ChunkPayloadData → Bool) (f : ChunkPayloadData → ChunkPayloadData) → KeepsPlaces f → (m n : ℕ) (cs : List ChunkPayloadData)
     → Rises m cs n → Rises m (change_where p f cs) n
 rises-changed p f keeps m n [] r = r
-rises-changed p f keeps m n (c ∷ cs) r = at-if (λ z. Rises m (z ∷ change_where p f cs) n) (p c)
-    (λ e. subst (λ k. (m ≤ k) × Rises k (change_where p f cs) n) (sym (keeps.message c)) (r.0, rises-changed p f keeps c.message_id n cs r.1))
-    (λ e. (r.0, rises-changed p f keeps c.message_id n cs r.1))
+rises-changed p f keeps m n (c ∷ cs) r = grind (arith, nat_tests, common_steps, rises-changed p f keeps c.message_id n cs r.1)
 
 waiting-changed : (p : ChunkPayloadData → Bool) (f : ChunkPayloadData → ChunkPayloadData) → KeepsPlaces f → (s : ℕ) (cs : List ChunkPayloadData)
     → waiting_on s (change_where p f cs) ≡ waiting_on s cs
 waiting-changed p f keeps s [] = refl
-waiting-changed p f keeps s (c ∷ cs) = at-if (λ z. waiting_on s (z ∷ change_where p f cs) ≡ waiting_on s (c ∷ cs)) (p c)
-    (λ e. ap (λ b. one b + waiting_on s (change_where p f cs)) (keeps.begins s c) ∙ ap (λ n. one (counts s c) + n) (waiting-changed p f keeps s cs))
-    (λ e. ap (λ n. one (counts s c) + n) (waiting-changed p f keeps s cs))
+waiting-changed p f keeps s (c ∷ cs) = grind (arith, nat_tests, common_steps, waiting-changed p f keeps s cs)
 
 pub ranked-changed : (p : ChunkPayloadData → Bool) (f : ChunkPayloadData → ChunkPayloadData) → KeepsPlaces f
     → (ws : List Numbered) (os : List ChunkPayloadData) (sent : List Entry) → AreRanked ws os sent → AreRanked ws (change_where p f os) sent
-ranked-changed p f keeps ws os sent r = record {
-  top = r.top;
-  under = r.under;
-  waiting = rises-changed p f keeps r.top (length ws) os r.waiting;
-  rising = r.rising;
-  few = λ s. let e = waiting-changed p f keeps s os in let n = r.few s in omega (arith, e, n);
-}
+ranked-changed p f keeps ws os sent r = grind (arith, nat_tests, common_steps, rises-changed, waiting-changed)
 
 rises-those : (p : ChunkPayloadData → Bool) (m n : ℕ) (cs : List ChunkPayloadData) → Rises m cs n → Rises m (filter p cs) n
 rises-those p m n [] r = r
-rises-those p m n (c ∷ cs) r = at-if (λ z. Rises m z n) (p c)
-    (λ e. (r.0, rises-those p c.message_id n cs r.1))
-    (λ e. rises-from m c.message_id n (filter p cs) r.0 (rises-those p c.message_id n cs r.1))
+rises-those p m n (c ∷ cs) r = grind (arith, nat_tests, common_steps, rises-from, rises-those p c.message_id n cs r.1)
 
 waiting-those : (p : ChunkPayloadData → Bool) (s : ℕ) (cs : List ChunkPayloadData) → waiting_on s (filter p cs) ≤ waiting_on s cs
 waiting-those p s [] = omega arith
@@ -197,13 +185,7 @@ waiting-those p s (c ∷ cs) = grind (arith, nat_tests, common_steps, waiting-th
 -- a message is gone
 pub ranked-those : (p : ChunkPayloadData → Bool) (ws : List Numbered) (os : List ChunkPayloadData) (sent : List Entry) → AreRanked ws os sent
     → AreRanked ws (filter p os) sent
-ranked-those p ws os sent r = record {
-  top = r.top;
-  under = r.under;
-  waiting = rises-those p r.top (length ws) os r.waiting;
-  rising = r.rising;
-  few = λ s. let le = waiting-those p s os in let n = r.few s in omega (arith, le, n);
-}
+ranked-those p ws os sent r = grind (arith, nat_tests, common_steps, rises-those, waiting-those)
 
 pub ranked-ended : (ws : List Numbered) (os : List ChunkPayloadData) (sent : List Entry) → AreRanked ws os sent → AreRanked ws os (terminal ∷ sent)
 ranked-ended ws os sent r = record { top = r.top; under = r.under; waiting = r.waiting; rising = r.rising; few = r.few }
@@ -211,13 +193,7 @@ ranked-ended ws os sent r = record { top = r.top; under = r.under; waiting = r.w
 -- ## A write
 
 pub ranked-more : (w : Numbered) (ws : List Numbered) (os : List ChunkPayloadData) (sent : List Entry) → AreRanked ws os sent → AreRanked (w ∷ ws) os sent
-ranked-more w ws os sent r = record {
-  top = r.top;
-  under = r.under;
-  waiting = subst (Rises r.top os) (let e : length ws + 1 ≡ length (w ∷ ws) = omega arith in e) (rises-to r.top (length ws) os r.waiting);
-  rising = r.rising;
-  few = λ s. let n = r.few s in omega (arith, n);
-}
+ranked-more w ws os sent r = grind (arith, nat_tests, common_steps, rises-to)
 
 rises-behind : (m n : ℕ) (cs ms : List ChunkPayloadData) → Rises m cs n → Rises m (cs ++ map (with_message_id n) ms) (n + 1)
 rises-behind m n (c ∷ cs) ms r = (r.0, rises-behind c.message_id n cs ms r.1)
@@ -236,15 +212,11 @@ rest-begins-none kind s n (c ∷ d ∷ ds) m =
     omega (arith, rest-begins-none kind s n (d ∷ ds) m.3, ap one (inner-not s (with_message_id n c) m.0))
 
 one-first : (a b : Bool) → one (a && b) ≤ one a
-one-first true true = omega arith
-one-first true false = omega arith
-one-first false b = omega arith
+one-first h0 h1 = grind (arith, nat_tests, common_steps)
 
 message-begins-one : (kind : Bool) (s n : ℕ) (c : ChunkPayloadData) (cs : List ChunkPayloadData) → IsMessage kind false (c ∷ cs)
     → waiting_on s (map (with_message_id n) (c ∷ cs)) ≤ one (c.stream_identifier == s)
-message-begins-one kind s n c [] m = let h = one-first (c.stream_identifier == s) c.beginning_fragment in omega (arith, h)
-message-begins-one kind s n c (d ∷ ds) m =
-    omega (arith, one-first (c.stream_identifier == s) c.beginning_fragment, rest-begins-none kind s n (d ∷ ds) m.3)
+message-begins-one h0 h1 h2 h3 h4 h5 = grind (arith, nat_tests, common_steps, one-first, rest-begins-none)
 
 pub ranked-written : (w : Numbered) (ws : List Numbered) (os : List ChunkPayloadData) (sent : List Entry) (n : ℕ) (c : ChunkPayloadData)
     (cs : List ChunkPayloadData) (kind : Bool) → n ≡ length ws → c.stream_identifier ≡ w.stream → IsMessage kind false (c ∷ cs) → AreRanked ws os sent
@@ -256,31 +228,17 @@ ranked-written w ws os sent n c cs kind same on message r = record {
       let e : n + 1 ≡ length (w ∷ ws) = omega (arith, same) in
       subst (Rises r.top (os ++ map (with_message_id n) (c ∷ cs))) e (rises-behind r.top n os (c ∷ cs) (subst (Rises r.top os) (sym same) r.waiting));
   rising = r.rising;
-  few = λ s.
-      let t : one (c.stream_identifier == s) ≡ one (w.stream == s) = ap (λ (j : ℕ). one (j == s)) on in
-      omega (arith, waiting-behind s os (map (with_message_id n) (c ∷ cs)), message-begins-one kind s n c cs message, r.few s, t);
+  few = grind (arith, nat_tests, common_steps, waiting-behind, message-begins-one);
 }
 
 -- ## A fragment is sent
 
 pub ranked-unordered : (d : Data) (w : Numbered) (after : List ℕ) (ws : List Numbered) (os : List ChunkPayloadData) (sent : List Entry)
     → d.unordered ≡ true → AreRanked ws os sent → AreRanked ws os (fragment d w after ∷ sent)
-ranked-unordered d w after ws os sent k r = record {
-  top = r.top;
-  under = ((λ h. absurd (not_both (sym h ∙ k))), r.under);
-  waiting = r.waiting;
-  rising = ((λ h. absurd (not_both (sym h ∙ k))), r.rising);
-  few = λ s. let n = r.few s in let e = ap one (begins-unordered s d k) in omega (arith, n, e);
-}
+ranked-unordered d w after ws os sent k r = grind (arith, nat_tests, common_steps)
 
 -- its write is at a place from the top on, up to its number
 pub ranked-ordered : (d : Data) (w : Numbered) (after : List ℕ) (ws : List Numbered) (c : ChunkPayloadData) (os : List ChunkPayloadData)
     (sent : List Entry) (r : AreRanked ws (c ∷ os) sent) → IsUnder w.place sent → w.place ≤ c.message_id → ((s : ℕ) → begins_on s d ≡ counts s c)
     → AreRanked ws os (fragment d w after ∷ sent)
-ranked-ordered d w after ws c os sent r under le same = record {
-  top = c.message_id;
-  under = ((λ h. le), under-more r.top c.message_id sent r.waiting.0 r.under);
-  waiting = r.waiting.1;
-  rising = ((λ h. under), r.rising);
-  few = λ s. let n = r.few s in let e = ap one (same s) in omega (arith, n, e);
-}
+ranked-ordered d w after ws c os sent r under le same = grind (arith, nat_tests, common_steps, under-more)

@@ -1,17 +1,11 @@
 -- The place of a write among the writes, from where it stands in their list.
-use Rattle.sctp_delivery.proofs.Names.{◌≡◌, ℕ, zero, suc, ◌+◌, ◌<◌, List, [], ◌∷◌, length, refl, ap, arith, ⊤, slice_index_or, SenderCall, writes}
-use Rattle.sctp_delivery.proofs.Calls.{numbered_after}
+use Rattle.sctp_delivery.proofs.Names.{◌≡◌, ℕ, zero, suc, ◌+◌, ◌<◌, List, [], ◌∷◌, length, ap, arith, ⊤, slice_index_or}
 use Rattle.sctp_delivery.proofs.Sent.{Numbered}
 
 -- the writes, the last one first, have the numbers of their places
 abbrev pub AreNumbered : List Numbered → Type 0
 AreNumbered [] = ⊤
 AreNumbered (w ∷ ws) = (w.place ≡ length ws) × AreNumbered ws
-
-pub numbered-after : (call : SenderCall) (ns : List Numbered) → AreNumbered ns → AreNumbered (numbered_after call ns)
-numbered-after (writes stream ppi []) ns h = h
-numbered-after (writes stream ppi (b ∷ bs)) ns h = (refl, h)
-numbered-after call ns h = h
 
 pub place-at : (ns : List Numbered) (k : ℕ) (n : Numbered) → AreNumbered ns → k < length ns → slice_index_or ns k n ≡ n → n.place + k + 1 ≡ length ns
 place-at [] k n h lt e = absurd (omega (arith, lt))

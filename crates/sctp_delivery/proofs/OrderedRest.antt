@@ -1,9 +1,9 @@
 -- The rest of a message that is partially sent has the number of what was sent of it.
-use Rattle.sctp_delivery.proofs.Names.{◌≡◌, ℕ, ◌+◌, Bool, true, false, not, List, [], ◌∷◌, ◌++◌, Option, Some, None, ap, sym, subst, ◌∙◌, arith, take, ◌==◌}
-use Rattle.sctp_delivery.proofs.Names.{◌&&◌, ◌||◌, if◌then◌else◌, filter, list_any, none-some, nat_tests, common_steps, or-left, same-yes, some-same, negated}
-use Rattle.sctp_delivery.proofs.Names.{fails, not_both, both, ChunkPayloadData, Selected, is_of, Pending, last_of, last_removed, IsSendable, IsWhole, begun}
-use Rattle.sctp_delivery.proofs.Names.{free, partial_of, partially_sent, stage_of, none_before, ChunkForwardTsnStream, Name, ahead, is_named, is_pair_of}
-use Rattle.sctp_delivery.proofs.Names.{named_up_to, pairs_of, Flight, is_on}
+use Rattle.sctp_delivery.proofs.Names.{◌≡◌, ℕ, ◌+◌, Bool, true, false, not, List, [], ◌∷◌, ◌++◌, Option, Some, ap, sym, subst, ◌∙◌, arith, take, ◌==◌, ◌&&◌}
+use Rattle.sctp_delivery.proofs.Names.{if◌then◌else◌, filter, list_any, none-some, nat_tests, common_steps, or-left, same-yes, some-same, negated, fails}
+use Rattle.sctp_delivery.proofs.Names.{not_both, both, ChunkPayloadData, Selected, is_of, Pending, last_of, last_removed, IsSendable, IsWhole, begun, free}
+use Rattle.sctp_delivery.proofs.Names.{partial_of, partially_sent, stage_of, none_before, ChunkForwardTsnStream, Name, ahead, is_named, is_pair_of, named_up_to}
+use Rattle.sctp_delivery.proofs.Names.{pairs_of, Flight, is_on}
 use Rattle.sctp_delivery.proofs.Cases.{Where, at-test, where-map}
 use Rattle.sctp_delivery.proofs.Every.{Every, every-joined, every-of, every-passing, every-taken, every-all, every-both, every-tested}
 use Rattle.sctp_delivery.proofs.OrderedEntries.{AreIndexedOn, IsIndexed, IsLatest, begun_on, ends_on, latest-here, IsNumberOf, number-more}
@@ -26,9 +26,7 @@ last-is P (x ∷ y ∷ ys) c e h = last-is P (y ∷ ys) c e h.1
 
 none-pass : (P : ChunkPayloadData → Type 0) (p : ChunkPayloadData → Bool) (xs : List ChunkPayloadData) → list_any p xs ≡ false → Every P (filter p xs)
 none-pass P p [] e = tt
-none-pass P p (x ∷ xs) e = at-test (λ b. (b || list_any p xs) ≡ false → Every P (if b then x ∷ filter p xs else filter p xs)) (p x)
-    (λ e h. absurd (not_both (sym h)))
-    (λ e h. (none-pass P p xs) h) e
+none-pass P p (x ∷ xs) e = grind (arith, nat_tests, common_steps, none-pass P p xs)
 
 module _ (on : ℕ → Bool) (ws : List Numbered) (kind : Bool) (n m : ℕ) (sent : List Entry) where
   rest-alike : (ssn : ℕ) (like : Bool) (v : Numbered) (left : List ℕ) (cs : List ChunkPayloadData)
@@ -51,15 +49,10 @@ module _ (on : ℕ → Bool) (ws : List Numbered) (kind : Bool) (n m : ℕ) (sen
       )
     where
       own : Where (on h.0.stream) (c.unordered ≡ false → IsLatest (begun_on h.0.stream sent) c.stream_sequence_number)
-      own =
-          let g = h.2.1.0 in
-          subst (λ (x : Numbered). Where (on x.stream) (c.unordered ≡ false → IsLatest (begun_on x.stream sent) c.stream_sequence_number)) (sym g.write)
-          (where-map (on v.stream) (like ≡ false → IsLatest (begun_on v.stream sent) ssn)
-          (c.unordered ≡ false → IsLatest (begun_on v.stream sent) c.stream_sequence_number)
-          (λ k u. subst (IsLatest (begun_on v.stream sent)) (sym g.same_number) (k (sym g.same_kind ∙ u))) num)
+      own = grind (arith, nat_tests, common_steps)
 
       same : (st : ℕ) → ((h.0.stream == st) && not c.unordered) ≡ ends_on st sent
-      same st = grind (arith, nat_tests, common_steps, h.2.1.0)
+      same st = grind (arith, nat_tests, common_steps)
 
 rest-from : (on : ℕ → Bool) (ws : List Numbered) (kind : Bool) (first n m : ℕ) (sent : List Entry) (cs : List ChunkPayloadData) → AreIndexedOn on sent
     → IsLine ws first sent → IsWhole kind n (begun m) cs → Waits ws cs (inside m sent) → Every (IsRest on sent) (filter (is_of m) cs)
@@ -101,13 +94,7 @@ last-rest on ws first number sent m c p xs n s partial last q =
     by : (sel : Option Selected) → partial_of sel ≡ Some m → IsWhole false n (stage_of false sel) p.ordered
         → IsWhole true n (stage_of true sel) p.unordered → Waits ws p.ordered (place_of false sel sent) → Waits ws p.unordered (place_of true sel sent)
         → Every (IsRest on sent) (filter (is_of m) p.ordered ++ filter (is_of m) p.unordered)
-    by None e v w h g = absurd (none-some m e)
-    by (Some t) e v w h g =
-        let same = some-same e in
-        kinds t.unordered (subst (λ j. IsWhole false n (if t.unordered then free 0 else begun j) p.ordered) same v)
-        (subst (λ j. IsWhole true n (if t.unordered then begun j else free 0) p.unordered) same w)
-        (subst (λ j. Waits ws p.ordered (if t.unordered then between else inside j sent)) same h)
-        (subst (λ j. Waits ws p.unordered (if t.unordered then inside j sent else between)) same g)
+    by h0 h1 h2 h3 h4 h5 = grind (arith, nat_tests, common_steps, none-some, some-same, kinds, between)
 
 -- # Each name of a FORWARD-TSN has the number of a message that was begun
 
@@ -118,10 +105,7 @@ abbrev pub AreNamed : (ℕ → Bool) → List Entry → List ChunkForwardTsnStre
 AreNamed on sent ns = Every (IsNamed on sent) ns
 
 pub named-more : (on : ℕ → Bool) (x : Entry) (sent : List Entry) (ns : List ChunkForwardTsnStream) → AreNamed on sent ns → AreNamed on (x ∷ sent) ns
-named-more on x sent ns h =
-    every-of (IsNamed on sent) (IsNamed on (x ∷ sent))
-    (λ n k. where-map (on n.identifier) (IsNumberOf sent n.identifier n.sequence) (IsNumberOf (x ∷ sent) n.identifier n.sequence)
-    (number-more x sent n.identifier n.sequence) k) ns h
+named-more on x sent ns h = grind (arith, nat_tests, common_steps, every-of, where-map, number-more)
 
 -- the chunk has the number of a message that was begun
 abbrev HasNumber : (ℕ → Bool) → List Entry → ChunkPayloadData → Type 0
@@ -144,10 +128,7 @@ own-pairs on sent (n ∷ ns) h = (here, own-pairs on sent ns later)
         (same-yes n.identifier) (h n.identifier)).0
 
     later : (s : ℕ) → AreNamed on sent (filter (is_pair_of s) ns)
-    later s = at-test (λ b. AreNamed on sent (if b then n ∷ filter (is_pair_of s) ns else filter (is_pair_of s) ns) → AreNamed on sent
-        (filter (is_pair_of s) ns)) (is_pair_of s n)
-        (λ e k. k.1)
-        (λ e k. k) (h s)
+    later s = grind (arith, nat_tests, common_steps)
 
 pub names-known : (on : ℕ → Bool) (first : ℕ) (sent : List Entry) (ns : List ChunkForwardTsnStream) (tsn : ℕ) (f : Flight)
     → AreKnownOn on first sent f.queue.inflight.chunks

@@ -1,7 +1,7 @@
 -- In the end each write is read exactly once, but for those whose messages were abandoned; in a reliable session none was.
-use Rattle.sctp_delivery.proofs.Names.{length, arith, ◌≡◌, ◌<◌, true, subst, both, stream_of, EachOtherIsReadOnce, abandoned_in}
-use Rattle.sctp_delivery.proofs.Names.{AfterEachReliableSession, is_all_acknowledged, reads_nothing, WhileFewTsns, was_passed, at_start, RunsTo, Session, Call}
-use Rattle.sctp_delivery.proofs.Names.{Limits, Option, List, [], ℕ, ◌^◌}
+use Rattle.sctp_delivery.proofs.Names.{common_steps, nat_tests, length, arith, ◌≡◌, ◌<◌, true, both, stream_of, abandoned_in, AfterEachReliableSession}
+use Rattle.sctp_delivery.proofs.Names.{is_all_acknowledged, reads_nothing, WhileFewTsns, was_passed, at_start, RunsTo, Session, Call, Limits, Option, List, []}
+use Rattle.sctp_delivery.proofs.Names.{ℕ, ◌^◌}
 use Rattle.sctp_delivery.specs.Abandoned.{AfterEachSessionOfMessages, AreOfWrites, IsEachOtherReadInTheEnd, IsHeldReadOrPassed, OnlyTheirsAreMarked}
 use Rattle.sctp_delivery.specs.Complete.{IsAllReadInTheEnd}
 use Rattle.sctp_delivery.specs.Modes.{AreFewInFlight}
@@ -41,9 +41,7 @@ held-read-or-passed first size max most limits cs s small some run few st =
 
 -- where no message was abandoned, each
 pub all-read : AfterEachReliableSession (λ size s. 0 < size → IsAllReadInTheEnd s)
-all-read first size max most limits cs s run small few all some exhausted =
-    each-of-others s (subst (λ gone. EachOtherIsReadOnce gone s) (none-in cs (at_start first size max most limits) s run all)
-    (others-read first size max most limits cs s run small few some exhausted))
+all-read first size max most limits cs s run small few all some exhausted = grind (arith, nat_tests, common_steps, each-of-others, none-in, others-read)
 
 -- ## What is abandoned
 

@@ -11,7 +11,7 @@ use Rattle.sctp_reassembly.specs.reassembly_queue.Fragments.{payload_of}
 use Rattle.sctp_reassembly.specs.reassembly_queue.ReassemblyQueue.{at_start as start_of}
 use Rattle.sctp_receiver.specs.Receiver.{at_first, sack_within}
 use Rattle.sctp_sender.specs.Sender.{with_nothing}
-use Rattle.sctp_receiver.specs.ReceiverRuns.{messages_after, with_message}
+use Rattle.sctp_receiver.specs.ReceiverRuns.{messages_after}
 use Rattle.sctp_delivery.specs.Delivering.{Delivers, Exchanges, GoesOn, IsReady}
 use Rattle.sctp_delivery.specs.InOrder.{Are, keeps_order, read_from, written_to}
 use Rattle.sctp_delivery.specs.ReceiverCalls as incoming
@@ -62,10 +62,7 @@ module _ (stream : ℕ) where
       record {
         stand = e.0;
         there = e.1;
-        goes_on = further 1 1 st d.0 e.0
-            (further 1 0 st b.0 d.0 (further 1 0 st a.0 b.0 (by-sender (sends now) st a.0 a.2 refl refl)
-            (by-receiver (incoming.takes c arrival) a.0 b.0 b.2 refl))
-            (by-receiver (incoming.reports_within (window r) room) b.0 d.0 d.2 refl)) (by-sender (takes_sack k gone) d.0 e.0 e.2 refl refl);
+        goes_on = grind (arith, nat_tests, common_steps, further, by-sender, by-receiver);
       }
 
   -- nothing was to be sent
@@ -115,9 +112,7 @@ module _ (stream : ℕ) where
 
   read-one : (set : ChunkSet) (r : Reception) (a b : Stand) → Steps (of_receiver (incoming.reads stream)) a b → a.session.receiving.receiver ≡ r
       → message_on stream r ≡ Some set → b.session.receiving.read ≡ record { stream = stream; fragments = set.chunks } ∷ a.session.receiving.read
-  read-one set r a b s at is =
-      s.step.step.read
-      ∙ (ap (λ y. with_message stream (message_on stream y) a.session.receiving.read) at ∙ ap (λ o. with_message stream o a.session.receiving.read) is)
+  read-one set r a b s at is = grind (arith, nat_tests, common_steps)
 
   pub delivered : (ppi : PayloadProtocolIdentifier) (bytes : List ℕ) (n : ℕ) (t u v : Transmission) (q r x : Reception) (set : ChunkSet)
       → SenderMakes (writes stream ppi bytes) t u → ((st : Stand) → AreIn u q st → given_in st + n < 2 ^ 31 → Exchanges stream n st v r)
@@ -132,16 +127,12 @@ module _ (stream : ℕ) where
       let b = receiver-steps (incoming.reads stream) r x v e.stand e.there read tt in
       let ws : b.0.session.written ≡ w ∷ st.session.written =
       ap (λ (s : Session). s.written) b.2.step.after ∙ (e.goes_on.written ∙ wrote ppi bytes st a.0 a.2 some) in
-      let ms : b.0.session.receiving.read ≡ m ∷ st.session.receiving.read =
-      read-one set r e.stand b.0 b.2 e.there.receives is
-      ∙ ap (λ rest. m ∷ rest) (e.goes_on.read ∙ ap (λ (s : Session). s.receiving.read) a.2.step.after) in
+      let ms : b.0.session.receiving.read ≡ m ∷ st.session.receiving.read = grind (arith, nat_tests, common_steps, read-one) in
       let wrote' : written_to stream b.0.session ≡ w ∷ written_to stream st.session =
       ap (filter theirs) ws ∙ front theirs w st.session.written (same-yes stream) in
       let read' : read_from stream b.0.session ≡ m ∷ read_from stream st.session =
       ap (filter ours) ms ∙ front ours m st.session.receiving.read (same-yes stream) in
-      let ordered : list_all (keeps_order stream) b.0.calls ≡ true =
-      order-kept (of_receiver (incoming.reads stream)) e.stand b.0 b.2 refl
-      ∙ (e.goes_on.ordered ∙ (order-kept (of_sender (writes stream ppi bytes)) st a.0 a.2 refl ∙ ready.ordered)) in
+      let ordered : list_all (keeps_order stream) b.0.calls ≡ true = grind (arith, nat_tests, common_steps, order-kept) in
       let enough = ready.read in
       let more = ap length wrote' in
       let many = ap length read' in

@@ -1,15 +1,11 @@
 -- In each session of few TSNs: each FORWARD-TSN passes abandoned messages, and what was taken, alone (RFC 3758 3.5).
 use Rattle.sctp_delivery.proofs.Names.{◌≡◌, ℕ, ◌+◌, ◌<◌, ◌≤◌, ◌^◌, Bool, true, not, List, [], ◌∷◌, ◌++◌, length, take, Option, Some, None, inl, inr, refl, ap}
-use Rattle.sctp_delivery.proofs.Names.{sym}
-use Rattle.sctp_delivery.proofs.Names.{subst, ◌∙◌, arith, suc, ◌||◌, if◌then◌else◌, nat_le, option_map, ◌==◌, filter, cases_lt, nat_tests, none-some}
-use Rattle.sctp_delivery.proofs.Names.{common_steps, at_or_before, distance, or-left, or-right, or-split, same-is, some-same, both, not_both, tsn}
-use Rattle.sctp_delivery.proofs.Names.{ChunkPayloadData, ForwardTsn, Data, data_of, ends, has_tsn, Limits, ahead, can_skip_to, ends_in, is_end, last_end}
-use Rattle.sctp_delivery.proofs.Names.{skip_end, Flight, found-passes, IsRunFrom, abandoned_by, ReceiverCall, passes, was_passed, was_taken, IsAccepted, Made}
-use Rattle.sctp_delivery.proofs.Names.{SenderCall, data_chunk, forward_tsn, made_after, next_chunk, with_chunk, ReceiverFollows, SenderFollows, Session}
-use Rattle.sctp_delivery.proofs.Names.{at_start}
+use Rattle.sctp_delivery.proofs.Names.{sym, subst, ◌∙◌, arith, suc, ◌||◌, if◌then◌else◌, nat_le, option_map, ◌==◌, filter, cases_lt, nat_tests, none-some}
+use Rattle.sctp_delivery.proofs.Names.{common_steps, at_or_before, distance, or-left, or-right, or-split, same-is, some-same, not_both, tsn, ChunkPayloadData}
+use Rattle.sctp_delivery.proofs.Names.{ForwardTsn, Data, data_of, ends, Limits, ahead, can_skip_to, is_end, last_end, skip_end, Flight, found-passes, IsRunFrom}
+use Rattle.sctp_delivery.proofs.Names.{abandoned_by, ReceiverCall, passes, was_passed, was_taken, IsAccepted, Made, SenderCall, data_chunk, forward_tsn}
+use Rattle.sctp_delivery.proofs.Names.{made_after, ReceiverFollows, SenderFollows, Session, at_start}
 use Rattle.std.proofs.Common.{◌⊎◌}
-use Rattle.std.specs.List.{find}
-use Rattle.sctp_delivery.specs.SenderCalls as outgoing
 use Rattle.sctp_delivery.proofs.Cases.{all_streams, at-test, by-test}
 use Rattle.sctp_delivery.proofs.AbandonedMessages.{AreAmong, AreMarkedGone, cut-later, flight_of, gone-left, gone-right, marked-later, stays-cut, stays-marked}
 use Rattle.sctp_delivery.proofs.AbandonedMessages.{AreBegunOrGone, begun-later, stays-begun-or-gone, AreBelow, below-after, by-below}
@@ -72,11 +68,7 @@ module _ (gone : List ℕ) (s : Session) where
 
 pub came-later : (gone more : List ℕ) (s t : Session) → AreAmong gone more → ((k : ℕ) → was_taken k s ≡ true → was_taken k t ≡ true)
     → (zs : List Entry) → AreTakenOrGone gone s zs → AreTakenOrGone more t zs
-came-later gone more s t a grows zs c = all-came more t zs (λ d w after xs p.
-    elim (or-split (was_taken d.tsn s) (is_gone gone w.place) (came-at gone s zs c d w after xs p)) [
-      | inl e ↦ or-left (was_taken d.tsn t) (is_gone more w.place) (grows d.tsn e)
-      | inr e ↦ or-right (was_taken d.tsn t) (is_gone more w.place) (a w.place e)
-    ])
+came-later gone more s t a grows zs c = grind (arith, nat_tests, common_steps, all-came, or-split, came-at, or-left, or-right)
 
 pub passing-later : (p : ℕ) (gone more : List ℕ) (s t : Session) (sent xs : List Entry) → AreAmong gone more
     → ((k : ℕ) → was_taken k s ≡ true → was_taken k t ≡ true) → IsOnceMore sent xs → (ms : List Made) → Every (IsMadePassing p gone s sent) ms
@@ -88,14 +80,7 @@ passing-later p gone more s t sent xs a grows once ms h = every-of (IsMadePassin
     part ys i (inr e) = subst (IsPart ys) (sym e.1) (inr i)
 
     one : (m : Made) → IsMadePassing p gone s sent m → IsMadePassing p more t xs m
-    one (data_chunk d) i = tt
-    one (forward_tsn g) i = record {
-      passed = i.passed;
-      part = part i.passed i.part once;
-      is = i.is;
-      ends = i.ends;
-      came = came-later gone more s t a grows i.passed i.came;
-    }
+    one h0 h1 = grind (arith, nat_tests, common_steps, part, came-later)
 
 -- ## What is acknowledged
 
@@ -124,7 +109,7 @@ module _ (first n : ℕ) (s : Session) (ns : List Numbered) (sent : List Entry) 
           let order : nat_le (length xs + 1) (length g.passed) ≡ true =
           sym (at-or-before (base first) (length xs + 1) (length g.passed) (omega (arith, within d w after xs p, few)) (omega (arith, long, few)))
           ∙ ap (λ t. at_or_before t (tsn (base first) (length g.passed))) (sym (number d w after xs p)) ∙ ap (at_or_before d.tsn) (sym g.is) ∙ h in
-          let le : length xs + 1 ≤ length g.passed = grind (arith, nat_tests, order) in
+          let le : length xs + 1 ≤ length g.passed = grind (arith, nat_tests) in
           came-at gone s g.passed g.came d w after xs
           (shorter-part sent (fragment d w after ∷ xs) g.passed p g.part (omega (arith, le)))
 
@@ -197,17 +182,7 @@ record EndsThere (on : ℕ → Bool) (first : ℕ) (sent : List Entry) (t : ℕ)
 
 ends-end : (on : ℕ → Bool) (first : ℕ) (sent : List Entry) (t : ℕ) (f : Flight) → is_end t f ≡ true → AreKnownOn on first sent f.queue.inflight.chunks
     → EndsThere on first sent t
-ends-end on first sent t f e known = by (find (has_tsn t) f.queue.inflight.chunks) refl
-    (both (can_skip_to t f) (ends_in (find (has_tsn t) f.queue.inflight.chunks)) e).1
-  where
-    by : (o : Option ChunkPayloadData) → find (has_tsn t) f.queue.inflight.chunks ≡ o → ends_in o ≡ true → EndsThere on first sent t
-    by None h g = absurd (not_both g)
-    by (Some c) h g = record {
-      chunk = c;
-      is = same-is c.tsn t (found-passes (has_tsn t) f.queue.inflight.chunks c h);
-      ends' = g;
-      placed = (every-found (IsKnownOn on first sent) (has_tsn t) f.queue.inflight.chunks c h known).1;
-    }
+ends-end on first sent t f e known = grind (arith, nat_tests, common_steps, not_both, same-is, found-passes, every-found)
 
 ends-skip : (on : ℕ → Bool) (first : ℕ) (sent : List Entry) (t u : ℕ) (f : Flight) → Some u ≡ skip_end t f → AreKnownOn on first sent f.queue.inflight.chunks
     → EndsThere on first sent u
@@ -220,15 +195,10 @@ ends-skip on first sent t u f is known = at-test (λ b. Some u ≡ (if b then op
     front = take (ahead f t) f.queue.inflight.chunks
 
     each : Every (λ (c : ChunkPayloadData). IsPlacedOn on first sent c × (ends c ≡ true)) (filter ends front)
-    each = every-tested (λ c. IsPlacedOn on first sent c × (ends c ≡ true)) ends front
-        (every-of (IsPlacedOn on first sent) (λ c. ends c ≡ true → IsPlacedOn on first sent c × (ends c ≡ true)) (λ c i e. (i, e)) front
-        (every-taken (IsPlacedOn on first sent) (ahead f t) f.queue.inflight.chunks (placed-each on first sent f.queue.inflight.chunks known)))
+    each = grind (arith, nat_tests, common_steps, every-tested, every-of, every-taken, placed-each)
 
     found : (o : Option ChunkPayloadData) → last_end t f ≡ o → Some u ≡ option_map (λ (c : ChunkPayloadData). c.tsn) o → EndsThere on first sent u
-    found None e i = absurd (none-some u (sym i))
-    found (Some c) e i =
-        let x = last-every (λ (d : ChunkPayloadData). IsPlacedOn on first sent d × (ends d ≡ true)) (filter ends front) c e each in
-        record { chunk = c; is = sym (some-same i); ends' = x.1; placed = x.0 }
+    found h0 h1 h2 = grind (arith, nat_tests, common_steps, none-some, last-every, each, some-same)
 
 -- where what is acknowledged was taken, or is gone
 module _ (on dropped : ℕ → Bool) (first n : ℕ) (s : Session) (ns : List Numbered) (sent : List Entry) (gone : List ℕ)
@@ -277,23 +247,7 @@ module _ (on dropped : ℕ → Bool) (first n : ℕ) (s : Session) (ns : List Nu
   -- what a call makes
   pub made-passing : (call : SenderCall) → IsAccepted call s.sending.sender
       → Every (IsMadePassing (base first) gone s sent) (made_after call s.sending.sender s.made)
-  made-passing (outgoing.sends now) accepted = by (next_chunk now s.sending.sender)
-    where
-      by : (o : Option ChunkPayloadData) → Every (IsMadePassing (base first) gone s sent) (with_chunk o s.made)
-      by None = passing
-      by (Some c) = (tt, passing)
-  made-passing (outgoing.resends u now c) accepted = (tt, passing)
-  made-passing (outgoing.forwards u g) accepted = (
-    passes-gone g (passable-skip (base first) n (flight_of s) i.step.numbered few u g.new_cumulative_tsn accepted.0)
-        (ends-skip on first sent u g.new_cumulative_tsn (flight_of s) accepted.0 i.holds.held.stands.known),
-    passing,
-  )
-  made-passing (outgoing.forwards_within bytes g) accepted = (
-    passes-gone g (passable-end (base first) n (flight_of s) i.step.numbered few g.new_cumulative_tsn accepted.0 accepted.1)
-        (ends-end on first sent g.new_cumulative_tsn (flight_of s) accepted.1 i.holds.held.stands.known),
-    passing,
-  )
-  made-passing call accepted = passing
+  made-passing h0 h1 = grind (arith, nat_tests, common_steps, passes-gone, passable-skip, ends-skip, passable-end, ends-end)
 
 -- ## A call
 
@@ -322,9 +276,7 @@ sender-passes first n gone call old new ns sent i few f x h =
       marked = stays-marked more old new (record { ordered = valid.ordered; unordered = valid.unordered }) marked call among f;
       cut = stays-cut all_streams more first old new ns sent x.more i.holds x.spread.holds.held.stands.counted (cut-later gone more later sent h.cut) call
           among f x.grown;
-      begun' =
-          stays-begun-or-gone all_streams more first old new ns sent x.more i.holds x.once
-          (begun-later gone more later (length ns) sent (flight_of old).queue.pending h.begun') call among f x.grown;
+      begun' = grind (arith, nat_tests, common_steps, stays-begun-or-gone, begun-later);
       below =
           below-after call ns more
           (every-joined (λ m. m < length ns) gone answered h.below
@@ -420,11 +372,7 @@ module _ (ws : List Numbered) (first : ℕ) (sent : List Entry) (line : IsLine w
   -- a fragment up to the place was taken, or its message is gone
   pub taken-or-gone : (z : ℕ) (d : Data) (w : Numbered) → IsEntryAt sent z d w → z ≤ length passed
       → (was_taken (tsn p z) s ≡ true) ⊎ (is_gone gone w.place ≡ true)
-  taken-or-gone z d w i le =
-      let q = shorter-part sent (fragment d w i.after ∷ i.entries) passed i.part part (omega (arith, le)) in
-      let is : d.tsn ≡ tsn p z = omega (arith, (part-line ws first sent (fragment d w i.after ∷ i.entries) i.part line).0.number) in
-      or-split (was_taken (tsn p z) s) (is_gone gone w.place)
-      (subst (λ t. (was_taken t s || is_gone gone w.place) ≡ true) is (taken-part gone s passed d w i.after i.entries q came))
+  taken-or-gone z d w i le = grind (arith, shorter-part, part-line, or-split, taken-part)
 
   module _ (st : ℕ) where
     abbrev Fits : ℕ → List ChunkPayloadData → Type 0

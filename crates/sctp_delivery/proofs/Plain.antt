@@ -1,10 +1,9 @@
 -- Chunks in flight of a sender that keeps what is reported, beside those that it would have if no gap ack block were taken.
-use Rattle.sctp_delivery.proofs.Names.{nat_tests, common_steps, ◌≡◌, ℕ, zero, suc, Bool, true, false, List, [], ◌∷◌, ◌++◌, length, map}
-use Rattle.sctp_delivery.proofs.Names.{take, drop, refl, ap, ap₂, sym, ◌∙◌, arith, Option, Some, None, option_map, if◌then◌else◌, ◌||◌, filter, find}
-use Rattle.sctp_delivery.proofs.Names.{change_where, list_any, negated, both, not_both, some-same, length-map, ChunkPayloadData, Sack}
-use Rattle.sctp_delivery.proofs.Names.{as_abandoned, as_acknowledged, reports_anew, tsns, at_or_before, last_of}
+use Rattle.sctp_delivery.proofs.Names.{nat_tests, common_steps, ◌≡◌, ℕ, zero, suc, Bool, true, false, List, [], ◌∷◌, ◌++◌, length, map, take, drop, refl, ap}
+use Rattle.sctp_delivery.proofs.Names.{ap₂, sym, ◌∙◌, arith, Option, Some, None, option_map, if◌then◌else◌, ◌||◌, filter, find, change_where, list_any}
+use Rattle.sctp_delivery.proofs.Names.{length-map, ChunkPayloadData, Sack, as_abandoned, as_acknowledged, reports_anew, tsns, at_or_before, last_of}
 use Rattle.sctp_sender.specs.Keeping.{back_each, back_of, keep, keep_each, restored, restored_with, trimmed}
-use Rattle.sctp_delivery.proofs.Cases.{at-if, at-test}
+use Rattle.sctp_delivery.proofs.Cases.{at-if}
 use Rattle.sctp_delivery.proofs.Every.{Every}
 
 -- ## One chunk
@@ -23,10 +22,10 @@ pub record IsLike (k : Option (List ℕ)) (c d : ChunkPayloadData) : Type 0 wher
 
 -- a chunk that is not acknowledged is like itself, whatever is kept
 pub like-itself : (k : Option (List ℕ)) (c : ChunkPayloadData) → c.acked ≡ false → IsLike k c c
-like-itself k c e = grind (arith, nat_tests, common_steps, not_both)
+like-itself k c e = grind (arith, nat_tests, common_steps)
 
 pub like-abandoned : (k : Option (List ℕ)) (c d : ChunkPayloadData) → IsLike k c d → IsLike k (as_abandoned c) (as_abandoned d)
-like-abandoned k c d i = grind (arith, nat_tests, common_steps, not_both)
+like-abandoned k c d i = grind (arith, nat_tests, common_steps)
 
 -- ## All chunks, place by place
 
@@ -136,15 +135,11 @@ paired A B C h ks (c ∷ cs) (d ∷ ds) a e f = (h (first_of ks) c d a.0 e.0 f.0
 module _ (p : ChunkPayloadData → Bool) (blind : (c : ChunkPayloadData) → p (plain c) ≡ p c) where
   find-plain : (cs : List ChunkPayloadData) → find p (map plain cs) ≡ option_map plain (find p cs)
   find-plain [] = refl
-  find-plain (c ∷ cs) = ap (λ b. if b then Some (plain c) else find p (map plain cs)) (blind c)
-      ∙ at-test (λ b. (if b then Some (plain c) else find p (map plain cs)) ≡ option_map plain (if b then Some c else find p cs)) (p c) (λ _. refl)
-      (λ _. find-plain cs)
+  find-plain (c ∷ cs) = grind (arith, nat_tests, common_steps, find-plain cs)
 
   pub filter-plain : (cs : List ChunkPayloadData) → filter p (map plain cs) ≡ map plain (filter p cs)
   filter-plain [] = refl
-  filter-plain (c ∷ cs) = ap (λ b. if b then plain c ∷ filter p (map plain cs) else filter p (map plain cs)) (blind c)
-      ∙ at-test (λ b. (if b then plain c ∷ filter p (map plain cs) else filter p (map plain cs)) ≡ map plain (if b then c ∷ filter p cs else filter p cs)) (p c)
-      (λ _. ap (λ xs. plain c ∷ xs) (filter-plain cs)) (λ _. filter-plain cs)
+  filter-plain (c ∷ cs) = grind (arith, nat_tests, common_steps, filter-plain cs)
 
   pub found-plain : (cs ds : List ChunkPayloadData) → map plain cs ≡ map plain ds → option_map plain (find p cs) ≡ option_map plain (find p ds)
   found-plain cs ds e = sym (find-plain cs) ∙ ap (find p) e ∙ find-plain ds
@@ -192,12 +187,9 @@ module _ (s k : Sack) (bare : IsBareSack s k) where
   abbrev pub IsLikeBehind : Relation
   IsLikeBehind j c d = at_or_before d.tsn s.cumulative_tsn_ack ≡ false → IsLike j c d
 
-  pub silent : (d : ChunkPayloadData) → at_or_before d.tsn s.cumulative_tsn_ack ≡ false → reports_anew k d ≡ false
-  silent d e = grind (arith, nat_tests, common_steps)
-
   reported : (j : Option (List ℕ)) (c d : ChunkPayloadData) → IsLike j c d
       → IsLikeBehind (keep s c j) (if reports_anew s c then as_acknowledged c else c) (if reports_anew k d then as_acknowledged d else d)
-  reported j c d i = grind (arith, nat_tests, common_steps, not_both, silent, some-same, negated, both)
+  reported j c d i = grind (arith, nat_tests, common_steps)
 
   pub are-reported : (ks : List (Option (List ℕ))) (cs ds : List ChunkPayloadData) → AreLike ks cs ds
       → Are IsLikeBehind (keep_each s cs ks) (change_where (reports_anew s) as_acknowledged cs) (change_where (reports_anew k) as_acknowledged ds)
@@ -211,7 +203,7 @@ module _ (s k : Sack) (bare : IsBareSack s k) where
 
 module _ (s : Sack) where
   back : (k : Option (List ℕ)) (c d : ChunkPayloadData) → IsLike k c d → IsLike k (restored_with (back_of s c k) c) d
-  back k c d i = grind (arith, nat_tests, common_steps, both, negated, not_both)
+  back k c d i = grind (arith, nat_tests, common_steps)
 
   pub are-back : (ks : List (Option (List ℕ))) (cs ds : List ChunkPayloadData) → AreLike ks cs ds → AreLike ks (restored (back_each s cs ks) cs) ds
   are-back [] cs ds a = a

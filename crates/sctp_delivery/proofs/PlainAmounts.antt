@@ -1,10 +1,9 @@
 -- Sessions of a sender that keeps what is reported: the amount of each open stream, and what is told of chunks.
-use Rattle.sctp_delivery.proofs.Names.{nat_tests, common_steps, ◌≡◌, ℕ, ◌<◌, ◌≤◌, ◌+◌, ◌-◌, ◌^◌, Bool, true, false, not, List, [], ◌∷◌, length, refl, ap, sym}
-use Rattle.sctp_delivery.proofs.Names.{subst, ◌∙◌, arith, zero, suc, ap₂, not_both, min, Option, Some, None, is_some, IfSome, if◌then◌else◌, ◌==◌, ◌&&◌, find}
+use Rattle.sctp_delivery.proofs.Names.{nat_tests, common_steps, ◌≡◌, ℕ, ◌<◌, ◌≤◌, ◌+◌, ◌-◌, ◌^◌, Bool, true, false, not, List, [], ◌∷◌, refl, ap, sym, subst}
+use Rattle.sctp_delivery.proofs.Names.{◌∙◌, arith, zero, suc, ap₂, not_both, min, Option, Some, None, is_some, IfSome, if◌then◌else◌, ◌==◌, ◌&&◌, find}
 use Rattle.sctp_delivery.proofs.Names.{sum_by-cons, both, negated, same-is, same-yes, change_where, Contains, ChunkPayloadData, Sack, OutboundStream, Limits}
 use Rattle.sctp_delivery.proofs.Names.{Transmission, Outbound, Session, Modes, at_first, modes_from, of_sender, of_receiver, data_chunk, bytes_written}
 use Rattle.sctp_delivery.proofs.Names.{distance, total_bytes, with_inflight, has_number, data_of, Write, bytes_for}
-use Rattle.sctp_outbound.specs.Marks.{as_taken_back}
 use Rattle.sctp_sender.specs.declared.sender.Reported.{Reported}
 use Rattle.sctp_sender.specs.declared.sender.Reported.TheVariants.{Drop, Keep}
 use Rattle.sctp_sender.specs.declared.sender.flight.kept.TakenBack.{TakenBack}
@@ -13,17 +12,17 @@ use Rattle.sctp_sender.specs.Keeping.{after_returns, answered_back, back_each, m
 use Rattle.sctp_sender.specs.Sender.{back_by, stream_of, taken_back_by}
 use Rattle.sctp_delivery.specs.Amounts.{AmountsEnd, EachIsTold, told_by, told_on, written_by, written_on}
 use Rattle.sctp_delivery.specs.Returns.{AfterEachWithReturnsOfFewInFlight, AmountsAreLeftSo, AreFewInFlightSo, CallOrReturn, EachReturnIsTold, IsOfMade}
-use Rattle.sctp_delivery.specs.Returns.{RunsWithReturns, TakesBack}
-use Rattle.sctp_delivery.specs.Returns.{abandoned_so, at_start_with, bytes_back_on, makes, other_calls, returned_by, returned_on, takes_back, tsns_given_so}
+use Rattle.sctp_delivery.specs.Returns.{RunsWithReturns, TakesBack, abandoned_so, at_start_with, bytes_back_on, makes, other_calls, returned_by, returned_on}
+use Rattle.sctp_delivery.specs.Returns.{takes_back, tsns_given_so}
 use Rattle.sctp_delivery.specs.Session.{count_in_flight}
 use Rattle.sctp_delivery.proofs.AmountLaws.{AllOf, AreCounted, IsOf, WasMade, all-told, counted-in, counted-then, each-made, ends-of, made-in, moved}
-use Rattle.sctp_delivery.proofs.Cases.{all_streams, at-if, at-test}
+use Rattle.sctp_delivery.proofs.Cases.{all_streams, at-if}
 use Rattle.sctp_delivery.proofs.Delivered.{next_tsn}
 use Rattle.sctp_delivery.proofs.Every.{Every, all-of-every, every-of}
-use Rattle.sctp_delivery.proofs.Plain.{AreLike, IsLike, rest_of}
+use Rattle.sctp_delivery.proofs.Plain.{AreLike, rest_of}
 use Rattle.sctp_delivery.proofs.PlainHolds.{has-made}
 use Rattle.sctp_delivery.proofs.PlainReturns.{back-few}
-use Rattle.sctp_delivery.proofs.PlainRuns.{at-start, goes, grows, one-goes}
+use Rattle.sctp_delivery.proofs.PlainRuns.{at-start, goes, grows, one-goes, none-flying}
 use Rattle.sctp_delivery.proofs.PlainSessions.{Goes, kept_of, plain}
 use Rattle.sctp_delivery.proofs.PlainStreams.{open-alike, one-more}
 use Rattle.sctp_delivery.proofs.Sessions.{accounted}
@@ -46,58 +45,7 @@ module _ (ws : List Write) (sack : Sack) where
   comes (k ∷ ks) [] ds a e = record { weighed = λ st. omega arith; all = tt; within = tt }
   comes (k ∷ ks) (c ∷ cs) [] a e = absurd a
   comes (k ∷ ks) (c ∷ cs) (d ∷ ds) a e =
-      at-test (λ b. Comes ws (c ∷ cs) (d ∷ ds) ((if b then k else None) ∷ back_each sack cs ks)) (is_back sack c)
-      (λ h. some k a.0 (is-back-of sack c h) (comes ks cs ds a.1 e.1)) (λ _. none (comes ks cs ds a.1 e.1))
-    where
-      bs : List (Option (List ℕ))
-      bs = back_each sack cs ks
-
-      more : Comes ws cs ds (back_each sack cs ks)
-          → Every (λ (r : TakenBack). r.bytes ≤ weigh (only r.stream) (d ∷ ds)) (answered_back (back_each sack cs ks) cs)
-      more rest = every-of (λ (r : TakenBack). r.bytes ≤ weigh (only r.stream) ds) (λ (r : TakenBack). r.bytes ≤ weigh (only r.stream) (d ∷ ds))
-          (λ r le. let n = sum_by-cons (size (only r.stream)) d ds in omega (arith, n, le)) (answered_back bs cs) rest.within
-
-      none : Comes ws cs ds (back_each sack cs ks) → Comes ws (c ∷ cs) (d ∷ ds) (None ∷ back_each sack cs ks)
-      none rest = record {
-        weighed = λ st.
-            let a = sum_by-cons (size (only st)) c (restored bs cs) in
-            let b = sum_by-cons (size (only st)) c cs in
-            let h = rest.weighed st in
-            omega (arith, a, b, h);
-        all = (e.0, rest.all);
-        within = more rest;
-      }
-
-      nothing : (b : Bool) → length c.user_data ≡ 0 → ◌≡◌ {A = ℕ} (if b then length c.user_data else 0) 0
-      nothing true z = z
-      nothing false z = refl
-
-      some : (o : Option (List ℕ)) → IsLike o c d → (c.acked ≡ true) × (c.abandoned ≡ false) → Comes ws cs ds (back_each sack cs ks)
-          → Comes ws (c ∷ cs) (d ∷ ds) (o ∷ back_each sack cs ks)
-      some None i h rest = none rest
-      some (Some bytes) i h rest =
-          let r : TakenBack = record { tsn = c.tsn; stream = c.stream_identifier; bytes = length bytes; message = c.message_id } in
-          record {
-            weighed = λ st.
-                let a = sum_by-cons (size (only st)) (as_taken_back bytes c) (restored bs cs) in
-                let b = sum_by-cons (size (only st)) c cs in
-                let n = sum_by-cons (λ (x : TakenBack). bytes_for st x.stream x.bytes) r (answered_back bs cs) in
-                let w = rest.weighed st in
-                let z : size (only st) c ≡ 0 = nothing (only st c.stream_identifier) (i.settled h.0) in
-                omega (arith, a, b, n, w, z);
-            all = (
-              record { below = e.0.below; stream = e.0.stream; bare = λ out. absurd (not_both (sym out ∙ ap not h.1)) },
-              rest.all,
-            );
-            within = (
-              let n = sum_by-cons (size (only c.stream_identifier)) d ds in
-                  let s : size (only c.stream_identifier) d ≡ length bytes =
-                  ap (λ (x : ChunkPayloadData). if x.stream_identifier == c.stream_identifier then length d.user_data else 0) (sym i.same)
-                  ∙ ap (λ b. if b then length d.user_data else 0) (same-yes c.stream_identifier) ∙ ap length (sym (i.kept h.0 h.1 bytes refl)) in
-                  omega (arith, n, s),
-              more rest,
-            );
-          }
+      grind (arith, nat_tests, common_steps, is-back-of, every-of, sum_by-cons, not_both, not, same-yes, comes ks cs ds a.1 e.1)
 
 -- it is something, so each stream is open
 module _ (st : ℕ) where
@@ -116,11 +64,7 @@ module _ (st : ℕ) where
     where
       there : (b : ℕ) → r.bytes ≡ suc b → (o : Option OutboundStream) → find (has_number r.stream) ls ≡ o → is_some o ≡ true
           → amount r.stream ls + r.bytes < 2 ^ 64 → amount r.stream (change_where (has_number r.stream) (more_by r.bytes) ls) ≡ amount r.stream ls + r.bytes
-      there b is None found some lt = absurd (not_both some)
-      there b is (Some l) found some lt =
-          let x = amount-at r.stream (more_by r.bytes) (λ y. refl) ls l found in
-          let y = amount-found r.stream ls l found in
-          omega (arith, x, y, lt)
+      there h0 h1 h2 h3 h4 h5 = grind (arith, nat_tests, common_steps, not_both, amount-at, amount-found)
 
       own : (n : ℕ) → r.bytes ≡ n → amount r.stream ls + r.bytes < 2 ^ 64
           → amount r.stream (change_where (has_number r.stream) (more_by r.bytes) ls) ≡ amount r.stream ls + r.bytes
@@ -132,9 +76,7 @@ module _ (st : ℕ) where
 
       by : (b : Bool) → (r.stream == st) ≡ b → amount st ls + (if b then r.bytes else 0) < 2 ^ 64
           → amount st (change_where (has_number r.stream) (more_by r.bytes) ls) ≡ amount st ls + (if b then r.bytes else 0)
-      by true k lt = subst (λ x. amount x ls + r.bytes < 2 ^ 64
-          → amount x (change_where (has_number r.stream) (more_by r.bytes) ls) ≡ amount x ls + r.bytes) (same-is r.stream st k) (own r.bytes refl) lt
-      by false k lt = let x = amount-elsewhere st r.stream (more_by r.bytes) (λ y. refl) k ls in omega (arith, x)
+      by h0 h1 h2 = grind (arith, nat_tests, common_steps, same-is, own, amount-elsewhere)
 
 -- ## One session
 
@@ -195,11 +137,7 @@ module _ (first size max most : ℕ) (limits : Option Limits) (small : first < 2
               let h = ap (λ (u : Transmission). held (only st) u.flight.queue) f.exact in
               omega (arith, a, b, more, e, h);
         };
-        balance = λ st.
-            let b = held-more st in
-            let h = ap (λ (u : Transmission). held (only st) u.flight.queue) f.exact in
-            let n = ap (bytes_back_on st) f.answered in
-            omega (arith, b, h, n);
+        balance = grind (arith, nat_tests, common_steps, held-more);
       }
         where
           held-more : (st : ℕ) → held (only st) w ≡ held (only st) s.sending.sender.flight.queue + bytes_back_on st (taken_back_by sack s.sending.sender)
@@ -277,14 +215,10 @@ module _ (reported : Reported) (first size max most : ℕ) (limits : Option Limi
     (few : AreFewInFlightSo (at_start_with reported first size max most limits) calls s run) (short : bytes_written s < 2 ^ 64) where
   counts-all : GoesSo first size max most limits small some calls (at_start_with reported first size max most limits) s
   counts-all =
-      counts first size max most limits small some calls (at_start_with reported first size max most limits) s run 0 [] _ (none reported)
-      few short
+      counts first size max most limits small some calls (at_start_with reported first size max most limits) s run 0 [] _
+      (let none = none-flying reported first size max most limits in omega (arith, none)) few short
       (at-start reported first size max most limits small) (by reported)
     where
-      none : (k : Reported) → count_in_flight (at_start_with k first size max most limits) < 2 ^ 31
-      none Drop = omega arith
-      none Keep = omega arith
-
       by : (k : Reported) → AreCounted (at_start_with k first size max most limits)
       by Drop = record { all = record { ordered = tt; unordered = tt; inflight = tt }; amounts = λ st. refl }
       by Keep = record { all = record { ordered = tt; unordered = tt; inflight = tt }; amounts = λ st. refl }
@@ -353,11 +287,7 @@ each-return-told reported first size max most limits calls s run small some few 
     cs = s.sending.sender.flight.queue.inflight.chunks
 
     made : Every (WasMade s.made) g.shadow.chunks
-    made =
-        let h = made-in first size max most limits g.plays.plain.calls g.other small some g.plays.plain.run in
-        let w = each-made all_streams first h.sent g.other.made g.other.sending.sender.flight.queue.inflight.chunks h.made h.holds.held.stands.known in
-        subst (λ ms. Every (WasMade ms) g.shadow.chunks) g.shadow.made
-        (subst (λ (u : Transmission). Every (WasMade g.other.made) u.flight.queue.inflight.chunks) g.shadow.sender w)
+    made = grind (arith, nat_tests, common_steps, made-in, each-made)
 
     by : (o : Option (List (Option (List ℕ)))) → AreLike (kept_of o) s.sending.sender.flight.queue.inflight.chunks g.shadow.chunks
         → Every (IsOfMade s) (answered_back (back_by sack s.sending.sender.flight o) s.sending.sender.flight.queue.inflight.chunks)

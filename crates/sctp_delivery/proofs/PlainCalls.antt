@@ -1,20 +1,18 @@
 -- Each call of a sender that keeps what is reported, beside what it would do if no gap ack block were taken.
 use Rattle.sctp_delivery.proofs.Names.{common_steps, ◌≡◌, ℕ, ◌<◌, ◌≤◌, ◌+◌, ◌-◌, ◌^◌, Bool, true, false, not, List, [], ◌∷◌, ◌++◌, length, map, refl, ap, ap₂}
-use Rattle.sctp_delivery.proofs.Names.{sym, subst, ◌∙◌, arith, append-nil, append_assoc, Option, Some, None, option_map, option_to_list, is_some, IfSome, find}
-use Rattle.sctp_delivery.proofs.Names.{change_where, sum_by-cons, sum_by-inserted, sum_by, both, negated, none-some, some-same, nat_tests, if◌then◌else◌}
-use Rattle.sctp_delivery.proofs.Names.{nat_lt, ◌||◌, ◌&&◌, ChunkPayloadData, Sack, OutboundStream, ExpiredMessage, AbandonedMessage, Released, as_sent}
-use Rattle.sctp_delivery.proofs.Names.{all_started, bytes_of, data_of, expiring_tail, has_tsn, is_outstanding, message_of, next_pending, sent_next, sent_of}
-use Rattle.sctp_delivery.proofs.Names.{total_bytes, with_inflight, with_message, with_retransmit, Outbound, Flight, after_abandonment, after_sack}
-use Rattle.sctp_delivery.proofs.Names.{is_outstanding_in, message_to_abandon, next_after_send, released_by, tsn, with_room, count_again, sent_again, missed}
-use Rattle.sctp_delivery.proofs.Names.{can_miss, has_number, less_by, with_low, with_mode, with_size, wrote, with_lows, after_releases, after_expiry}
-use Rattle.sctp_delivery.proofs.Names.{fragments_with_mode, Transmission, after_abandon, after_acked, after_expire, write_refusal, written_to, with_flight}
-use Rattle.sctp_delivery.proofs.Names.{held_by_sender, started-inflight, SenderFollows, Session, IsReported, bytes_written, abandoned_by, Modes, modes_after}
-use Rattle.sctp_delivery.proofs.Names.{SenderCall, SenderMakes, made_after, with_chunk, written_after, Made, Write, PayloadProtocolIdentifier, SenderRefusal}
-use Rattle.sctp_delivery.proofs.Names.{all_marked, after_misses, resent_at, following_tsn, abandoned_at, abandoned_each, abandoned_with, after_abandoning}
-use Rattle.sctp_delivery.proofs.Names.{after_leaving, is_late, is_worn, late_order, late_tsns, leaving_at, leaving_each, map-append, to_abandon, worn_order}
-use Rattle.sctp_delivery.proofs.Names.{worn_tsns, ◌%◌, length-change_where, no_last, last_removed, waits, is_of, as_abandoned, terminal_chunk}
-use Rattle.sctp_delivery.proofs.Names.{with_terminal_chunk}
-use Rattle.sctp_outbound.specs.outbound_queue.OutboundQueue.{has_tail, sent_peeked}
+use Rattle.sctp_delivery.proofs.Names.{sym, subst, ◌∙◌, arith, append-nil, Option, Some, None, option_map, option_to_list, is_some, IfSome, find, change_where}
+use Rattle.sctp_delivery.proofs.Names.{sum_by-cons, sum_by-inserted, sum_by, both, negated, none-some, some-same, nat_tests, if◌then◌else◌, nat_lt, ◌||◌, ◌&&◌}
+use Rattle.sctp_delivery.proofs.Names.{ChunkPayloadData, Sack, OutboundStream, ExpiredMessage, AbandonedMessage, Released, as_sent, all_started, bytes_of}
+use Rattle.sctp_delivery.proofs.Names.{data_of, expiring_tail, has_tsn, is_outstanding, message_of, next_pending, sent_next, sent_of, total_bytes}
+use Rattle.sctp_delivery.proofs.Names.{with_inflight, with_message, with_retransmit, Outbound, Flight, after_abandonment, after_sack, is_outstanding_in}
+use Rattle.sctp_delivery.proofs.Names.{message_to_abandon, next_after_send, released_by, tsn, with_room, count_again, sent_again, missed, can_miss, has_number}
+use Rattle.sctp_delivery.proofs.Names.{less_by, with_low, with_mode, with_size, wrote, with_lows, after_releases, after_expiry, fragments_with_mode}
+use Rattle.sctp_delivery.proofs.Names.{Transmission, after_abandon, after_acked, after_expire, write_refusal, written_to, with_flight, held_by_sender}
+use Rattle.sctp_delivery.proofs.Names.{started-inflight, SenderFollows, Session, IsReported, bytes_written, abandoned_by, Modes, modes_after, SenderCall}
+use Rattle.sctp_delivery.proofs.Names.{SenderMakes, made_after, with_chunk, written_after, Made, Write, PayloadProtocolIdentifier, SenderRefusal, all_marked}
+use Rattle.sctp_delivery.proofs.Names.{after_misses, resent_at, following_tsn, abandoned_at, abandoned_each, after_abandoning, after_leaving, is_late, is_worn}
+use Rattle.sctp_delivery.proofs.Names.{late_order, late_tsns, leaving_at, leaving_each, to_abandon, worn_order, worn_tsns, ◌%◌, length-change_where, no_last}
+use Rattle.sctp_outbound.specs.outbound_queue.OutboundQueue.{has_tail}
 use Rattle.sctp_sender.specs.Late.{with_tail}
 use Rattle.sctp_sender.specs.Sender.{with_mode_on, is_open, open_stream, stream_of}
 use Rattle.sctp_sender.specs.declared.sender.refusal.SenderRefusal.TheVariants.{MessageTooLarge, NotInFlight, QueueFull, StreamUnknown, TsnsUsedUp}
@@ -36,18 +34,18 @@ use Rattle.sctp_delivery.specs.Session.{count_in_flight}
 use Rattle.sctp_delivery.proofs.Cases.{at-test}
 use Rattle.sctp_delivery.proofs.Changes.{expired-one, order-short}
 use Rattle.sctp_delivery.proofs.Delivered.{next_tsn}
-use Rattle.sctp_delivery.proofs.Every.{Every, every-contained}
+use Rattle.sctp_delivery.proofs.Every.{every-contained}
 use Rattle.sctp_delivery.proofs.FewInFlight.{IsInRun, IsRegular}
 use Rattle.sctp_delivery.proofs.GivenTsns.{put-length}
 use Rattle.sctp_delivery.proofs.OneRead.{no-way}
 use Rattle.sctp_delivery.proofs.Plain.{AreLike, IsLike, are-changed, are-long, are-marked, are-part-marked, are-plain, blind-same, found-plain, plain, rest_of}
-use Rattle.sctp_delivery.proofs.PlainFlights.{abandon-same, are-gone, are-sacked, are-sent, can-same, chunks_of, end-same, fewer-bytes, flight_with}
-use Rattle.sctp_delivery.proofs.PlainFlights.{gone-same, named-same, refusal-same, sack-same, send-same, next-same, settled-others, skip-same, started-same}
+use Rattle.sctp_delivery.proofs.PlainFlights.{abandon-same, are-gone, are-sacked, are-sent, can-same, chunks_of, end-same, fewer-bytes, flight_with, gone-same}
+use Rattle.sctp_delivery.proofs.PlainFlights.{named-same, refusal-same, sack-same, send-same, next-same, settled-others, skip-same, started-same}
 use Rattle.sctp_delivery.proofs.PlainSessions.{Goes, IsThere, Others, as_plain, bound-there, calls-too, kept_of, room-of, small-next, regular-of, stays-so}
 use Rattle.sctp_delivery.proofs.PlainStreams.{AreAlike, bare, both-expired, both-lower, both-moded, both-opened, both-sized, both-wrote, found-alike, one-less}
 use Rattle.sctp_delivery.proofs.PlainStreams.{left-alike, open-alike, released-alike}
 use Rattle.sctp_delivery.proofs.SackSteps.{message-inflight}
-use Rattle.sctp_delivery.proofs.ValidMarks.{IsFresh, IsUnmarked, fresh-started}
+use Rattle.sctp_delivery.proofs.ValidMarks.{IsFresh, fresh-started}
 use Rattle.sctp_delivery.proofs.Writing.{accepted-stream}
 
 -- ## What is found
@@ -81,7 +79,7 @@ abbrev refused_by : Bool → Bool → Bool → Bool → Option SenderRefusal
 refused_by a b c d = if not a then Some StreamUnknown else (if b then Some MessageTooLarge else (if not c || not d then Some QueueFull else None))
 
 fits-too : (a k b c d : Bool) → k ≡ a → refused_by a b c d ≡ None → refused_by k b c true ≡ None
-fits-too a k b c d same none = grind (arith, nat_tests, none-some)
+fits-too a k b c d same none = grind (arith, nat_tests)
 
 -- ## What is kept after a SACK
 
@@ -125,28 +123,11 @@ one-end false = omega arith
 
 end-long : (o : Option ℕ) (f : Flight)
     → length (chunks_of (after_abandonment o f)) ≡ length (chunks_of f) + (if has_tail o f.queue then 1 else 0)
-end-long None f = omega arith
-end-long (Some m) f = by (last_removed m f.queue.pending) refl (waits m f.queue.pending) refl
-  where
-    marked : length (change_where (is_of m) as_abandoned f.queue.inflight.chunks) ≡ length f.queue.inflight.chunks
-    marked = length-change_where (is_of m) as_abandoned f.queue.inflight.chunks
-
-    by : (o : Option ChunkPayloadData) → last_removed m f.queue.pending ≡ o → (b : Bool) → waits m f.queue.pending ≡ b
-        → length (with_terminal_chunk o f.next_tsn (payload.with_chunks f.queue.inflight (change_where (is_of m) as_abandoned f.queue.inflight.chunks))).chunks
-        ≡ length f.queue.inflight.chunks + (if b then 1 else 0)
-    by None e true w = absurd (no_last m f.queue.pending w e)
-    by None e false w = omega (arith, marked)
-    by (Some c) e true w =
-        let p = put-length (terminal_chunk f.next_tsn c) (change_where (is_of m) as_abandoned f.queue.inflight.chunks) in
-        omega (arith, marked, p)
-    by (Some c) e false w = absurd (none-some c (sym (last_removed_none m f.queue.pending w) ∙ e))
+end-long h0 h1 = grind (arith, nat_tests, common_steps, length-change_where, no_last, put-length, none-some, last_removed_none)
 
 ends-long : (xs : List ℕ) (f : Flight) → length (chunks_of (abandoned_each xs f)) ≡ length (chunks_of f) + ends xs f
 ends-long [] f = omega arith
-ends-long (x ∷ xs) f =
-    let a = end-long (message_to_abandon x f) f in
-    let b = ends-long xs (abandoned_at x f) in
-    omega (arith, a, b)
+ends-long (x ∷ xs) f = grind (arith, nat_tests, common_steps, end-long, ends-long xs (abandoned_at x f))
 
 ends-few : (xs : List ℕ) (f : Flight) → ends xs f ≤ length xs
 ends-few [] f = omega arith
@@ -163,10 +144,6 @@ far-along : (a b e : ℕ) → a < 2 ^ 32 → e < 2 ^ 32 → b ≡ (a + e) % 2 ^ 
 unfolding distance
 far-along a b e near few is = omega (arith, near, few, is)
 
--- what is told of a message is of the one that leaves
-told-one : (o : Option ChunkPayloadData) (bytes : ℕ) → map (λ (a : AbandonedMessage). a.number) (abandoned_with o bytes) ≡ option_to_list (to_abandon o)
-told-one h0 h1 = grind (arith, nat_tests, common_steps)
-
 module _ (first : ℕ) (others : Others first) where
   module _ (t : Transmission) (s : Session) (n : ℕ) (gone : List ℕ) (m : Modes) (room : others.Bound n (length t.flight.queue.inflight.chunks))
       (g : Goes first others t s n gone m) where
@@ -177,10 +154,7 @@ module _ (first : ℕ) (others : Others first) where
     numbered-is = subst (λ (u : Transmission). IsInRun u.flight) g.shadow.sender regular-is.numbered
 
     pub fresh-is : IsFresh t.flight.queue
-    fresh-is = record {
-      ordered = subst (λ (u : Transmission). Every IsUnmarked u.flight.queue.pending.ordered) g.shadow.sender regular-is.fresh.ordered;
-      unordered = subst (λ (u : Transmission). Every IsUnmarked u.flight.queue.pending.unordered) g.shadow.sender regular-is.fresh.unordered;
-    }
+    fresh-is = grind (arith, nat_tests, common_steps, regular-is)
 
     -- as many chunks are in flight there, and few
     pub long-is : length t.flight.queue.inflight.chunks ≡ length g.shadow.chunks
@@ -268,7 +242,7 @@ module _ (first : ℕ) (others : Others first) where
                 ∙ at-test (λ b. length t.flight.queue.inflight.chunks + (if b then 1 else 0) < 2 ^ 31
                 → (if b && not (may_send (flight_with t.flight g.shadow.chunks)) then Some TsnsUsedUp else None) ≡ None)
                 (has_tail (Some k) t.flight.queue)
-                (λ _ lt. let ok : nat_lt (long + 1) (2 ^ 31) ≡ true = (let le : long + 1 < 2 ^ 31 = omega (arith, same, lt) in grind (arith, nat_tests, le)) in
+                (λ _ lt. let ok : nat_lt (long + 1) (2 ^ 31) ≡ true = (let le : long + 1 < 2 ^ 31 = omega (arith, same, lt) in grind (arith, nat_tests)) in
                 ap (λ b. if not b then Some TsnsUsedUp else None) ok)
                 (λ _ _. refl) fits
 
@@ -277,26 +251,14 @@ module _ (first : ℕ) (others : Others first) where
             (length t.flight.queue.inflight.chunks + (if has_tail (message_to_abandon x t.flight) t.flight.queue then 1 else 0))
             → Goes first others (record t { flight = after_abandonment (message_to_abandon x t.flight) t.flight }) s
             (n + (if has_tail (message_to_abandon x t.flight) t.flight.queue then 1 else 0)) (gone ++ option_to_list (message_to_abandon x t.flight)) m
-        by None e short =
-            subst (λ o. Goes first others (record t { flight = after_abandonment o t.flight }) s
-            (n + (if has_tail o t.flight.queue then 1 else 0)) (gone ++ option_to_list o) m)
-            (sym e) (subst (λ k. Goes first others t s k (gone ++ []) m) {x = n} {y = n + 0} (omega arith)
-            (subst (λ xs. Goes first others t s n xs m) (sym (append-nil gone)) g))
-        by (Some k) e short =
-            subst (λ o. Goes first others (record t { flight = after_abandonment o t.flight }) s
-            (n + (if has_tail o t.flight.queue then 1 else 0)) (gone ++ option_to_list o) m)
-            (sym e) (some k (find (has_tsn x) g.shadow.chunks) refl (same-message
-            ∙ e) e (subst (λ o. others.Bound (n + (if has_tail o t.flight.queue then 1 else 0))
-            (length t.flight.queue.inflight.chunks + (if has_tail o t.flight.queue then 1 else 0))) e short))
+        by h0 h1 h2 = grind (arith, nat_tests, common_steps, append-nil, some, same-message)
 
   leave-each : (xs : List ℕ) (t : Transmission) (s : Session) (n : ℕ) (gone : List ℕ) (m : Modes)
       → others.Bound (n + ends xs t.flight) (length t.flight.queue.inflight.chunks + ends xs t.flight)
       → Goes first others t s n gone m
       → Goes first others (record t { flight = abandoned_each xs t.flight }) s (n + ends xs t.flight)
       (gone ++ map (λ (a : AbandonedMessage). a.number) (leaving_each xs t.flight)) m
-  leave-each [] t s n gone m few g =
-      subst (λ k. Goes first others t s k (gone ++ []) m) {x = n} {y = n + 0} (omega arith)
-      (subst (λ xs. Goes first others t s n xs m) (sym (append-nil gone)) g)
+  leave-each [] t s n gone m few g = grind (arith, nat_tests, common_steps)
   leave-each (x ∷ xs) t s n gone m few g =
       let u : Transmission = record t { flight = abandoned_at x t.flight } in
       let one : ℕ = if has_tail_at t.flight x then 1 else 0 in
@@ -305,17 +267,14 @@ module _ (first : ℕ) (others : Others first) where
       let rest = map number (leaving_each xs u.flight) in
       let long = length t.flight.queue.inflight.chunks in
       let sum : (n + one) + ends xs u.flight ≡ n + (one + ends xs u.flight) = omega arith in
-      let both' : others.Bound ((n + one) + ends xs u.flight) ((long + one) + ends xs u.flight) =
-      subst (λ k. others.Bound k ((long + one) + ends xs u.flight)) (sym sum)
-      (subst (others.Bound (n + (one + ends xs u.flight))) {x = long + (one + ends xs u.flight)} {y = (long + one) + ends xs u.flight} (omega arith) few) in
+      let both' : others.Bound ((n + one) + ends xs u.flight) ((long + one) + ends xs u.flight) = grind (arith, nat_tests, common_steps) in
       let here = others.fewer (n + one) (long + one) (ends xs u.flight) both' in
       let now' = leave-one t s n gone m (others.fewer n long one here) g x here in
       let more = end-long (message_to_abandon x t.flight) t.flight in
       let then' = leave-each xs u s (n + one) (gone ++ left) m
       (subst (λ k. others.Bound ((n + one) + ends xs u.flight) (k + ends xs u.flight)) (sym more) both') now' in
       let all : (gone ++ left) ++ rest ≡ gone ++ map number (leaving_at x t.flight ++ leaving_each xs u.flight) =
-      append_assoc gone left rest ∙ ap (λ ys. gone ++ ys) (ap (λ ys. ys ++ rest) (sym (told-one (find (has_tsn x) t.flight.queue.inflight.chunks) _))
-      ∙ sym (map-append number (leaving_at x t.flight) (leaving_each xs u.flight))) in
+      grind (arith, nat_tests, common_steps) in
       subst (λ k. Goes first others (record t { flight = abandoned_each (x ∷ xs) t.flight }) s k
       (gone ++ map number (leaving_each (x ∷ xs) t.flight)) m) sum
       (subst (λ ys. Goes first others (record t { flight = abandoned_each (x ∷ xs) t.flight }) s ((n + one) + ends xs u.flight) ys m) all then')
@@ -371,26 +330,14 @@ module _ (first : ℕ) (others : Others first) (s v : Session) (n : ℕ) (gone :
       → ((ms : List Made) → made_after c (as_plain s.sending.sender g.shadow.streams g.shadow.chunks) ms ≡ made_after call s.sending.sender ms)
       → ((ws : List Write) → written_after c ws ≡ written_after call ws) → modes_after c m ≡ modes_after call m
       → abandoned_by c (as_plain s.sending.sender g.shadow.streams g.shadow.chunks) ≡ abandoned_by call s.sending.sender → Result call
-  by-call call f u e c ls' ds' makes handed alike like made written modes left =
-      subst
-      (λ (y : Transmission). Goes first others y v (n + distance (next_tsn s) y.flight.next_tsn) (gone ++ abandoned_by call s.sending.sender)
-      (modes_after call m)) (sym e)
-      (calls-too first others s.sending.sender u s v n gone m g call room (few-of u e) (ap (λ (x : Session). x.receiving) f.after)
-      (ap (λ (x : Session). x.sacks) f.after) (ap (λ (x : Session). x.made) f.after) (ap (λ (x : Session). x.written) f.after)
-      c ls' ds' makes handed alike like made written modes left)
+  by-call call f u e c ls' ds' makes handed alike like made written modes left = grind (arith, nat_tests, common_steps, calls-too, few-of)
 
   by-none : (call : SenderCall) → SenderFollows call s v → (u : Transmission) → v.sending.sender ≡ u → AreAlike u.streams s.sending.sender.streams
       → AreLike (kept_of u.kept) u.flight.queue.inflight.chunks g.shadow.chunks
       → as_plain u g.shadow.streams g.shadow.chunks ≡ as_plain s.sending.sender g.shadow.streams g.shadow.chunks
       → ((ms : List Made) → made_after call s.sending.sender ms ≡ ms) → ((ws : List Write) → written_after call ws ≡ ws) → modes_after call m ≡ m
       → abandoned_by call s.sending.sender ≡ [] → Result call
-  by-none call f u e alike like same made written modes left =
-      subst
-      (λ (y : Transmission). Goes first others y v (n + distance (next_tsn s) y.flight.next_tsn) (gone ++ abandoned_by call s.sending.sender)
-      (modes_after call m)) (sym e)
-      (stays-so first others s.sending.sender u s v n gone m g call room (few-of u e) (ap (λ (x : Session). x.receiving) f.after)
-      (ap (λ (x : Session). x.sacks) f.after)
-      (ap (λ (x : Session). x.made) f.after) (ap (λ (x : Session). x.written) f.after) alike like same near made written modes left)
+  by-none call f u e alike like same made written modes left = grind (arith, nat_tests, common_steps, stays-so, few-of, near)
 
   -- ## A write
 
@@ -429,7 +376,7 @@ module _ (first : ℕ) (others : Others first) (s v : Session) (n : ℕ) (gone :
           ap bytes_written f.after ∙ (let c =
           sum_by-cons (λ (x : Write). length x.bytes) (record { stream = stream; payload_type = ppi; bytes = b ∷ bs }) s.written in omega (arith, c)) in
           let lt : total_bytes (with_inflight t.flight.queue ds) + length (b ∷ bs) < 2 ^ 64 = omega (arith, all, held, before, after, short) in
-          grind (arith, nat_tests, lt)
+          grind (arith, nat_tests)
 
       accepted : SenderFollows (outgoing.writes stream ppi (b ∷ bs)) s v → write_refusal stream (length (b ∷ bs)) w ≡ None
       accepted f =
@@ -461,14 +408,7 @@ module _ (first : ℕ) (others : Others first) (s v : Session) (n : ℕ) (gone :
           → held_by_sender v.sending.sender ≡ total_bytes (sent_next t.flight.queue t.flight.next_tsn now)
           → total_bytes (with_inflight (sent_next t.flight.queue t.flight.next_tsn now)
           (sent_next (with_inflight t.flight.queue ds) t.flight.next_tsn now).inflight.chunks) ≡ total_bytes (with_inflight t.flight.queue ds)
-      bytes calm same =
-          let q = t.flight.queue in
-          let r = all_started now q in
-          let a = sent-bytes (next_pending r.pending) r ds t.flight.next_tsn now in
-          let b = ap (λ (p : payload.Payload). bytes_of p.chunks) (started-inflight now q) in
-          let c = ap total_bytes (next-same q ds t.flight.next_tsn now) in
-          let d = ap (λ x. total_bytes (sent_peeked x t.flight.next_tsn now)) (started-same now q ds) in
-          omega (arith, a, b, c, d, calm, same)
+      bytes calm same = grind (arith, nat_tests, common_steps, sent-bytes, started-inflight, next-same, started-same)
 
   -- ## A message leaves
 
@@ -501,24 +441,10 @@ module _ (first : ℕ) (others : Others first) (s v : Session) (n : ℕ) (gone :
           found-plain (has_tsn tsn) (λ c. refl) t.flight.queue.inflight.chunks ds (are-plain (kept_of t.kept) t.flight.queue.inflight.chunks ds g.shadow.like)
 
       told : Tells (Some a) (find (has_tsn tsn) t.flight.queue.inflight.chunks) → Tells (Some a) (find (has_tsn tsn) ds)
-      told k = (
-        k.0 ∙ blind-same (option_map (λ (c : ChunkPayloadData). c.stream_identifier)) (λ c. refl) (find (has_tsn tsn) t.flight.queue.inflight.chunks)
-            (find (has_tsn tsn) ds) found,
-        k.1 ∙ blind-same (option_map (λ (c : ChunkPayloadData). c.message_id)) (λ c. refl) (find (has_tsn tsn) t.flight.queue.inflight.chunks)
-            (find (has_tsn tsn) ds) found,
-      )
+      told k = grind (arith, nat_tests, common_steps, blind-same, found)
 
       refusal : abandon_refusal tsn t.flight ≡ None → abandon_refusal tsn (flight_with t.flight ds) ≡ None
-      refusal none =
-          let cs = t.flight.queue.inflight.chunks in
-          let fl = flight_with t.flight ds in
-          let test : Bool → Bool → ℕ → Option SenderRefusal =
-          λ b h k. if not b then Some NotInFlight else (if h && not (nat_lt (k + 1) (2 ^ 31)) then Some TsnsUsedUp else None) in
-          ap (λ b. test b (has_tail_at fl tsn) (length ds)) (sym (blind-same is_some (λ c. refl) (find (has_tsn tsn) cs) (find (has_tsn tsn) ds) found))
-          ∙ ap (λ h. test (is_held cs tsn) h (length ds))
-          (ap (λ o. has_tail o fl.queue) (abandon-same t.flight (kept_of t.kept) ds g.shadow.like tsn)
-          ∙ tail-same (message_to_abandon tsn t.flight) t.flight.queue ds)
-          ∙ ap (test (is_held cs tsn) (has_tail_at t.flight tsn)) (sym (are-long (kept_of t.kept) cs ds g.shadow.like)) ∙ none
+      refusal none = grind (arith, nat_tests, common_steps, not, blind-same, is_some, found, abandon-same, tail-same, are-long)
 
   -- with nothing told, and the rest of a message
   tail-goes : (now : ℕ) (a : AbandonedMessage) → SenderFollows (outgoing.expires_tail now (Some a)) s v → Result (outgoing.expires_tail now (Some a))

@@ -73,14 +73,10 @@ module _ (reported : Reported) (first size max' most : ℕ) (limits : Option Lim
           (in-step first size max' most limits p.calls _ p.run small (omega (arith, e, few)))
 
       each : Every (HasCome (base first) n s.receiving.receiver) s.receiving.accepted
-      each =
-          let same = (shadow reported first size max' most limits calls s run small flying short).receiving in
-          subst (λ (r : Stand). Every (HasCome (base first) n r.receiver) r.accepted) same step.taken.each
+      each = grind (arith, nat_tests, common_steps, shadow, step)
 
       has : (tsn : ℕ) → list_any (has_tsn tsn) s.receiving.accepted ≡ true → has_come tsn (filter_of s.receiving.receiver) ≡ true
-      has tsn e =
-          let c = one-of (HasCome (base first) n s.receiving.receiver) (has_tsn tsn) s.receiving.accepted e each in
-          subst (λ k. has_come k (filter_of s.receiving.receiver) ≡ true) (same-is c.0.tsn tsn c.1) c.2.1
+      has tsn e = grind (arith, nat_tests, common_steps, one-of, each, same-is)
 
       one : (c : ChunkPayloadData) → IsCame s.receiving.accepted c → c.acked ≡ true → is_to_come s.receiving.receiver c ≡ false
       one c h a = elim (or-split (list_any (has_tsn c.tsn) s.receiving.accepted) c.abandoned (h a)) [
@@ -134,9 +130,7 @@ all-end reported first size max' most limits calls s run small some few short ta
     (nat_le s.sending.sender.max_message_size s.receiving.receiver.max_message_size) takes in
     let enough : nat_le d.sending.sender.max_message_size d.receiving.receiver.max_message_size ≡ true =
     ap₂ (λ (u : Transmission) (r : Stand). nat_le u.max_message_size r.receiver.max_message_size) g.shadow.sender g.shadow.receiving ∙ h.1 in
-    let window : has_window d.receiving.receiver.limits d.sending.sender d.receiving.receiver ≡ true =
-    ap (λ (r : Stand). has_window r.receiver.limits d.sending.sender r.receiver) g.shadow.receiving
-    ∙ same-window reported first size max' most limits calls s run small some given' short s.receiving.receiver.limits ∙ h.0 in
+    let window : has_window d.receiving.receiver.limits d.sending.sender d.receiving.receiver ≡ true = grind (arith, nat_tests, common_steps, same-window) in
     let room : RoomIn limits d = room-each limits d (due-to-come first size max' most limits p.calls d small some p.run (omega (arith, e0, given')))
     (subst (λ o. has_window o d.sending.sender d.receiving.receiver ≡ true) (limits-same p.calls start d p.run) window) in
     let e = ends-beside first size max' most limits p.calls d small some p.run (omega (arith, e0, waiting, few)) enough grows-each room now s x in

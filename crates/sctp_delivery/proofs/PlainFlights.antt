@@ -1,6 +1,6 @@
 -- What calls make of what is in flight, beside what they would make of it if no gap ack block were taken.
-use Rattle.sctp_delivery.proofs.Names.{common_steps, ◌≡◌, ℕ, ◌<◌, ◌≤◌, ◌+◌, ◌^◌, true, false, not, List, [], ◌∷◌, ◌++◌, length, map, drop, refl, ap, ap₂, sym}
-use Rattle.sctp_delivery.proofs.Names.{subst, ◌∙◌, arith, Option, Some, None, option_map, if◌then◌else◌, ◌&&◌, nat_lt, nat_le, filter, find, change_where}
+use Rattle.sctp_delivery.proofs.Names.{common_steps, ◌≡◌, ℕ, ◌<◌, ◌≤◌, ◌+◌, ◌^◌, false, not, List, [], ◌∷◌, ◌++◌, length, map, drop, refl, ap, ap₂, sym, subst}
+use Rattle.sctp_delivery.proofs.Names.{◌∙◌, arith, Option, Some, None, option_map, if◌then◌else◌, ◌&&◌, nat_lt, nat_le, filter, find, change_where}
 use Rattle.sctp_delivery.proofs.Names.{insert_before, sum_by-cons, sum_by-inserted, negated, not_both, nat_tests, length-change_where, length-map, bytes_of}
 use Rattle.sctp_delivery.proofs.Names.{removed_le, ChunkPayloadData, Sack, as_abandoned, as_acknowledged, as_sent, is_of, terminal_chunk, with_terminal_chunk}
 use Rattle.sctp_delivery.proofs.Names.{chunk_before, tsns, following_tsn, has_tsn, is_on, comes_before, at_or_before, distance, last_of, ends, past, past-is}
@@ -24,8 +24,8 @@ use Rattle.sctp_delivery.proofs.Every.{Every, every-all, every-tested}
 use Rattle.sctp_delivery.proofs.GivenTsns.{IsNumbered}
 use Rattle.sctp_delivery.proofs.Plain.{Are, AreLike, rest_of, IsBareSack, IsLike, IsLikeBehind, are-changed, are-behind, are-left, are-long, are-plain}
 use Rattle.sctp_delivery.proofs.Plain.{are-reported, are-so, are-trimmed, are-tsns, blind-same, found-plain, last-plain, like-abandoned, like-itself}
-use Rattle.sctp_sender.proofs.InLine.{put-behind}
 use Rattle.sctp_delivery.proofs.Plain.{passing-plain, plain, take-plain}
+use Rattle.sctp_sender.proofs.InLine.{put-behind}
 use Rattle.sctp_delivery.proofs.QueueChunks.{peeked, removed}
 use Rattle.sctp_delivery.proofs.TsnPlaces.{tsn-small}
 use Rattle.sctp_delivery.proofs.ValidMarks.{IsFresh, IsUnmarked}
@@ -95,15 +95,9 @@ module _ (f : Flight) (ks : List (Option (List ℕ))) (ds : List ChunkPayloadDat
 
 -- ## A message leaves
 
-put-same : (o : Option ChunkPayloadData) (t : ℕ) (q : payload.Payload) (xs ys : List ChunkPayloadData)
-    → with_terminal_chunk o t (payload.with_chunks q ys)
-    ≡ payload.with_chunks (with_terminal_chunk o t (payload.with_chunks q xs)) (with_terminal_chunk o t (payload.with_chunks q ys)).chunks
-put-same None t q xs ys = refl
-put-same (Some c) t q xs ys = refl
-
 pub gone-same : (o : Option ℕ) (f : Flight) (ds : List ChunkPayloadData)
     → after_abandonment o (flight_with f ds) ≡ flight_with (after_abandonment o f) (chunks_of (after_abandonment o (flight_with f ds)))
-gone-same h0 h1 h2 = grind (arith, nat_tests, common_steps, put-same)
+gone-same h0 h1 h2 = grind (arith, nat_tests, common_steps)
 
 module _ (p n : ℕ) (f : Flight) (ks : List (Option (List ℕ))) (ds : List ChunkPayloadData) (a : AreLike ks f.queue.inflight.chunks ds) (few : n < 2 ^ 31)
     (h : IsNumbered p n (flight_with f ds)) where
@@ -172,18 +166,11 @@ fewer-bytes (Some m) f =
 -- ## Lifetimes start, and a chunk is sent
 
 pub started-same : (now : ℕ) (q : Outbound) (ds : List ChunkPayloadData) → all_started now (with_inflight q ds) ≡ with_inflight (all_started now q) ds
-started-same now q ds = grind (arith, nat_tests, common_steps, e)
-
-sent-of-same : (o : Option ChunkPayloadData) (q : Outbound) (ds : List ChunkPayloadData) (t now : ℕ)
-    → sent_of o (with_inflight q ds) t now ≡ with_inflight (sent_of o q t now) (sent_of o (with_inflight q ds) t now).inflight.chunks
-sent-of-same None q ds t now = refl
-sent-of-same (Some c) q ds t now = refl
+started-same now q ds = grind (arith, nat_tests, common_steps)
 
 pub next-same : (q : Outbound) (ds : List ChunkPayloadData) (t now : ℕ)
     → sent_next (with_inflight q ds) t now ≡ with_inflight (sent_next q t now) (sent_next (with_inflight q ds) t now).inflight.chunks
-next-same q ds t now =
-    subst (λ w. sent_peeked w t now ≡ with_inflight (sent_next q t now) (sent_peeked w t now).inflight.chunks) (sym (started-same now q ds))
-    (sent-of-same (next_pending (all_started now q).pending) (all_started now q) ds t now)
+next-same q ds t now = grind (arith, nat_tests, common_steps)
 
 module _ (p n : ℕ) (f : Flight) (ks : List (Option (List ℕ))) (ds : List ChunkPayloadData) (a : AreLike ks f.queue.inflight.chunks ds) (few : n < 2 ^ 31)
     (h : IsNumbered p n (flight_with f ds)) (now : ℕ) (fresh : IsFresh (all_started now f.queue)) where
@@ -216,11 +203,11 @@ module _ (s k : Sack) (f : Flight) (ds : List ChunkPayloadData) (bare : IsBareSa
   outdated-same = ap (λ t. comes_before t f.acked_tsn) bare.same
 
   pub sack-same : after_sack k (flight_with f ds) ≡ flight_with (after_sack s f) (chunks_of (after_sack k (flight_with f ds)))
-  sack-same = grind (arith, nat_tests, common_steps, outdated-same, e)
+  sack-same = grind (arith, nat_tests, common_steps)
 
   -- it is taken where the other is
   pub refusal-same : length ds ≡ length f.queue.inflight.chunks → sack_refusal s f ≡ None → sack_refusal k (flight_with f ds) ≡ None
-  refusal-same long none = grind (arith, nat_tests, bare.same, bare.none)
+  refusal-same long none = grind (arith, nat_tests)
 
 module _ (s k : Sack) (bare : IsBareSack s k) (p n : ℕ) (f : Flight) (ks : List (Option (List ℕ))) (ds : List ChunkPayloadData)
     (a : AreLike ks f.queue.inflight.chunks ds) (few : n < 2 ^ 31) (h : IsNumbered p n (flight_with f ds)) (fits : s.cumulative_tsn_ack < 2 ^ 32)
@@ -258,9 +245,7 @@ module _ (s k : Sack) (bare : IsBareSack s k) (p n : ℕ) (f : Flight) (ks : Lis
       let cut-d = cut current ds' (length-change_where (reports_anew k) as_acknowledged ds) tsns-d in
       let js = drop (count_acked s f) (keep_each s f.queue.inflight.chunks ks) in
       let behind : Every (λ (d : ChunkPayloadData). at_or_before d.tsn s.cumulative_tsn_ack ≡ false) (past s.cumulative_tsn_ack ds') =
-      every-tested (λ (d : ChunkPayloadData). at_or_before d.tsn s.cumulative_tsn_ack ≡ false) (λ d. not (at_or_before d.tsn s.cumulative_tsn_ack)) ds'
-      (every-all (λ d. not (at_or_before d.tsn s.cumulative_tsn_ack) ≡ true → at_or_before d.tsn s.cumulative_tsn_ack ≡ false)
-      (λ d e. negated (at_or_before d.tsn s.cumulative_tsn_ack) e) ds') in
+      grind (arith, nat_tests, common_steps, every-tested, not, every-all, e, negated) in
       are-trimmed IsLike js (past s.cumulative_tsn_ack cs') (past s.cumulative_tsn_ack ds')
       (are-so (IsLikeBehind s k bare) IsLike (λ (d : ChunkPayloadData). at_or_before d.tsn s.cumulative_tsn_ack ≡ false) (λ j c d i e. i e) js
       (past s.cumulative_tsn_ack cs') (past s.cumulative_tsn_ack ds')

@@ -1,18 +1,16 @@
 -- A session of a sender that keeps what is reported holds what the session beside it does: what got TSNs, and how all that waits follows on.
-use Rattle.sctp_delivery.proofs.Names.{arith, nat_tests, common_steps, ◌≡◌, ℕ, ◌<◌, ◌^◌, Bool, true, List, [], ◌∷◌, map, refl, ap, sym, subst, ◌∙◌}
-use Rattle.sctp_delivery.proofs.Names.{if◌then◌else◌}
-use Rattle.sctp_delivery.proofs.Names.{◌==◌, ◌||◌, Option, list_any, negated, both, ChunkPayloadData, OutboundStream, Limits, Transmission, Session, Modes}
-use Rattle.sctp_delivery.proofs.Names.{is_of, is_outstanding, data_of, sum_by-cons}
+use Rattle.sctp_delivery.proofs.Names.{arith, nat_tests, common_steps, ◌≡◌, ℕ, ◌<◌, ◌^◌, Bool, List, [], ◌∷◌, map, refl, ap, sym, subst, if◌then◌else◌, ◌==◌}
+use Rattle.sctp_delivery.proofs.Names.{◌||◌, Option, list_any, ChunkPayloadData, OutboundStream, Limits, Transmission, Session, Modes, is_of}
 use Rattle.sctp_delivery.proofs.AmountLaws.{HasMade, made-in}
 use Rattle.sctp_delivery.proofs.Cases.{all_streams}
 use Rattle.sctp_delivery.proofs.Every.{every-all}
-use Rattle.sctp_delivery.proofs.InFlight.{IsKnownOn, placed-alike}
+use Rattle.sctp_delivery.proofs.InFlight.{IsKnownOn}
 use Rattle.sctp_delivery.proofs.Numbers.{AreSized, IsSteady, all-open, count_of, is_there, number_of}
 use Rattle.sctp_delivery.proofs.Plain.{AreLike, IsLike, any-plain, are-plain, paired}
 use Rattle.sctp_delivery.proofs.PlainSessions.{Goes, as_plain, kept_of, plain}
 use Rattle.sctp_delivery.proofs.PlainStreams.{AreAlike, bare}
 use Rattle.sctp_delivery.proofs.Senders.{IsHeld, IsHeldOn, renumbered}
-use Rattle.sctp_delivery.proofs.Sent.{Entry, Numbered, WasSent}
+use Rattle.sctp_delivery.proofs.Sent.{Entry, Numbered}
 
 -- ## Streams that are alike
 
@@ -26,9 +24,7 @@ there-bare s (l ∷ ls) = ap (λ b. (l.stream_identifier == s) || b) (there-bare
 
 counts-bare : (s : ℕ) (ls : List OutboundStream) → count_of s (map bare ls) ≡ count_of s ls
 counts-bare s [] = refl
-counts-bare s (l ∷ ls) =
-    let one : OutboundStream → ℕ = λ k. if k.stream_identifier == s then 1 else 0 in
-    omega (arith, counts-bare s ls, sum_by-cons one (bare l) (map bare ls), sum_by-cons one l ls)
+counts-bare s (l ∷ ls) = grind (arith, nat_tests, common_steps, counts-bare s ls)
 
 sized-alike : (ls ms : List OutboundStream) → AreAlike ms ls → AreSized ls → AreSized ms
 sized-alike ls [] e z = tt
@@ -39,36 +35,13 @@ sized-alike (l ∷ ls) (m ∷ ms) e z =
     (subst (λ (x : OutboundStream). 0 < x.max_payload_size) (sym one) z.0, sized-alike ls ms rest z.1)
 
 pub steady-alike : (ls ms : List OutboundStream) → AreAlike ms ls → IsSteady ls ms
-steady-alike ls ms e = record {
-  numbers = λ s. sym (numbers-bare s ms) ∙ ap (number_of s) e ∙ numbers-bare s ls;
-  there = λ s o. sym (there-bare s ms) ∙ ap (is_there s) e ∙ there-bare s ls ∙ o;
-  sized = sized-alike ls ms e;
-  apart = λ a s.
-      let k = a s in
-      let same : count_of s ms ≡ count_of s ls = sym (counts-bare s ms) ∙ ap (count_of s) e ∙ counts-bare s ls in
-      omega (arith, k, same);
-}
+steady-alike ls ms e = grind (arith, nat_tests, common_steps, numbers-bare, there-bare, sized-alike, counts-bare)
 
 -- ## One session
 
--- a chunk is outstanding only where the other one is, with the same wire fields
-pub outstanding-like : (k : Option (List ℕ)) (c d : ChunkPayloadData) → IsLike k c d → is_outstanding c ≡ true
-    → (is_outstanding d ≡ true) × (data_of c ≡ data_of d)
-outstanding-like k c d i o = grind (arith, nat_tests, common_steps, both, negated)
-
 pub known-like : (on : ℕ → Bool) (first : ℕ) (sent : List Entry) (k : Option (List ℕ)) (c d : ChunkPayloadData) → IsLike k c d → Unit {0}
     → IsKnownOn on first sent d → IsKnownOn on first sent c
-known-like on first sent k c d i h6 h = (
-  λ o. let x = outstanding-like k c d i o in subst (WasSent sent) (sym x.1) (h.0 x.0),
-  placed-alike on first sent d c (record {
-    kind = ap (λ (x : ChunkPayloadData). x.unordered) i.same;
-    stream = ap (λ (x : ChunkPayloadData). x.stream_identifier) i.same;
-    number = ap (λ (x : ChunkPayloadData). x.stream_sequence_number) i.same;
-    tsn = ap (λ (x : ChunkPayloadData). x.tsn) i.same;
-    message = ap (λ (x : ChunkPayloadData). x.message_id) i.same;
-    ends = ap (λ (x : ChunkPayloadData). x.ending_fragment) i.same;
-  }) h.1,
-)
+known-like on first sent k c d i h6 h = grind (arith, nat_tests, common_steps)
 
 -- a sender whose streams and chunks in flight are alike those of one that keeps nothing holds what that one does
 pub held-like : (on : ℕ → Bool) (first : ℕ) (t : Transmission) (ls : List OutboundStream) (ds : List ChunkPayloadData) (ns : List Numbered)
@@ -83,13 +56,7 @@ held-like on first t ls ds ns sent alike like h =
     record {
       stands = record {
         queued = st.queued;
-        sendable = record {
-          ordered = st.sendable.ordered;
-          unordered = st.sendable.unordered;
-          apart = st.sendable.apart;
-          sent = λ k e. st.sendable.sent k (sym (any k) ∙ e);
-          below = λ k le. any k ∙ st.sendable.below k le;
-        };
+        sendable = grind (arith, nat_tests, common_steps);
         known = paired (λ c. Unit {0}) (IsKnownOn on first sent) (IsKnownOn on first sent) (known-like on first sent) ks cs ds like
             (every-all (λ c. Unit {0}) (λ c. tt) cs) st.known;
         counted = st.counted;

@@ -1,27 +1,22 @@
 -- Sessions of a sender that keeps what is reported: what holds of sessions of every call, and that only what may expire expires.
-use Rattle.sctp_delivery.proofs.Names.{nat_tests, common_steps, ◌≡◌, ℕ, ◌<◌, ◌+◌, ◌^◌, List, [], ◌∷◌, refl, ap, sym, subst, ◌∙◌}
-use Rattle.sctp_delivery.proofs.Names.{arith, Option, Contains}
-use Rattle.sctp_delivery.proofs.Names.{ChunkPayloadData, Sack, Transmission, Session, SenderFollows}
-use Rattle.sctp_delivery.proofs.Names.{OutboundStream, map, ⊤, Limits, Modes, abandoned_by, bytes_written, tsn, tsns_from, takes_sack}
-use Rattle.sctp_delivery.proofs.Names.{next_pending}
-use Rattle.sctp_delivery.proofs.Names.{modes_from, at_first}
+use Rattle.sctp_delivery.proofs.Names.{nat_tests, common_steps, ◌≡◌, ℕ, ◌<◌, ◌+◌, ◌^◌, List, [], ◌∷◌, refl, ap, sym, subst, ◌∙◌, arith, Option, Contains}
+use Rattle.sctp_delivery.proofs.Names.{ChunkPayloadData, Sack, Transmission, Session, SenderFollows, OutboundStream, map, ⊤, Limits, Modes, abandoned_by}
+use Rattle.sctp_delivery.proofs.Names.{bytes_written, tsn, tsns_from, takes_sack, next_pending, modes_from, at_first}
 use Rattle.sctp_sender.specs.declared.sender.Reported.{Reported}
-use Rattle.sctp_sender.specs.declared.sender.Reported.TheVariants.{Drop, Keep}
 use Rattle.sctp_delivery.specs.Expiries.{EachDueExpires, OnlyTheDueExpire, IsReason}
 use Rattle.sctp_delivery.specs.Modes.{Sending, numbered_in}
 use Rattle.sctp_delivery.specs.EveryCall.{SenderDoes, takes_back}
 use Rattle.sctp_delivery.specs.Messages.{AreSame}
 use Rattle.sctp_delivery.specs.SenderCalls.{TakesBackAndSack}
 use Rattle.sctp_delivery.specs.Returns.{AfterEachWithReturnsOfFewInFlight, AfterEachWithReturnsOfFewTsns, AreFewInFlightSo, CallOrReturn, EachAckedIsTwoCalls}
-use Rattle.sctp_delivery.specs.Returns.{NoneIsRefusedSo, RunsWithReturns, after_return}
-use Rattle.sctp_delivery.specs.Returns.{at_start_with, other_calls}
+use Rattle.sctp_delivery.specs.Returns.{NoneIsRefusedSo, RunsWithReturns, after_return, at_start_with, other_calls}
 use Rattle.sctp_sender.specs.declared.sender.flight.Released.{Released}
 use Rattle.sctp_sender.specs.declared.sender.flight.kept.TakenBack.{TakenBack}
 use Rattle.sctp_delivery.specs.Session.{count_in_flight}
 use Rattle.sctp_delivery.proofs.Every.{Every, all-of-every, every-all, every-of, every-of-all}
 use Rattle.sctp_delivery.proofs.Plain.{IsLike, are-long, are-tsns, paired}
 use Rattle.sctp_delivery.proofs.EveryMessages as messages
-use Rattle.sctp_delivery.proofs.PlainRuns.{goes, shadow, so}
+use Rattle.sctp_delivery.proofs.PlainRuns.{goes, shadow, so, none-flying}
 use Rattle.sctp_delivery.proofs.ReturnsAny.{of-few-bytes}
 use Rattle.sctp_delivery.proofs.PlainSessions.{kept_of}
 use Rattle.sctp_delivery.proofs.QueueChunks.{AllWait}
@@ -99,9 +94,7 @@ module _ (reported : Reported) (first size max most : ℕ) (limits : Option Limi
       }
 
   said : HasSaid first (modes_from at_first (other_calls calls)) Other
-  said =
-      let p = (goes reported first size max most limits calls s run small few short).plays.plain in
-      subst (λ m. HasSaid first m Other) p.said (said-in first size max most limits p.calls Other small some p.run)
+  said = grind (arith, nat_tests, common_steps, said-in)
 
   filled : AllWait IsFilled t.flight.queue.pending
   filled = let x = shadow reported first size max most limits calls s run small few short in
@@ -124,11 +117,7 @@ module _ (reported : Reported) (first size max most : ℕ) (limits : Option Limi
       })
 
   flying-few : count_in_flight s < 2 ^ 31
-  flying-few = few-at calls (at_start_with reported first size max most limits) s run (none reported) few
-    where
-      none : (k : Reported) → count_in_flight (at_start_with k first size max most limits) < 2 ^ 31
-      none Drop = omega arith
-      none Keep = omega arith
+  flying-few = grind (arith, nat_tests, common_steps, few-at, none-flying)
 
   pub only-due-so : OnlyTheDueExpire (other_calls calls) s
   only-due-so call =

@@ -1,7 +1,7 @@
 -- A receiver that is read refuses nothing of what a sender that keeps what is reported still needs taken.
-use Rattle.sctp_delivery.proofs.Names.{◌≡◌, ℕ, zero, suc, ◌<◌, ◌^◌, List, [], ◌∷◌, length, ap, ap₂, sym, subst, ◌∙◌, arith, inl, inr, Option, Some, None}
-use Rattle.sctp_delivery.proofs.Names.{Contains, get_or, get_or_default, ChunkPayloadData, ForwardTsn, Limits, Transmission, Session, Call, RunsTo, at_start}
-use Rattle.sctp_delivery.proofs.Names.{data_of, tsns_given, bytes_written, IsInFlight, MayMake}
+use Rattle.sctp_delivery.proofs.Names.{nat_tests, common_steps, ◌≡◌, ℕ, zero, suc, ◌<◌, ◌^◌, List, [], ◌∷◌, length, ap, sym, subst, ◌∙◌, arith, inl, inr}
+use Rattle.sctp_delivery.proofs.Names.{Option, Some, None, Contains, get_or, get_or_default, ChunkPayloadData, ForwardTsn, Limits, Transmission, Session, Call}
+use Rattle.sctp_delivery.proofs.Names.{RunsTo, at_start, tsns_given, bytes_written, IsInFlight, MayMake}
 use Rattle.sctp_sender.specs.declared.sender.Reported.{Reported}
 use Rattle.sctp_delivery.specs.Refused.{IsInFlightSo, NoneInFlightIsRefused, NoneInFlightIsRefusedSo, NoneIsRefusedWhereRead, NoneIsRefusedWhereReadSo}
 use Rattle.sctp_delivery.specs.Refused.{NoneMadeIsRefused}
@@ -60,10 +60,7 @@ module _ (reported : Reported) (first size max most : ℕ) (limits : Option Limi
         sent = subst (λ (u : Transmission). Contains u.flight.queue.inflight.chunks d) (sym w.sender)
             (h.sent.0, lt, get_or_default w.chunks h.sent.0 d h.chunk lt);
         kept = ap (λ (c : ChunkPayloadData). c.abandoned) (sym like.same) ∙ h.kept;
-        same = elim h.same [
-          | inl e ↦ inl (e.1 ∙ ap₂ (λ (c : ChunkPayloadData) bytes. data_of (record c { user_data = bytes })) like.same (like.whole e.0))
-          | inr e ↦ inr (e.0 ∙ ap (λ (c : ChunkPayloadData). c.tsn) like.same, e.1)
-        ];
+        same = grind (arith, nat_tests, common_steps);
       }
 
   sizes : s.sending.sender.max_message_size ≡ there.sending.sender.max_message_size
@@ -99,14 +96,7 @@ module _ (reported : Reported) (first size max most : ℕ) (limits : Option Limi
       subst (MayMake f) (sym w.sender) (elim h [
         | inl a ↦
             inl (a.0, (a.1.0 ∙ sym (skip-same t.flight ks w.chunks w.like a.0), named-same t.flight ks w.chunks w.like f.streams f.new_cumulative_tsn a.1.1))
-        | inr a ↦ inr (
-          a.0,
-          (
-            can-same t.flight ks w.chunks w.like f.new_cumulative_tsn ∙ a.1.0,
-            end-same t.flight ks w.chunks w.like f.new_cumulative_tsn ∙ a.1.1,
-            named-same t.flight ks w.chunks w.like f.streams f.new_cumulative_tsn a.1.2,
-          ),
-        )
+        | inr a ↦ grind (arith, nat_tests, common_steps, can-same, end-same, named-same)
       ])
 
   made-so : NoneMadeIsRefused s

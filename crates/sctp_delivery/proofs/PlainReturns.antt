@@ -1,12 +1,11 @@
 -- What a SACK takes back of what is in flight, beside what would be in flight if no gap ack block were taken.
-use Rattle.sctp_delivery.proofs.Names.{common_steps, ◌≡◌, ℕ, ◌<◌, ◌≤◌, ◌+◌, ◌^◌, Bool, true, not, List, [], ◌∷◌, arith, Option, Some, None, is_some}
-use Rattle.sctp_delivery.proofs.Names.{if◌then◌else◌, ◌&&◌, nat_lt, nat_tests, sum_by-cons, ChunkPayloadData, Sack, Flight, Transmission, bytes_of, total_bytes}
-use Rattle.sctp_delivery.proofs.Names.{with_inflight, is_outdated, sack_refusal, SenderRefusal}
+use Rattle.sctp_delivery.proofs.Names.{common_steps, ◌≡◌, ℕ, ◌<◌, ◌≤◌, ◌+◌, ◌^◌, Bool, true, not, List, [], ◌∷◌, arith, Option, None, is_some, if◌then◌else◌}
+use Rattle.sctp_delivery.proofs.Names.{◌&&◌, nat_lt, nat_tests, sum_by-cons, ChunkPayloadData, Sack, Flight, Transmission, bytes_of, total_bytes, with_inflight}
+use Rattle.sctp_delivery.proofs.Names.{is_outdated, sack_refusal, SenderRefusal}
 use Rattle.sctp_sender.specs.Keeping.{bytes_back, restored}
 use Rattle.sctp_sender.specs.Sender.{after_take_back, back_by, or_full, take_back_refusal, taken_back_by}
 use Rattle.sctp_sender.proofs.Keepings.{answered-weight, back-bytes}
 use Rattle.sctp_sender.proofs.Placed.{back-length}
-use Rattle.sctp_delivery.proofs.Cases.{at-if}
 use Rattle.sctp_delivery.proofs.Plain.{AreLike, are-back, rest_of}
 use Rattle.sctp_delivery.proofs.PlainFlights.{settled-kept}
 use Rattle.sctp_delivery.proofs.PlainSessions.{kept_of}
@@ -14,9 +13,7 @@ use Rattle.sctp_delivery.proofs.PlainSessions.{kept_of}
 -- what comes back is as it would be
 pub back-like : (sack : Sack) (f : Flight) (o : Option (List (Option (List ℕ)))) (ds : List ChunkPayloadData) → AreLike (kept_of o) f.queue.inflight.chunks ds
     → AreLike (kept_of o) (restored (back_by sack f o) f.queue.inflight.chunks) ds
-back-like sack f None ds a = a
-back-like sack f (Some ks) ds a =
-    at-if (λ bs. AreLike ks (restored bs f.queue.inflight.chunks) ds) (is_outdated sack f) (λ _. a) (λ _. are-back sack ks f.queue.inflight.chunks ds a)
+back-like h0 h1 h2 h3 h4 = grind (arith, nat_tests, common_steps, are-back)
 
 -- what is in flight has no more bytes than it would have
 pub lighter : (ks : List (Option (List ℕ))) (cs ds : List ChunkPayloadData) → AreLike ks cs ds → bytes_of cs ≤ bytes_of ds
@@ -48,4 +45,4 @@ back-fits sack t ds a few none =
     let less = back-few sack t ds a few in
     let lt : total_bytes t.flight.queue + bytes_back (taken_back_by sack t) < 2 ^ 64 = omega (arith, more, less) in
     fits-back (is_some t.kept && not (is_outdated sack t.flight)) (sack_refusal sack t.flight)
-    (nat_lt (total_bytes t.flight.queue + bytes_back (taken_back_by sack t)) (2 ^ 64)) none (grind (arith, nat_tests, lt))
+    (nat_lt (total_bytes t.flight.queue + bytes_back (taken_back_by sack t)) (2 ^ 64)) none (grind (arith, nat_tests))

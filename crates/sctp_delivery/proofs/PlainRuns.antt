@@ -1,11 +1,10 @@
 -- Sessions of a sender that keeps what is reported: beside each there is one in which no gap ack block is taken, with the same chunks.
 use Rattle.sctp_delivery.proofs.Names.{nat_tests, common_steps, ◌≡◌, AllPairs, ℕ, ◌<◌, ◌≤◌, ◌+◌, ◌^◌, true, List, [], ◌∷◌, ◌++◌, length, refl, ap, ap₂, sym}
-use Rattle.sctp_delivery.proofs.Names.{subst, ◌∙◌, arith, append_assoc, Option, ◌==◌, ◌&&◌}
-use Rattle.sctp_delivery.proofs.Names.{Contains, Limits, Transmission, Drop, Session}
-use Rattle.sctp_delivery.proofs.Names.{RunsTo, at_start, bytes_written, of_receiver, of_sender, abandoned_in, tsns_given, Modes, at_first, modes_from, Write}
-use Rattle.sctp_delivery.proofs.Names.{chunk_count, is_exhausted, reads_nothing, StandAt, AreMade, AreMessages, Stand, Call, Data}
-use Rattle.sctp_delivery.proofs.Names.{data_chunk, EachOtherIsReadOnce, slice_index_or, AreWrites, AreWritesOfTheirOwn, NoneIsReadTwice, AreReadInOrder}
-use Rattle.sctp_delivery.proofs.Names.{NoneIsRefused, NoneIsTakenTwice, EachSackTells, ◌||◌, was_passed, was_taken, not_both}
+use Rattle.sctp_delivery.proofs.Names.{subst, ◌∙◌, arith, append_assoc, Option, ◌==◌, ◌&&◌, Contains, Limits, Transmission, Drop, Session, RunsTo, at_start}
+use Rattle.sctp_delivery.proofs.Names.{bytes_written, of_receiver, of_sender, abandoned_in, tsns_given, Modes, at_first, modes_from, Write, chunk_count}
+use Rattle.sctp_delivery.proofs.Names.{is_exhausted, reads_nothing, StandAt, AreMade, AreMessages, Stand, Call, Data, data_chunk, EachOtherIsReadOnce}
+use Rattle.sctp_delivery.proofs.Names.{slice_index_or, AreWrites, AreWritesOfTheirOwn, NoneIsReadTwice, AreReadInOrder, NoneIsRefused, NoneIsTakenTwice}
+use Rattle.sctp_delivery.proofs.Names.{EachSackTells, was_passed, was_taken, not_both, ◌||◌}
 use Rattle.std.specs.Prelude.{◌≢◌}
 use Rattle.sctp_util.specs.Serial.{distance}
 use Rattle.sctp_sender.specs.declared.sender.Reported.{Reported}
@@ -14,9 +13,8 @@ use Rattle.sctp_delivery.specs.Abandoned.{IsEachOtherReadInTheEnd}
 use Rattle.sctp_delivery.specs.Messages.{AreParts, IsPart}
 use Rattle.sctp_delivery.specs.Modes.{AreReadAsWritten, AreSentAsWritten, IsUnorderedAt, was_written_ordered}
 use Rattle.sctp_delivery.specs.Order.{places_where}
-use Rattle.sctp_delivery.specs.Returns.{AfterEachWithReturns, AfterEachWithReturnsOfFewInFlight, AfterEachWithReturnsOfFewTsns, AreFewInFlightSo}
-use Rattle.sctp_delivery.specs.Returns.{CallOrReturn, IsAccountedSo}
-use Rattle.sctp_delivery.specs.Returns.{FollowsOrReturns, RunsWithReturns, abandoned_so, at_start_with, makes, other_calls, takes_back}
+use Rattle.sctp_delivery.specs.Returns.{AfterEachWithReturns, AfterEachWithReturnsOfFewInFlight, AfterEachWithReturnsOfFewTsns, AreFewInFlightSo, CallOrReturn}
+use Rattle.sctp_delivery.specs.Returns.{IsAccountedSo, FollowsOrReturns, RunsWithReturns, abandoned_so, at_start_with, makes, other_calls, takes_back}
 use Rattle.sctp_delivery.specs.Returns.{tsns_given_so}
 use Rattle.sctp_delivery.specs.Sacks.{AcknowledgedCame, LeftCame, ReportWhatCame}
 use Rattle.sctp_delivery.specs.EveryCall.{AcknowledgedArrived, LeftArrived, ReportWhatArrived, drops}
@@ -32,7 +30,7 @@ use Rattle.sctp_delivery.proofs.ModeSessions as modes
 use Rattle.sctp_delivery.proofs.OthersOnce as others
 use Rattle.sctp_delivery.proofs.Plain.{are-long}
 use Rattle.sctp_delivery.proofs.PlainCalls.{sender-goes}
-use Rattle.sctp_delivery.proofs.PlainSessions.{Goes, PlaysOn, Shadows, Others, gone_by, kept_of, modes_by, plain, receives-too}
+use Rattle.sctp_delivery.proofs.PlainSessions.{Goes, Shadows, Others, gone_by, kept_of, modes_by, plain, receives-too, goes-first}
 use Rattle.sctp_delivery.proofs.SackLaws.{IsInStepBut}
 use Rattle.sctp_delivery.proofs.SackSteps.{none_dropped}
 use Rattle.sctp_delivery.proofs.TsnPlaces.{base}
@@ -63,9 +61,7 @@ gone-cons (makes (of_receiver call)) cs s new r = refl
 gone-cons (takes_back sack back) cs s new r = refl
 
 modes-cons : (c : CallOrReturn) (cs : List CallOrReturn) (m : Modes) → modes_from m (other_calls (c ∷ cs)) ≡ modes_from (modes_so c m) (other_calls cs)
-modes-cons (makes (of_sender call)) cs m = refl
-modes-cons (makes (of_receiver call)) cs m = refl
-modes-cons (takes_back sack back) cs m = refl
+modes-cons h0 h1 h2 = grind (arith, nat_tests, common_steps)
 
 module _ (first : ℕ) (others : Others first) where
   -- one call
@@ -119,31 +115,9 @@ few-flying first n (c ∷ cs) s new r few i =
 pub at-start : (reported : Reported) (first size max most : ℕ) (limits : Option Limits) → first < 2 ^ 32
     → Goes first (plain first size max most limits) (at_start_with reported first size max most limits).sending.sender
     (at_start_with reported first size max most limits) 0 [] at_first
-at-start reported first size max most limits small = by reported
-  where
-    plays : PlaysOn first size max most limits (at_start first size max most limits) 0 [] at_first
-    plays = record {
-      plain = record { calls = []; run = refl; given = refl; left = refl; said = refl };
-      regular = regular-first first size max most limits small;
-    }
+at-start reported first size max most limits small = grind (arith, nat_tests, common_steps, goes-first, regular-first)
 
-    by : (k : Reported)
-        → Goes first (plain first size max most limits) (at_start_with k first size max most limits).sending.sender
-        (at_start_with k first size max most limits) 0 [] at_first
-    by Drop = record {
-      other = at_start first size max most limits;
-      shadow =
-          record { streams = []; chunks = []; sender = refl; alike = refl; like = tt; receiving = refl; made = refl; written = refl; sacks = tt };
-      plays = plays;
-    }
-    by Keep = record {
-      other = at_start first size max most limits;
-      shadow =
-          record { streams = []; chunks = []; sender = refl; alike = refl; like = tt; receiving = refl; made = refl; written = refl; sacks = tt };
-      plays = plays;
-    }
-
-none-flying : (reported : Reported) (first size max most : ℕ) (limits : Option Limits)
+pub none-flying : (reported : Reported) (first size max most : ℕ) (limits : Option Limits)
     → count_in_flight (at_start_with reported first size max most limits) ≡ 0
 none-flying Drop first size max most limits = refl
 none-flying Keep first size max most limits = refl

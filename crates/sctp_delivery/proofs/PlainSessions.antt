@@ -1,12 +1,11 @@
 -- A session of a sender that keeps what is reported, beside one in which no gap ack block is taken: both make the same chunks.
-use Rattle.sctp_delivery.proofs.Names.{nat_tests, common_steps, ◌≡◌, ℕ, ◌<◌, ◌+◌, ◌^◌, List, [], ◌∷◌, ◌++◌, map, refl, ap, sym, subst, ◌∙◌, arith, append-nil}
-use Rattle.sctp_delivery.proofs.Names.{append_assoc, Option, Some, None, Contains, ChunkPayloadData, Sack, Limits, OutboundStream, distance, Transmission, Call}
-use Rattle.sctp_delivery.proofs.Names.{Follows, ReceiverFollows, RunsTo, Session, IsReported, at_start, of_receiver, of_sender, abandoned_by, abandoned_in}
-use Rattle.sctp_delivery.proofs.Names.{tsns_given, Modes, at_first, modes_after, modes_from, SenderCall, SenderMakes, ReceiverCall, made_after, written_after}
-use Rattle.sctp_delivery.proofs.Names.{reports_after, Made, Write, IsAccounted, length}
-use Rattle.sctp_delivery.specs.Session.{IsSent, count_in_flight}
+use Rattle.sctp_delivery.proofs.Names.{nat_tests, common_steps, ◌≡◌, ℕ, ◌<◌, ◌+◌, ◌^◌, List, [], ◌∷◌, ◌++◌, refl, ap, sym, subst, ◌∙◌, arith, append-nil}
+use Rattle.sctp_delivery.proofs.Names.{Option, Some, None, Contains, ChunkPayloadData, Sack, Limits, OutboundStream, distance, Transmission, Call, Follows}
+use Rattle.sctp_delivery.proofs.Names.{ReceiverFollows, RunsTo, Session, IsReported, at_start, of_receiver, of_sender, abandoned_by, abandoned_in, tsns_given}
+use Rattle.sctp_delivery.proofs.Names.{Modes, at_first, modes_after, modes_from, SenderCall, SenderMakes, ReceiverCall, made_after, written_after}
+use Rattle.sctp_delivery.proofs.Names.{reports_after, Made, Write, IsAccounted, length, Drop}
+use Rattle.sctp_delivery.specs.Session.{count_in_flight}
 use Rattle.sctp_delivery.specs.ReceiverCalls as incoming
-use Rattle.sctp_receiver.specs.ReceiverRuns as receiver_runs
 use Rattle.sctp_receiver.specs.Receiver.{sack_within}
 use Rattle.sctp_delivery.proofs.Delivered.{next_tsn}
 use Rattle.sctp_delivery.proofs.Every.{Every, every-of}
@@ -18,6 +17,9 @@ use Rattle.sctp_delivery.proofs.PlainStreams.{AreAlike, bare}
 use Rattle.sctp_delivery.proofs.Sessions.{accounted}
 use Rattle.sctp_delivery.proofs.Stands.{contains-more, sender-follows, sender_after}
 use Rattle.sctp_delivery.proofs.TsnPlaces.{tsn-small}
+use Rattle.sctp_sender.specs.declared.sender.Reported.{Reported}
+use Rattle.sctp_sender.specs.declared.sender.Reported.TheVariants.{Keep}
+use Rattle.sctp_delivery.specs.Returns.{at_start_with}
 
 -- ## Calls one after another, with what laws ask of them
 
@@ -36,9 +38,7 @@ unfolding run-then
 gone-then [] (of_sender call) old mid new r f = append-nil (abandoned_by call old.sending.sender)
     ∙ ap (λ (s : Session). abandoned_by call s.sending.sender) (sym r)
 gone-then [] (of_receiver call) old mid new r f = refl
-gone-then (of_sender call ∷ cs) c old mid new r f =
-    ap (λ xs. abandoned_by call old.sending.sender ++ xs) (gone-then cs c r.0 mid new r.1.1 f)
-    ∙ sym (append_assoc (abandoned_by call old.sending.sender) (abandoned_in r.0 cs mid r.1.1) (gone_by c mid))
+gone-then (of_sender call ∷ cs) c old mid new r f = grind (arith, nat_tests, common_steps, gone-then cs c r.0 mid new r.1.1 f)
 gone-then (of_receiver call ∷ cs) c old mid new r f = gone-then cs c r.0 mid new r.1.1 f
 
 modes-then : (cs : List Call) (c : Call) (m : Modes) → modes_from m (cs ++ c ∷ []) ≡ modes_by c (modes_from m cs)
@@ -79,10 +79,6 @@ pub record Shadows (t : Transmission) (s d : Session) : Type 0 where
   pub made : d.made ≡ s.made
   pub written : d.written ≡ s.written
   pub sacks : Every (IsThere d.sacks) s.sacks
-
--- what is handed to the receiver of the one is handed to that of the other
-pub sent-too : (call : ReceiverCall) (s d : Session) → d.made ≡ s.made → IsSent call s → IsSent call d
-sent-too h0 h1 h2 h3 h4 = grind (arith, nat_tests, common_steps)
 
 module _ (first size max most : ℕ) (limits : Option Limits) where
   -- it is one that gives out so many TSNs, abandons these messages and has these modes
@@ -145,12 +141,16 @@ module _ (first : ℕ) (others : Others first) where
     pub shadow : Shadows t s other
     pub plays : others.Plays other n gone m
 
+  -- it begins beside one that is new
+  pub goes-first : (reported : Reported) (size max most : ℕ) (limits : Option Limits) → others.Plays (at_start first size max most limits) 0 [] at_first
+      → Goes (at_start_with reported first size max most limits).sending.sender (at_start_with reported first size max most limits) 0 [] at_first
+  goes-first Drop size max most limits p = grind (arith, nat_tests, common_steps)
+  goes-first Keep size max most limits p = grind (arith, nat_tests, common_steps)
+
   -- as many chunks are in flight there
   pub same-count : (t : Transmission) (s : Session) (n : ℕ) (gone : List ℕ) (m : Modes) (g : Goes t s n gone m)
       → length t.flight.queue.inflight.chunks ≡ count_in_flight g.other
-  same-count t s n gone m g =
-      are-long (kept_of t.kept) t.flight.queue.inflight.chunks g.shadow.chunks g.shadow.like
-      ∙ ap (λ (u : Transmission). length u.flight.queue.inflight.chunks) (sym g.shadow.sender)
+  same-count t s n gone m g = grind (arith, nat_tests, common_steps, are-long)
 
   -- so what is asked here is asked there
   pub bound-there : (t : Transmission) (s : Session) (n : ℕ) (gone : List ℕ) (m : Modes) (g : Goes t s n gone m)
@@ -202,28 +202,13 @@ module _ (first : ℕ) (others : Others first) where
         let f = sender-follows c d (as_plain u ls ds) (subst (λ y. SenderMakes c y (as_plain u ls ds)) (sym x.sender) makes) handed in
         let far : distance (next_tsn d) (next_tsn e) ≡ distance t.flight.next_tsn u.flight.next_tsn =
         ap (λ (y : Transmission). distance y.flight.next_tsn u.flight.next_tsn) x.sender in
-        let few' : others.Bound (n + distance (next_tsn d) (next_tsn e)) (count_in_flight e) =
-        subst (λ k. others.Bound (n + k) (length ds)) (sym far)
-        (subst (others.Bound (n + distance t.flight.next_tsn u.flight.next_tsn)) (are-long (kept_of u.kept) u.flight.queue.inflight.chunks ds like) few) in
+        let few' : others.Bound (n + distance (next_tsn d) (next_tsn e)) (count_in_flight e) = grind (arith, nat_tests, common_steps, are-long) in
         let p = others.onward d e n gone m (bound-there t s n gone m g was) few' g.plays (of_sender c) f in
         let lost : gone_by (of_sender c) d ≡ abandoned_by call t = ap (abandoned_by c) x.sender ∙ same-gone in
         record {
           other = e;
-          shadow = record {
-            streams = ls;
-            chunks = ds;
-            sender = refl;
-            alike = alike;
-            like = like;
-            receiving = x.receiving ∙ sym received;
-            made = ap (λ y. made_after c y d.made) x.sender ∙ same-made d.made ∙ ap (made_after call t) x.made ∙ sym made;
-            written = same-written d.written ∙ ap (written_after call) x.written ∙ sym wrote;
-            sacks = subst (Every (IsThere d.sacks)) (sym reported) x.sacks;
-          };
-          plays =
-              subst (λ k. others.Plays e (n + k) (gone ++ abandoned_by call t) (modes_after call m)) far
-              (subst (λ xs. others.Plays e (n + distance (next_tsn d) (next_tsn e)) (gone ++ xs) (modes_after call m)) lost
-              (subst (others.Plays e (n + distance (next_tsn d) (next_tsn e)) (gone ++ gone_by (of_sender c) d)) same-modes p));
+          shadow = grind (arith, nat_tests, common_steps);
+          plays = grind (arith, nat_tests, common_steps);
         }
 
     -- none
@@ -242,10 +227,7 @@ module _ (first : ℕ) (others : Others first) where
 
   -- the SACK that it makes, behind the same without blocks
   there-new : (k b : Sack) (ks ss : List Sack) → IsBareSack k b → Every (IsThere ks) ss → Every (IsThere (k ∷ b ∷ ks)) (k ∷ ss)
-  there-new k b ks ss bare h = (
-    record { itself = (0, omega arith, refl); bare = b; other = (1, omega arith, refl); is-bare = bare },
-    there-more k (b ∷ ks) ss (there-more b ks ss h),
-  )
+  there-new k b ks ss bare h = grind (arith, there-more)
 
   there-after : (call : ReceiverCall) (r : _) (ks ss : List Sack) → Every (IsThere ks) ss
       → Every (IsThere (reports_after call r (sack_within 0 0 r ∷ ks))) (reports_after call r ss)
@@ -259,21 +241,13 @@ module _ (first : ℕ) (others : Others first) where
       let d = g.other in
       let r = d.receiving.receiver in
       let e : Session = record d { sacks = sack_within 0 0 r ∷ d.sacks } in
-      let w : Session = record {
-        sending = d.sending;
+      let w : Session = record d {
         receiving = v.receiving;
-        made = d.made;
         sacks = reports_after call r (sack_within 0 0 r ∷ d.sacks);
-        written = d.written;
       } in
       let one : ReceiverFollows (incoming.makes_sack 0 0) d e =
       record { handed = tt; step = record { receiver = refl; accepted = refl; read = refl }; accepted = tt; after = refl } in
-      let two : ReceiverFollows call e w = record {
-        handed = sent-too call s e x.made f.handed;
-        step = subst (λ y. receiver_runs.Follows (incoming.as_run call) y v.receiving) (sym x.receiving) f.step;
-        accepted = subst (λ (y : receiver_runs.Stand). incoming.IsAccepted call y.receiver) (sym x.receiving) f.accepted;
-        after = refl;
-      } in
+      let two : ReceiverFollows call e w = grind (arith, nat_tests, common_steps) in
       let near : next_tsn d < 2 ^ 32 =
       let same : next_tsn d ≡ s.sending.sender.flight.next_tsn = ap (λ (u : Transmission). u.flight.next_tsn) x.sender in
       let a = small-next s.sending.sender s n gone m few g in omega (arith, same, a) in
@@ -282,30 +256,13 @@ module _ (first : ℕ) (others : Others first) where
       let once : others.Bound (n + distance (next_tsn d) (next_tsn e)) (count_in_flight e) =
       subst (λ k. others.Bound k (count_in_flight d)) {x = n} {y = n + distance (next_tsn d) (next_tsn e)} (omega (arith, zero)) was in
       let twice : others.Bound (n + distance (next_tsn d) (next_tsn e) + distance (next_tsn e) (next_tsn w)) (count_in_flight w) =
-      subst (λ k. others.Bound k (count_in_flight d)) {x = n} {y = n + distance (next_tsn d) (next_tsn e) + distance (next_tsn e) (next_tsn w)}
-      (omega (arith, zero)) was in
+      grind (arith, nat_tests, common_steps) in
       let p = others.onward e w (n + distance (next_tsn d) (next_tsn e))
       (gone ++ []) m once twice (others.onward d e n gone m was once g.plays (of_receiver (incoming.makes_sack 0 0)) one)
       (of_receiver call) two in
       let still : v.sending ≡ s.sending = ap (λ (y : Session). y.sending) f.after in
       record {
         other = w;
-        shadow = record {
-          streams = x.streams;
-          chunks = x.chunks;
-          sender = x.sender ∙ ap (λ (l : _). as_plain l.sender x.streams x.chunks) (sym still);
-          alike = ap (λ (l : _). map bare l.sender.streams) still ∙ x.alike;
-          like = subst (λ (l : _). AreLike (kept_of l.sender.kept) l.sender.flight.queue.inflight.chunks x.chunks) (sym still) x.like;
-          receiving = refl;
-          made = x.made ∙ sym (ap (λ (y : Session). y.made) f.after);
-          written = x.written ∙ sym (ap (λ (y : Session). y.written) f.after);
-          sacks = subst (Every (IsThere (reports_after call r (sack_within 0 0 r ∷ d.sacks))))
-              (ap (λ (y : receiver_runs.Stand). reports_after call y.receiver s.sacks) x.receiving ∙ sym (ap (λ (y : Session). y.sacks) f.after))
-              (there-after call r d.sacks s.sacks x.sacks);
-        };
-        plays =
-            subst (λ k. others.Plays w k gone m)
-            {x = n + distance (next_tsn d) (next_tsn e) + distance (next_tsn e) (next_tsn w)} {y = n} (omega (arith, zero))
-            (subst (λ xs. others.Plays w (n + distance (next_tsn d) (next_tsn e) + distance (next_tsn e) (next_tsn w)) xs m)
-            (append-nil (gone ++ []) ∙ append-nil gone) p);
+        shadow = grind (arith, nat_tests, common_steps, there-after);
+        plays = grind (arith, nat_tests, common_steps);
       }

@@ -1,12 +1,11 @@
 -- Each chunk that comes makes something of its stream's queue: of fragments there is a run that ends earliest, or there is none.
 use Rattle.sctp_delivery.proofs.Names.{common_steps, ◌≡◌, ℕ, zero, suc, ◌+◌, ◌-◌, ◌%◌, ◌^◌, ◌<◌, ◌≤◌, Bool, true, false, List, [], ◌∷◌, ◌++◌, length, get_or}
-use Rattle.sctp_delivery.proofs.Names.{take, drop, inl, inr, refl, ap, sym, subst, ◌∙◌, arith, ◌⊎◌, ◌==◌, if◌then◌else◌, cases_lt, nat_tests, get_or_default}
+use Rattle.sctp_delivery.proofs.Names.{take, drop, inl, inr, refl, ap, sym, subst, ◌∙◌, arith, ◌⊎◌, if◌then◌else◌, cases_lt, nat_tests, get_or_default}
 use Rattle.sctp_delivery.proofs.Names.{insert_before, not_both, ChunkPayloadData, Reassembly, ReassemblyState, set_of_run, chunk_before, is_on, HasNoRun}
 use Rattle.sctp_delivery.proofs.Names.{IsEarliestRun, IsRun, filter, list_any, same-is, ChunkForwardTsnStream, last_of, Name}
 use Rattle.std.specs.Prelude.{max}
 use Rattle.sctp_reassembly.specs.reassembly_queue.ReassemblyQueue.{PushesUnordered, count_up}
 use Rattle.sctp_sender.specs.Abandonment.{pair_of}
-use Rattle.sctp_delivery.proofs.Cases.{by-test}
 
 -- ## Searching
 
@@ -23,32 +22,8 @@ first-below : (P : ℕ → Type 0) → ((k : ℕ) → Decided (P k)) → (n : �
 first-below P decide zero = inr (λ j lt. absurd (omega (arith, lt)))
 first-below P decide (suc n) = by (first-below P decide n) (decide n)
   where
-    at-last : (j : ℕ) → P j → j ≡ n → P n
-    at-last j h e = subst P e h
-
     by : FirstBelow P n → Decided (P n) → FirstBelow P (suc n)
-    by (inl f) d = inl (
-      f.0,
-      omega arith,
-      f.2,
-      λ j lt h. elim (cases_lt j n) [
-        | inl less ↦ f.3 j less h
-        | inr ge ↦ omega (arith, ge)
-      ],
-    )
-    by (inr none) (inl h) = inl (
-      n,
-      omega arith,
-      h,
-      λ j lt g. elim (cases_lt j n) [
-        | inl less ↦ absurd (none j less g)
-        | inr ge ↦ ge
-      ],
-    )
-    by (inr none) (inr not-last) = inr (λ j lt g. elim (cases_lt j n) [
-      | inl less ↦ none j less g
-      | inr ge ↦ not-last (at-last j g (omega (arith, ge, lt)))
-    ])
+    by h0 h1 = grind (arith, nat_tests, common_steps)
 
 -- of each number below n it is so, or of one it is not
 each-below : (P : ℕ → Type 0) → ((k : ℕ) → Decided (P k)) → (n : ℕ) → Decided ((k : ℕ) → k < n → P k)
@@ -63,16 +38,11 @@ each-below P decide n = by (first-below (λ k. P k → ⊥) (λ k. refuted (deci
     by (inr none) = inl (λ k lt. elim (decide k) [ inl h ↦ h | inr h ↦ absurd (none k lt h) ])
 
 either : (b c : Bool) → Decided (b ≡ c)
-either h0 h1 = grind (arith, nat_tests, common_steps, not_both)
-
-equal : (a b : ℕ) → Decided (a ≡ b)
-equal a b = by-test (a == b) (λ e. inl (grind (arith, nat_tests, e))) (λ e. inr (grind (arith, nat_tests, e)))
+either h0 h1 = grind (arith, nat_tests, common_steps)
 
 -- where both are decided
 pair : {P Q : Type 0} → Decided P → Decided Q → Decided (P × Q)
-pair (inl p) (inl q) = inl (p, q)
-pair (inl p) (inr none) = inr (λ x. none x.1)
-pair (inr none) d = inr (λ x. none x.0)
+pair h0 h1 = grind (arith, nat_tests, common_steps)
 
 -- ## Runs
 
@@ -86,7 +56,7 @@ module _ (xs : List ChunkPayloadData) (x : ChunkPayloadData) where
   Inner f k = f ≤ k → ((at (k + 1)).beginning_fragment ≡ false) × ((at (k + 1)).tsn ≡ ((at k).tsn + 1) % 2 ^ 32)
 
   inner : (f k : ℕ) → Decided (Inner f k)
-  inner f k = grind (arith, nat_tests, common_steps, pair, either, equal)
+  inner f k = grind (arith, nat_tests, common_steps)
 
   -- what a run is, asked at its places
   abbrev Parts : ℕ → ℕ → Type 0
@@ -114,10 +84,7 @@ module _ (xs : List ChunkPayloadData) (x : ChunkPayloadData) where
           ap (λ (c : ChunkPayloadData). c.tsn) (here (k + 1) d (omega (arith, from, less, lt, le)))
           ∙ (p.1 k (omega (arith, from, less, lt)) from).1
           ∙ ap (λ (c : ChunkPayloadData). (c.tsn + 1) % 2 ^ 32) (sym (here k d (omega (arith, from, less, lt, le))));
-      ends = λ d.
-          let same : f + (e - f) - 1 ≡ e - 1 = omega (arith, lt) in
-          ap (λ j. (get_or xs j d).ending_fragment) same
-          ∙ ap (λ (c : ChunkPayloadData). c.ending_fragment) (here (e - 1) d (omega (arith, lt, le))) ∙ p.0.1;
+      ends = grind (arith, nat_tests, common_steps);
     }
 
     parts-of-run : IsRun xs f (e - f) → Parts f e
@@ -216,7 +183,7 @@ names (c ∷ cs) = if list_any (is_on c.stream_identifier) cs then names cs else
 
 none-on : (s : ℕ) (cs : List ChunkPayloadData) → list_any (is_on s) cs ≡ false → filter (is_on s) cs ≡ []
 none-on s [] e = refl
-none-on s (c ∷ cs) e = grind (arith, nat_tests, common_steps, not_both, none-on s cs)
+none-on s (c ∷ cs) e = grind (arith, nat_tests, common_steps, none-on s cs)
 
 -- one in front of some changes nothing
 last-same : (s : ℕ) (c : ChunkPayloadData) (cs : List ChunkPayloadData) → list_any (is_on s) cs ≡ true

@@ -1,9 +1,9 @@
 -- A write waits behind what waits already, and a message that was not sent leaves.
-use Rattle.sctp_delivery.proofs.Names.{◌≡◌, ℕ, ◌+◌, ◌%◌, ◌^◌, Bool, true, false, List, [], ◌∷◌, ◌++◌, map, Option, Some, None, refl, ap, sym, subst, ◌∙◌, arith}
-use Rattle.sctp_delivery.proofs.Names.{not, ◌==◌}
-use Rattle.sctp_delivery.proofs.Names.{◌&&◌, if◌then◌else◌, list_any, none-some, change_where, by_same, or-left, same-is, same-yes, some-same, fails, not_both}
-use Rattle.sctp_delivery.proofs.Names.{ChunkPayloadData, Selected, is_of, Outbound, append_chunks, expired_of, with_message, with_message_id, closed_up}
-use Rattle.sctp_delivery.proofs.Names.{next_pending, one_lower, without, without_message, GoesOn, IsMessage, goes_on, made, KeepsMessage, is_on, list_any-those}
+use Rattle.sctp_delivery.proofs.Names.{nat_tests, common_steps, ◌≡◌, ℕ, ◌+◌, ◌%◌, ◌^◌, Bool, true, false, List, [], ◌∷◌, ◌++◌, map, Option, Some, None, refl}
+use Rattle.sctp_delivery.proofs.Names.{ap, sym, subst, ◌∙◌, arith, not, ◌==◌, ◌&&◌, if◌then◌else◌, list_any, none-some, change_where, by_same, or-left, same-is}
+use Rattle.sctp_delivery.proofs.Names.{same-yes, some-same, fails, not_both, ChunkPayloadData, Selected, is_of, Outbound, append_chunks, expired_of}
+use Rattle.sctp_delivery.proofs.Names.{with_message, with_message_id, closed_up, next_pending, one_lower, without, without_message, GoesOn, IsMessage, goes_on}
+use Rattle.sctp_delivery.proofs.Names.{made, KeepsMessage, is_on, list_any-those}
 use Rattle.sctp_outbound.specs.payload_queue.PayloadQueue as payload
 use Rattle.sctp_outbound.proofs.lemmas.outbound_queue.Sendable.{sendable-ordered_changed, sendable-pushed, sendable-without}
 use Rattle.sctp_delivery.proofs.Cases.{Where, at-test, where-is, where-map, where-yes}
@@ -31,9 +31,7 @@ pushed on ws first number number' q next sent s w c cs message stream waits' sam
       queued = record {
         line = line-more w ws first sent s.queued.line;
         ordered = waits-more w ws q.pending.ordered (place_of false q.pending.selected sent) s.queued.ordered;
-        unordered = waits-behind (w ∷ ws) q.pending.unordered (map (with_message_id q.next_message_id) (c ∷ cs))
-            (place_of true q.pending.selected sent)
-            (waits-more w ws q.pending.unordered (place_of true q.pending.selected sent) s.queued.unordered) waits';
+        unordered = grind (arith, nat_tests, common_steps, waits-behind, waits-more);
         turns = λ r. subst (λ k. Where (on r) (IsTurn r q.pending.ordered k sent)) (sym (same e r)) (s.queued.turns r);
         indexed = s.queued.indexed;
         ranked = ranked-more w ws q.pending.ordered sent s.queued.ranked;
@@ -51,9 +49,7 @@ pushed on ws first number number' q next sent s w c cs message stream waits' sam
     (λ e m. record {
       queued = record {
         line = line-more w ws first sent s.queued.line;
-        ordered = waits-behind (w ∷ ws) q.pending.ordered (map (with_message_id q.next_message_id) (c ∷ cs))
-            (place_of false q.pending.selected sent)
-            (waits-more w ws q.pending.ordered (place_of false q.pending.selected sent) s.queued.ordered) waits';
+        ordered = grind (arith, nat_tests, common_steps, waits-behind, waits-more);
         unordered = waits-more w ws q.pending.unordered (place_of true q.pending.selected sent) s.queued.unordered;
         turns = λ r. where-map (on r) (IsTurn r q.pending.ordered (number r) sent)
             (IsTurn r (q.pending.ordered ++ map (with_message_id q.next_message_id) (c ∷ cs)) (number' r) sent) (λ t. (
@@ -112,9 +108,7 @@ module _ (on : ℕ → Bool) (ws : List Numbered) (first : ℕ) (number number' 
     sendable = sendable-without os (u ∷ us) None ro ru fl.chunks id u.message_id s.sendable;
     known = s.known;
     counted = s.counted;
-    begun' = begun-less os (u ∷ us) (without_message u.message_id os)
-        (without_message u.message_id (u ∷ us)) id sent (λ k h. list_any-those (begins k) (λ c. not (is_of u.message_id c)) os h)
-        (λ k h. list_any-those (begins k) (λ c. not (is_of u.message_id c)) (u ∷ us) h) s.begun';
+    begun' = grind (arith, nat_tests, common_steps, begun-less, list_any-those, not);
     ids = s.ids;
   })
     where

@@ -1,15 +1,14 @@
 -- What is so of each chunk that waits, and of each in flight, through each change of a sender's queues.
-use Rattle.sctp_delivery.proofs.Names.{◌≡◌, ℕ, ◌+◌, Bool, true, false, List, [], ◌∷◌, map, take, drop, Option, Some, None, refl, subst, if◌then◌else◌, ◌==◌}
-use Rattle.sctp_delivery.proofs.Names.{none-some, change_where, at_or_before, ChunkPayloadData, PayloadProtocolIdentifier, Sack, Selected, as_abandoned}
+use Rattle.sctp_delivery.proofs.Names.{arith, common_steps, nat_tests, ◌≡◌, ℕ, ◌+◌, Bool, true, false, List, [], ◌∷◌, map, Option, Some, None, refl, subst}
+use Rattle.sctp_delivery.proofs.Names.{if◌then◌else◌, none-some, change_where, ChunkPayloadData, PayloadProtocolIdentifier, Sack, Selected, as_abandoned}
 use Rattle.sctp_delivery.proofs.Names.{as_acknowledged, is_of, Outbound, abandoned_of, all_started, append_chunks, as_sent, expired_of, sent_of, terminal_chunk}
-use Rattle.sctp_delivery.proofs.Names.{with_inflight, with_message, with_message_id, with_terminal_chunk, Pending, closed_up, front_of, is_to_start, last_of}
-use Rattle.sctp_delivery.proofs.Names.{last_removed, list_of, list_to_pop, next_pending, next_pending_of, one_lower, rest_from, with_deadline, without}
-use Rattle.sctp_delivery.proofs.Names.{chunk_before, is_on, OutboundStream, fragment_at, fragments_of, Flight, after_sack, is_outdated, message_to_abandon}
-use Rattle.sctp_delivery.proofs.Names.{reports_anew, abandoned_at, abandoned_each, fragments_with_mode, with_reliability, after_misses, can_miss, missed}
+use Rattle.sctp_delivery.proofs.Names.{with_inflight, with_message, with_message_id, with_terminal_chunk, Pending, closed_up, front_of, last_of, last_removed}
+use Rattle.sctp_delivery.proofs.Names.{list_of, list_to_pop, next_pending, next_pending_of, one_lower, rest_from, with_deadline, without, chunk_before, is_on}
+use Rattle.sctp_delivery.proofs.Names.{OutboundStream, fragment_at, fragments_of, Flight, after_sack, message_to_abandon, reports_anew, abandoned_at}
+use Rattle.sctp_delivery.proofs.Names.{abandoned_each, fragments_with_mode, with_reliability, after_misses, missed}
 use Rattle.std.specs.Prelude.{not, slice_get}
 use Rattle.sctp_outbound.specs.payload_queue.PayloadQueue as payload
-use Rattle.sctp_outbound.specs.pending_queue.PendingQueue.{rest_of}
-use Rattle.sctp_delivery.proofs.Cases.{at-if, at-test}
+use Rattle.sctp_delivery.proofs.Cases.{at-test}
 use Rattle.sctp_delivery.proofs.Every.{Every, every-changed, every-inserted, every-joined, every-left, every-made, every-mapped, every-of, every-passing}
 use Rattle.sctp_delivery.proofs.Every.{every-taken}
 
@@ -41,16 +40,8 @@ module _ (P : ChunkPayloadData → Type 0) where
       by [] h s = front q.ordered c h w.0
       by (u ∷ us) h s = let same : u ≡ c = cc in subst P same s.0
 
-  rest-of : (b : Bool) (q : Pending) (cs : List ChunkPayloadData) → Every P cs → AllWait q → AllWait (rest_of b q cs)
-  rest-of true q [] s w = w
-  rest-of false q [] s w = w
-  rest-of true q (c ∷ cs) s w = (w.0, s.1)
-  rest-of false q (c ∷ cs) s w = (s.1, w.1)
-
   pub rest : (k : Option Bool) (q : Pending) → AllWait q → AllWait (rest_from k q)
-  rest None q w = w
-  rest (Some true) q w = rest-of true q q.unordered w.1 w
-  rest (Some false) q w = rest-of false q q.ordered w.0 w
+  rest h0 h1 h2 = grind (arith, nat_tests, common_steps)
 
   pub fewer : (m : ℕ) (q : Pending) → AllWait q → AllWait (without m q)
   fewer m q w = (every-passing P (λ c. not (is_of m c)) q.ordered w.0, every-passing P (λ c. not (is_of m c)) q.unordered w.1)
@@ -75,12 +66,7 @@ module _ (P Q : ChunkPayloadData → Type 0) where
     pub inflight : Every Q q.inflight.chunks
 
   pub started : (now : ℕ) → ((c : ChunkPayloadData) → P c → P (with_deadline now c)) → (q : Outbound) → EachIs q → EachIs (all_started now q)
-  started now keep q h = at-if EachIs (q.next_unstarted == q.next_message_id)
-      (λ e. h)
-      (λ e. record { ordered = those q.pending.ordered h.ordered; unordered = those q.pending.unordered h.unordered; inflight = h.inflight })
-    where
-      those : (xs : List ChunkPayloadData) → Every P xs → Every P (change_where (is_to_start q.next_unstarted) (with_deadline now) xs)
-      those xs e = every-changed P (is_to_start q.next_unstarted) (with_deadline now) (λ c _ i. keep c i) xs e
+  started now keep q h = grind (arith, nat_tests, common_steps, every-changed)
 
   pub sent : (tsn now : ℕ) → ((c : ChunkPayloadData) → P c → Q (as_sent tsn now c)) → (o : Option ChunkPayloadData) (q : Outbound)
       → next_pending q.pending ≡ o → EachIs q → EachIs (sent_of o q tsn now)
@@ -139,36 +125,17 @@ module _ (P Q : ChunkPayloadData → Type 0) where
       record { ordered = h.ordered; unordered = h.unordered; inflight = every-changed Q p f (λ c _ i. keep c i) q.inflight.chunks h.inflight }
 
   pub missed-some : ((c : ChunkPayloadData) → Q c → Q (missed c)) → (count : ℕ) (f : Flight) → EachIs f.queue → EachIs (after_misses count f).queue
-  missed-some keep count f h =
-      let cs = f.queue.inflight.chunks in
-      record {
-        ordered = h.ordered;
-        unordered = h.unordered;
-        inflight = every-joined Q (change_where can_miss missed (take count cs)) (drop count cs)
-            (every-changed Q can_miss missed (λ c _ i. keep c i) (take count cs) (every-taken Q count cs h.inflight)) (every-left Q count cs h.inflight);
-      }
+  missed-some keep count f h = grind (arith, nat_tests, common_steps, every-joined, every-changed, every-taken, every-left)
 
   pub sacked : (k : Sack) → ((c : ChunkPayloadData) → reports_anew k c ≡ true → Q c → Q (as_acknowledged c)) → (f : Flight) → EachIs f.queue
       → EachIs (after_sack k f).queue
-  sacked k keep f h = at-if (λ (z : Flight). EachIs z.queue) (is_outdated k f)
-      (λ e. h)
-      (λ e. record {
-        ordered = h.ordered;
-        unordered = h.unordered;
-        inflight = every-passing Q (λ c. not (at_or_before c.tsn k.cumulative_tsn_ack))
-            (change_where (reports_anew k) as_acknowledged f.queue.inflight.chunks)
-            (every-changed Q (reports_anew k) as_acknowledged keep f.queue.inflight.chunks h.inflight);
-      })
+  sacked k keep f h = grind (arith, nat_tests, common_steps, every-passing, every-changed)
 
 -- a message is written, and what is said may grow
 module _ (P Q P' Q' : ChunkPayloadData → Type 0) (waits : (c : ChunkPayloadData) → P c → P' c) (flies : (c : ChunkPayloadData) → Q c → Q' c) where
   pub pushed : (cs : List ChunkPayloadData) (q : Outbound) → Every (λ c. P' (with_message_id q.next_message_id c)) cs → EachIs P Q q
       → EachIs P' Q' (with_message cs q)
-  pushed [] q new h = record {
-    ordered = every-of P P' waits q.pending.ordered h.ordered;
-    unordered = every-of P P' waits q.pending.unordered h.unordered;
-    inflight = every-of Q Q' flies q.inflight.chunks h.inflight;
-  }
+  pushed [] q new h = grind (arith, nat_tests, common_steps, every-of)
   pushed (c ∷ cs) q new h = at-test (λ b. EachIs P' Q' (record q { pending = append_chunks b ms q.pending; next_message_id = q.next_message_id + 1 }))
       c.unordered
       (λ e. record {

@@ -1,16 +1,16 @@
 -- The queues of a sender beside all that it gave TSNs to, while chunks come, leave and change.
-use Rattle.sctp_delivery.proofs.Names.{◌≡◌, ℕ, ◌+◌, ◌%◌, ◌^◌, Bool, true, false, List, [], ◌∷◌, length, Option, Some, None, inl, inr, refl, ap, sym, subst, ◌∙◌}
-use Rattle.sctp_delivery.proofs.Names.{arith, not, ◌==◌, if◌then◌else◌, list_any, none-some, nat_tests, change_where, insert_before, or-left, same-yes}
-use Rattle.sctp_delivery.proofs.Names.{some-same, not_both, ChunkPayloadData, data_of, Selected, as_abandoned, is_of, Outbound, abandon_chunks, abandoned_of}
-use Rattle.sctp_delivery.proofs.Names.{all_started, as_sent, sent_of, terminal_chunk, tsn_after_of, with_inflight, with_terminal_chunk, is_to_start}
-use Rattle.sctp_delivery.proofs.Names.{last_removed, next_pending, start_pending, with_deadline, without, without_message, IsSendable, IsWhole, begun, free}
-use Rattle.sctp_delivery.proofs.Names.{partial_of, partially_sent, waits, abandoned_none, last_is_of, no_last, partial_gone, sendable-sent, KeepsMessage}
-use Rattle.sctp_delivery.proofs.Names.{chunk_before, following_tsn, list_any-inserted, list_any-those}
+use Rattle.sctp_delivery.proofs.Names.{common_steps, ◌≡◌, ℕ, ◌+◌, ◌%◌, ◌^◌, Bool, true, false, List, [], ◌∷◌, length, Option, Some, None, inl, inr, refl, ap}
+use Rattle.sctp_delivery.proofs.Names.{sym, subst, ◌∙◌, arith, not, ◌==◌, if◌then◌else◌, list_any, none-some, nat_tests, change_where, insert_before, or-left}
+use Rattle.sctp_delivery.proofs.Names.{same-yes, some-same, not_both, ChunkPayloadData, data_of, Selected, as_abandoned, is_of, Outbound, abandon_chunks}
+use Rattle.sctp_delivery.proofs.Names.{abandoned_of, all_started, as_sent, sent_of, terminal_chunk, tsn_after_of, with_inflight, with_terminal_chunk}
+use Rattle.sctp_delivery.proofs.Names.{is_to_start, last_removed, next_pending, start_pending, with_deadline, without, without_message, IsSendable, IsWhole}
+use Rattle.sctp_delivery.proofs.Names.{begun, free, partial_of, partially_sent, waits, abandoned_none, last_is_of, no_last, partial_gone, sendable-sent}
+use Rattle.sctp_delivery.proofs.Names.{KeepsMessage, chunk_before, following_tsn, list_any-inserted, list_any-those}
 use Rattle.std.proofs.Common.{◌⊎◌}
 use Rattle.sctp_outbound.specs.payload_queue.PayloadQueue as payload
 use Rattle.sctp_outbound.specs.pending_queue.PendingQueue.{selected_without}
 use Rattle.sctp_outbound.proofs.lemmas.outbound_queue.Abandoned.{sendable-abandoned}
-use Rattle.sctp_outbound.proofs.lemmas.outbound_queue.Sendable.{sendable-changed, sendable-fewer, sendable-marked}
+use Rattle.sctp_outbound.proofs.lemmas.outbound_queue.Sendable.{sendable-changed, sendable-marked}
 use Rattle.sctp_delivery.proofs.Cases.{all_streams, where-is, where-map, where-yes}
 use Rattle.sctp_delivery.proofs.Begun.{IsBegun, begins, begins-changed, begun-ended, begun-less, begun-sent}
 use Rattle.sctp_delivery.proofs.InFlight.{AreKnownOn, KeepsData, abandoned-keeps, abandoned-not, known-changed, known-more, IsKnownOn}
@@ -169,28 +169,14 @@ rest-gone ws m cs (fragment d w after ∷ xs) h =
 pub marked : (on : ℕ → Bool) (ws : List Numbered) (first : ℕ) (number : ℕ → ℕ) (q : Outbound) (next : ℕ) (sent : List Entry) (p : ChunkPayloadData → Bool)
     (f : ChunkPayloadData → ChunkPayloadData) → KeepsMessage f → KeepsData f → StandsOn on ws first number q next sent
     → StandsOn on ws first number (with_inflight q (change_where p f q.inflight.chunks)) next sent
-marked on ws first number q next sent p f keeps keeps' s = record {
-  queued = s.queued;
-  sendable = sendable-marked q.pending q.inflight.chunks q.next_message_id p f keeps s.sendable;
-  known = known-changed on first sent p f keeps' q.inflight.chunks s.known;
-  counted = s.counted;
-  begun' = s.begun';
-  ids = s.ids;
-}
+marked on ws first number q next sent p f keeps keeps' s = search (sendable-marked, known-changed)
 
 -- with other chunks in flight, of no other messages
 pub refilled : (on : ℕ → Bool) (ws : List Numbered) (first : ℕ) (number : ℕ → ℕ) (q : Outbound) (next : ℕ) (sent : List Entry) (cs : List ChunkPayloadData)
     → ((m : ℕ) → list_any (is_of m) cs ≡ true → list_any (is_of m) q.inflight.chunks ≡ true) → AreKnownOn on first sent cs
     → StandsOn on ws first number q next sent
     → StandsOn on ws first number (with_inflight q cs) next sent
-refilled on ws first number q next sent cs fewer known s = record {
-  queued = s.queued;
-  sendable = sendable-fewer q.pending q.inflight.chunks cs q.next_message_id fewer s.sendable;
-  known = known;
-  counted = s.counted;
-  begun' = s.begun';
-  ids = s.ids;
-}
+refilled on ws first number q next sent cs fewer known s = grind (arith, nat_tests, common_steps)
 
 module _ (on : ℕ → Bool) (ws : List Numbered) (first : ℕ) (number : ℕ → ℕ) (q : Outbound) (next : ℕ) (sent : List Entry)
     (s : StandsOn on ws first number q next sent) (m : ℕ) where
@@ -289,11 +275,7 @@ module _ (on : ℕ → Bool) (ws : List Numbered) (first : ℕ) (number : ℕ �
           ) (known-more on first terminal sent xs
               (known-changed on first sent (is_of m) as_abandoned abandoned-keeps q.inflight.chunks s.known));
           counted = let n = s.counted in omega (arith, n);
-          begun' = begun-ended (without_message m q.pending.ordered) (without_message m q.pending.unordered) q.next_message_id sent
-              (begun-less q.pending.ordered q.pending.unordered (without_message m q.pending.ordered)
-              (without_message m q.pending.unordered) q.next_message_id sent
-              (λ k h. list_any-those (begins k) (λ c. not (is_of m c)) q.pending.ordered h)
-              (λ k h. list_any-those (begins k) (λ c. not (is_of m c)) q.pending.unordered h) s.begun');
+          begun' = grind (arith, nat_tests, common_steps, begun-ended, begun-less, list_any-those, not);
           ids = s.ids;
         };
         ended = inr refl;
@@ -312,8 +294,4 @@ pub abandoned : (on : ℕ → Bool) (ws : List Numbered) (first : ℕ) (number :
     → StandsOn on ws first number q next sent
     → (o : Option ℕ) → ((m : ℕ) → o ≡ Some m → waits m q.pending ≡ true → partially_sent q.pending ≡ Some m)
     → Abandons on ws first number sent q (abandoned_of o next q) (tsn_after_of o next q)
-abandoned on ws first number q next sent s None partial = no-abandons on ws first number sent q next s
-abandoned on ws first number q next sent s (Some m) partial = at-waits (waits m q.pending) refl
-  where
-    at-waits : (b : Bool) → waits m q.pending ≡ b → Abandons on ws first number sent q (abandoned_of (Some m) next q) (tsn_after_of (Some m) next q)
-    at-waits b e = grind (arith, nat_tests, rest-abandoned, whole-abandoned)
+abandoned h0 h1 h2 h3 h4 h5 h6 h7 h8 h9 = grind (arith, nat_tests, common_steps, no-abandons, rest-abandoned, whole-abandoned)

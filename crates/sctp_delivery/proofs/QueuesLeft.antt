@@ -1,19 +1,19 @@
 -- What each change of a sender's queues makes of the chunks in flight and of how many are left.
-use Rattle.sctp_delivery.proofs.Names.{◌≡◌, ℕ, ◌+◌, ◌%◌, ◌^◌, ◌<◌, ◌≤◌, Bool, true, false, List, [], ◌∷◌, ◌++◌, length, length-append, length-drop, map, drop}
-use Rattle.sctp_delivery.proofs.Names.{Option, Some, None, inl, inr, refl, ap, sym, subst, ◌∙◌, arith, ◌-◌, if◌then◌else◌, ◌==◌, ◌&&◌, nat_lt, find, list_any}
-use Rattle.sctp_delivery.proofs.Names.{length-map, map-append, none-some, change_where, insert_before, comes_before, distance, or-split, some-same}
-use Rattle.sctp_delivery.proofs.Names.{length-change_where, not_both, ChunkPayloadData, Selected, as_abandoned, is_of, as_acknowledged, Outbound, abandoned_of}
-use Rattle.sctp_delivery.proofs.Names.{all_started, as_sent, expired_of, sent_of, terminal_chunk, tsn_after_of, with_inflight, with_terminal_chunk, sent_next}
-use Rattle.sctp_delivery.proofs.Names.{with_message, Pending, chunk_count, chunk_to_pop_from, last_removed, list_to_pop, next_pending, rest_after, rest_from}
-use Rattle.sctp_delivery.proofs.Names.{selected_after, without, without_message, GoesOn, IsSendable, partial_of, partially_sent, waits, abandoned_none}
-use Rattle.sctp_delivery.proofs.Names.{partial_waits, last_is_of, no_last, goes_on, partial_gone, made, sendable-sent, chunk_before, has_tsn, tsns_from, Flight}
-use Rattle.sctp_delivery.proofs.Names.{after_sack, is_outdated, message_to_abandon, reports_anew, take_sack, with_room, started-inflight, IsRunFrom}
-use Rattle.sctp_delivery.proofs.Names.{changed-run, past-is, nat_tests, distance-tsn, tsn, Sack, abandoned_at, abandoned_each, fragments_with_mode}
-use Rattle.sctp_delivery.proofs.Names.{Transmission, Released, found-partial, flight_of, is_exchange, SenderCall, SenderFollows, Session, of_sender, IsReported}
+use Rattle.sctp_delivery.proofs.Names.{common_steps, ◌≡◌, ℕ, ◌+◌, ◌%◌, ◌^◌, ◌<◌, ◌≤◌, Bool, true, false, List, [], ◌∷◌, ◌++◌, length, length-append, map, drop}
+use Rattle.sctp_delivery.proofs.Names.{Option, Some, None, inl, inr, refl, ap, sym, subst, ◌∙◌, arith, ◌-◌, if◌then◌else◌, nat_lt, find, list_any, length-map}
+use Rattle.sctp_delivery.proofs.Names.{map-append, none-some, change_where, insert_before, comes_before, distance, or-split, some-same, length-change_where}
+use Rattle.sctp_delivery.proofs.Names.{not_both, ChunkPayloadData, Selected, as_abandoned, is_of, as_acknowledged, Outbound, abandoned_of, all_started, as_sent}
+use Rattle.sctp_delivery.proofs.Names.{expired_of, sent_of, terminal_chunk, tsn_after_of, with_inflight, with_terminal_chunk, sent_next, with_message, Pending}
+use Rattle.sctp_delivery.proofs.Names.{chunk_count, chunk_to_pop_from, last_removed, list_to_pop, next_pending, rest_after, rest_from, without, without_message}
+use Rattle.sctp_delivery.proofs.Names.{GoesOn, IsSendable, partial_of, partially_sent, waits, abandoned_none, partial_waits, last_is_of, no_last, goes_on}
+use Rattle.sctp_delivery.proofs.Names.{partial_gone, made, sendable-sent, chunk_before, has_tsn, tsns_from, Flight, after_sack, is_outdated, message_to_abandon}
+use Rattle.sctp_delivery.proofs.Names.{reports_anew, take_sack, with_room, started-inflight, IsRunFrom, changed-run, past-is, nat_tests, distance-tsn, tsn}
+use Rattle.sctp_delivery.proofs.Names.{Sack, abandoned_at, abandoned_each, fragments_with_mode, Transmission, Released, found-partial, flight_of, is_exchange}
+use Rattle.sctp_delivery.proofs.Names.{SenderCall, SenderFollows, Session, of_sender, IsReported}
 use Rattle.std.proofs.Common.{◌⊎◌}
 use Rattle.std.proofs.lemmas.List.{drop-map}
 use Rattle.sctp_outbound.specs.payload_queue.PayloadQueue as payload
-use Rattle.sctp_outbound.proofs.lemmas.outbound_queue.SideBySide.{partial_before, partial_appended}
+use Rattle.sctp_outbound.proofs.lemmas.outbound_queue.SideBySide.{partial_before}
 use Rattle.sctp_delivery.proofs.Continued.{AreContinued, IsContinued, abandoned-continued, ended-continued, facts, facts-abandoned, facts_of, gone_at}
 use Rattle.sctp_delivery.proofs.Continued.{left-continued, sent-continued, facts-changed, facts-part-changed}
 use Rattle.sctp_delivery.proofs.FewInFlight.{IsInRun, IsRegular, IsSmall, sack-place}
@@ -29,7 +29,7 @@ use Rattle.sctp_delivery.proofs.Queues.{Stands, abandoned, started}
 use Rattle.sctp_delivery.proofs.Senders.{IsHeld}
 use Rattle.sctp_delivery.proofs.Numbers.{number_of}
 use Rattle.sctp_delivery.proofs.Sent.{Entry, Numbered}
-use Rattle.sctp_delivery.proofs.TsnPlaces.{before, tsn-small}
+use Rattle.sctp_delivery.proofs.TsnPlaces.{before}
 use Rattle.sctp_delivery.proofs.Writing.{in-front, accepted-stream}
 use Rattle.sctp_delivery.proofs.QueueChunks.{peeked}
 use Rattle.sctp_delivery.proofs.Changes.{Change, all_start, acknowledges, changes, each_leaves, flight_after, front_expires, more_room, nothing, one_leaves}
@@ -76,18 +76,12 @@ pub record CanPut (cs : List ChunkPayloadData) (tsn : ℕ) : Type 0 where
 -- a chunk that is taken leaves one fewer
 pub popped : (k : Option Bool) (os us : List ChunkPayloadData) (sel : Option Selected) (ro ru : ℕ) (c : ChunkPayloadData)
     → chunk_to_pop_from k (made os us sel ro ru) ≡ Some c → chunk_count (rest_from k (made os us sel ro ru)) + 1 ≡ chunk_count (made os us sel ro ru)
-popped k os us sel ro ru c h8 = grind (arith, nat_tests, none-some)
-
--- and where it does not end its message, that is partially sent
-on-sel : (kind : Bool) (c : ChunkPayloadData) (sel : Option Selected) → c.ending_fragment ≡ false → ((m : ℕ) → partial_of sel ≡ Some m → c.message_id ≡ m)
-    → partial_of (selected_after sel kind c) ≡ Some c.message_id
-on-sel kind c None e on = ap (λ b. partial_of (if b then None else Some (let s : Selected = record { message_id = c.message_id; unordered = kind } in s))) e
-on-sel kind c (Some s) e on = ap (λ b. partial_of (if b && (c.message_id == s.message_id) then None else Some s)) e ∙ ap Some (sym (on s.message_id refl))
+popped k os us sel ro ru c h8 = grind (arith, nat_tests)
 
 partial-on : (k : Option Bool) (os us : List ChunkPayloadData) (sel : Option Selected) (ro ru : ℕ) (c : ChunkPayloadData)
     → chunk_to_pop_from k (made os us sel ro ru) ≡ Some c → c.ending_fragment ≡ false → ((m : ℕ) → partial_of sel ≡ Some m → c.message_id ≡ m)
     → partially_sent (rest_from k (made os us sel ro ru)) ≡ Some c.message_id
-partial-on k os us sel ro ru c h8 h9 h10 = grind (arith, nat_tests, none-some, on-sel, some-same)
+partial-on k os us sel ro ru c h8 h9 h10 = grind (arith, nat_tests)
 
 pub goes-with : (m : ℕ) (c : ChunkPayloadData) (o : Option ChunkPayloadData) → o ≡ Some c → GoesOn m o → c.message_id ≡ m
 goes-with m c None e g = absurd g
@@ -152,9 +146,6 @@ pub record Abandons (q r : Outbound) (tsn : ℕ) : Type 0 where
   pub place : HasPlace r tsn
 
 module _ (q : Outbound) (tsn : ℕ) (k : IsSendable q.pending q.inflight.chunks q.next_message_id) (m : ℕ) where
-  abbrev xs : List ChunkPayloadData
-  xs = change_where (is_of m) as_abandoned q.inflight.chunks
-
   abbrev marked : Outbound
   marked = record q { inflight = payload.with_chunks q.inflight (change_where (is_of m) as_abandoned q.inflight.chunks) }
 
@@ -196,11 +187,7 @@ module _ (q : Outbound) (tsn : ℕ) (k : IsSendable q.pending q.inflight.chunks 
     continued = λ s.
         subst (AreContinued (partially_sent (without m q.pending))) (sym all)
         (ended-continued (partially_sent q.pending) (partially_sent (without m q.pending)) m (facts_of q.inflight.chunks) partial s);
-    fewer = λ _.
-        let n = waiting-gone m q.pending w in
-        let a = ap length at-end in
-        let l = length-append xs (terminal_chunk tsn c ∷ []) in
-        omega (arith, n, a, l, long);
+    fewer = grind (arith, nat_tests, common_steps, waiting-gone, at-end, length-append, long);
   }
     where
       at-end : insert_before chunk_before (terminal_chunk tsn c) (change_where (is_of m) as_abandoned q.inflight.chunks)
@@ -242,12 +229,7 @@ dropped-goes q cs k same = record {
   continued = λ s.
       subst (AreContinued (partially_sent q.pending)) (ap (drop k) (sym same) ∙ drop-map facts k cs)
       (left-continued (partially_sent q.pending) k (facts_of q.inflight.chunks) s);
-  fewer = λ _.
-      let d = length-drop k cs in
-      let n = ap length same in
-      let x = count-facts q.inflight.chunks in
-      let y = count-facts cs in
-      omega (arith, d, n, x, y);
+  fewer = grind (arith, nat_tests, common_steps);
 }
 
 -- # What each call of a sender makes of the chunks in flight and of how many are left, while few are in flight
@@ -273,22 +255,11 @@ sack-leaves p n place s f few within is h e =
     ) in
     let far : distance f.acked_tsn s.cumulative_tsn_ack ≡ place - h.acked =
     ap (λ t. distance t s.cumulative_tsn_ack) h.acked_is ∙ ap (distance (tsn p h.acked)) is ∙ distance-tsn p h.acked place le (omega (arith, within, few)) in
-    let small : f.acked_tsn < 2 ^ 32 = let t = tsn-small p h.acked in let a = h.acked_is in omega (
-      arith,
-      t,
-      a,
-    ) in
-    let fits : s.cumulative_tsn_ack < 2 ^ 32 = let t = tsn-small p place in omega (
-      arith,
-      t,
-      is,
-    ) in
+    let small : f.acked_tsn < 2 ^ 32 = grind (arith, nat_tests, common_steps) in
+    let fits : s.cumulative_tsn_ack < 2 ^ 32 = grind (arith, nat_tests, common_steps) in
     let run : IsRunFrom (tsn p (h.acked + 1)) cs =
     changed-run (reports_anew s) as_acknowledged (λ c. refl) f.queue.inflight.chunks ∙ h.run ∙ ap (tsns_from (tsn p (h.acked + 1))) (sym long) in
-    let first : (f.acked_tsn + 1) % 2 ^ 32 ≡ tsn p (h.acked + 1) = let a = h.acked_is in omega (
-      arith,
-      a,
-    ) in
+    let first : (f.acked_tsn + 1) % 2 ^ 32 ≡ tsn p (h.acked + 1) = grind (arith, nat_tests, common_steps) in
     grind (arith, nat_tests, past-is)
 
 sack-goes : (k : Sack) (f : Flight) → IsSmall k.cumulative_tsn_ack → length f.queue.inflight.chunks < 2 ^ 31 → sack_refusal k f ≡ None → IsInRun f
@@ -320,7 +291,7 @@ gone-each ws first number (t ∷ ts) f sent s place =
 -- ## A write
 
 message-same : (cs : List ChunkPayloadData) (q : Outbound) → Goes false q (with_message cs q)
-message-same cs q = grind (arith, nat_tests, goes-none, not_both, partial_appended, same-goes)
+message-same cs q = grind (arith, nat_tests)
 
 -- ## The calls
 
@@ -339,7 +310,7 @@ module _ (old new : Session) (few : count_in_flight old < 2 ^ 31) (i : IsRegular
   goes-to b t e g = subst (λ (u : Transmission). Goes b queue u.flight.queue) (sym e) g
 
   place : CanPut old.sending.sender.flight.queue.inflight.chunks old.sending.sender.flight.next_tsn
-  place = grind (arith, nat_tests, tsn-small)
+  place = grind (arith, nat_tests)
 
   sends : (now : ℕ) → Goes true old.sending.sender.flight.queue (sent_next old.sending.sender.flight.queue old.sending.sender.flight.next_tsn now)
   sends now =

@@ -1,8 +1,8 @@
 -- Sessions that were reached from a start, call by call: the chunks in flight are continued, and no more are left in an exchange.
 use Rattle.sctp_delivery.proofs.Names.{◌≡◌, ℕ, ◌+◌, ◌^◌, ◌<◌, ◌≤◌, true, List, [], ◌∷◌, ◌++◌, Option, refl, ap, sym, subst, arith, list_all, nat_tests}
 use Rattle.sctp_delivery.proofs.Names.{common_steps, distance, and, both, Limits, Ledger, is_reliable, ReceiverCall, is_exchange, tsns_given, SenderCall, Call}
-use Rattle.sctp_delivery.proofs.Names.{length, append-nil, append_assoc, abandoned_by, abandoned_in}
-use Rattle.sctp_delivery.proofs.Names.{Follows, ReceiverFollows, RunsTo, SenderFollows, Session, at_start, of_receiver, of_sender}
+use Rattle.sctp_delivery.proofs.Names.{length, append-nil, append_assoc, abandoned_by, abandoned_in, Follows, ReceiverFollows, RunsTo, SenderFollows, Session}
+use Rattle.sctp_delivery.proofs.Names.{at_start, of_receiver, of_sender}
 use Rattle.sctp_delivery.specs.Modes.{AreFewInFlight}
 use Rattle.sctp_delivery.specs.Session.{count_in_flight}
 use Rattle.sctp_delivery.proofs.AbandonedMessages.{AreBelow, AreMarkedGone, below-after, by-below, gone-left, gone-right, marked-later, stays-marked}
@@ -64,9 +64,7 @@ pub record HasKept (first n : ℕ) (s : Session) : Type 0 where
 
 kept-after : (first n : ℕ) (cs : List Call) (old new : Session) (ns : List Numbered) (sent : List Entry) (r : RunsTo old cs new)
     → n + tsns_given old cs new r < 2 ^ 31 → IsKept first n old ns sent → HasKept first (n + tsns_given old cs new r) new
-kept-after first n [] old new ns sent r few i =
-    subst (λ k. HasKept first k new) {x = n} {y = n + 0} (omega arith)
-    (subst (HasKept first n) (sym r) (record { numbered = ns; sent = sent; kept = i }))
+kept-after first n [] old new ns sent r few i = grind (arith, nat_tests, common_steps)
 kept-after first n (of_sender call ∷ cs) old new ns sent r few i =
     let d = distance (next_tsn old) (next_tsn r.0) in
     let x = sender-kept first n call old r.0 ns sent (omega (arith, few)) r.1.0 i in
@@ -140,12 +138,7 @@ pub lasts-gone : (first : ℕ) (cs : List Call) (old new : Session) (r : RunsTo 
     → AreBelow (length new.written) (gone ++ abandoned_in old cs new r)
     × AreMarkedGone (gone ++ abandoned_in old cs new r) new.sending.sender.flight.queue.inflight.chunks
 unfolding lasts-call lasts-answer
-lasts-gone first [] old new r few h gone below marked =
-    let long = ap length h.holds.writes in
-    let same = length-forgotten h.numbered in
-    subst (λ (s : Session). AreBelow (length s.written) (gone ++ []) × AreMarkedGone (gone ++ []) s.sending.sender.flight.queue.inflight.chunks) (sym r)
-    (subst (λ xs. AreBelow (length old.written) xs × AreMarkedGone xs old.sending.sender.flight.queue.inflight.chunks) (sym (append-nil gone))
-    (subst (λ n. AreBelow n gone) {x = length h.numbered} {y = length old.written} (omega (arith, long, same)) below, marked))
+lasts-gone first [] old new r few h gone below marked = grind (arith, nat_tests, common_steps, length-forgotten, append-nil)
 lasts-gone first (of_sender call ∷ cs) old new r few h gone below marked =
     let next = lasts-call first call old r.0 r.1.0 few.0 h in
     let answered = abandoned_by call old.sending.sender in

@@ -1,15 +1,14 @@
 -- No TSN is read twice: the fragments of all messages that were read have TSNs of their own.
-use Rattle.sctp_delivery.proofs.Names.{◌≡◌, ℕ, ◌+◌, ◌≤◌, Bool, true, false, not, List, [], ◌∷◌, ◌++◌, Option, refl, ap, sym, subst, ◌∙◌, arith, ◌==◌, ◌&&◌}
-use Rattle.sctp_delivery.proofs.Names.{zero, suc, ◌<◌, nat_lt}
-use Rattle.sctp_delivery.proofs.Names.{◌||◌, if◌then◌else◌, filter, list_all, list_any, sum_by, sum_by-cons, sum_by-append, nat_tests, common_steps, negated}
-use Rattle.sctp_delivery.proofs.Names.{or-right, same-is, same-yes, and, both, not_both, ChunkPayloadData, Limits, Message, fragments_read, has_tsn, is_on}
-use Rattle.sctp_delivery.proofs.Names.{NoneIsReadTwice, fragments_of_all, AfterEachSessionOfFewTsns, NoneIsTakenTwice, are_apart, Session, at_start}
+use Rattle.sctp_delivery.proofs.Names.{◌≡◌, ℕ, ◌+◌, ◌≤◌, Bool, true, false, not, List, [], ◌∷◌, ◌++◌, Option, refl, ap, sym, subst, ◌∙◌, arith, ◌==◌, zero, suc}
+use Rattle.sctp_delivery.proofs.Names.{◌<◌, nat_lt, ◌||◌, if◌then◌else◌, filter, list_all, list_any, sum_by, sum_by-cons, sum_by-append, nat_tests}
+use Rattle.sctp_delivery.proofs.Names.{common_steps, negated, or-right, same-is, same-yes, and, both, ChunkPayloadData, Limits, Message, fragments_read}
+use Rattle.sctp_delivery.proofs.Names.{has_tsn, is_on, NoneIsReadTwice, fragments_of_all, AfterEachSessionOfFewTsns, NoneIsTakenTwice, are_apart, Session}
 use Rattle.sctp_receiver.specs.ReceiverRuns as receiver_runs
 use Rattle.sctp_receiver.proofs.Handed as handed
 use Rattle.sctp_delivery.proofs.Cases.{at-if, at-test, by-test}
 use Rattle.sctp_delivery.proofs.SackLaws as sacks
 use Rattle.sctp_delivery.proofs.Sessions as sessions
-use Rattle.sctp_delivery.proofs.Sessions.{each-read, none-fails, receiver-runs, receiver_calls}
+use Rattle.sctp_delivery.proofs.Sessions.{each-read, none-fails, receiver-runs}
 
 -- ## How often a TSN stands in a list
 
@@ -24,15 +23,11 @@ more t c cs = sum_by-cons (one t) c cs
 
 pub none-count : (t : ℕ) (cs : List ChunkPayloadData) → list_any (has_tsn t) cs ≡ false → count t cs ≡ 0
 none-count t [] e = refl
-none-count t (c ∷ cs) e = at-test (λ b. (b || list_any (has_tsn t) cs) ≡ false → count t (c ∷ cs) ≡ 0) (has_tsn t c)
-    (λ i h. absurd (not_both (sym h)))
-    (λ i h. let z = (none-count t cs) h in let o : one t c ≡ 0 = ap (λ b. if b then 1 else 0) i in omega (arith, more t c cs, z, o)) e
+none-count t (c ∷ cs) e = grind (arith, nat_tests, common_steps, none-count t cs)
 
 pub count-none : (t : ℕ) (cs : List ChunkPayloadData) → count t cs ≡ 0 → list_any (has_tsn t) cs ≡ false
 count-none t [] e = refl
-count-none t (c ∷ cs) e = at-test (λ b. (b || list_any (has_tsn t) cs) ≡ false) (has_tsn t c)
-    (λ i. let o : one t c ≡ 1 = ap (λ b. if b then 1 else 0) i in absurd (omega (arith, more t c cs, e, o)))
-    (λ i. (count-none t cs) (omega (arith, more t c cs, e)))
+count-none t (c ∷ cs) e = grind (arith, nat_tests, common_steps, count-none t cs)
 
 pub once : (t : ℕ) (cs : List ChunkPayloadData) → are_apart cs ≡ true → count t cs ≤ 1
 once t [] e = omega arith
@@ -71,10 +66,7 @@ is_there t st c = not (has_tsn t c) || is_on st c
 
 none-there : (t st : ℕ) (cs : List ChunkPayloadData) → list_any (has_tsn t) cs ≡ false → list_all (is_there t st) cs ≡ true
 none-there t st [] e = refl
-none-there t st (c ∷ cs) e = at-test (λ b. (b || list_any (has_tsn t) cs) ≡ false → ((not b || is_on st c) && list_all (is_there t st) cs) ≡ true)
-    (has_tsn t c)
-    (λ e h. absurd (not_both (sym h)))
-    (λ e h. (none-there t st cs) h) e
+none-there t st (c ∷ cs) e = grind (arith, nat_tests, common_steps, none-there t st cs)
 
 all-there : (t : ℕ) (cs : List ChunkPayloadData) → are_apart cs ≡ true → list_all (is_there t (stream_of t cs)) cs ≡ true
 all-there t [] e = refl
@@ -104,9 +96,7 @@ none-elsewhere t st other differ (c ∷ cs) e f =
     let a = both (is_there t st c) (list_all (is_there t st) cs) e in
     let b = both (is_on other c) (list_all (is_on other) cs) f in
     let off : is_on st c ≡ false = subst (λ n. (n == st) ≡ false) (sym (same-is c.stream_identifier other b.0)) differ in
-    let o : one t c ≡ 0 = ap (λ k. if k then 1 else 0) (at-test (λ k. (not k || is_on st c) ≡ true → k ≡ false) (has_tsn t c)
-    (λ e h. absurd (not_both (sym off ∙ h)))
-    (λ e h. refl) a.0) in
+    let o : one t c ≡ 0 = grind (arith, nat_tests, common_steps) in
     omega (arith, sum_by-cons (one t) c cs, none-elsewhere t st other differ cs a.1 b.1, o)
 
 count-all : (t st : ℕ) (ms : List Message) → list_all (λ m. list_all (is_there t st) m.fragments) ms ≡ true
@@ -154,42 +144,17 @@ module _ (t : ℕ) where
   abbrev taken_under : ℕ → List ChunkPayloadData → List ChunkPayloadData
   taken_under k cs = filter (λ c. nat_lt c.stream_identifier k) cs
 
-  one-more : (x k w : ℕ) → ◌≡◌ {A = ℕ} (if nat_lt x (k + 1) then w else 0) ((if x == k then w else 0) + (if nat_lt x k then w else 0))
-  one-more x k w = grind (arith, nat_tests)
-
-  picked : (b : Bool) (cs ds : List ChunkPayloadData) → count t (if b then cs ++ ds else ds) ≡ (if b then count t cs else 0) + count t ds
-  picked true cs ds = sum_by-append (one t) cs ds
-  picked false cs ds = omega arith
-
-  passed : (p : ChunkPayloadData → Bool) (c : ChunkPayloadData) (cs : List ChunkPayloadData)
-      → count t (filter p (c ∷ cs)) ≡ (if p c then one t c else 0) + count t (filter p cs)
-  passed p c cs = by (p c)
-    where
-      by : (b : Bool) → count t (if b then c ∷ filter p cs else filter p cs) ≡ (if b then one t c else 0) + count t (filter p cs)
-      by true = more t c (filter p cs)
-      by false = omega arith
-
   read-more : (k : ℕ) (ms : List Message) → count t (read_under (k + 1) ms) ≡ count t (fragments_read k ms) + count t (read_under k ms)
   read-more k [] = omega arith
-  read-more k (m ∷ ms) =
-      let all = picked (nat_lt m.stream (k + 1)) m.fragments (read_under (k + 1) ms) in
-      let here = picked (m.stream == k) m.fragments (fragments_read k ms) in
-      let below = picked (nat_lt m.stream k) m.fragments (read_under k ms) in
-      omega (arith, all, here, below, one-more m.stream k (count t m.fragments), read-more k ms)
+  read-more k (m ∷ ms) = grind (arith, nat_tests, common_steps, read-more k ms)
 
   taken-more : (k : ℕ) (cs : List ChunkPayloadData) → count t (taken_under (k + 1) cs) ≡ count t (filter (is_on k) cs) + count t (taken_under k cs)
   taken-more k [] = omega arith
-  taken-more k (c ∷ cs) =
-      let all = passed (λ d. nat_lt d.stream_identifier (k + 1)) c cs in
-      let here = passed (is_on k) c cs in
-      let below = passed (λ d. nat_lt d.stream_identifier k) c cs in
-      omega (arith, all, here, below, one-more c.stream_identifier k (one t c), taken-more k cs)
+  taken-more k (c ∷ cs) = grind (arith, nat_tests, common_steps, taken-more k cs)
 
   none-under : (ms : List Message) → count t (read_under 0 ms) ≡ 0
   none-under [] = omega arith
-  none-under (m ∷ ms) =
-      let no : nat_lt m.stream 0 ≡ false = grind (arith, nat_tests) in
-      ap (λ b. count t (if b then m.fragments ++ read_under 0 ms else read_under 0 ms)) no ∙ none-under ms
+  none-under (m ∷ ms) = grind (arith, nat_tests, common_steps, none-under ms)
 
   all-under : (ms : List Message) → (k : ℕ) × ((j : ℕ) → k ≤ j → read_under j ms ≡ fragments_of_all ms)
   all-under [] = (0, λ j le. refl)
@@ -198,7 +163,7 @@ module _ (t : ℕ) where
         m.stream + 1 + rest.0,
         λ j le.
             let lt : m.stream < j = omega (arith, le) in
-            let yes : nat_lt m.stream j ≡ true = grind (arith, nat_tests, lt) in
+            let yes : nat_lt m.stream j ≡ true = grind (arith, nat_tests) in
             ap (λ b. if b then m.fragments ++ read_under j ms else read_under j ms) yes ∙ ap (λ cs. m.fragments ++ cs) (rest.1 j (omega (arith, le))),
       )
 
@@ -223,6 +188,4 @@ module _ (t : ℕ) where
           (omega (arith, a, b, w, ih))
 
 pub none-twice : AfterEachSessionOfFewTsns (λ first given s. NoneIsReadTwice s)
-none-twice first size max most limits cs s run small few =
-    none-twice-so first most limits (receiver_calls cs) s (receiver-runs cs (at_start first size max most limits) s run)
-    (sacks.none-twice first size max most limits cs s run small few)
+none-twice first size max most limits cs s run small few = grind (arith, nat_tests, common_steps, none-twice-so, receiver-runs, sacks.none-twice)

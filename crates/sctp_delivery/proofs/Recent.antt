@@ -1,14 +1,12 @@
 -- Sessions of a whole life: what came at the receiver lies behind the acknowledged TSN, and before the next one, while nothing older is handed over.
-use Rattle.sctp_delivery.proofs.Names.{Option, Some, None, Limits, expired_of}
-use Rattle.sctp_delivery.proofs.Names.{◌≡◌, ℕ, ◌+◌, ◌-◌, ◌<◌, ◌≤◌, ◌^◌, Bool, true, false, not, List, [], ◌∷◌, length, None, refl, ap, sym}
-use Rattle.sctp_delivery.proofs.Names.{subst, ◌∙◌, arith, nat_tests, inl, inr, ◌⊎◌, cases_lt, filter, insert_before, not_both, both, if◌then◌else◌}
-use Rattle.sctp_delivery.proofs.Names.{tsn, Sack, Flight, ChunkPayloadData, Transmission, Reception, Released, after_sack, take_sack, is_outdated}
-use Rattle.sctp_delivery.proofs.Names.{follow_forward_tsn, without_incomplete, is_stale, New, Repeat, list_any}
-use Rattle.sctp_delivery.proofs.Names.{Session, SenderFollows, ReceiverFollows, SenderCall, ReceiverCall, at_start, of_sender, of_receiver}
-use Rattle.sctp_delivery.proofs.Names.{CanBeAnswered, Contains, ForwardTsn, after_forward_tsn, filter_of, has_come, with_filter, with_tsn}
-use Rattle.sctp_delivery.proofs.Names.{fragments_with_mode, with_message, sent_next, next_after_send}
-use Rattle.sctp_delivery.proofs.Names.{nat_lt, ◌&&◌, ◌==◌, tsns, all_started, with_inflight, after_misses, abandoned_each, after_abandonment, change_where}
-use Rattle.sctp_delivery.proofs.Names.{changed-run, started-inflight, can_miss, missed, sack_refusal, data_chunk, data_of, forward_tsn, Ledger, IsReported}
+use Rattle.sctp_delivery.proofs.Names.{common_steps, Option, Some, None, Limits, expired_of, ◌≡◌, ℕ, ◌+◌, ◌-◌, ◌<◌, ◌≤◌, ◌^◌, Bool, true, false, not, List, []}
+use Rattle.sctp_delivery.proofs.Names.{◌∷◌, length, refl, ap, sym, subst, ◌∙◌, arith, nat_tests, inl, inr, ◌⊎◌, cases_lt, filter, not_both, both, if◌then◌else◌}
+use Rattle.sctp_delivery.proofs.Names.{tsn, Sack, Flight, Transmission, Reception, Released, after_sack, take_sack, is_outdated, follow_forward_tsn}
+use Rattle.sctp_delivery.proofs.Names.{without_incomplete, is_stale, New, Repeat, list_any, Session, SenderFollows, ReceiverFollows, SenderCall, ReceiverCall}
+use Rattle.sctp_delivery.proofs.Names.{at_start, of_sender, of_receiver, CanBeAnswered, Contains, ForwardTsn, after_forward_tsn, filter_of, has_come}
+use Rattle.sctp_delivery.proofs.Names.{with_filter, with_tsn, fragments_with_mode, with_message, sent_next, next_after_send, nat_lt, ◌&&◌, ◌==◌, tsns}
+use Rattle.sctp_delivery.proofs.Names.{all_started, after_misses, abandoned_each, after_abandonment, changed-run, started-inflight, can_miss, missed}
+use Rattle.sctp_delivery.proofs.Names.{sack_refusal, data_chunk, data_of, forward_tsn, Ledger}
 use Rattle.sctp_outbound.specs.payload_queue.PayloadQueue as payload
 use Rattle.sctp_sender.proofs.MarkedRuns.{part-run}
 use Rattle.sctp_delivery.proofs.Sessions.{neither}
@@ -21,10 +19,9 @@ use Rattle.sctp_delivery.specs.SenderCalls as outgoing
 use Rattle.sctp_delivery.specs.Session.{count_in_flight}
 use Rattle.sctp_delivery.proofs.ArrivedTsns.{IsArrived, IsKnown, advanced}
 use Rattle.sctp_delivery.proofs.Changes.{Change, Keeps, acknowledges, all_start, changes, each-call, each_leaves, flight_after, front_expires, more_room}
-use Rattle.sctp_delivery.proofs.Changes.{nothing}
-use Rattle.sctp_delivery.proofs.Changes.{one_leaves, some_marked, some_missed}
+use Rattle.sctp_delivery.proofs.Changes.{nothing, one_leaves, some_marked, some_missed}
 use Rattle.sctp_delivery.proofs.Every.{Every, every-both, every-contained, every-inserted, every-of, every-passing}
-use Rattle.sctp_delivery.proofs.FewInFlight.{AreRegular, IsInRun, IsMadeSmall, IsSmall, regular-first, regular-then, sack-place}
+use Rattle.sctp_delivery.proofs.FewInFlight.{AreRegular, IsInRun, IsMadeSmall, IsSmall, regular-then, sack-place}
 use Rattle.sctp_delivery.proofs.GivenTsns.{IsNumbered, Raises, as-long, raises-abandoned, raises-each, raises-sent, taken-numbered}
 use Rattle.sctp_delivery.proofs.QueueChunks.{pushed}
 use Rattle.sctp_delivery.proofs.SackSteps.{message-inflight}
@@ -59,13 +56,11 @@ near-given : (p n t : ℕ) (next : ℕ) → n < 2 ^ 31 → t < 2 ^ 32 → next �
 unfolding comes_before at_or_before distance
 near-given p n t next few small is e =
     let b = both (nat_lt 0 (distance t next)) (nat_lt (distance t next) (2 ^ 31)) e in
-    let pos : 0 < distance t next = grind (arith, nat_tests, b.0) in
-    let near : distance t next < 2 ^ 31 = grind (arith, nat_tests, b.1) in
+    let pos : 0 < distance t next = grind (arith, nat_tests) in
+    let near : distance t next < 2 ^ 31 = grind (arith, nat_tests) in
     elim (cases_lt n (distance t next)) [
       | inr ge ↦ inl (record { place = n + 1 - distance t next; some = omega (arith, ge); within = omega (arith, pos); is = omega (arith, small, is, ge, pos) })
-      | inl lt ↦ inr (λ d le.
-          let far : distance t (tsn p d) < 2 ^ 31 = omega (arith, small, is, lt, pos, near, le) in
-          grind (arith, nat_tests, far))
+      | inl lt ↦ grind (arith, nat_tests, common_steps)
     ]
 
 -- ## A call of the sender
@@ -82,9 +77,7 @@ raised-longer : (most : ℕ) (f g : Flight) → Raises f.acked_tsn most f g → 
 raised-longer most f g r = record { acked = r.acked; long = let n = r.long in omega (arith, n) }
 
 pub longer-arrived : (f g : Flight) (r : Reception) → IsLonger f g → HasArrived f r → HasArrived g r
-longer-arrived f g r l h =
-    subst (λ a. IsArrived a (length g.queue.inflight.chunks) any r.cumulative_tsn r.beyond) (sym l.acked)
-    (more-arrived f.acked_tsn (length f.queue.inflight.chunks) (length g.queue.inflight.chunks) any any r.cumulative_tsn r.beyond l.long (λ t e. e) h)
+longer-arrived f g r l h = grind (arith, nat_tests, common_steps, more-arrived)
 
 -- those beyond lie past the cumulative TSN
 pub rise-each : (base far : ℕ) (ts : List ℕ) → rise_beyond base far ts ≡ true → Every (λ t. (far < distance base t) × (distance base t < 2 ^ 31)) ts
@@ -92,8 +85,8 @@ rise-each base far [] e = tt
 rise-each base far (t ∷ ts) e =
     let b = both (nat_lt t (2 ^ 32) && (nat_lt far (distance base t) && nat_lt (distance base t) (2 ^ 31))) (rise_beyond base (distance base t) ts) e in
     let c = both (nat_lt far (distance base t)) (nat_lt (distance base t) (2 ^ 31)) (both (nat_lt t (2 ^ 32)) _ b.0).1 in
-    let past : far < distance base t = grind (arith, nat_tests, c.0) in
-    let near : distance base t < 2 ^ 31 = grind (arith, nat_tests, c.1) in (
+    let past : far < distance base t = grind (arith, nat_tests) in
+    let near : distance base t < 2 ^ 31 = grind (arith, nat_tests) in (
       (past, near),
       every-of (λ u. (distance base t < distance base u) × (distance base u < 2 ^ 31)) (λ u. (far < distance base u) × (distance base u < 2 ^ 31))
           (λ u h. let lt = h.0 in (omega (arith, lt, past), h.1)) ts (rise-each base (distance base t) ts b.1),
@@ -117,10 +110,7 @@ from-place p n c cumulative beyond few h le past =
           let at = k.is in
           let lo = d.0 in
           let hi = d.1 in
-          let later : h.place < k.place = elim (cases_lt h.place k.place) [
-            | inl lt ↦ lt
-            | inr ge ↦ absurd (omega (arith, ge, is, at, within, few, lo, hi))
-          ] in
+          let later : h.place < k.place = grind (arith, nat_tests, common_steps) in
           record {
             place = k.place - c;
             some = omega (arith, later, le);
@@ -161,10 +151,7 @@ moves-by call t nothing = inl (same-longer t.flight t.flight refl refl)
 moves-by call t (all_start now) = inl (same-longer t.flight (with_queue t.flight (all_started now t.flight.queue))
     (ap (λ (w : payload.Payload). tsns w.chunks) (started-inflight now t.flight.queue)) refl)
 moves-by call t (more_room count) = inl (same-longer t.flight (with_queue t.flight (with_room count t.flight.queue)) refl refl)
-moves-by call t (some_marked q g k) =
-    let cs = t.flight.queue.inflight.chunks in
-    inl (same-longer t.flight (with_queue t.flight (with_inflight t.flight.queue (change_where q g cs)))
-    (changed-run q g (λ c. ap (λ (d : ChunkPayloadData). d.tsn) (k c)) cs) refl)
+moves-by call t (some_marked q g k) = grind (arith, nat_tests, common_steps, same-longer, changed-run)
 moves-by call t (some_missed count) =
     inl (same-longer t.flight (after_misses count t.flight) (part-run can_miss missed (λ d. refl) t.flight.queue.inflight.chunks count) refl)
 moves-by call t (one_leaves o e found) =
@@ -182,25 +169,7 @@ module _ (old new : Session) (few : count_in_flight new < 2 ^ 31) (i : IsNear ol
   r = old.receiving.receiver
 
   keeps : Keeps IsUnmarked (IsRight any none) u
-  keeps = record {
-    start = λ now c h. h;
-    lower = λ c h. h;
-    put = λ now c h. record {
-      came = λ e. refl;
-      gone = λ e. absurd (not_both e);
-      bare = λ e. absurd (not_both (sym h.1 ∙ e));
-      settled = λ e. absurd (not_both (sym h.0 ∙ e));
-    };
-    mark = λ g k c h. record {
-      came = λ e. refl;
-      gone = λ e. absurd (not_both e);
-      bare = λ e. ap (λ (d : ChunkPayloadData). length d.user_data) (k c) ∙ h.bare (sym (ap (λ (d : ChunkPayloadData). d.abandoned) (k c)) ∙ e);
-      settled = λ e. ap (λ (d : ChunkPayloadData). length d.user_data) (k c) ∙ h.settled (sym (ap (λ (d : ChunkPayloadData). d.acked) (k c)) ∙ e);
-    };
-    leave = λ c h. record { came = λ e. refl; gone = λ e. absurd (not_both e); bare = λ e. refl; settled = λ e. refl };
-    end' = λ t c h. record { came = λ e. refl; gone = λ e. absurd (not_both e); bare = λ e. refl; settled = λ e. refl };
-    acknowledge = λ c h. record { came = λ e. refl; gone = λ e. absurd (not_both e); bare = λ e. refl; settled = λ e. refl };
-  }
+  keeps = grind (arith, nat_tests, common_steps)
 
   sender-valid : (c : SenderCall) → SenderFollows c old new → IsValid any none new.sending.sender.flight.queue
   sender-valid (outgoing.writes stream ppi (b ∷ bs)) g =
@@ -228,19 +197,10 @@ module _ (old new : Session) (few : count_in_flight new < 2 ^ 31) (i : IsNear ol
   -- a SACK that is taken has a TSN of 32 bits, and is not refused
   pub sack-fits : (c : SenderCall) → SenderFollows c old new → (k : Sack) (gone : List Released) → c ≡ outgoing.takes_sack k gone
       → IsSmall k.cumulative_tsn_ack × (sack_refusal k u.flight ≡ None)
-  sack-fits c g k gone e = (
-    every-contained (λ (y : Sack). IsSmall y.cumulative_tsn_ack) old.sacks k (subst (λ d. IsReported d old) e g.handed) i.regular.regular.sacks,
-    subst (λ d. outgoing.IsAccepted d u) e g.accepted,
-  )
+  sack-fits c g k gone e = grind (arith, nat_tests, common_steps)
 
   sender-arrived : (c : SenderCall) → SenderFollows c old new → IsRecent (of_sender c) old → HasArrived new.sending.sender.flight r
-  sender-arrived c g q = elim (sender-moves c g) [
-    | inl l ↦ longer-arrived u.flight new.sending.sender.flight r l i.arrived
-    | inr x ↦
-        let fits = sack-fits c g x.0 x.1 x.2 in
-        subst (λ (f : Flight). HasArrived f r) (sym x.3)
-        (sacked-arrived x.0 u.flight r i.few fits.0 fits.1 (subst (λ d. IsRecent (of_sender d) old) x.2 q) i.regular.regular.numbered i.order i.arrived)
-  ]
+  sender-arrived c g q = grind (arith, nat_tests, common_steps, sender-moves, longer-arrived, sack-fits, sacked-arrived)
 
   pub sender-near : (c : SenderCall) → SenderFollows c old new → IsRecent (of_sender c) old → IsNear new
   sender-near c g q =
@@ -269,28 +229,14 @@ module _ (old new : Session) (few : count_in_flight new < 2 ^ 31) (i : IsNear ol
 
   -- one that is handed over is in flight, or came
   pub given : (t : ℕ) → IsSmall t → comes_before t u.flight.next_tsn ≡ true → at_or_before t r.cumulative_tsn ≡ false → IsGiven p n t
-  given t small e past = elim (near-given p n t u.flight.next_tsn i.few small i.regular.regular.numbered.next_is e) [
-    | inl g ↦ g
-    | inr all ↦ absurd (not_both (sym past ∙ (ap (at_or_before t) i.arrived.is ∙ all i.arrived.place i.arrived.within)))
-  ]
+  given t small e past = grind (arith, nat_tests, common_steps, near-given, not_both)
 
   pub fresh-given : (t : ℕ) → IsSmall t → comes_before t u.flight.next_tsn ≡ true → has_come t (filter_of r) ≡ false → IsGiven p n t
   fresh-given t small e fresh = given t small e (neither (at_or_before t r.cumulative_tsn) (list_any (λ x. x == t) r.beyond) fresh).0
 
   -- behind one that came, and behind a FORWARD-TSN
   pub comes-with : (t : ℕ) → IsGiven p n t → has_come t (filter_of r) ≡ false → Comes (with_filter (with_tsn t (filter_of r)) r)
-  comes-with t a fresh =
-      let k = order-with p n r any i.few i.arrived i.order t a fresh in (
-        advanced p n any r.cumulative_tsn (insert_before comes_before t r.beyond) i.few (record {
-          place = i.arrived.place;
-          within = i.arrived.within;
-          is = i.arrived.is;
-          so_far = λ j pos le. refl;
-          each = every-inserted (IsKnown p n any) comes_before t r.beyond
-              (record { place = a.place; some = a.some; within = a.within; is = a.is; so = refl }) i.arrived.each;
-        }),
-        record { small = k.small; rise = k.rise },
-      )
+  comes-with t a fresh = search (order-with, advanced, every-inserted)
 
   pub comes-past : (c : ForwardTsn) → Contains old.made (forward_tsn c) → comes_before c.new_cumulative_tsn u.flight.next_tsn ≡ true
       → Comes (after_forward_tsn c r)
@@ -338,13 +284,7 @@ module _ (old new : Session) (few : count_in_flight new < 2 ^ 31) (i : IsNear ol
 -- ## The beginning, and what is so of each
 
 pub near-first : (first size max most : ℕ) (limits : Option Limits) → first < 2 ^ 32 → IsNear (at_start first size max most limits)
-near-first first size max most limits small = record {
-  regular = regular-first first size max most limits small;
-  valid = record { ordered = tt; unordered = tt; inflight = tt };
-  arrived = record { place = 0; within = omega arith; is = omega arith; so_far = λ k pos le. refl; each = tt };
-  order = record { small = omega arith; rise = refl };
-  few = omega arith;
-}
+near-first first size max most limits small = grind (arith, nat_tests, common_steps)
 
 pub near-can : (s : Session) → IsNear s → CanBeAnswered s
 near-can s i =

@@ -1,14 +1,14 @@
 -- How long messages may be: in each session what the sender and the streams of the receiver were given stays, and no write is longer.
 use Rattle.sctp_delivery.proofs.Names.{◌≡◌, ℕ, ◌+◌, ◌%◌, ◌^◌, ◌<◌, ◌≤◌, Bool, true, false, not, List, [], ◌∷◌, Option, Some, None, inl, inr, refl, ap, sym}
-use Rattle.sctp_delivery.proofs.Names.{subst, ◌∙◌, arith, length, ◌==◌, ◌&&◌, ◌||◌, Contains, if◌then◌else◌, nat_le, list_any, list_all, option_or, cases_lt}
-use Rattle.sctp_delivery.proofs.Names.{nat_tests, none-some, common_steps, distance16, or-left, or-split, same-is, same-yes, and-none, or-right, some-same, and}
-use Rattle.sctp_delivery.proofs.Names.{not_both, both, tsn, ChunkPayloadData, ChunkSet, Data, data_of, has_tsn, bytes_of, chunk_before, message_read}
-use Rattle.sctp_delivery.proofs.Names.{Reassembly, ReassemblyState, New, Repeat, InboundStream, TsnOpposite, Limits, Reception, arrival_refusal, filter_of}
-use Rattle.sctp_delivery.proofs.Names.{follow_forward_tsn, is_stale, new_refusal, stream_of, is_open, without_incomplete, incomplete_forwarded, is_ssn_too_far}
-use Rattle.sctp_delivery.proofs.Names.{is_too_far_on, lowest_ssn, has_come, is_opposite, reports, is_ordered_on, held_weight, abandoned_in, ReceiverCall}
-use Rattle.sctp_delivery.proofs.Names.{AfterEachUnlimitedSession, IsInFlight, is_takable, is_reported, tsns_given, was_taken, Call, ReceiverFollows, RunsTo}
-use Rattle.sctp_delivery.proofs.Names.{Session, at_start, of_receiver, of_sender, SenderFollows, sum_by-inserted, insert_before, size_after, size_before}
-use Rattle.sctp_delivery.proofs.Names.{Pushes, ssns_of, stream_forwarded, unassembled_forwarded, Write, SenderCall, written_after, reads_nothing, Transmission}
+use Rattle.sctp_delivery.proofs.Names.{subst, ◌∙◌, arith, length, ◌==◌, ◌&&◌, ◌||◌, Contains, if◌then◌else◌, list_any, list_all, option_or, cases_lt, nat_tests}
+use Rattle.sctp_delivery.proofs.Names.{none-some, common_steps, or-left, or-split, same-is, same-yes, and-none, or-right, some-same, and, not_both, both, tsn}
+use Rattle.sctp_delivery.proofs.Names.{ChunkPayloadData, ChunkSet, Data, data_of, has_tsn, bytes_of, chunk_before, message_read, Reassembly, ReassemblyState}
+use Rattle.sctp_delivery.proofs.Names.{New, Repeat, InboundStream, TsnOpposite, Limits, Reception, arrival_refusal, filter_of, follow_forward_tsn, is_stale}
+use Rattle.sctp_delivery.proofs.Names.{new_refusal, stream_of, is_open, without_incomplete, incomplete_forwarded, is_ssn_too_far, is_too_far_on, has_come}
+use Rattle.sctp_delivery.proofs.Names.{is_opposite, reports, is_ordered_on, held_weight, abandoned_in, ReceiverCall, AfterEachUnlimitedSession, IsInFlight}
+use Rattle.sctp_delivery.proofs.Names.{is_takable, is_reported, tsns_given, was_taken, Call, ReceiverFollows, RunsTo, Session, at_start, of_receiver, of_sender}
+use Rattle.sctp_delivery.proofs.Names.{SenderFollows, sum_by-inserted, insert_before, size_after, size_before, Pushes, ssns_of, stream_forwarded}
+use Rattle.sctp_delivery.proofs.Names.{unassembled_forwarded, Write, SenderCall, written_after, reads_nothing, Transmission}
 use Rattle.std.specs.Prelude.{is_some, not}
 use Rattle.std.specs.List.{find}
 use Rattle.sctp_receiver.specs.declared.receiver.refusal.ReceiverRefusal.TheVariants.{SsnTooFar}
@@ -128,11 +128,7 @@ sender-fit : (max most : ℕ) (call : SenderCall) (old new : Session) → Sender
 sender-fit max most call old new f h = grind (arith, nat_tests, common_steps, max-after, written-within)
 
 receiver-fit : (max most : ℕ) (call : ReceiverCall) (old new : Session) → ReceiverFollows call old new → AreFit max most old → AreFit max most new
-receiver-fit max most call old new f h = record {
-  sender = ap (λ (s : Session). s.sending.sender.max_message_size) f.after ∙ h.sender;
-  writes = subst (AreWithin max) (sym (ap (λ (s : Session). s.written) f.after)) h.writes;
-  streams = sized-after most call old new f h.streams;
-}
+receiver-fit max most call old new f h = grind (arith, sized-after)
 
 fit-after : (max most : ℕ) (cs : List Call) (old new : Session) → RunsTo old cs new → AreFit max most old → AreFit max most new
 fit-after max most [] old new r h = subst (AreFit max most) (sym r) h
@@ -277,15 +273,7 @@ module _ (first n : ℕ) (few : n < 2 ^ 31) (gone : List ℕ) (s : Session) (h :
           let from = due.from in
           record {
             index = number.0;
-            of = record {
-              before = entry.before;
-              within = omega (arith, within, long);
-              is = entry.is;
-              begun = sym index;
-              made = was;
-              on = on;
-              inner = λ e. sym (entry.inner e) ∙ sym index;
-            };
+            of = grind (arith, nat_tests, common_steps);
             number = number.2;
             from = omega (arith, past, index, from, same-index st first n few s h.numbered sent spread d held due Late c none);
             upto = omega (arith, index, top, sessions.near st first all_streams none_dropped refl n s h.numbered sent spread few, least, low);
@@ -293,14 +281,7 @@ module _ (first n : ℕ) (few : n < 2 ^ 31) (gone : List ℕ) (s : Session) (h :
 
       -- its number is not too far
       not-far : is_ssn_too_far x.stream_sequence_number held ≡ false
-      not-far =
-          let far = near-distance due.low windowed.index windowed.from windowed.upto in
-          let same : distance16 (lowest_ssn held) x.stream_sequence_number ≡ distance16 (due.low % 2 ^ 16) (windowed.index % 2 ^ 16) =
-          ap (λ k. distance16 k x.stream_sequence_number) due.lowest ∙ ap (distance16 (due.low % 2 ^ 16)) windowed.number in
-          close (distance16 (lowest_ssn held) x.stream_sequence_number) (omega (arith, same, far))
-        where
-          close : (k : ℕ) → k < 2 ^ 15 → nat_le (2 ^ 15) k ≡ false
-          close k lt = grind (arith, nat_tests, lt)
+      not-far = grind (arith, nat_tests, common_steps, near-distance, windowed)
 
       -- with it its set is no longer than the write
       set-with : (low : ℕ) (ss : List ChunkSet) → due.low ≤ low → AreSets p n B (Fits p st n B E M) Prior low d.reach ss

@@ -36,7 +36,7 @@ any-taken d (suc n) (b ∷ bs) e = elim (or-split (is_in_block d b) (is_in_block
 ]
 
 offset-is : (d : ℕ) → is_offset d ≡ true → (0 < d) × (d < 2 ^ 16)
-offset-is d e = let b = both (nat_lt 0 d) (nat_lt d (2 ^ 16)) e in (grind (arith, nat_tests, b.0), grind (arith, nat_tests, b.1))
+offset-is d e = let b = both (nat_lt 0 d) (nat_lt d (2 ^ 16)) e in (grind (arith, nat_tests), grind (arith, nat_tests))
 
 -- with so many blocks and duplicates at most
 pub sack-truthful : (p n : ℕ) (known : ℕ → Bool) (credit entries : ℕ) (r : Reception) → n < 2 ^ 31
@@ -60,16 +60,16 @@ within-each p n left known place (b ∷ bs) sum h =
   where
     here : is_within left b ≡ true
     here = elim (cases_lt b.end b.start) [
-      | inl lt ↦ grind (arith, nat_tests, lt)
+      | inl lt ↦ grind (arith, nat_tests)
       | inr ge ↦
-          let first : is_in_block b.start b ≡ true = grind (arith, nat_tests, ge) in
-          let last : is_in_block b.end b ≡ true = grind (arith, nat_tests, ge) in
+          let first : is_in_block b.start b ≡ true = grind (arith, nat_tests) in
+          let last : is_in_block b.end b ≡ true = grind (arith, nat_tests) in
           let f = h b.start (or-left (is_in_block b.start b) (is_in_blocks bs b.start) first) in
           let l = h b.end (or-left (is_in_block b.end b) (is_in_blocks bs b.end) last) in
           let pos = f.some in
           let le = l.within in
           let short : b.end ≤ left = omega (arith, sum, le) in
-          grind (arith, nat_tests, pos, short)
+          grind (arith, nat_tests)
     ]
 
 pub not-refused : (p n : ℕ) (known : ℕ → Bool) (s : Sack) (f : Flight) → n < 2 ^ 31 → IsNumbered p n f → IsTruthful p n known s → sack_refusal s f ≡ None
@@ -88,7 +88,7 @@ not-refused p n known s f few h t = by (is_outdated s f) refl
         let le = current e in
         let far : count_acked s f ≡ t.place - h.acked = ap (λ u. distance u s.cumulative_tsn_ack) h.acked_is ∙ ap (distance (tsn p h.acked)) t.is
         ∙ distance-tsn p h.acked t.place le (omega (arith, within, few)) in
-        let enough : nat_lt (length f.queue.inflight.chunks) (count_acked s f) ≡ false = grind (arith, nat_tests, far, total, within) in
+        let enough : nat_lt (length f.queue.inflight.chunks) (count_acked s f) ≡ false = grind (arith, nat_tests) in
         let fits : list_all (is_within (length f.queue.inflight.chunks - count_acked s f)) s.gap_ack_blocks ≡ true = within-each p n
         (length f.queue.inflight.chunks - count_acked s f) known t.place s.gap_ack_blocks (omega (arith, far, total, within, le)) t.blocks in
         rw (enough, fits) refl

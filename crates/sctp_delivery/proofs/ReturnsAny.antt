@@ -1,5 +1,5 @@
 -- A session of a sender that keeps what is reported is one of every call: what holds of these holds of it.
-use Rattle.sctp_delivery.proofs.Names.{◌≡◌, ℕ, ◌+◌, false, List, [], ◌∷◌, refl, ap, subst, arith, Session, distance}
+use Rattle.sctp_delivery.proofs.Names.{common_steps, nat_tests, ◌≡◌, ℕ, ◌+◌, false, List, [], ◌∷◌, refl, ap, subst, arith, Session, distance}
 use Rattle.sctp_delivery.specs.EveryCall as any
 use Rattle.sctp_delivery.specs.EveryCall.{AfterEachAny, AfterEachAnyOfFewBytes, AfterEachAnyOfFewTsns, AnyCall, FollowsAny, RunsAny, of_sending, tsns_given_any}
 use Rattle.sctp_delivery.specs.EveryCall.{was_dropped}
@@ -19,9 +19,7 @@ any_calls [] = []
 any_calls (c ∷ cs) = as_any c ∷ any_calls cs
 
 pub follows-any : (c : CallOrReturn) (old new : Session) → FollowsOrReturns c old new → FollowsAny (as_any c) old new
-follows-any (returns.makes call) old new f = f
-follows-any (returns.takes_back sack back) old new f =
-    record { handed = f.handed; step = f.step; exact = f.exact; accepted = (f.accepted, f.answered); after = f.after }
+follows-any h0 h1 h2 h3 = grind (arith, nat_tests, common_steps)
 
 unfoldable pub runs-any : (cs : List CallOrReturn) (old new : Session) → RunsWithReturns old cs new → RunsAny old (any_calls cs) new
 runs-any [] old new r = r

@@ -1,12 +1,12 @@
 -- Chunks in the order of their places: one more put in, some taken out, and the run of one message among them.
-use Rattle.sctp_delivery.proofs.Names.{◌≡◌, ℕ, zero, suc, ◌+◌, ◌-◌, ◌<◌, ◌≤◌, ◌%◌, ◌^◌, Bool, true, false, List, [], ◌∷◌, ◌++◌, length, take, drop, inl, inr}
-use Rattle.sctp_delivery.proofs.Names.{refl, ap, sym, subst, ◌∙◌, arith, ⊤, All, ◌||◌, if◌then◌else◌, nat_lt, slice_index_or, list_any, cases_lt, eq-eqb}
-use Rattle.sctp_delivery.proofs.Names.{nat_tests, insert_before, comes_before, or-split, same-is, pairs_cons, fails, not_both, tsn, ChunkPayloadData, Data}
-use Rattle.sctp_delivery.proofs.Names.{data_of, chunk_before, has_tsn, IsRun}
+use Rattle.sctp_delivery.proofs.Names.{common_steps, ◌≡◌, ℕ, zero, suc, ◌+◌, ◌-◌, ◌<◌, ◌≤◌, ◌%◌, ◌^◌, Bool, true, false, List, [], ◌∷◌, ◌++◌, length, take}
+use Rattle.sctp_delivery.proofs.Names.{drop, inl, inr, refl, ap, sym, subst, ◌∙◌, arith, ⊤, All, if◌then◌else◌, nat_lt, slice_index_or, list_any, cases_lt}
+use Rattle.sctp_delivery.proofs.Names.{nat_tests, insert_before, comes_before, pairs_cons, not_both, tsn, ChunkPayloadData, Data, data_of, chunk_before}
+use Rattle.sctp_delivery.proofs.Names.{has_tsn, IsRun}
 use Rattle.std.specs.Prelude.{IsTrue}
 use Rattle.sctp_serial.specs.Window.{IsSerial}
 use Rattle.sctp_delivery.proofs.Every.{Every, every-at}
-use Rattle.sctp_delivery.proofs.TsnPlaces.{before, next-place, same-place, tsn-small}
+use Rattle.sctp_delivery.proofs.TsnPlaces.{before, next-place, tsn-small}
 use Rattle.sctp_delivery.proofs.Sessions.{neither}
 
 -- the chunk has the TSN of a place, from the lowest one on and among the first n
@@ -40,22 +40,9 @@ module _ (p n : ℕ) (few : n < 2 ^ 31) where
       order =
           ap (λ t. comes_before t c.tsn) at.2 ∙ ap (comes_before (tsn p k)) a.1.2 ∙ before p k j (omega (arith, few)) (omega (arith, few))
 
-      other : k ≡ j → ⊥
-      other e =
-          let same : c.tsn ≡ x.tsn = a.1.2 ∙ ap (tsn p) (sym e) ∙ sym at.2 in
-          not_both (sym (neither (has_tsn x.tsn c) (list_any (has_tsn x.tsn) cs) none).0 ∙ eq-eqb c.tsn x.tsn same)
-
       by : (b : Bool) → chunk_before x c ≡ b → (IsPlaced p n (a.0 + 1) k x → Ascend p n (a.0 + 1) (insert_before chunk_before x cs))
           → Ascend p n low (if b then x ∷ c ∷ cs else c ∷ insert_before chunk_before x cs)
-      by true e ih =
-          let less : k < j = grind (arith, nat_tests, sym order ∙ e) in
-          (k, at, (j, (omega (arith, less), a.1.1, a.1.2), a.2))
-      by false e ih =
-          let le : j ≤ k = grind (arith, nat_tests, sym order ∙ e) in
-          (j, a.1, ih (strictly le, at.1, at.2))
-        where
-          strictly : j ≤ k → j + 1 ≤ k
-          strictly le = elim (cases_lt j k) [ inl lt ↦ omega (arith, lt) | inr more ↦ absurd (other (omega (arith, le, more))) ]
+      by h0 h1 h2 = grind (arith, nat_tests, common_steps, order, cases_lt)
 
   ascend-drop : (low m : ℕ) (cs : List ChunkPayloadData) → Ascend p n low cs → Ascend p n low (drop m cs)
   ascend-drop low zero cs a = a
@@ -64,11 +51,7 @@ module _ (p n : ℕ) (few : n < 2 ^ 31) where
 
   pub ascend-cut : (low first m : ℕ) (cs : List ChunkPayloadData) → Ascend p n low cs → Ascend p n low (take first cs ++ drop (first + m) cs)
   ascend-cut low zero m cs a = subst (λ k. Ascend p n low (drop k cs)) {x = m} {y = zero + m} (omega arith) (ascend-drop low m cs a)
-  ascend-cut low (suc first) m [] a = empty (suc first + m)
-    where
-      empty : (k : ℕ) → Ascend p n low (drop k [])
-      empty zero = tt
-      empty (suc k) = tt
+  ascend-cut low (suc first) m [] a = grind (arith, nat_tests, common_steps)
   ascend-cut low (suc first) m (c ∷ cs) a =
       let next : suc (first + m) ≡ suc first + m = omega arith in
       subst (λ k. Ascend p n low (c ∷ (take first cs ++ drop k (c ∷ cs)))) next (a.0, a.1, ascend-cut (a.0 + 1) first m cs a.2)
@@ -77,7 +60,7 @@ module _ (p n : ℕ) (few : n < 2 ^ 31) where
       → All (λ y. IsTrue (comes_before c.tsn y.tsn)) cs
   later c k le e low [] lt a i d short = absurd (omega (arith, short))
   later c k le e low (y ∷ ys) lt a zero d short =
-      let less : nat_lt k a.0 ≡ true = (let m : k < a.0 = omega (arith, lt) in grind (arith, nat_tests, m)) in
+      let less : nat_lt k a.0 ≡ true = (let m : k < a.0 = omega (arith, lt) in grind (arith, nat_tests)) in
       let it : comes_before c.tsn y.tsn ≡ true = cc (e, a.1.2, before p k a.0 (omega (arith, le, few)) (omega (arith, few)), less) in
       it
   later c k le e low (y ∷ ys) lt a (suc i) d short = let u = a.1.0 in later c k le e (a.0 + 1) ys (omega (arith, lt, u)) a.2 i d (omega (arith, short))
@@ -99,25 +82,14 @@ module _ (p n : ℕ) (few : n < 2 ^ 31) where
 
   none-below : (j low : ℕ) (cs : List ChunkPayloadData) → j < low → Ascend p n low cs → list_any (has_tsn (tsn p j)) cs ≡ false
   none-below j low [] lt a = refl
-  none-below j low (c ∷ cs) lt a =
-      let off : has_tsn (tsn p j) c ≡ false = fails (has_tsn (tsn p j) c) (λ h.
-      let same = same-place p a.0 j (omega (arith, few)) (omega (arith, lt, few)) (sym a.1.2 ∙ same-is c.tsn (tsn p j) h) in
-      omega (arith, same, lt)) in
-      ap (λ b. b || list_any (has_tsn (tsn p j)) cs) off ∙ none-below j (a.0 + 1) cs (omega (arith, lt)) a.2
+  none-below j low (c ∷ cs) lt a = grind (arith, nat_tests, common_steps, none-below j (a.0 + 1) cs (omega (arith, lt)) a.2)
 
   -- where the first of these places is the lowest one, it is that of the first chunk
   head-is : (a b : ℕ) (c : ChunkPayloadData) (cs : List ChunkPayloadData) (x : Ascend p n a (c ∷ cs)) → a ≤ b → Covers p a b (c ∷ cs) → x.0 ≡ a
-  head-is a b c cs x le covers = elim (cases_lt a x.0) [
-    | inr ge ↦ omega (arith, ge)
-    | inl lt ↦ absurd (not_both (sym (none-below a x.0 (c ∷ cs) lt (x.0, (omega arith, x.1.1, x.1.2), x.2)) ∙ covers a (omega arith) le))
-  ]
+  head-is a b c cs x le covers = grind (arith, nat_tests, common_steps, cases_lt, not_both, none-below)
 
   covers-rest : (a b k : ℕ) (c : ChunkPayloadData) (cs : List ChunkPayloadData) → c.tsn ≡ tsn p k → k < a → b ≤ n → Covers p a b (c ∷ cs) → Covers p a b cs
-  covers-rest a b k c cs e lt le covers j from to = elim (or-split (has_tsn (tsn p j) c) (list_any (has_tsn (tsn p j)) cs) (covers j from to)) [
-    | inr h ↦ h
-    | inl h ↦ let same = same-place p k j (omega (arith, lt, from, to, le, few)) (omega (arith, to, le, few)) (sym e ∙ same-is c.tsn (tsn p j) h) in
-        absurd (omega (arith, same, lt, from))
-  ]
+  covers-rest a b k c cs e lt le covers j from to = grind (arith, nat_tests, common_steps)
 
   -- they stand side by side
   side : (a b : ℕ) (cs : List ChunkPayloadData) → Ascend p n a cs → a ≤ b → b ≤ n → Covers p a b cs → (j : ℕ) → a + j ≤ b → (j < length cs)

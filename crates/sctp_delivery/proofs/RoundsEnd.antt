@@ -103,9 +103,7 @@ module _ (p n : ℕ) (s : Session) (few : n < 2 ^ 31) (i : IsInStep p n s) (came
   found = ap is_outstanding_in (found-in p n s few i k d lt)
 
   done : (a b : Bool) → c.acked ≡ a → c.abandoned ≡ b → (not a && not b) ≡ false → (was_taken c.tsn s || c.abandoned) ≡ true
-  done true b e f g = came k d lt (or-left c.acked _ e)
-  done false true e f g = or-right (was_taken c.tsn s) c.abandoned f
-  done false false e f g = absurd (not_both (sym g))
+  done h0 h1 h2 h3 h4 = grind (arith, nat_tests, common_steps, or-left, or-right, not_both)
 
   goes-on : (b : Bool) → is_outstanding c ≡ b → (can_resend c.tsn (flight_of s) || (was_taken c.tsn s || c.abandoned)) ≡ true
   goes-on true e = or-left (can_resend c.tsn (flight_of s)) _ (found ∙ e)
@@ -153,9 +151,7 @@ skips s few h continued e =
     ∙ ap Some (l.is ∙ sym (point p n f h))
 
 pub all-skip : WhileFewInFlight SkipsToPoint
-all-skip first size max most limits cs s small some r few =
-    let h = has-lasted first size max most limits cs s small some r few in
-    skips s h.few h.regular.regular.numbered h.continued
+all-skip first size max most limits cs s small some r few = grind (arith, nat_tests, common_steps, has-lasted, skips)
 
 -- ## A SACK of a receiver that is caught up
 
@@ -223,9 +219,7 @@ module _ (first n : ℕ) (s t : Session) (few : n < 2 ^ 31) (i : IsReached first
       (taken-numbered (base first) n q k f few within told step.numbered)
 
   there : numbered.acked ≡ q
-  there =
-      let total = numbered.total in
-      same-place (base first) numbered.acked q (omega (arith, total, few)) (omega (arith, within, few)) (sym numbered.acked_is ∙ told)
+  there = grind (arith, nat_tests, common_steps, numbered, same-place)
 
   -- the TSN behind it was not taken
   untaken : was_taken (tsn (base first) (q + 1)) s ≡ false
@@ -281,9 +275,7 @@ module _ (first n : ℕ) (s t : Session) (few : n < 2 ^ 31) (i : IsReached first
   stays P e = grind (arith, nat_tests, every-changed, every-passing, taken-sack)
 
   run-left : IsRunFrom (tsn (base first) (q + 1)) (in_flight t)
-  run-left =
-      subst (λ (x : Flight). IsRunFrom (tsn (base first) (q + 1)) x.queue.inflight.chunks) (sym taken-sack)
-      (subst (λ j. IsRunFrom (tsn (base first) (j + 1)) (take_sack k f).queue.inflight.chunks) there numbered.run)
+  run-left = grind (arith, nat_tests, common_steps, taken-sack, numbered)
 
   left-first : (cs : List ChunkPayloadData) → in_flight t ≡ cs → (cs ≡ []) ⊎ (is_first_abandoned cs ≡ true)
   left-first [] e = inl refl
@@ -307,11 +299,7 @@ module _ (first n : ℕ) (s t : Session) (few : n < 2 ^ 31) (i : IsReached first
       absurd (not_both (sym (subst (Every (λ (y : ChunkPayloadData). y.abandoned ≡ false)) e (stays (λ b u. b ≡ false) kept-all)).0 ∙ first))
 
   pub leaves-fewer : LeavesFewer s t
-  leaves-fewer = record {
-    fewer = fewer;
-    first = left-first (in_flight t) refl;
-    none = λ all. none-left all (in_flight t) refl (left-first (in_flight t) refl);
-  }
+  leaves-fewer = search (fewer, left-first, none-left)
 
 pub all-leave-fewer : WhileFewTsns EachAnswerLeavesFewer
 all-leave-fewer first size max most limits cs s small some r few c t a =
@@ -378,11 +366,7 @@ takes-one first n s t r few i =
           let waiting = ap chunk_count (same-pending r.reached t r.answered) in
           elim (cases_lt 0 (length (in_flight r.reached))) [
             | inl some ↦ let less = fewer.fewer some in omega (arith, before, waiting, less)
-            | inr none ↦
-                let empty : length (in_flight r.reached) ≡ 0 = omega (arith, none) in
-                let gone = ap length (fewer.none (λ k d lt. absurd (omega (arith, lt, empty)))) in
-                let nothing = none-waits r.sent empty in
-                omega (arith, before, waiting, gone, nothing)
+            | inr none ↦ grind (arith, nat_tests, common_steps, fewer, none-waits)
           ];
     }
   where

@@ -1,8 +1,8 @@
 -- What SACKs and FORWARD-TSNs say after every session in which fewer than 2^31 TSNs are given out.
-use Rattle.sctp_delivery.proofs.Names.{◌≡◌, ℕ, ◌+◌, ◌<◌, ◌≤◌, ◌^◌, Bool, true, false, List, [], ◌∷◌, length, map, Option, refl, ap, sym, subst, ◌∙◌, inl, inr}
-use Rattle.sctp_delivery.proofs.Names.{arith, None, zero, suc, ◌++◌, take, drop, get_or, Some, if◌then◌else◌, ◌||◌, nat_le, All, Contains, filter, list_any}
-use Rattle.sctp_delivery.proofs.Names.{nat_tests, or-left, or-right, or-split, both, tsn, ChunkPayloadData, Sack, Limits, Reception, Stand, following_tsn}
-use Rattle.sctp_delivery.proofs.Names.{chunk_before, Flight, after_sack, is_outdated, is_whole, released_by, released_of, reports, reports_anew, sack_refusal}
+use Rattle.sctp_delivery.proofs.Names.{common_steps, ◌≡◌, ℕ, ◌+◌, ◌<◌, ◌≤◌, ◌^◌, Bool, true, false, List, [], ◌∷◌, length, map, Option, refl, ap, sym, subst}
+use Rattle.sctp_delivery.proofs.Names.{◌∙◌, inl, inr, arith, None, zero, suc, ◌++◌, take, drop, get_or, Some, if◌then◌else◌, ◌||◌, nat_le, All, Contains}
+use Rattle.sctp_delivery.proofs.Names.{filter, list_any, nat_tests, or-left, or-right, or-split, both, tsn, ChunkPayloadData, Sack, Limits, Stand}
+use Rattle.sctp_delivery.proofs.Names.{following_tsn, chunk_before, Flight, after_sack, is_outdated, is_whole, released_by, released_of, reports, reports_anew}
 use Rattle.sctp_delivery.proofs.Names.{take_sack, message_to_abandon, ReceiverCall, AcknowledgedCame, AfterEachSessionOfFewTsns, AllReportedLeaves}
 use Rattle.sctp_delivery.proofs.Names.{EachSackTells, NextSackTells, NoneIsRefused, NoneIsTakenTwice, PassAbandoned, is_reported, passes, reports_tsn}
 use Rattle.sctp_delivery.proofs.Names.{tsns_given, was_passed, was_taken, StaysAcknowledged, SenderCall, Call, ReceiverFollows, RunsTo, SenderFollows, Session}
@@ -21,9 +21,8 @@ use Rattle.sctp_delivery.proofs.ArrivedTsns.{IsArrived}
 use Rattle.sctp_delivery.proofs.ReportedTsns.{IsTruthful, later-truthful, not-refused, answered-known}
 use Rattle.sctp_delivery.proofs.SackSteps.{IsValidBut, came_in, stays-valid-with, IsMadeGiven, known, known_or, made-given, moves, none_dropped, flight_of}
 use Rattle.sctp_delivery.proofs.SackSteps.{message-inflight}
-use Rattle.sctp_delivery.proofs.Sessions.{more-made}
 use Rattle.sctp_delivery.proofs.ValidMarks.{IsRight, IsValid, came-of, more-taken}
-use Rattle.sctp_delivery.proofs.TsnPlaces.{IsGiven, at-or-before, base, before, first-is, next-place, past-first, same-place, tsn-small}
+use Rattle.sctp_delivery.proofs.TsnPlaces.{IsGiven, at-or-before, base, before, past-first, same-place, tsn-small}
 use Rattle.sctp_outbound.specs.payload_queue.PayloadQueue as payload
 use Rattle.sctp_delivery.specs.SenderCalls as outgoing
 use Rattle.sctp_delivery.proofs.Changes.{Change, all_start, acknowledges, changes, each_leaves, flight_after, front_expires, more_room, nothing, one_leaves}
@@ -47,16 +46,7 @@ IsInStep p n s = IsInStepBut none_dropped p n s
 
 pub begin-but : (dropped : ℕ → Bool) (first size max most : ℕ) (limits : Option Limits) → first < 2 ^ 32
     → IsInStepBut dropped (base first) 0 (at_start first size max most limits)
-begin-but dropped first size max most limits small = record {
-  numbered = record { acked = 0; acked_is = omega arith; next_is = first-is first small; run = refl; total = refl };
-  made = tt;
-  arrived = record { place = 0; within = omega arith; is = omega arith; so_far = λ k pos le. absurd (omega (arith, pos, le)); each = tt };
-  sacks = tt;
-  settled = record { place = 0; within = omega arith; is = omega arith; so_far = λ k pos le. absurd (omega (arith, pos, le)); each = tt };
-  valid = record { ordered = tt; unordered = tt; inflight = tt };
-  taken = record { each = tt; apart = refl };
-  order = record { small = omega arith; rise = refl };
-}
+begin-but dropped first size max most limits small = grind (arith, nat_tests, common_steps)
 
 pub begin : (first size max most : ℕ) (limits : Option Limits) → first < 2 ^ 32 → IsInStep (base first) 0 (at_start first size max most limits)
 begin first size max most limits small = begin-but none_dropped first size max most limits small
@@ -66,7 +56,7 @@ begin first size max most limits small = begin-but none_dropped first size max m
 module _ (dropped : ℕ → Bool) (p n : ℕ) (old new : Session) where
   -- what came stays so, where what was taken does
   more-came : ((t : ℕ) → was_taken t old ≡ true → was_taken t new ≡ true) → (t : ℕ) → came_in dropped old t ≡ true → came_in dropped new t ≡ true
-  more-came taken t e = grind (arith, nat_tests, or-left, or-right, or-split)
+  more-came taken t e = grind (arith, nat_tests)
 
   pub grows-so : ((t : ℕ) → was_taken t old ≡ true → was_taken t new ≡ true) → ((t : ℕ) → was_passed t old ≡ true → was_passed t new ≡ true)
       → (t : ℕ) → known_or dropped old t ≡ true → known_or dropped new t ≡ true
@@ -76,7 +66,7 @@ module _ (dropped : ℕ → Bool) (p n : ℕ) (old new : Session) where
   ]
 
   more-known : (call : SenderCall) → SenderFollows call old new → (t : ℕ) → known_or dropped old t ≡ true → known_or dropped new t ≡ true
-  more-known call f = grind (arith, nat_tests, grows-so, more-made)
+  more-known call f = grind (arith, nat_tests)
 
   pub sender-step-but : (call : SenderCall) → n + distance old.sending.sender.flight.next_tsn new.sending.sender.flight.next_tsn < 2 ^ 31
       → SenderFollows call old new → IsInStepBut dropped p n old
@@ -91,19 +81,10 @@ module _ (dropped : ℕ → Bool) (p n : ℕ) (old new : Session) where
         settled = more-arrived p n after (known_or dropped old) (known_or dropped new) new.sending.sender.flight.acked_tsn [] (omega arith) grows
             (move.settled i.settled);
         made = subst (Every (IsMadeGiven p after)) (sym (ap (λ (s : Session). s.made) f.after)) (made-given p n old new small i.numbered call i.made f);
-        arrived =
-            subst (λ (r : Reception). IsArrived p after (known_or dropped new) r.cumulative_tsn r.beyond)
-            (sym (ap (λ (s : Session). s.receiving.receiver) f.after))
-            (more-arrived p n after (known_or dropped old) (known_or dropped new) old.receiving.receiver.cumulative_tsn old.receiving.receiver.beyond
-            (omega arith) grows i.arrived);
+        arrived = grind (arith, nat_tests, common_steps, more-arrived);
         order = subst (λ (s : Stand). IsInOrder s.receiver) (sym (ap (λ (s : Session). s.receiving) f.after)) i.order;
-        taken =
-            subst (λ (s : Stand). AreTaken p after s.receiver s.accepted) (sym (ap (λ (s : Session). s.receiving) f.after))
-            (more-come p n after old.receiving.receiver old.receiving.accepted (omega arith) i.taken);
-        sacks =
-            subst (Every (IsTruthful p after (known_or dropped new))) (sym (ap (λ (s : Session). s.sacks) f.after))
-            (every-of (IsTruthful p n (known_or dropped old)) (IsTruthful p after (known_or dropped new))
-            (λ k t. later-truthful p n after (known_or dropped old) (known_or dropped new) k (omega arith) grows t) old.sacks i.sacks);
+        taken = grind (arith, nat_tests, common_steps, more-come);
+        sacks = grind (arith, nat_tests, common_steps, every-of, later-truthful);
         valid =
             more-taken (came_in dropped old) (came_in dropped new) (λ t. list_any (passes t) new.made) new.sending.sender.flight.queue
             (more-came (λ t e. ap (was_taken t) f.after ∙ e))
@@ -141,7 +122,7 @@ sender-step p n call old new few f i = sender-step-but none_dropped p n old new 
 
 -- what was taken stays so
 pub more-accepted : (call : ReceiverCall) (old new : Session) → ReceiverFollows call old new → (t : ℕ) → was_taken t old ≡ true → was_taken t new ≡ true
-more-accepted call old new h4 t h6 = grind (arith, nat_tests, or-right)
+more-accepted call old new h4 t h6 = grind (arith, nat_tests)
 
 pub receiver-step-but : (dropped : ℕ → Bool) (p n : ℕ) (call : ReceiverCall) (old new : Session) → n < 2 ^ 31 → ReceiverFollows call old new
     → IsInStepBut dropped p n old → IsInStepBut dropped p n new
@@ -197,10 +178,7 @@ in-step first size max most limits cs s run small few =
     (all-steps (base first) 0 cs (at_start first size max most limits) s run (omega (arith, few)) (begin first size max most limits small))
 
 pub accepts : (dropped : ℕ → Bool) (p n : ℕ) (s : Session) → n < 2 ^ 31 → IsInStepBut dropped p n s → NoneIsRefused s
-accepts dropped p n s few i =
-    all-of-every (λ k. sack_refusal k s.sending.sender.flight ≡ None) s.sacks
-    (every-of (IsTruthful p n (known_or dropped s)) (λ k. sack_refusal k s.sending.sender.flight ≡ None)
-    (λ k t. not-refused p n (known_or dropped s) k s.sending.sender.flight few i.numbered t) s.sacks i.sacks)
+accepts dropped p n s few i = search (all-of-every, every-of, not-refused)
 
 pub none-refused : AfterEachSessionOfFewTsns (λ first count s. NoneIsRefused s)
 none-refused first size max most limits cs s run small few = accepts none_dropped (base first) (tsns_given (at_start first size max most limits) cs s run) s few
@@ -208,7 +186,7 @@ none-refused first size max most limits cs s run small few = accepts none_droppe
 
 near-first : (first t : ℕ) → at_or_before first t ≡ true → distance first t < 2 ^ 31
 unfolding at_or_before
-near-first first t e = grind (arith, nat_tests, e)
+near-first first t e = grind (arith, nat_tests)
 
 -- of the TSNs from the first on, each that a SACK reports is known
 abbrev ReportKnown : (ℕ → Bool) → ℕ → ℕ → Session → Type 0
@@ -246,10 +224,8 @@ left-came dropped first n s small few i t fits from upto =
     let at : t ≡ tsn p k = past-first first t small fits in
     let a = i.settled in
     let within = a.within in
-    let order : nat_le k a.place ≡ true =
-    sym (at-or-before p k a.place (omega (arith, near)) (omega (arith, within, few))) ∙ ap (λ u. at_or_before u (tsn p a.place)) (sym at) ∙ ap
-    (at_or_before t) (sym a.is) ∙ upto in
-    let le : k ≤ a.place = grind (arith, nat_tests, order) in
+    let order : nat_le k a.place ≡ true = grind (arith, nat_tests, common_steps, at-or-before) in
+    let le : k ≤ a.place = grind (arith, nat_tests) in
     subst (λ u. known_or dropped s u ≡ true) (sym at) (a.so_far k (omega arith) le)
 
 pub all-left-came : AfterEachSessionOfFewTsns (λ first count s. LeftCame first s)
@@ -380,7 +356,7 @@ leaves-none : (p n : ℕ) (kn : ℕ → Bool) (k : Sack) (f : Flight) → n < 2 
 leaves-none p n kn k f few h t e = by (is_outdated k f) refl (taken-numbered p n t.place k f few t.within t.is h)
   where
     last : t.place ≡ n
-    last = grind (arith, nat_tests, next-place, same-place)
+    last = grind (arith, nat_tests)
 
     by : (b : Bool) → is_outdated k f ≡ b → IsNumbered p n (if b then f else take_sack k f) → (if b then f else take_sack k f).queue.inflight.chunks ≡ []
     by b h2 h3 = grind (arith, nat_tests, before, last, none-of, same-place)
@@ -459,11 +435,7 @@ module _ (xs : List ChunkPayloadData) where
 
   module _ (p n : ℕ) (given : Every (λ (c : ChunkPayloadData). IsGiven p n c.tsn) xs) where
     unused : (k t : ℕ) → n < k → k < 2 ^ 32 → t ≡ tsn p k → IsUnused t
-    unused k t past fits is c i e =
-        let g = every-contained (λ (d : ChunkPayloadData). IsGiven p n d.tsn) xs c i given in
-        let within = g.within in
-        let same = same-place p g.place k (omega (arith, within, past, fits)) fits (sym g.is ∙ e ∙ is) in
-        omega (arith, within, past, same)
+    unused k t past fits is c i e = grind (arith, nat_tests, common_steps)
 
     abandoned-each : (ts : List ℕ) (f : Flight) (k : ℕ) → n < k → k + length ts ≤ 2 ^ 32 → f.next_tsn ≡ tsn p k → AllStaySo f.queue
         → AllStaySo (abandoned_each ts f).queue

@@ -1,12 +1,11 @@
 -- A session in which few TSNs are given out, call by call of the sender: what is given out, and what is made of it.
 use Rattle.sctp_delivery.proofs.Names.{◌≡◌, ℕ, ◌+◌, ◌<◌, ◌≤◌, ◌^◌, Bool, true, false, List, [], ◌∷◌, length, Option, Some, None, refl, ap, sym, subst, ◌∙◌}
-use Rattle.sctp_delivery.proofs.Names.{arith, if◌then◌else◌, ◌||◌, nat_le, option_map, Contains, list_any, nat_tests, none-some, common_steps, distance}
-use Rattle.sctp_delivery.proofs.Names.{at_or_before, change_where, not_both, tsn, distance-tsn, ChunkPayloadData, Sack, Outbound, all_started, as_sent}
-use Rattle.sctp_delivery.proofs.Names.{expired_of, sent_next, with_message, with_inflight, next_pending, peeked_all_started, following_tsn, has_tsn, tsns}
-use Rattle.sctp_delivery.proofs.Names.{Released, Flight, after_abandonment, after_sack, is_outdated, next_after_send, take_sack, with_room, reports}
-use Rattle.sctp_delivery.proofs.Names.{abandoned_each, fragments_with_mode, after_misses, can_miss, missed, Transmission, write_refusal, started-inflight}
-use Rattle.sctp_delivery.proofs.Names.{changed-run, passes, was_passed, was_taken, reports_tsn, Made, SenderCall, data_chunk, forward_tsn, made_after}
-use Rattle.sctp_delivery.proofs.Names.{with_chunk, SenderFollows, Session, IsReported, or-left, or-right, or-split, ForwardTsn}
+use Rattle.sctp_delivery.proofs.Names.{arith, if◌then◌else◌, ◌||◌, option_map, Contains, list_any, nat_tests, none-some, common_steps, distance, not_both, tsn}
+use Rattle.sctp_delivery.proofs.Names.{distance-tsn, ChunkPayloadData, Sack, Outbound, all_started, as_sent, expired_of, sent_next, with_message, next_pending}
+use Rattle.sctp_delivery.proofs.Names.{peeked_all_started, following_tsn, has_tsn, tsns, Released, Flight, after_abandonment, after_sack, is_outdated}
+use Rattle.sctp_delivery.proofs.Names.{next_after_send, take_sack, with_room, reports, abandoned_each, fragments_with_mode, after_misses, can_miss, missed}
+use Rattle.sctp_delivery.proofs.Names.{Transmission, write_refusal, started-inflight, changed-run, passes, was_passed, was_taken, reports_tsn, Made, SenderCall}
+use Rattle.sctp_delivery.proofs.Names.{data_chunk, forward_tsn, made_after, with_chunk, SenderFollows, Session, IsReported, ForwardTsn}
 use Rattle.sctp_outbound.specs.payload_queue.PayloadQueue as payload
 use Rattle.sctp_sender.specs.Flight.{with_queue}
 use Rattle.sctp_sender.specs.Sender.{stream_of}
@@ -50,12 +49,7 @@ more-made-given p m n le (forward_tsn f) g = more-given p m n f.new_cumulative_t
 pub next-unpassed : (p n : ℕ) (ms : List Made) → n < 2 ^ 31 → Every (IsMadeGiven p n) ms → list_any (passes (tsn p (n + 1))) ms ≡ false
 next-unpassed p n [] few h = refl
 next-unpassed p n (data_chunk d ∷ ms) few h = next-unpassed p n ms few h.1
-next-unpassed p n (forward_tsn f ∷ ms) few h =
-    let g = h.0 in
-    let within = g.within in
-    let here : at_or_before (tsn p (n + 1)) f.new_cumulative_tsn ≡ false = ap (at_or_before (tsn p (n + 1))) g.is ∙ at-or-before p (n + 1) g.place
-    (omega (arith, few)) (omega (arith, within, few)) ∙ (let e : nat_le (n + 1) g.place ≡ false = grind (arith, nat_tests, within) in e) in
-    ap (λ b. b || list_any (passes (tsn p (n + 1))) ms) here ∙ next-unpassed p n ms few h.1
+next-unpassed p n (forward_tsn f ∷ ms) few h = grind (arith, nat_tests, common_steps, at-or-before, next-unpassed p n ms few h.1)
 
 -- ## Calls of the sender
 
@@ -135,9 +129,7 @@ module _ (p n : ℕ) (kn : ℕ → Bool) (old new : Session) (few : n < 2 ^ 31) 
   moved-by call t (all_start now) =
       same-queue (all_started now (flight_of old).queue) (ap (λ (w : payload.Payload). tsns w.chunks) (started-inflight now (flight_of old).queue))
   moved-by call t (more_room count) = same-queue (with_room count (flight_of old).queue) refl
-  moved-by call t (some_marked q g k) =
-      same-queue (with_inflight (flight_of old).queue (change_where q g (flight_of old).queue.inflight.chunks))
-      (changed-run q g (λ c. ap (λ (d : ChunkPayloadData). d.tsn) (k c)) (flight_of old).queue.inflight.chunks)
+  moved-by call t (some_marked q g k) = grind (arith, nat_tests, common_steps, same-queue, changed-run)
   moved-by call t (some_missed count) =
       same-queue (after_misses count (flight_of old)).queue (part-run can_miss missed (λ d. refl) (flight_of old).queue.inflight.chunks count)
   moved-by call t (one_leaves o e found) = abandoned-moved p n kn o (flight_of old) h
@@ -287,7 +279,7 @@ module _ (dropped : ℕ → Bool) (p n : ℕ) (old new : Session) (few : n < 2 ^
     where
       one : (x : ChunkPayloadData) → IsGoneUpTo c.new_cumulative_tsn x → passed_in (forward_tsn c ∷ old.made) x.tsn ≡ true →
           (passed_in old.made x.tsn || x.abandoned) ≡ true
-      one x h2 h3 = grind (arith, nat_tests, or-left, or-right, or-split)
+      one x h2 h3 = grind (arith, nat_tests)
 
   pub stays-valid-with : (call : SenderCall) → Every (IsTruthful p n (known_or dropped old)) old.sacks → Every (IsMadeGiven p n) old.made
       → SenderFollows call old new → IsValidWith (made_after call old.sending.sender old.made)

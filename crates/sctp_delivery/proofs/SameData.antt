@@ -1,7 +1,6 @@
 -- DATA chunks with the same wire fields, by a test.
-use Rattle.sctp_delivery.proofs.Names.{◌≡◌, ℕ, Bool, true, false, List, [], ◌∷◌, refl, ap, sym, ◌∙◌, ◌==◌, ◌&&◌, same-is, same-yes, and, both}
-use Rattle.sctp_delivery.proofs.Names.{PayloadProtocolIdentifier, Binary, Unknown, Data}
-use Rattle.sctp_data.specs.declared.chunk.chunk_payload_data.PayloadProtocolIdentifier.TheVariants.{Dcep, String, StringEmpty, BinaryEmpty}
+use Rattle.sctp_delivery.proofs.Names.{arith, common_steps, nat_tests, ◌≡◌, ℕ, Bool, true, false, List, [], ◌∷◌, refl, ap, sym, ◌∙◌, ◌==◌, ◌&&◌, same-is}
+use Rattle.sctp_delivery.proofs.Names.{same-yes, and, both, PayloadProtocolIdentifier, Data}
 use Rattle.sctp_data.specs.PayloadData.{payload_type_from, payload_type_number}
 
 abbrev pub are_same_bytes : List ℕ → List ℕ → Bool
@@ -44,27 +43,17 @@ same-flags true = refl
 same-flags false = refl
 
 flags-same : (a b : Bool) → are_same_flags a b ≡ true → a ≡ b
-flags-same true b e = sym e
-flags-same false true e = e
-flags-same false false e = refl
+flags-same h0 h1 h2 = grind (arith, nat_tests, common_steps)
 
 type-again : (p : PayloadProtocolIdentifier) → payload_type_from (payload_type_number p) ≡ p
 unfolding payload_type_from payload_type_number
-type-again Dcep = refl
-type-again String = refl
-type-again Binary = refl
-type-again StringEmpty = refl
-type-again BinaryEmpty = refl
-type-again Unknown = refl
+type-again h0 = grind (arith, nat_tests, common_steps)
 
 types-same : (p q : PayloadProtocolIdentifier) → (payload_type_number p == payload_type_number q) ≡ true → p ≡ q
 types-same p q e = sym (type-again p) ∙ (ap payload_type_from (same-is (payload_type_number p) (payload_type_number q) e) ∙ type-again q)
 
 pub same-itself : (d : Data) → is_same d d ≡ true
-same-itself d =
-    and _ _ (same-yes d.tsn) (and _ _ (same-yes d.stream_identifier) (and _ _ (same-yes d.stream_sequence_number)
-    (and _ _ (same-flags d.unordered) (and _ _ (same-flags d.beginning_fragment) (and _ _ (same-flags d.ending_fragment)
-    (and _ _ (same-flags d.immediate_sack) (and _ _ (same-yes (payload_type_number d.payload_type)) (same-bytes d.user_data))))))))
+same-itself d = grind (arith, nat_tests, common_steps, and, same-yes, same-flags, same-bytes)
 
 -- the data by its fields
 abbrev all_of : Data → Data

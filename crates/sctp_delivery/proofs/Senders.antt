@@ -1,6 +1,6 @@
 -- What each call of a sender makes of its queues, its streams, and what it gave TSNs to.
-use Rattle.sctp_delivery.proofs.Names.{◌≡◌, ℕ, ◌<◌, Bool, true, List, [], ◌∷◌, ◌++◌, take, drop, Option, Some, None, is_some, inl, inr, refl, ap, sym, subst}
-use Rattle.sctp_delivery.proofs.Names.{◌∙◌, arith, ⊤, ◌||◌, if◌then◌else◌, option_map, find, list_any, take-append-drop, nat_tests, change_where}
+use Rattle.sctp_delivery.proofs.Names.{common_steps, ◌≡◌, ℕ, ◌<◌, Bool, true, List, [], ◌∷◌, ◌++◌, take, drop, Option, Some, None, is_some, inl, inr, refl, ap}
+use Rattle.sctp_delivery.proofs.Names.{sym, subst, ◌∙◌, arith, ⊤, ◌||◌, if◌then◌else◌, option_map, find, list_any, take-append-drop, nat_tests, change_where}
 use Rattle.sctp_delivery.proofs.Names.{list_any-append, list_any-those, ChunkPayloadData, data_of, Sack, as_acknowledged, is_of, Outbound, all_started, as_sent}
 use Rattle.sctp_delivery.proofs.Names.{sent_next, sent_of, with_inflight, past, next_pending, partially_sent, waits, peeked_all_started, KeepsMessage}
 use Rattle.sctp_delivery.proofs.Names.{following_tsn, has_tsn, Flight, after_abandonment, is_outdated, message_to_abandon, next_after_send, released_by}
@@ -8,14 +8,13 @@ use Rattle.sctp_delivery.proofs.Names.{reports_anew, take_sack, abandoned_at, ab
 use Rattle.sctp_delivery.proofs.Names.{less_by, Transmission, after_abandon, after_acked, with_flight, found-partial, OutboundStream, Made, data_chunk}
 use Rattle.sctp_delivery.proofs.Names.{forward_tsn, next_chunk, with_chunk}
 use Rattle.sctp_outbound.proofs.lemmas.pending_queue.CompleteMessages.{list_any-change_where}
-use Rattle.sctp_delivery.proofs.Cases.{all_streams, where-is, where-yes}
+use Rattle.sctp_delivery.proofs.Cases.{all_streams}
 use Rattle.sctp_delivery.proofs.InFlight.{KeepsData, acknowledged-keeps, known-changed, known-part-changed}
 use Rattle.sctp_delivery.proofs.Numbers.{AreApart, AreOpen, AreSized, IsSteady, all-open, number_of, steady-left, steady-less, steady-released, steady-same}
 use Rattle.sctp_delivery.proofs.OrderedRest.{AreNamed, named-more}
 use Rattle.sctp_delivery.proofs.Queues.{sends as sends-one, Abandons, IsEnded, IsOnceMore, StandsOn, abandoned, abandons-then, marked, no-abandons, once-ended}
 use Rattle.sctp_delivery.proofs.Queues.{refilled, started}
 use Rattle.sctp_delivery.proofs.Sent.{Entry, Numbered, WasSent, fragment, sent-more}
-use Rattle.sctp_delivery.proofs.Sending.{IsTurn}
 use Rattle.sctp_delivery.proofs.Every.{every-passing}
 
 -- a sender, where these were written, and these entries got TSNs from the first one on
@@ -65,38 +64,14 @@ calm on ws vs first sent u ms h = record { more = sent; held = h; once = inl ref
 pub renumbered : (on : ℕ → Bool) (ws : List Numbered) (first : ℕ) (number number' : ℕ → ℕ) (q : Outbound) (next : ℕ) (sent : List Entry)
     → ((s : ℕ) → on s ≡ true → number' s ≡ number s)
     → StandsOn on ws first number q next sent → StandsOn on ws first number' q next sent
-renumbered on ws first number number' q next sent same s = record {
-  queued = record {
-    line = s.queued.line;
-    ordered = s.queued.ordered;
-    unordered = s.queued.unordered;
-    turns = λ r. where-yes (on r) (IsTurn r q.pending.ordered (number' r) sent) (λ e.
-        subst (λ k. IsTurn r q.pending.ordered k sent) (sym (same r e))
-        (where-is (on r) (IsTurn r q.pending.ordered (number r) sent) e (s.queued.turns r)));
-    indexed = s.queued.indexed;
-    ranked = s.queued.ranked;
-    joined = s.queued.joined;
-    open' = s.queued.open';
-  };
-  sendable = s.sendable;
-  known = s.known;
-  counted = s.counted;
-  begun' = s.begun';
-  ids = s.ids;
-}
+renumbered on ws first number number' q next sent same s = grind (arith, nat_tests, common_steps)
 
 -- other streams, as steady, and what stands then
 pub steady : (on : ℕ → Bool) (ws : List Numbered) (first : ℕ) (t : Transmission) (sent : List Entry) (h : IsHeldOn on ws first t sent)
     (ls : List OutboundStream)
     → IsSteady t.streams ls → (f : Flight) (more : List Entry) → StandsOn on ws first (λ s. number_of s t.streams) f.queue f.next_tsn more
     → IsHeldOn on ws first (record t { streams = ls; flight = f }) more
-steady on ws first t sent h ls st f more s = record {
-  stands = renumbered on ws first (λ r. number_of r t.streams) (λ r. number_of r ls) f.queue f.next_tsn more (λ r _. st.numbers r) s;
-  open' = all-open on t.streams ls (λ r _. st.there r) ws h.open';
-  sized = st.sized h.sized;
-  apart = st.apart h.apart;
-  size = h.size;
-}
+steady on ws first t sent h ls st f more s = grind (arith, nat_tests, common_steps, renumbered, all-open)
 
 -- ## What is in flight changes
 
@@ -232,9 +207,7 @@ sent-of on ws first t sent ms now h q s (Some c) e =
     let entry = fragment (data_of (as_sent next now c)) x.write x.after in
     record {
       more = entry ∷ sent;
-      held = steady on ws first t sent h t.streams (steady-same t.streams)
-          (record t.flight { queue = sent_of (Some c) q next now; next_tsn = following_tsn next })
-          (entry ∷ sent) x.stands;
+      held = grind (arith, nat_tests, common_steps);
       once = inr (entry, refl);
       grown = (x.write, x.after, refl, x.place);
       made = λ a. ((x.write, x.after, sent, inl refl), sent-then on entry sent ms a);

@@ -1,15 +1,14 @@
 -- A fragment is sent: it goes on where the last entry ends, and what waits behind it goes on with it.
-use Rattle.sctp_delivery.proofs.Names.{◌≡◌, ℕ, ◌+◌, ◌%◌, ◌^◌, ◌≤◌, Bool, true, false, not, List, [], ◌∷◌, length, Option, Some, None, slice_get, inl, inr, refl}
-use Rattle.sctp_delivery.proofs.Names.{ap, sym, subst, ◌∙◌, arith, ⊤, ◌==◌, if◌then◌else◌, none-some, nat_tests, some-same, same-yes, and, not_both}
+use Rattle.sctp_delivery.proofs.Names.{common_steps, ◌≡◌, ℕ, ◌+◌, ◌%◌, ◌^◌, ◌≤◌, Bool, true, false, not, List, [], ◌∷◌, length, Option, Some, None, slice_get}
+use Rattle.sctp_delivery.proofs.Names.{inl, inr, refl, ap, sym, subst, ◌∙◌, arith, ⊤, if◌then◌else◌, none-some, nat_tests, some-same, not_both}
 use Rattle.sctp_delivery.proofs.Names.{ChunkPayloadData, Data, data_of, Selected, as_sent, Pending, list_to_pop, next_pending, rest_after, rest_from}
-use Rattle.sctp_delivery.proofs.Names.{selected_after}
-use Rattle.sctp_delivery.proofs.Names.{IsSendable, IsWhole, begun, free, made}
+use Rattle.sctp_delivery.proofs.Names.{selected_after, IsSendable, IsWhole, begun, free, made}
 use Rattle.std.proofs.Common.{◌⊎◌}
 use Rattle.sctp_delivery.proofs.Cases.{Where, where-map, where-yes}
-use Rattle.sctp_delivery.proofs.OrderedEntries.{AreIndexedOn, AreJoined, AreRanked, AreRising, IsIndexed, IsOpen, IsUnder, Joins, begins-inner, begins-ordered}
+use Rattle.sctp_delivery.proofs.OrderedEntries.{AreIndexedOn, AreJoined, AreRanked, AreRising, IsIndexed, IsOpen, IsUnder, Joins, begins-ordered}
 use Rattle.sctp_delivery.proofs.OrderedEntries.{begins-unordered, begins_on, begun_on, one, ranked-ordered, ranked-unordered, under-more}
 use Rattle.sctp_delivery.proofs.Sent.{Entry, Fits, GoesOn, IsLine, Numbered, fragment, terminal}
-use Rattle.sctp_delivery.proofs.Waiting.{Goes, Place, Waits, between, inside, nowhere, place_after, place_of, within}
+use Rattle.sctp_delivery.proofs.Waiting.{Goes, Place, Waits, between, inside, place_after, place_of}
 use Rattle.sctp_delivery.proofs.Turns.{Turns, counts, number_after}
 
 -- the number of the first message of the stream that waits, up to this one of the next write: so many were begun
@@ -39,25 +38,16 @@ module _ (c : ChunkPayloadData) (tsn now : ℕ) (w : Numbered) (after : List ℕ
   abbrev sent_entry : Entry
   sent_entry = fragment (data_of (as_sent tsn now c)) w after
 
-  ends-or-not : (kind : Bool) (s : Selected) → s.unordered ≡ kind → c.message_id ≡ s.message_id
-      → selected_after (Some s) kind c ≡ (if c.ending_fragment then None else Some (record { message_id = c.message_id; unordered = kind }))
-  ends-or-not kind s k same = grind (arith, nat_tests, same-yes)
-
-  selects : (kind : Bool) (sel : Option Selected) → OnTurn sel kind c
-      → selected_after sel kind c ≡ (if c.ending_fragment then None else Some (record { message_id = c.message_id; unordered = kind }))
-  selects kind None t = refl
-  selects kind (Some s) t = ends-or-not kind s t.0 t.1
-
   own-place : (kind : Bool) (sel : Option Selected) → OnTurn sel kind c → place_of kind (selected_after sel kind c) (sent_entry ∷ sent) ≡ place_after c w after
-  own-place kind sel h3 = grind (arith, nat_tests, between, selects, within)
+  own-place kind sel h3 = grind (arith, nat_tests)
 
   other-place : (kind : Bool) (sel : Option Selected) (xs : List Entry) → OnTurn sel kind c
       → place_of (not kind) (selected_after sel kind c) xs ≡ place_of (not kind) sel sent
-  other-place kind sel xs t = grind (arith, nat_tests, between, selects)
+  other-place kind sel xs t = grind (arith, nat_tests)
 
   -- the write of a first fragment has the number of its message
   placed : (p : Place) → Goes p c w after → c.beginning_fragment ≡ true → w.place ≡ c.message_id
-  placed p h2 h3 = grind (arith, nat_tests, between, not_both, nowhere, within)
+  placed p h2 h3 = grind (arith, nat_tests)
 
   -- ## The line
 
@@ -70,31 +60,20 @@ module _ (c : ChunkPayloadData) (tsn now : ℕ) (w : Numbered) (after : List ℕ
 
   goes-behind : (xs : List Entry) → (c.beginning_fragment ≡ true) ⊎ ((m : ℕ) × Goes (inside m xs) c w after)
       → GoesOn (data_of (as_sent tsn now c)) w after xs
-  goes-behind xs h = grind (arith, nat_tests, not_both)
+  goes-behind xs h = grind (arith, nat_tests)
 
   -- ## Messages
 
   -- nothing is partially sent where it ends its message
   stays-open : (kind : Bool) (sel : Option Selected) → OnTurn sel kind c → w.place ≡ c.message_id → IsOpen (sent_entry ∷ sent) (selected_after sel kind c)
-  stays-open kind sel t own = grind (arith, nat_tests, selects)
-
-  -- its write has the number of its message
-  of-inside : (s : Selected) (xs : List Entry) → IsOpen xs (Some s) → Goes (inside s.message_id xs) c w after → w.place ≡ c.message_id
-  of-inside s xs h3 h4 = grind (arith, nat_tests)
+  stays-open kind sel t own = grind (arith, nat_tests)
 
   of-message : (kind : Bool) (sel : Option Selected) → OnTurn sel kind c → IsOpen sent sel → Goes (place_of kind sel sent) c w after → w.place ≡ c.message_id
-  of-message kind sel h3 h4 h5 = grind (arith, nat_tests, between, of-inside)
-
-  joins-between : (xs : List Entry) → IsOpen xs None → c.beginning_fragment ≡ true → Joins (data_of (as_sent tsn now c)) xs
-  joins-between xs h2 h3 = grind (arith, nat_tests, not_both)
-
-  joins-inside : (ws : List Numbered) (first m : ℕ) (s : Selected) (xs : List Entry) → Fits ws c.tsn (data_of c) w after → IsLine ws first xs
-      → IsOpen xs (Some s) → Goes (inside m xs) c w after → Joins (data_of (as_sent tsn now c)) xs
-  joins-inside ws first m s xs h6 h7 h8 h9 = grind (arith, nat_tests, not_both)
+  of-message kind sel h3 h4 h5 = grind (arith, nat_tests)
 
   joins-sent : (ws : List Numbered) (first : ℕ) (kind : Bool) (sel : Option Selected) → OnTurn sel kind c → Fits ws c.tsn (data_of c) w after
       → IsLine ws first sent → IsOpen sent sel → Goes (place_of kind sel sent) c w after → Joins (data_of (as_sent tsn now c)) sent
-  joins-sent ws first kind sel h5 h6 h7 h8 h9 = grind (arith, nat_tests, between, joins-between, joins-inside)
+  joins-sent ws first kind sel h5 h6 h7 h8 h9 = grind (arith, nat_tests)
 
   -- ## Numbers
 
@@ -114,22 +93,10 @@ module _ (c : ChunkPayloadData) (tsn now : ℕ) (w : Numbered) (after : List ℕ
       same = fits.stream ∙ ap (λ (x : Numbered). x.stream) g.write ∙ sym line.0.stream
 
       next : IsIndexed e xs → IsIndexed d (fragment e v rest ∷ xs)
-      next j k =
-          let x = j (sym g.same_kind ∙ k) in
-          let none = ap one (begins-inner c.stream_identifier d g.inner) in
-          let all = subst (λ s. x.0 + 1 ≡ one (begins_on s e) + begun_on s xs) (sym same) x.1 in
-          (x.0, omega (arith, all, none), g.same_number ∙ x.2)
+      next j k = grind (arith, nat_tests, common_steps)
 
   under-inner : (m : ℕ) (xs : List Entry) → c.unordered ≡ false → AreRising xs → Goes (inside m xs) c w after → IsUnder w.place xs
   under-inner m xs h3 h4 h5 = grind (arith, nat_tests)
-
-  place-inner : (m top : ℕ) (xs : List Entry) → c.unordered ≡ false → IsUnder top xs → Goes (inside m xs) c w after → w.place ≤ top
-  place-inner m top xs h4 h5 h6 = grind (arith, nat_tests)
-
-  -- so many were begun then
-  begun-next : (n m : ℕ) (b : Bool) → n ≡ m % 2 ^ 16 → number_after b n ≡ (one b + m) % 2 ^ 16
-  begun-next n m true e = omega (arith, e)
-  begun-next n m false e = omega (arith, e)
 
 -- ## The queue behind it
 
@@ -191,23 +158,14 @@ module _ (on : ℕ → Bool) (ws : List Numbered) (first : ℕ) (number : ℕ �
       entry = fragment (data_of (as_sent tsn now c)) q.ordered.0 q.ordered.1
 
       begun-so : (s n : ℕ) → n ≡ begun_on s sent % 2 ^ 16 → number_after (counts s c) n ≡ (one (begins_on s d) + begun_on s sent) % 2 ^ 16
-      begun-so s n e =
-          begun-next c tsn now q.ordered.0 q.ordered.1 sent n (begun_on s sent) (counts s c) e
-          ∙ ap (λ b. (one b + begun_on s sent) % 2 ^ 16) (sym (begins-ordered s d kind))
-
-      counted : c.beginning_fragment ≡ true → counts c.stream_identifier c ≡ true
-      counted b = and (c.stream_identifier == c.stream_identifier) c.beginning_fragment (same-yes c.stream_identifier) b
+      begun-so s n e = grind (arith, nat_tests, common_steps)
 
       index : Starts c tsn now q.ordered.0 q.ordered.1 sent → Where (on c.stream_identifier) (IsIndexed d sent)
-      index (inl b) =
-          let st = c.stream_identifier in
-          let z = ap one (begins-ordered st d kind ∙ counted b) in
-          where-map (on st) (IsTurn st (c ∷ os) (number st) sent) (IsIndexed d sent)
-          (λ t k. (begun_on st sent, omega (arith, z), t.1.0.0 (counted b) ∙ t.1.1)) (q.turns st)
+      index (inl b) = grind (arith, nat_tests, common_steps)
       index (inr g) = index-inner c tsn now q.ordered.0 q.ordered.1 sent on ws first g.0 sent q.ordered.2.0 q.line q.indexed g.1
 
       at-most : Starts c tsn now q.ordered.0 q.ordered.1 sent → q.ordered.0.place ≤ c.message_id
-      at-most h1 = grind (arith, nat_tests, place-inner, placed)
+      at-most h1 = grind (arith, nat_tests)
 
       under : Starts c tsn now q.ordered.0 q.ordered.1 sent → IsUnder q.ordered.0.place sent
       under h1 = grind (arith, nat_tests, placed, under-inner, under-more)
@@ -225,9 +183,7 @@ module _ (on : ℕ → Bool) (ws : List Numbered) (first : ℕ) (number : ℕ �
           subst (λ k. QueuedOn on ws first number (rest_from k (made os (c ∷ us) sel ro ru)) (fragment (data_of (as_sent tsn now c)) w after ∷ sent)) (sym pops)
               (record {
                 line = in-line w after fits (goes-behind c tsn now w after sent sent (starts sel turn q.unordered.2.1.0)) q.line;
-                ordered =
-                    subst (Waits ws os)
-                    (sym (other-place c tsn now w after sent true sel (fragment (data_of (as_sent tsn now c)) w after ∷ sent) turn)) q.ordered;
+                ordered = grind (arith, nat_tests, common_steps);
                 unordered = subst (Waits ws us) (sym (own-place c tsn now w after sent true sel turn)) q.unordered.2.1.1;
                 turns = λ s. where-map (on s) (IsTurn s os (number s) sent) (IsTurn s os (number s) (fragment d w after ∷ sent))
                     (λ t. (t.0, (t.1.0, begun-so s t.0 t.1.1))) (q.turns s);

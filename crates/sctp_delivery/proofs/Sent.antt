@@ -1,6 +1,6 @@
 -- What a sender gave TSNs to, one after another: each DATA chunk is a fragment of a write, and goes on where the one before it ends.
-use Rattle.sctp_delivery.proofs.Names.{◌≡◌, ℕ, suc, ◌+◌, ◌%◌, ◌^◌, ◌<◌, ◌≤◌, true, false, List, [], ◌∷◌, ◌++◌, length, inl, inr, refl, ap, sym, subst, ◌∙◌}
-use Rattle.sctp_delivery.proofs.Names.{arith, ⊤, Contains, nat_tests, PayloadProtocolIdentifier, Data}
+use Rattle.sctp_delivery.proofs.Names.{common_steps, ◌≡◌, ℕ, suc, ◌+◌, ◌%◌, ◌^◌, ◌<◌, ◌≤◌, true, false, List, [], ◌∷◌, ◌++◌, length, inl, inr, refl, ap, sym}
+use Rattle.sctp_delivery.proofs.Names.{subst, ◌∙◌, arith, ⊤, Contains, nat_tests, PayloadProtocolIdentifier, Data}
 use Rattle.std.proofs.Common.{◌⊎◌}
 
 -- a write, and its place among the writes: so many were written before
@@ -104,14 +104,7 @@ WasSentFrom low sent d = (w : Numbered) × (after : List ℕ) × (xs : List Entr
 pub stands-next : (ws : List Numbered) (first : ℕ) (sent : List Entry) (low : ℕ) → IsLine ws first sent
     → (d e : Data) (w v : Numbered) (after rest : List ℕ) (xs ys : List Entry) → IsPart (fragment d w after ∷ xs) sent → IsPart (fragment e v rest ∷ ys) sent
     → IsFrom low xs → IsFrom low ys → e.tsn ≡ (d.tsn + 1) % 2 ^ 32 → ys ≡ fragment d w after ∷ xs
-stands-next ws first sent low line d e w v after rest xs ys p q i j next =
-    let a = (part-line ws first sent (fragment d w after ∷ xs) p line).0.number in
-    let b = (part-line ws first sent (fragment e v rest ∷ ys) q line).0.number in
-    let il = i.0 in
-    let iu = i.1 in
-    let jl = j.0 in
-    let ju = j.1 in
-    same-parts sent ys (fragment d w after ∷ xs) (tail-part sent ys (fragment e v rest) q) p (omega (arith, a, b, next, il, iu, jl, ju))
+stands-next ws first sent low line d e w v after rest xs ys p q i j next = grind (arith, nat_tests, common_steps, part-line, same-parts, tail-part)
 
 -- what has the next TSN stands behind it, while fewer than 2^32 were given out
 pub stands-behind : (ws : List Numbered) (first : ℕ) (sent : List Entry) → length sent < 2 ^ 32 → IsLine ws first sent

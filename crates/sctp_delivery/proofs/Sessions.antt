@@ -1,18 +1,16 @@
 -- What holds of every session of two hosts.
-use Rattle.sctp_delivery.proofs.Names.{◌≡◌, ℕ, ◌+◌, Bool, true, false, List, [], ◌∷◌, ◌++◌, length, Option, refl, ap, sym, ◌∙◌, arith, subst, ◌==◌, ◌||◌}
+use Rattle.sctp_delivery.proofs.Names.{common_steps, ◌≡◌, ℕ, Bool, true, false, List, [], ◌∷◌, ◌++◌, Option, refl, ap, sym, ◌∙◌, arith, subst, ◌==◌, ◌||◌}
 use Rattle.sctp_delivery.proofs.Names.{if◌then◌else◌, All, Contains, slice_index_or, list_all, list_any, sum_by, filter, list_any_at, sum_by-cons}
-use Rattle.sctp_delivery.proofs.Names.{sum_by-append, AllPass-from_list_all, nat_tests, same-yes, or-right, and, both, not_both, ChunkPayloadData, Data}
-use Rattle.sctp_delivery.proofs.Names.{data_of, New, Repeat, Limits, Message, fragments_read, Transmission, taken_back_by, written_by, Drop, is_on}
-use Rattle.sctp_delivery.proofs.Names.{ReceiverCall, Made, SenderCall, Write, data_chunk, forward_tsn, forwards, forwards_within, made_after, resends, sends}
-use Rattle.sctp_delivery.proofs.Names.{writes, written_after, AreMade, AreMessages, Call, IsAccounted, ReceiverFollows, RunsTo, SenderFollows, Session}
-use Rattle.sctp_delivery.proofs.Names.{at_start, bytes_written, of_receiver, of_sender}
+use Rattle.sctp_delivery.proofs.Names.{sum_by-append, AllPass-from_list_all, nat_tests, same-yes, and, both, not_both, ChunkPayloadData, Data, data_of, New}
+use Rattle.sctp_delivery.proofs.Names.{Repeat, Limits, Message, fragments_read, Transmission, taken_back_by, Drop, is_on, ReceiverCall, Made, SenderCall}
+use Rattle.sctp_delivery.proofs.Names.{data_chunk, forward_tsn, made_after, writes, AreMade, AreMessages, Call, IsAccounted, ReceiverFollows, RunsTo}
+use Rattle.sctp_delivery.proofs.Names.{SenderFollows, Session, at_start, bytes_written, of_receiver, of_sender}
 use Rattle.std.specs.Prelude.{not}
 use Rattle.std.proofs.lemmas.List.Folds.{Any-from_list_any}
 use Rattle.sctp_receiver.specs.ReceiverRuns as receiver_runs
 use Rattle.sctp_receiver.proofs.Handed as handed
 use Rattle.sctp_sender.specs.SenderRuns as sender_runs
 use Rattle.sctp_sender.proofs.Accounts as accounts
-use Rattle.sctp_delivery.proofs.Cases.{by-test}
 use Rattle.sctp_delivery.proofs.SameData.{is_same, same-data, same-itself}
 use Rattle.sctp_delivery.specs.ReceiverCalls as incoming
 use Rattle.sctp_delivery.specs.SenderCalls as outgoing
@@ -43,18 +41,9 @@ receiver-runs (of_sender call ∷ cs) old new r =
     subst (λ l. receiver_runs.RunsTo l (receiver_calls cs) new.receiving) (ap (λ (s : Session). s.receiving) r.1.0.after) (receiver-runs cs r.0 new r.1.1)
 
 pub runs : AfterEachSession AreRuns
-runs tsn size max most limits cs s r =
-    let start = at_start tsn size max most limits in
-    ((tsn, size, max, sender_calls cs, sender-runs cs start s r), (tsn, most, limits, receiver_calls cs, receiver-runs cs start s r))
+runs tsn size max most limits cs s r = grind (arith, nat_tests, common_steps, sender-runs, receiver-runs)
 
 -- ## Bytes
-
-pub written-more : (call : SenderCall) (ws : List Write)
-    → sum_by (λ (w : Write). length w.bytes) (written_after call ws) ≡ sum_by (λ (w : Write). length w.bytes) ws + written_by (outgoing.as_run call)
-written-more (writes stream ppi []) ws = omega arith
-written-more (writes stream ppi (b ∷ bs)) ws =
-    let e = sum_by-cons (λ (w : Write). length w.bytes) (record { stream = stream; payload_type = ppi; bytes = b ∷ bs }) ws in omega (arith, e)
-written-more call ws = omega arith
 
 pub none-back : (call : SenderCall) → taken_back_by (outgoing.as_run call) ≡ 0
 none-back (writes stream ppi bytes) = refl
@@ -66,10 +55,7 @@ pub record IsCounted (s : Session) : Type 0 where
   pub back : s.sending.taken_back ≡ 0
 
 pub sender-counts : (call : SenderCall) (old new : Session) → SenderFollows call old new → IsCounted old → IsCounted new
-sender-counts call old new f h = record {
-  written = omega (arith, ap bytes_written f.after, written-more call old.written);
-  back = let n = f.step.taken_back in let z = none-back call in omega (arith, n, z);
-}
+sender-counts call old new f h = grind (arith, nat_tests, common_steps)
 
 counted : (cs : List Call) (old new : Session) → RunsTo old cs new → IsCounted old → IsCounted new
 counted [] old new r h = subst IsCounted (sym r) h
@@ -115,12 +101,7 @@ none-fails p q (c ∷ cs) e = let b = both (p c) (list_all p cs) e in by (q c) b
 
 pub all-pass : (p : ChunkPayloadData → Bool) (cs : List ChunkPayloadData) → sum_by (fails p) cs ≡ 0 → list_all p cs ≡ true
 all-pass p [] e = refl
-all-pass p (c ∷ cs) e = by-test (p c)
-    (λ h. and (p c) (list_all p cs) h ((all-pass p cs) (omega (arith, e, more))))
-    (λ h. let one : fails p c ≡ 1 = ap (λ b. if b then 0 else 1) h in absurd (omega (arith, e, more, one)))
-  where
-    more : sum_by (fails p) (c ∷ cs) ≡ fails p c + sum_by (fails p) cs
-    more = sum_by-cons (fails p) c cs
+all-pass p (c ∷ cs) e = grind (arith, nat_tests, common_steps, all-pass p cs)
 
 -- what every fragment that was read on a stream passes, each message passes
 pub each-read : (p : ℕ → ChunkPayloadData → Bool) (ms : List Message) → ((st : ℕ) → sum_by (fails (p st)) (fragments_read st ms) ≡ 0)
@@ -158,11 +139,7 @@ abbrev pub made_among : List Made → ChunkPayloadData → Bool
 made_among ms c = list_any (is_made_so (data_of c)) ms
 
 pub more-made : (p : Made → Bool) (call : SenderCall) (t : Transmission) (ms : List Made) → list_any p ms ≡ true → list_any p (made_after call t ms) ≡ true
-more-made p (sends now) t ms e = grind (arith, nat_tests)
-more-made p (resends tsn now c) t ms e = or-right _ _ e
-more-made p (forwards tsn f) t ms e = or-right (p (forward_tsn f)) (list_any p ms) e
-more-made p (forwards_within bytes f) t ms e = or-right (p (forward_tsn f)) (list_any p ms) e
-more-made p call t ms e = e
+more-made h0 h1 h2 h3 h4 = grind (arith, nat_tests, common_steps)
 
 -- each chunk that was taken was made
 abbrev pub IsTakenMade : Session → Type 0

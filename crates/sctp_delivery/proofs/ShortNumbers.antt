@@ -1,10 +1,10 @@
 -- Stream sequence numbers are numbers of 16 bits, in every reliable session: those of the streams, of what waits, of what is in flight,
 -- and of each DATA chunk that was made.
-use Rattle.sctp_delivery.proofs.Names.{◌≡◌, ℕ, ◌^◌, ◌<◌, true, false, List, [], ◌∷◌, length, Option, Some, None, refl, sym, subst, arith, ap, ⊤, ◌&&◌, nat_lt}
-use Rattle.sctp_delivery.proofs.Names.{option_map, change_where, not_both, ChunkPayloadData, PayloadProtocolIdentifier, is_ordered, Outbound, all_started}
-use Rattle.sctp_delivery.proofs.Names.{as_sent, next_pending, has_tsn, OutboundStream, Released, released_by, after_releases, fragments_with_mode, has_number}
-use Rattle.sctp_delivery.proofs.Names.{less_by, with_low, with_mode, with_size, wrote, Transmission, Makes, is_reliable_at_sender, IsAccepted, Made}
-use Rattle.sctp_delivery.proofs.Names.{MakesExactly, SenderCall, as_run, data_chunk, forward_tsn, made_after, with_chunk}
+use Rattle.sctp_delivery.proofs.Names.{common_steps, nat_tests, ◌≡◌, ℕ, ◌^◌, ◌<◌, true, false, List, [], ◌∷◌, length, Some, refl, sym, subst, arith, ⊤, ◌&&◌}
+use Rattle.sctp_delivery.proofs.Names.{nat_lt, change_where, not_both, ChunkPayloadData, PayloadProtocolIdentifier, is_ordered, Outbound, all_started}
+use Rattle.sctp_delivery.proofs.Names.{next_pending, OutboundStream, Released, released_by, after_releases, fragments_with_mode, has_number, less_by, with_size}
+use Rattle.sctp_delivery.proofs.Names.{wrote, Transmission, Makes, is_reliable_at_sender, IsAccepted, Made, MakesExactly, SenderCall, as_run, data_chunk}
+use Rattle.sctp_delivery.proofs.Names.{forward_tsn, made_after}
 use Rattle.sctp_delivery.specs.SenderCalls as outgoing
 use Rattle.sctp_delivery.proofs.Cases.{at-if}
 use Rattle.sctp_delivery.proofs.Every.{Every, every-changed, every-found, every-joined, every-mapped}
@@ -53,33 +53,18 @@ releases-short (r ∷ rs) ls s = releases-short rs (change_where (has_number r.s
 
 module _ (t u : Transmission) (s : AreShort t) where
   keeps : Keeps IsShort IsShort t
-  keeps = record {
-    start = λ now c i. i;
-    lower = λ c i. omega arith;
-    put = λ now c i. i;
-    mark = λ f k c i. subst (λ n. n < 2 ^ 16) (sym (ap (λ (d : ChunkPayloadData). d.stream_sequence_number) (k c))) i;
-    leave = λ c i. i;
-    end' = λ tsn c i. i;
-    acknowledge = λ c i. i;
-  }
+  keeps = grind (arith, nat_tests, common_steps)
 
   -- by a call that writes nothing, where the streams are so
   unwritten : (call : SenderCall) → is_write call ≡ false → Makes (as_run call) t u → MakesExactly call t u → (v : Transmission) → u ≡ v
       → Every IsShortOn v.streams → AreShort u
-  unwritten call o m x v e k = record {
-    streams = subst (λ (w : Transmission). Every IsShortOn w.streams) (sym e) k;
-    queue = each-call IsShort IsShort t keeps s.queue u call o m x;
-  }
+  unwritten call o m x v e k = grind (arith, nat_tests, common_steps, each-call, keeps)
 
   pub stays-short : (call : SenderCall) → is_reliable_at_sender call ≡ true → Makes (as_run call) t u → MakesExactly call t u → IsAccepted call t → AreShort u
   stays-short (outgoing.opens stream) r m x a =
       unwritten (outgoing.opens stream) refl m x _ m (every-joined IsShortOn t.streams _ s.streams (omega arith, tt))
-  stays-short (outgoing.sets_mode stream unordered reliability value) r m x a =
-      unwritten (outgoing.sets_mode stream unordered reliability value) refl m x _ m
-      (every-changed IsShortOn (has_number stream) (with_mode unordered reliability value) (λ l h e. e) t.streams s.streams)
-  stays-short (outgoing.sets_low stream bytes) r m x a =
-      unwritten (outgoing.sets_low stream bytes) refl m x _ m
-      (every-changed IsShortOn (has_number stream) (with_low bytes) (λ l h e. e) t.streams s.streams)
+  stays-short (outgoing.sets_mode stream unordered reliability value) r m x a = grind (arith, nat_tests, common_steps, unwritten, every-changed)
+  stays-short (outgoing.sets_low stream bytes) r m x a = grind (arith, nat_tests, common_steps, unwritten, every-changed)
   stays-short (outgoing.sets_size size) r m x a =
       unwritten (outgoing.sets_size size) refl m x _ m (every-mapped IsShortOn IsShortOn (with_size size) (λ l h. h) t.streams s.streams)
   stays-short (outgoing.writes stream ppi []) r m x a = subst AreShort (sym (x.0 refl)) s
@@ -105,13 +90,4 @@ module _ (t u : Transmission) (s : AreShort t) where
 
 pub made-short : (call : SenderCall) (t : Transmission) (ms : List Made) → is_reliable_at_sender call ≡ true → IsAccepted call t → AreShort t
     → Every IsShortMade ms → Every IsShortMade (made_after call t ms)
-made-short (outgoing.sends now) t ms r a s h = by (next_pending (all_started now t.flight.queue).pending) refl
-  where
-    by : (o : Option ChunkPayloadData) → next_pending (all_started now t.flight.queue).pending ≡ o
-        → Every IsShortMade (with_chunk (option_map (as_sent t.flight.next_tsn now) o) ms)
-    by None e = h
-    by (Some c) e = (next-short now t.flight.queue c e s.queue, h)
-made-short (outgoing.resends tsn now c) t ms r a s h = (every-found IsShort (has_tsn tsn) t.flight.queue.inflight.chunks c a.1 s.queue.inflight, h)
-made-short (outgoing.forwards tsn f) t ms r a s h = absurd (not_both r)
-made-short (outgoing.forwards_within bytes f) t ms r a s h = absurd (not_both r)
-made-short call t ms r a s h = h
+made-short h0 h1 h2 h3 h4 h5 h6 = grind (arith, nat_tests, common_steps, next-short, every-found, not_both)

@@ -1,9 +1,9 @@
 -- In each session of few TSNs: how many more ordered messages of a stream were begun than up to the place acknowledged, and what each
 -- FORWARD-TSN names.
-use Rattle.sctp_delivery.proofs.Names.{◌≡◌, ℕ, ◌+◌, ◌-◌, ◌%◌, ◌^◌, ◌<◌, ◌≤◌, Bool, false, List, [], ◌∷◌, length, inl, inr, Option, Some, None, refl, ap, sym}
-use Rattle.sctp_delivery.proofs.Names.{subst, ◌∙◌, arith, none-some, nat_tests, distance, negated, same-is, both, tsn, ChunkPayloadData, data_of, Limits}
+use Rattle.sctp_delivery.proofs.Names.{common_steps, ◌≡◌, ℕ, ◌+◌, ◌-◌, ◌%◌, ◌^◌, ◌<◌, ◌≤◌, Bool, false, List, [], ◌∷◌, length, Option, Some, None, refl, ap}
+use Rattle.sctp_delivery.proofs.Names.{sym, subst, ◌∙◌, arith, none-some, nat_tests, distance, negated, same-is, both, tsn, ChunkPayloadData, data_of, Limits}
 use Rattle.sctp_delivery.proofs.Names.{Flight, is_too_far, past_number, send_refusal, Transmission, ReceiverCall, IsAccepted, SenderCall, made_after}
-use Rattle.sctp_delivery.proofs.Names.{next_chunk, with_chunk, ReceiverFollows, SenderFollows, Session, at_start, true, Ledger}
+use Rattle.sctp_delivery.proofs.Names.{next_chunk, ReceiverFollows, SenderFollows, Session, at_start, true, Ledger}
 use Rattle.sctp_sender.proofs.Sent.{as-noted, none-noted}
 use Rattle.sctp_delivery.specs.SenderCalls as outgoing
 use Rattle.sctp_delivery.proofs.Calls.{numbered_after, sent_by}
@@ -18,7 +18,7 @@ use Rattle.sctp_delivery.proofs.SackLaws as sacks
 use Rattle.sctp_delivery.proofs.SackLaws.{IsInStepBut}
 use Rattle.sctp_delivery.proofs.SackSteps.{known_or, moves, none_dropped}
 use Rattle.sctp_delivery.proofs.Senders.{IsMoreBy}
-use Rattle.sctp_delivery.proofs.Sent.{Entry, Numbered, fragment, terminal}
+use Rattle.sctp_delivery.proofs.Sent.{Entry, Numbered, fragment}
 use Rattle.sctp_delivery.proofs.SpreadEntries.{begun_to, to-all, to-more, to-up}
 use Rattle.sctp_delivery.proofs.SpreadFlight.{AreOn, AreSteps, IsMadeNaming, are-on, are-steps, named, naming-later, near-next}
 use Rattle.sctp_delivery.proofs.TsnPlaces.{base, same-place}
@@ -51,9 +51,7 @@ pub not-far : (t : Transmission) (now : ℕ) (c : ChunkPayloadData) → Some c �
 not-far t now c is none = grind (arith, nat_tests, as-noted, none-noted, none-some, same-past)
 
 pub calm-near : (st a : ℕ) (sent more : List Entry) → a ≤ length sent → IsEnded sent more → IsNear st a sent → IsNear st a more
-calm-near st a sent more within (inl e) near = subst (IsNear st a) (sym e) near
-calm-near st a sent more within (inr e) near =
-    subst (IsNear st a) (sym e) (let same = to-more st a terminal sent within in omega (arith, same, near))
+calm-near h0 h1 h2 h3 h4 h5 h6 = grind (arith, nat_tests, common_steps)
 
 pub sent-near : (st a n : ℕ) (sent : List Entry) (f : Flight) (c : ChunkPayloadData) (w : Numbered) (after : List ℕ) → a ≤ length sent → length sent ≡ n
     → a + length f.queue.inflight.chunks ≡ n → AreSteps st sent a f.queue.inflight.chunks
@@ -75,14 +73,10 @@ sent-near st a n sent f c w after within long total steps index far near = by (b
 module _ (on dropped : ℕ → Bool) (first n : ℕ) (old : Session) (ns : List Numbered) (sent : List Entry) (i : IsSpreadOn on dropped first n old ns sent)
     (small : n < 2 ^ 31) (st : ℕ) (o : on st ≡ true) where
   steps : AreSteps st sent i.step.numbered.acked old.sending.sender.flight.queue.inflight.chunks
-  steps =
-      are-steps on first n sent i.long small st o i.step.numbered.acked old.sending.sender.flight.queue.inflight.chunks i.step.numbered.total
-      i.step.numbered.run i.holds.held.stands.known
+  steps = grind (arith, nat_tests, common_steps, are-steps)
 
   there : AreOn st sent i.step.numbered.acked old.sending.sender.flight.queue.inflight.chunks
-  there =
-      are-on on first n sent i.long small st i.step.numbered.acked old.sending.sender.flight.queue.inflight.chunks i.step.numbered.total
-      i.step.numbered.run i.holds.held.stands.known
+  there = grind (arith, nat_tests, common_steps, are-on)
 
   within : i.step.numbered.acked ≤ length sent
   within = let total = i.step.numbered.total in let long = i.long in omega (arith, total, long)
@@ -102,11 +96,7 @@ module _ (on dropped : ℕ → Bool) (first n : ℕ) (old : Session) (ns : List 
 
   names-after : (call : SenderCall) → IsAccepted call old.sending.sender
       → Every (IsMadeNaming st (base first) i.step.numbered.acked sent) (made_after call old.sending.sender old.made)
-  names-after (outgoing.sends now) accepted = by (next_chunk now old.sending.sender)
-    where
-      by : (o' : Option ChunkPayloadData) → Every (IsMadeNaming st (base first) i.step.numbered.acked sent) (with_chunk o' old.made)
-      by None = i.names st o
-      by (Some c) = (tt, i.names st o)
+  names-after (outgoing.sends now) accepted = grind (arith, nat_tests, common_steps)
   names-after (outgoing.resends u now c) accepted = (tt, i.names st o)
   names-after (outgoing.forwards u g) accepted = (
     named st (base first) n sent old.sending.sender.flight i.step.numbered small i.long steps there g
@@ -156,11 +146,7 @@ sender-spreads-on on dropped first n call old new ns sent i few f =
       spread = record {
         holds = x.holds;
         step = step;
-        long =
-            let most' = x.few in
-            let counted = x.holds.held.stands.counted in
-            let next = step.numbered.next_is in
-            omega (arith, most', counted, next, long, few);
+        long = grind (arith, nat_tests, common_steps);
         near = λ st o.
             let near = near-after on dropped first n old ns sent i small st o call x.more x.grown f.accepted x.holds.held.stands.queued.indexed in
             let up = to-up st a b x.more rises in
@@ -190,9 +176,7 @@ beside-spreads on dropped first n old new ns sent small sending made written ste
     let acked_same = ap (λ (l : Ledger). l.sender.flight.acked_tsn) sending in
     let total = i.step.numbered.total in
     let most = step.numbered.total in
-    let same : i.step.numbered.acked ≡ step.numbered.acked =
-    same-place (base first) i.step.numbered.acked step.numbered.acked (omega (arith, total, small)) (omega (arith, most, small))
-    (sym i.step.numbered.acked_is ∙ sym acked_same ∙ step.numbered.acked_is) in
+    let same : i.step.numbered.acked ≡ step.numbered.acked = grind (arith, nat_tests, common_steps) in
     record {
       holds = delivered.beside-on on first old new ns sent sending made written i.holds;
       step = step;

@@ -1,10 +1,10 @@
 -- How many ordered messages of a stream were begun by the entries up to a place; and the entry that each chunk in flight stands for.
-use Rattle.sctp_delivery.proofs.Names.{◌≡◌, ℕ, ◌+◌, ◌%◌, ◌^◌, ◌<◌, ◌≤◌, Bool, true, false, not, List, [], ◌∷◌, length, inl, inr, refl, ap, sym, subst, ◌∙◌}
-use Rattle.sctp_delivery.proofs.Names.{arith, ⊤, ◌==◌, ◌&&◌, if◌then◌else◌, nat_le, cases_lt, nat_tests, negated, same-is, same-yes, and, both, not_both, tsn}
+use Rattle.sctp_delivery.proofs.Names.{common_steps, ◌≡◌, ℕ, ◌+◌, ◌%◌, ◌^◌, ◌<◌, ◌≤◌, Bool, true, false, not, List, [], ◌∷◌, length, inl, inr, refl, ap, sym}
+use Rattle.sctp_delivery.proofs.Names.{subst, ◌∙◌, arith, ⊤, ◌==◌, ◌&&◌, if◌then◌else◌, nat_le, cases_lt, nat_tests, same-yes, and, not_both, tsn}
 use Rattle.sctp_delivery.proofs.Names.{ChunkPayloadData, Data, data_of, is_ordered_on}
-use Rattle.sctp_delivery.proofs.Cases.{Where, where-is, where-map}
-use Rattle.sctp_delivery.proofs.OrderedEntries.{AreIndexedOn, AreJoined, IsIndexed, IsLatest, IsNumberOf, begins-inner, begun_on, ends_on, latest-here, one}
-use Rattle.sctp_delivery.proofs.OrderedEntries.{part-fewer, part-indexed}
+use Rattle.sctp_delivery.proofs.Cases.{Where, where-map}
+use Rattle.sctp_delivery.proofs.OrderedEntries.{AreIndexedOn, AreJoined, IsIndexed, IsLatest, IsNumberOf, begins-inner, begun_on, ends_on, one, part-fewer}
+use Rattle.sctp_delivery.proofs.OrderedEntries.{part-indexed}
 use Rattle.sctp_delivery.proofs.Sent.{Entry, IsLine, IsPart, Numbered, WasSent, fragment, part-itself, part-length, part-line, same-parts, tail-part, terminal}
 use Rattle.sctp_delivery.proofs.TsnPlaces.{base}
 
@@ -37,17 +37,14 @@ pub one-most : (b : Bool) → one b ≤ 1
 one-most true = omega arith
 one-most false = omega arith
 
-pub begins-none : (a b u : Bool) → (a && u) ≡ false → (a && (b && u)) ≡ false
-begins-none a b u h4 = grind (arith, nat_tests)
-
 pub step-fragment : (st : ℕ) (t : ChunkPayloadData) (w : Numbered) (after : List ℕ) (xs : List Entry)
     → (t.stream_identifier ≡ st → IsIndexed (data_of t) xs) → IsStep st (begun_on st xs) (begun_on st (fragment (data_of t) w after ∷ xs)) t
-step-fragment st t w after xs i = grind (arith, nat_tests, begins-none, both, latest-here, negated, one-most, same-is)
+step-fragment st t w after xs i = grind (arith, nat_tests)
 
 pub step-terminal : (st : ℕ) (t : ChunkPayloadData) (sent : List Entry)
     → (t.stream_identifier ≡ st → t.unordered ≡ false → IsLatest (begun_on t.stream_identifier sent) t.stream_sequence_number)
     → IsStep st (begun_on st sent) (begun_on st (terminal ∷ sent)) t
-step-terminal st t sent h = grind (arith, nat_tests, both, negated, same-is)
+step-terminal st t sent h = grind (arith, nat_tests)
 
 pub ordered-alike : (st : ℕ) (c d : ChunkPayloadData) → d.stream_identifier ≡ c.stream_identifier → d.unordered ≡ c.unordered
     → is_ordered_on st d ≡ is_ordered_on st c
@@ -55,11 +52,7 @@ ordered-alike st c d on kind = ap (λ k. (k == st) && not d.unordered) on ∙ ap
 
 pub step-alike : (st before upto : ℕ) (c d : ChunkPayloadData) → d.stream_identifier ≡ c.stream_identifier → d.unordered ≡ c.unordered
     → d.stream_sequence_number ≡ c.stream_sequence_number → IsStep st before upto c → IsStep st before upto d
-step-alike st before upto c d on kind same s = grind (arith, nat_tests, ordered-alike)
-
-pub for-alike : (c d : ChunkPayloadData) (x : Entry) → d.message_id ≡ c.message_id → d.ending_fragment ≡ c.ending_fragment → IsFor c x → IsFor d x
-for-alike c d terminal m e f = tt
-for-alike c d (fragment x w after) m e f = (f.0 ∙ sym m, f.1 ∙ sym e)
+step-alike st before upto c d on kind same s = grind (arith, nat_tests)
 
 pub placed-more : (on : ℕ → Bool) (first : ℕ) (x : Entry) (sent : List Entry) (c : ChunkPayloadData) → IsPlacedOn on first sent c
     → IsPlacedOn on first (x ∷ sent) c
@@ -102,7 +95,7 @@ to-all st k (x ∷ xs) le = to-here st k x xs le
 
 pub to-most : (st k : ℕ) (sent : List Entry) → begun_to st k sent ≤ begun_on st sent
 to-most st k [] = omega arith
-to-most st k (x ∷ xs) = grind (arith, nat_tests, cases_lt, step-up, to-here, to-more, to-most st k xs)
+to-most st k (x ∷ xs) = grind (arith, nat_tests, to-most st k xs)
 
 pub to-up : (st j k : ℕ) (sent : List Entry) → j ≤ k → begun_to st j sent ≤ begun_to st k sent
 to-up st j k [] le = omega arith
@@ -111,7 +104,7 @@ to-up st j k (x ∷ xs) le = grind (arith, nat_tests, cases_lt, to-here, to-more
 -- of the first entries, as many as those are
 pub to-part : (st : ℕ) (sent ys : List Entry) → IsPart ys sent → begun_to st (length ys) sent ≡ begun_on st ys
 to-part st [] ys p = sym (ap (begun_on st) p)
-to-part st (x ∷ xs) ys (inl e) = grind (arith, nat_tests, to-here)
+to-part st (x ∷ xs) ys (inl e) = grind (arith, nat_tests)
 to-part st (x ∷ xs) ys (inr p) = to-more st (length ys) x xs (part-length xs ys p) ∙ to-part st xs ys p
 
 -- ## At a place
@@ -122,10 +115,10 @@ is_at st k [] = false
 is_at st k (x ∷ xs) = if length (x ∷ xs) == k then ends_on st (x ∷ xs) else is_at st k xs
 
 pub at-more : (st k : ℕ) (x : Entry) (xs : List Entry) → k ≤ length xs → is_at st k (x ∷ xs) ≡ is_at st k xs
-at-more st k x xs le = grind (arith, nat_tests, same-is)
+at-more st k x xs le = grind (arith, nat_tests)
 
 pub at-here : (st : ℕ) (x : Entry) (xs : List Entry) (k : ℕ) → k ≡ length (x ∷ xs) → is_at st k (x ∷ xs) ≡ ends_on st (x ∷ xs)
-at-here st x xs k e = grind (arith, nat_tests, same-yes)
+at-here st x xs k e = grind (arith, nat_tests)
 
 pub at-part : (st : ℕ) (sent ys : List Entry) → IsPart ys sent → is_at st (length ys) sent ≡ ends_on st ys
 at-part st [] ys p = sym (ap (ends_on st) p)
@@ -144,11 +137,11 @@ part-joined (x ∷ xs) ys (inr p) j = part-joined xs ys p (joined-rest x xs j)
 -- behind a fragment that does not end its message goes another one of it, or the terminal one
 ends-next : (st : ℕ) (d : Data) (w : Numbered) (after : List ℕ) (xs : List Entry) (y : Entry) → d.ending_fragment ≡ false
     → AreJoined (y ∷ fragment d w after ∷ xs) → ends_on st (y ∷ fragment d w after ∷ xs) ≡ ends_on st (fragment d w after ∷ xs)
-ends-next st d w after xs y h7 h8 = grind (arith, nat_tests, not_both)
+ends-next st d w after xs y h7 h8 = grind (arith, nat_tests)
 
 begun-next : (st : ℕ) (d : Data) (w : Numbered) (after : List ℕ) (xs : List Entry) (y : Entry) → d.ending_fragment ≡ false
     → AreJoined (y ∷ fragment d w after ∷ xs) → begun_on st (y ∷ fragment d w after ∷ xs) ≡ begun_on st (fragment d w after ∷ xs)
-begun-next st d w after xs y h7 h8 = grind (arith, nat_tests, begins-inner, not_both)
+begun-next st d w after xs y h7 h8 = grind (arith, nat_tests)
 
 pub at-next : (st : ℕ) (sent : List Entry) (d : Data) (w : Numbered) (after : List ℕ) (xs : List Entry) → AreJoined sent
     → IsPart (fragment d w after ∷ xs) sent → d.ending_fragment ≡ false → length (fragment d w after ∷ xs) < length sent
@@ -208,10 +201,7 @@ made-entry on ws first sent line indexed joined st o c (w, after, xs, part) =
       before = length xs;
       within = let n = part-length sent (fragment (data_of c) w after ∷ xs) part in omega (arith, n);
       is = omega (arith, number);
-      step =
-          subst (λ m. IsStep st m (begun_to st (length xs + 1) sent) c) (sym before)
-          (subst (λ m. IsStep st (begun_on st xs) m c) (sym upto) (step-fragment st c w after xs
-          (λ same. where-is (on c.stream_identifier) (IsIndexed (data_of c) xs) (ap on same ∙ o) i.0)));
+      step = grind (arith, nat_tests, common_steps);
       inner = λ e. let none = ap one (begins-inner st (data_of c) e) in omega (arith, none, upto, before);
       on = ap (λ k. is_at st k sent) (sym long) ∙ at-part st sent (fragment (data_of c) w after ∷ xs) part;
       prior = λ e. at-before st sent (data_of c) w after xs joined part e;

@@ -1,9 +1,9 @@
 -- What is in flight, place by place: how far the numbers of ordered messages are apart, and which of them a FORWARD-TSN names.
 use Rattle.sctp_delivery.proofs.Names.{◌≡◌, ℕ, zero, suc, ◌+◌, ◌-◌, ◌%◌, ◌^◌, ◌<◌, ◌≤◌, Bool, true, false, List, [], ◌∷◌, length, take, inl, Option, Some, None}
-use Rattle.sctp_delivery.proofs.Names.{refl, ap, sym, subst, ◌∙◌, arith, ⊤, ◌&&◌, if◌then◌else◌, nat_le, filter, cases_lt, nat_tests, none-some, same-is}
-use Rattle.sctp_delivery.proofs.Names.{some-same, both, tsn, distance-tsn, ChunkPayloadData, ChunkForwardTsnStream, ForwardTsn, last_of, is_on, Name, ahead}
-use Rattle.sctp_delivery.proofs.Names.{is_kept, is_named, is_pair_of, named_up_to, pairs_of, Flight, begins_ordered, first_ordered, is_ordered_on, is_too_far}
-use Rattle.sctp_delivery.proofs.Names.{past_number, IsRunFrom, Made, data_chunk, forward_tsn}
+use Rattle.sctp_delivery.proofs.Names.{refl, ap, sym, subst, ◌∙◌, arith, ⊤, ◌&&◌, if◌then◌else◌, nat_le, filter, nat_tests, none-some, some-same, tsn}
+use Rattle.sctp_delivery.proofs.Names.{distance-tsn, ChunkPayloadData, ChunkForwardTsnStream, ForwardTsn, last_of, is_on, Name, ahead, is_kept, is_named}
+use Rattle.sctp_delivery.proofs.Names.{is_pair_of, named_up_to, pairs_of, Flight, begins_ordered, first_ordered, is_ordered_on, is_too_far, past_number}
+use Rattle.sctp_delivery.proofs.Names.{IsRunFrom, Made, data_chunk, forward_tsn}
 use Rattle.std.proofs.Common.{◌⊎◌}
 use Rattle.std.specs.List.{find}
 use Rattle.sctp_delivery.proofs.GivenTsns.{IsNumbered, IsPassable, lead, rest-run}
@@ -104,7 +104,7 @@ module _ (st : ℕ) (sent : List Entry) where
       from None e lt = let none = steps-none a n f.queue.inflight.chunks total s e in omega (arith, none)
       from (Some d) e lt =
           let i = steps-first a n f.queue.inflight.chunks d total s e in
-          let past : (c.stream_sequence_number + (2 ^ 16 - d.stream_sequence_number)) % 2 ^ 16 < 2 ^ 14 = grind (arith, nat_tests, lt) in
+          let past : (c.stream_sequence_number + (2 ^ 16 - d.stream_sequence_number)) % 2 ^ 16 < 2 ^ 14 = grind (arith, nat_tests) in
           let x = i.number in
           let y = i.from in
           let z = i.near in
@@ -131,7 +131,7 @@ module _ (st : ℕ) (sent : List Entry) where
   says-first : (a e : ℕ) (c : ChunkPayloadData) (xs : List ChunkPayloadData) → is_ordered_on st c ≡ true
       → IsStep st (begun_to st a sent) (begun_to st (a + 1) sent) c → Says st (begun_to st (a + 1) sent) (begun_to st e sent) (last_of xs)
       → Says st (begun_to st a sent) (begun_to st e sent) (last_of (c ∷ xs))
-  says-first a e c [] h s i = grind (arith, nat_tests, both, same-is)
+  says-first a e c [] h s i = grind (arith, nat_tests)
   says-first a e c (y ∷ ys) h s i = says-some st (begun_to st (a + 1) sent) (begun_to st a sent) (begun_to st e sent) y ys i
 
   -- of an abandoned chunk and those behind it
@@ -170,7 +170,7 @@ none-named st sent a e (suc j) (c ∷ cs) total le o none k lt most =
     kept (is_kept c) refl le (λ l f. none-named st sent (a + 1) e j cs (omega (arith, total)) l o.1 f k)
   where
     split : is_ordered_on st c ≡ false → ((a + 1 < k) → (k ≤ e) → is_at st k sent ≡ false) → is_at st k sent ≡ false
-    split h1 h2 = grind (arith, nat_tests, cases_lt)
+    split h1 h2 = grind (arith, nat_tests)
 
     by : (b : Bool) → is_ordered_on st c ≡ b
         → last_of (if b then c ∷ filter (is_on st) (filter is_named (take j cs)) else filter (is_on st) (filter is_named (take j cs))) ≡ None

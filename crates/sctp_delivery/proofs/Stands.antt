@@ -13,7 +13,6 @@ use Rattle.sctp_delivery.specs.ReceiverCalls.{ReceiverMakes}
 use Rattle.sctp_delivery.specs.SenderCalls as outgoing
 use Rattle.sctp_delivery.specs.Session.{IsSent}
 use Rattle.sctp_delivery.specs.Stand.{EachReceiverCallSteps, EachSenderCallSteps, EachTwoBegin, EachKeepsNothing, Stand, Steps}
-use Rattle.sctp_delivery.proofs.Changes.{expired-one}
 use Rattle.sctp_delivery.proofs.Delivered.{next_tsn, sender-step}
 use Rattle.sctp_delivery.proofs.ModeSessions.{said-in}
 use Rattle.sctp_delivery.proofs.OneRead.{given-then, run-then}
@@ -96,9 +95,7 @@ unfolding distance
 no-way first sent a e = omega (arith, e)
 
 same-way : (st : Stand) → distance (next_tsn st.session) (next_tsn st.session) ≡ 0
-same-way st =
-    let h = said-in st.tsn st.size st.max st.most st.limits st.calls st.session st.small st.some st.run in
-    no-way st.tsn h.sent (next_tsn st.session) h.holds.held.stands.counted
+same-way st = grind (arith, nat_tests, common_steps, said-in, no-way)
 
 -- ## The laws
 
@@ -130,17 +127,10 @@ sender-steps call old new r st is m h room =
     let one = given-once call st t f in
     let start = at_start st.tsn st.size st.max st.most st.limits in
     let given = given-then st.calls (of_sender call) start st.session t st.run f in (
-      record {
-        tsn = st.tsn;
-        size = st.size;
-        max = st.max;
-        most = st.most;
-        limits = st.limits;
+      record st {
         calls = st.calls ++ of_sender call ∷ [];
         session = t;
         run = run-then st.calls (of_sender call) start st.session t st.run f;
-        small = st.small;
-        some = st.some;
         few = omega (arith, given, one, room);
       },
       record { sends = refl; receives = is.receives },
@@ -161,17 +151,10 @@ receiver-steps call old new u st is m h =
     let few = st.few in
     let start = at_start st.tsn st.size st.max st.most st.limits in
     let given = given-then st.calls (of_receiver call) start st.session t st.run f in (
-      record {
-        tsn = st.tsn;
-        size = st.size;
-        max = st.max;
-        most = st.most;
-        limits = st.limits;
+      record st {
         calls = st.calls ++ of_receiver call ∷ [];
         session = t;
         run = run-then st.calls (of_receiver call) start st.session t st.run f;
-        small = st.small;
-        some = st.some;
         few = omega (arith, given, none, few);
       },
       record { sends = is.sends; receives = refl },
@@ -194,7 +177,7 @@ keeps-call (writes stream ppi (b ∷ bs)) s t f e =
 keeps-call (sends now) s t f e = ap (λ (u : Transmission). u.kept) f.exact ∙ e
 keeps-call (abandons tsn a) s t f e = ap (λ (u : Transmission). u.kept) f.exact ∙ e
 keeps-call (expires now None) s t f e = ap (λ (u : Transmission). u.kept) (f.exact.1.1 refl) ∙ e
-keeps-call (expires now (Some m)) s t f e = grind (arith, nat_tests, expired-one)
+keeps-call (expires now (Some m)) s t f e = grind (arith, nat_tests)
 keeps-call (expires_tail now None) s t f e = ap (λ (u : Transmission). u.kept) (f.exact.1 refl) ∙ e
 keeps-call (expires_tail now (Some a)) s t f e = ap (λ (u : Transmission). u.kept) f.exact.0 ∙ e
 keeps-call (expires_late now gone) s t f e = ap (λ (u : Transmission). u.kept) f.exact ∙ e
@@ -211,9 +194,7 @@ keeps-run (of_receiver call ∷ cs) old new r e =
     keeps-run cs r.0 new r.1.1 (ap (λ (s : Session). s.sending.sender.kept) r.1.0.after ∙ e)
 
 pub keeps-nothing : EachKeepsNothing
-keeps-nothing t r st at =
-    ap (λ (u : Transmission). u.kept) (sym at.sends)
-    ∙ keeps-run st.calls (at_start st.tsn st.size st.max st.most st.limits) st.session st.run refl
+keeps-nothing t r st at = grind (arith, nat_tests, common_steps, keeps-run)
 
 -- ## What can be handed over
 

@@ -1,12 +1,11 @@
 -- Two hosts stand in a session of every call, and each call leads to the next.
-use Rattle.sctp_delivery.proofs.Names.{◌≡◌, ◌+◌, ◌≤◌, ◌<◌, ◌^◌, List, [], ◌∷◌, ◌++◌, refl, ap, sym, subst, ◌∙◌, arith, Contains, Sack, Session, SenderCall}
-use Rattle.sctp_delivery.proofs.Names.{SenderFollows, SenderMakes, of_sender, of_receiver, takes_sack}
-use Rattle.sctp_delivery.proofs.Names.{bytes_written, distance, Transmission, Made}
+use Rattle.sctp_delivery.proofs.Names.{nat_tests, common_steps, ◌≡◌, ◌+◌, ◌≤◌, ◌<◌, ◌^◌, List, [], ◌∷◌, ◌++◌, refl, ap, sym, subst, ◌∙◌, arith, Contains, Sack}
+use Rattle.sctp_delivery.proofs.Names.{Session, SenderCall, SenderFollows, SenderMakes, of_sender, of_receiver, takes_sack, bytes_written, distance}
+use Rattle.sctp_delivery.proofs.Names.{Transmission, Made}
 use Rattle.sctp_sender.specs.SenderRuns as sender_runs
 use Rattle.sctp_receiver.specs.ReceiverRuns as receiver_runs
-use Rattle.sctp_delivery.specs.EveryCall.{AnyCall, FollowsAny, IsReceiverTaken, IsSenderTaken, ReceiverDoes, Restores}
-use Rattle.sctp_delivery.specs.EveryCall.{RunsAny, SenderDoes, SenderOther, as_receiver_run, as_sender_run, makes, of_receiving, of_sending, takes_back}
-use Rattle.sctp_delivery.specs.EveryCall.{tsns_given_any}
+use Rattle.sctp_delivery.specs.EveryCall.{AnyCall, FollowsAny, ReceiverDoes, RunsAny, SenderDoes, SenderOther, as_receiver_run, as_sender_run, makes}
+use Rattle.sctp_delivery.specs.EveryCall.{of_receiving, of_sending, takes_back, tsns_given_any}
 use Rattle.sctp_delivery.specs.ReceiverCalls.{ReceiverMakes}
 use Rattle.sctp_delivery.specs.Returns.{after_return, at_start_with}
 use Rattle.sctp_delivery.specs.SenderCalls.{TakesBackAndSack}
@@ -50,18 +49,10 @@ module _ (st : StandAny) where
       let start = at_start_with st.reported st.tsn st.size st.max st.most st.limits in
       let given = given-then st.calls c start st.session t st.run f in
       record {
-        next = record {
-          reported = st.reported;
-          tsn = st.tsn;
-          size = st.size;
-          max = st.max;
-          most = st.most;
-          limits = st.limits;
+        next = record st {
           calls = st.calls ++ c ∷ [];
           session = t;
           run = run-then st.calls c start st.session t st.run f;
-          small = st.small;
-          some = st.some;
           few = omega (arith, given, most, few);
           short = short;
         };
@@ -138,13 +129,7 @@ after_other call s new = record s {
 pub sender-other-steps : EachSenderOtherStepsAny
 sender-other-steps call old new r st is m exact taken h =
     let t = after_other call st.session new in
-    let f : SenderDoes call st.session t = record {
-      handed = h;
-      step = record { sender = subst (λ x. sender_runs.Makes (as_sender_run call) x new) (sym is.sends) m; written = refl; released = refl; taken_back = refl };
-      exact = subst (λ x. Restores call x new) (sym is.sends) exact;
-      accepted = subst (IsSenderTaken call) (sym is.sends) taken;
-      after = refl;
-    } in
+    let f : SenderDoes call st.session t = grind (arith, nat_tests, common_steps) in
     let none = same-way st in
     let few = st.few in
     let same = ap (distance (next_tsn st.session)) (next-same call st.session t f) in
@@ -167,12 +152,7 @@ receiver-other-steps call old new u st is m taken h =
         read = receiver_runs.messages_after (as_receiver_run call) s.receiving.receiver s.receiving.read;
       };
     } in
-    let f : ReceiverDoes call s t = record {
-      handed = h;
-      step = record { receiver = subst (λ x. receiver_runs.Makes (as_receiver_run call) x new) (sym is.receives) m; accepted = refl; read = refl };
-      accepted = subst (IsReceiverTaken call) (sym is.receives) taken;
-      after = refl;
-    } in
+    let f : ReceiverDoes call s t = grind (arith, nat_tests, common_steps) in
     let none = same-way st in
     let few = st.few in
     let l = leads st (of_receiving call) t f (omega (arith, none)) (omega (arith, few)) st.short (λ x c. c) (λ k c. c) in (

@@ -51,18 +51,10 @@ module _ (st : StandSo) where
       let start = at_start_with st.reported st.tsn st.size st.max st.most st.limits in
       let given = given-then st.calls c start st.session t st.run f in
       record {
-        next = record {
-          reported = st.reported;
-          tsn = st.tsn;
-          size = st.size;
-          max = st.max;
-          most = st.most;
-          limits = st.limits;
+        next = record st {
           calls = st.calls ++ c ∷ [];
           session = t;
           run = run-then st.calls c start st.session t st.run f;
-          small = st.small;
-          some = st.some;
           few = omega (arith, given, most, few);
           short = short;
         };

@@ -1,12 +1,12 @@
 -- The bytes of some streams that wait and are in flight, and the buffered amount of a stream: what each change of a sender makes of them.
 use Rattle.sctp_delivery.proofs.Names.{◌≡◌, ℕ, ◌+◌, ◌-◌, ◌<◌, Bool, true, false, not, List, [], ◌∷◌, ◌++◌, length, map, take, drop, Option, Some, None, refl}
-use Rattle.sctp_delivery.proofs.Names.{ap, sym, ◌∙◌, arith, if◌then◌else◌, ◌==◌, ◌&&◌, ◌||◌, find, filter, sum_by, take-append-drop, sum_by-append, sum_by-cons}
-use Rattle.sctp_delivery.proofs.Names.{is_some, none-some, nat_tests, common_steps, change_where, same-is, some-same, sum_by-inserted, not_both}
-use Rattle.sctp_delivery.proofs.Names.{ChunkPayloadData, Sack, Selected, as_abandoned, as_acknowledged, is_of, is_outstanding, Outbound, abandon_chunks}
-use Rattle.sctp_delivery.proofs.Names.{all_started, as_sent, expired_of, sent_of, total_bytes, with_message, with_message_id, past, Pending, chunk_to_pop_from}
-use Rattle.sctp_delivery.proofs.Names.{list_to_pop, next_pending, rest_from, without_message, IsSendable, made, sendable-sent, bytes_of, chunk_before, Released}
-use Rattle.sctp_delivery.proofs.Names.{AbandonedMessage, released_of, reports_anew, after_leaving, after_releases, has_number, less_by, with_lows}
-use Rattle.sctp_delivery.proofs.Names.{with_message_lows, OutboundStream, bytes_for, bytes_of_chunks, bytes_of_messages}
+use Rattle.sctp_delivery.proofs.Names.{ap, sym, ◌∙◌, arith, if◌then◌else◌, ◌==◌, find, filter, sum_by, take-append-drop, sum_by-append, sum_by-cons, is_some}
+use Rattle.sctp_delivery.proofs.Names.{none-some, nat_tests, common_steps, change_where, sum_by-inserted, ChunkPayloadData, Sack, Selected, as_abandoned}
+use Rattle.sctp_delivery.proofs.Names.{as_acknowledged, is_of, is_outstanding, Outbound, abandon_chunks, all_started, as_sent, expired_of, sent_of, total_bytes}
+use Rattle.sctp_delivery.proofs.Names.{with_message, with_message_id, past, Pending, chunk_to_pop_from, list_to_pop, next_pending, rest_from, without_message}
+use Rattle.sctp_delivery.proofs.Names.{IsSendable, made, sendable-sent, bytes_of, chunk_before, Released, AbandonedMessage, released_of, reports_anew}
+use Rattle.sctp_delivery.proofs.Names.{after_leaving, after_releases, has_number, less_by, with_lows, with_message_lows, OutboundStream, bytes_for}
+use Rattle.sctp_delivery.proofs.Names.{bytes_of_chunks, bytes_of_messages}
 use Rattle.sctp_util.proofs.Edits.{change_where-map}
 use Rattle.sctp_sender.specs.Thresholds.{falls_on}
 use Rattle.sctp_delivery.proofs.Every.{Every, every-of, every-all}
@@ -40,7 +40,7 @@ zero-if false = refl
 
 split : (s : ℕ) (cs : List ChunkPayloadData) → weigh (only s) cs + weigh (others s) cs ≡ bytes_of cs
 split s [] = refl
-split s (c ∷ cs) = grind (arith, common_steps, sum_by-cons, split s cs)
+split s (c ∷ cs) = grind (arith, common_steps, split s cs)
 
 pub split-all : (s : ℕ) (q : Outbound) → held (only s) q + held (others s) q ≡ total_bytes q
 split-all s q =
@@ -57,7 +57,7 @@ module _ (on : ℕ → Bool) where
   changed-where : (p : ChunkPayloadData → Bool) (f : ChunkPayloadData → ChunkPayloadData) (xs : List ChunkPayloadData)
       → Every (λ c. p c ≡ true → size on (f c) ≡ size on c) xs → weigh on (change_where p f xs) ≡ weigh on xs
   changed-where p f [] e = refl
-  changed-where p f (c ∷ cs) e = grind (arith, common_steps, sum_by-cons, changed-where p f cs e.1)
+  changed-where p f (c ∷ cs) e = grind (arith, common_steps, changed-where p f cs e.1)
 
   pub changed : (p : ChunkPayloadData → Bool) (f : ChunkPayloadData → ChunkPayloadData) → ((c : ChunkPayloadData) → size on (f c) ≡ size on c)
       → (xs : List ChunkPayloadData) → weigh on (change_where p f xs) ≡ weigh on xs
@@ -89,7 +89,7 @@ module _ (on : ℕ → Bool) where
 
   left-of : (m : ℕ) (xs : List ChunkPayloadData) → AreOff m xs → weigh on (without_message m xs) ≡ weigh on xs
   left-of m [] o = refl
-  left-of m (c ∷ cs) o = grind (arith, common_steps, off-size, sum_by-cons, left-of m cs o.1)
+  left-of m (c ∷ cs) o = grind (arith, common_steps, left-of m cs o.1)
 
   marked-of : (m : ℕ) (xs : List ChunkPayloadData) → AreOff m xs → weigh on (change_where (is_of m) as_abandoned xs) ≡ weigh on xs
   marked-of m xs o = grind (arith, nat_tests, changed-where, every-of, off-size, zero-if)
@@ -108,7 +108,7 @@ module _ (on : ℕ → Bool) where
   popped : (k : Option Bool) (os us : List ChunkPayloadData) (sel : Option Selected) (ro ru : ℕ) (c : ChunkPayloadData)
       → chunk_to_pop_from k (made os us sel ro ru) ≡ Some c
       → waiting on (rest_from k (made os us sel ro ru)) + size on c ≡ waiting on (made os us sel ro ru)
-  popped h0 h1 h2 h3 h4 h5 h6 h7 = grind (arith, nat_tests, common_steps, some-same, sum_by-cons)
+  popped h0 h1 h2 h3 h4 h5 h6 h7 = grind (arith, nat_tests, common_steps)
 
   pub sent : (tsn now : ℕ) (q : Outbound) → IsSendable q.pending q.inflight.chunks q.next_message_id → (o : Option ChunkPayloadData)
       → next_pending q.pending ≡ o → held on (sent_of o q tsn now) ≡ held on q
@@ -127,10 +127,6 @@ module _ (on : ℕ → Bool) where
   abbrev pub told : Released → ℕ
   told r = if on r.stream then r.bytes else 0
 
-  -- a chunk that is reported cumulatively, and not anew, was acknowledged
-  was-closed : (a b d e : Bool) → (not a && (b || d)) ≡ false → b ≡ true → (not a && not e) ≡ false
-  was-closed a b d e h5 h6 = grind (arith, nat_tests, not_both)
-
   module _ (k : Sack) (w : ℕ → Bool) where
     abbrev after : List ChunkPayloadData → List ChunkPayloadData
     after cs = past k.cumulative_tsn_ack (change_where (reports_anew k) as_acknowledged cs)
@@ -140,13 +136,13 @@ module _ (on : ℕ → Bool) where
 
     pub sacked : (cs : List ChunkPayloadData) → Every IsBare cs → weigh on (after cs) + sum_by told (gone cs) ≡ weigh on cs
     sacked [] t = refl
-    sacked (c ∷ cs) t = grind (arith, common_steps, sum_by-cons, was-closed, zero-if, sacked cs t.1)
+    sacked (c ∷ cs) t = grind (arith, common_steps, sacked cs t.1)
 
   -- ## A write
 
   none-weighs : (xs : List ChunkPayloadData) (n : ℕ) → Every (λ c. on c.stream_identifier ≡ false) xs → weigh on (map (with_message_id n) xs) ≡ 0
   none-weighs [] n e = refl
-  none-weighs (c ∷ cs) n e = grind (arith, nat_tests, off-size, sum_by-cons, none-weighs cs n e.1)
+  none-weighs (c ∷ cs) n e = grind (arith, nat_tests, none-weighs cs n e.1)
 
   pub pushed : (cs : List ChunkPayloadData) (q : Outbound) → Every (λ c. on c.stream_identifier ≡ false) cs → held on (with_message cs q) ≡ held on q
   pushed [] q e = refl
@@ -161,7 +157,7 @@ amount s (l ∷ ls) = if l.stream_identifier == s then l.buffered_amount else am
 
 pub amount-found : (s : ℕ) (ls : List OutboundStream) (l : OutboundStream) → find (has_number s) ls ≡ Some l → amount s ls ≡ l.buffered_amount
 amount-found s [] l e = absurd (none-some l e)
-amount-found s (x ∷ xs) l e = grind (arith, nat_tests, some-same, amount-found s xs l)
+amount-found s (x ∷ xs) l e = grind (arith, nat_tests, amount-found s xs l)
 
 -- a stream is opened
 pub amount-opened : (s : ℕ) (x : OutboundStream) → x.buffered_amount ≡ 0 → (ls : List OutboundStream) → amount s (ls ++ x ∷ []) ≡ amount s ls
@@ -189,11 +185,11 @@ module _ (s r : ℕ) (f : OutboundStream → OutboundStream) (number : (l : Outb
   pub amount-changed : (g : ℕ → ℕ) → ((l : OutboundStream) → (f l).buffered_amount ≡ g l.buffered_amount) → 0 ≡ g 0 → (r == s) ≡ true
       → (ls : List OutboundStream) → amount s (after-one ls) ≡ g (amount s ls)
   amount-changed g is z same [] = z
-  amount-changed g is z same (l ∷ ls) = grind (arith, nat_tests, same-is, amount-changed g is z same ls)
+  amount-changed g is z same (l ∷ ls) = grind (arith, nat_tests, amount-changed g is z same ls)
 
   pub amount-elsewhere : (r == s) ≡ false → (ls : List OutboundStream) → amount s (after-one ls) ≡ amount s ls
   amount-elsewhere other [] = refl
-  amount-elsewhere other (l ∷ ls) = grind (arith, nat_tests, same-is, amount-elsewhere other ls)
+  amount-elsewhere other (l ∷ ls) = grind (arith, nat_tests, amount-elsewhere other ls)
 
 -- where it is something, the stream is open
 pub amount-open : (s : ℕ) (ls : List OutboundStream) → 0 < amount s ls → is_some (find (has_number s) ls) ≡ true
@@ -205,7 +201,7 @@ pub amount-at : (s : ℕ) (f : OutboundStream → OutboundStream) → ((l : Outb
     → (ls : List OutboundStream) (l : OutboundStream) → find (has_number s) ls ≡ Some l
     → amount s (change_where (has_number s) f ls) ≡ (f l).buffered_amount
 amount-at s f number [] l e = absurd (none-some l e)
-amount-at s f number (x ∷ xs) l e = grind (arith, nat_tests, some-same, amount-at s f number xs l)
+amount-at s f number (x ∷ xs) l e = grind (arith, nat_tests, amount-at s f number xs l)
 
 -- one has so many bytes less
 pub amount-less : (s r bytes : ℕ) (f : OutboundStream → OutboundStream) → ((l : OutboundStream) → (f l).stream_identifier ≡ l.stream_identifier)

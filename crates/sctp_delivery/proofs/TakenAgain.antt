@@ -1,12 +1,11 @@
 -- Sessions of a whole life: no TSN is taken more often than it was given out. One that is in flight, and has not come, was taken less often.
-use Rattle.sctp_delivery.proofs.Names.{◌≡◌, ℕ, ◌+◌, ◌<◌, ◌≤◌, ◌^◌, Bool, true, false, [], ◌∷◌, length, refl, ap, sym, subst, ◌∙◌, arith}
-use Rattle.sctp_delivery.proofs.Names.{nat_tests, inl, inr, ◌⊎◌, cases_lt, filter, if◌then◌else◌, not_both, same-is, fails, None, Sack}
-use Rattle.sctp_delivery.proofs.Names.{sack_refusal, Stand, Ledger}
-use Rattle.sctp_delivery.proofs.Names.{tsn, distance-tsn, has_tsn, ChunkPayloadData, Reception, is_stale, New, Repeat, is_outdated, after_sack}
-use Rattle.sctp_delivery.proofs.Names.{Session, SenderFollows, ReceiverFollows, SenderCall, ReceiverCall, of_receiver, Contains, ForwardTsn}
-use Rattle.sctp_delivery.proofs.Names.{Flight, take_sack, data_of, data_chunk, forward_tsn, after_forward_tsn, without_incomplete, follow_forward_tsn}
-use Rattle.sctp_delivery.proofs.Names.{filter_of, has_come, with_filter, with_tsn}
-use Rattle.sctp_util.specs.Serial.{comes_before, distance}
+use Rattle.sctp_delivery.proofs.Names.{common_steps, ◌≡◌, ℕ, ◌+◌, ◌<◌, ◌≤◌, ◌^◌, Bool, true, false, [], ◌∷◌, length, refl, ap, sym, subst, ◌∙◌, arith}
+use Rattle.sctp_delivery.proofs.Names.{nat_tests, inl, inr, ◌⊎◌, cases_lt, filter, if◌then◌else◌, not_both, same-is, fails, None, Sack, sack_refusal, Ledger}
+use Rattle.sctp_delivery.proofs.Names.{tsn, distance-tsn, has_tsn, ChunkPayloadData, Reception, is_stale, New, Repeat, is_outdated, after_sack, Session}
+use Rattle.sctp_delivery.proofs.Names.{SenderFollows, ReceiverFollows, SenderCall, ReceiverCall, of_receiver, Contains, ForwardTsn, Flight, take_sack, data_of}
+use Rattle.sctp_delivery.proofs.Names.{data_chunk, forward_tsn, after_forward_tsn, without_incomplete, follow_forward_tsn, filter_of, has_come, with_filter}
+use Rattle.sctp_delivery.proofs.Names.{with_tsn}
+use Rattle.sctp_util.specs.Serial.{comes_before}
 use Rattle.sctp_sender.specs.Flight.{count_acked}
 use Rattle.sctp_delivery.specs.ReceiverCalls as incoming
 use Rattle.sctp_delivery.specs.Recent.{IsRecent, gives, times_taken}
@@ -110,12 +109,7 @@ module _ (old new : Session) (few : count_in_flight new < 2 ^ 31) (i : IsNear ol
 
   pub stays : (t : ℕ) → Flies t old → (call : ReceiverCall) → ReceiverFollows call old new → IsRecent (of_receiver call) old → Knows t r
       → Knows t new.receiving.receiver
-  stays t g (incoming.opens stream) f q e = subst (Knows t) (sym f.step.receiver.1) e
-  stays t g (incoming.takes c Repeat) f q e = subst (Knows t) (sym f.step.receiver) e
-  stays t g (incoming.takes c (New said)) f q e =
-      subst (Knows t) (sym f.step.receiver.after) (stays-with c (flies c said f q) (fresh-new c.tsn said r f.accepted.1) t g e)
-  stays t g (incoming.follows c) f q e = subst (Knows t) (sym f.step.receiver) (stays-past c f.handed q t g e)
-  stays t g call f q e = subst (Knows t) (sym f.step.receiver) e
+  stays h0 h1 h2 h3 h4 h5 = grind (arith, nat_tests, common_steps, stays-with, flies, fresh-new, stays-past)
 
 -- ## How often it was taken
 
@@ -131,16 +125,7 @@ module _ (t : ℕ) (small' : t < 2 ^ 32) where
   -- where no chunk is taken, and what is in flight was in flight
   pub still : (old new : Session) (g : ℕ) → new.receiving.accepted ≡ old.receiving.accepted → (Flies t new → Flies t old)
       → (Flies t old → Knows t old.receiving.receiver → Knows t new.receiving.receiver) → IsBalanced g old → IsBalanced g new
-  still old new g accepted flew knows b =
-      let taken : times_taken t new ≡ times_taken t old = ap (λ cs. length (filter (has_tsn t) cs)) accepted in
-      let most = b.most in
-      record {
-        most = omega (arith, taken, most);
-        less = λ fl none.
-            let was = flew fl in
-            let less = b.less was (fails (has_come_at old.receiving.receiver) (λ e. not_both (sym none ∙ knows was e))) in
-            omega (arith, taken, less);
-      }
+  still old new g accepted flew knows b = grind (arith, nat_tests, common_steps)
 
   -- ## A call of the sender
 
@@ -148,28 +133,7 @@ module _ (t : ℕ) (small' : t < 2 ^ 32) where
     -- what is in flight then was in flight, or is given out
     pub flew : (c : SenderCall) → SenderFollows c old new → Flies t new → Flies t old ⊎ (gives t old new ≡ true)
     flew c f g = elim (sender-moves old new few i c f) [
-      | inl l ↦
-          let p = old.sending.sender.flight.acked_tsn in
-          let n = count_in_flight old in
-          let run = i.regular.regular.numbered in
-          let then' = j.regular.regular.numbered in
-          let at : t ≡ tsn p g.place = g.is ∙ ap (λ a. tsn a g.place) l.acked in
-          let some = g.some in
-          let within = g.within in
-          let long = l.long in
-          elim (cases_lt n g.place) [
-            | inr le ↦ inl (record { place = g.place; some = some; within = le; is = at })
-            | inl lt ↦
-                let next : new.sending.sender.flight.next_tsn ≡ tsn p (count_in_flight new + 1) = then'.next_is
-                ∙ ap (λ a. tsn a (count_in_flight new + 1)) l.acked in
-                let from = ap (λ a. distance a t) run.next_is ∙ ap (distance (tsn p (n + 1))) at
-                ∙ distance-tsn p (n + 1) g.place (omega (arith, lt)) (omega (arith, within, few)) in
-                let to' = ap (λ a. distance a new.sending.sender.flight.next_tsn) run.next_is ∙ ap (distance (tsn p (n + 1))) next
-                ∙ distance-tsn p (n + 1) (count_in_flight new + 1) (omega (arith, long)) (omega (arith, few)) in
-                let less : distance old.sending.sender.flight.next_tsn t
-                < distance old.sending.sender.flight.next_tsn new.sending.sender.flight.next_tsn = omega (arith, from, to', lt, within) in
-                inr (grind (arith, nat_tests, less))
-          ]
+      | inl l ↦ grind (arith, nat_tests, common_steps, cases_lt, distance-tsn)
       | inr x ↦
           let fits = sack-fits old new few i c f x.0 x.1 x.2 in
           inl (sacked-given t x.0 old.sending.sender.flight fits.0 i.few fits.1 i.regular.regular.numbered
@@ -177,21 +141,7 @@ module _ (t : ℕ) (small' : t < 2 ^ 32) where
     ]
 
     pub sender-balanced : (c : SenderCall) (g : ℕ) → SenderFollows c old new → IsBalanced g old → IsBalanced (g + (if gives t old new then 1 else 0)) new
-    sender-balanced c g f b =
-        let same = ap (λ (s : Session). s.receiving) f.after in
-        let taken : times_taken t new ≡ times_taken t old = ap (λ (s : Stand). length (filter (has_tsn t) s.accepted)) same in
-        let most = b.most in
-        record {
-          most = omega (arith, taken, most);
-          less = λ fl off. elim (flew c f fl) [
-            | inl o ↦
-                let less = b.less o (ap (λ (s : Stand). has_come_at s.receiver) (sym same) ∙ off) in
-                omega (arith, taken, less)
-            | inr e ↦
-                let one : ◌≡◌ {A = ℕ} (if gives t old new then 1 else 0) 1 = ap (λ b. if b then 1 else 0) e in
-                omega (arith, taken, most, one)
-          ];
-        }
+    sender-balanced c g f b = grind (arith, nat_tests, common_steps, flew)
 
     -- ## A call of the receiver
 
@@ -227,20 +177,13 @@ module _ (t : ℕ) (small' : t < 2 ^ 32) where
 
     pub receiver-balanced : (c : ReceiverCall) (g : ℕ) → ReceiverFollows c old new → IsRecent (of_receiver c) old → IsBalanced g old → IsBalanced g new
     receiver-balanced (incoming.takes c (New said)) g f q b = with-new c said g f q b
-    receiver-balanced (incoming.takes c Repeat) g f q b =
-        still old new g f.step.accepted (flying-still (ap (λ (s : Session). s.sending) f.after))
-        (λ fl e. stays old new few i t fl (incoming.takes c Repeat) f q e) b
+    receiver-balanced (incoming.takes c Repeat) g f q b = grind (arith, nat_tests, common_steps)
     receiver-balanced c g f q b =
         still old new g f.step.accepted (flying-still (ap (λ (s : Session). s.sending) f.after)) (λ fl e. stays old new few i t fl c f q e) b
 
   pub wider : (g h : ℕ) (s : Session) → g ≤ h → IsBalanced g s → IsBalanced h s
-  wider g h s le b =
-      let most = b.most in
-      record { most = omega (arith, le, most); less = λ fl off. let less = b.less fl off in omega (arith, le, less) }
+  wider g h s le b = grind (arith, nat_tests, common_steps)
 
   -- nothing is in flight
   pub balanced-first : (s : Session) → count_in_flight s ≡ 0 → times_taken t s ≡ 0 → IsBalanced 0 s
-  balanced-first s none untaken = record {
-    most = omega (arith, untaken);
-    less = λ fl off. absurd (let some = fl.some in let within = fl.within in omega (arith, some, within, none));
-  }
+  balanced-first s none untaken = grind (arith, nat_tests, common_steps)

@@ -1,17 +1,17 @@
 -- What gap ack blocks leave out: nothing of the distances that they are made of.
-use Rattle.sctp_delivery.proofs.Names.{◌≡◌, ℕ, ◌<◌, ◌≤◌, ◌^◌, Bool, true, false, List, ◌∷◌, refl, ap, sym, subst, ◌∙◌, arith, ◌+◌, length, inl, inr, zero, suc}
-use Rattle.sctp_delivery.proofs.Names.{[], map, take, if◌then◌else◌, ◌==◌, nat_le, Contains, ◌||◌, ◌⊎◌, nat_lt, filter, list_any, nat_tests, advance_over}
-use Rattle.sctp_delivery.proofs.Names.{insert_before, at_or_before, comes_before, distance, or-left, or-right, same-is, same-yes, or-split, and, fails}
-use Rattle.sctp_delivery.proofs.Names.{not_both, both, tsn, distance-tsn, distance-tsn_back, ChunkPayloadData, ForwardTsn, data_of, New, Repeat, Reception}
-use Rattle.sctp_delivery.proofs.Names.{filter_of, follow_forward_tsn, is_stale, max_sack_entries, sack_entries, sack_of_entries, after_forward_tsn}
-use Rattle.sctp_delivery.proofs.Names.{without_incomplete, has_come, is_opposite, with_tsn, has_tsn, following_tsn, ReceiverCall, reports_after, are_apart}
-use Rattle.sctp_delivery.proofs.Names.{passes, was_taken, EachSackTells, NextSackTells, reports_tsn, data_chunk, forward_tsn, Made, ReceiverFollows, Session}
-use Rattle.sctp_delivery.proofs.Names.{list_any_at, cases_lt, common_steps, runs_of, put_before_runs, Sack, is_in_blocks, is_offset}
+use Rattle.sctp_delivery.proofs.Names.{◌≡◌, ℕ, ◌<◌, ◌≤◌, ◌^◌, Bool, true, false, List, ◌∷◌, refl, ap, sym, subst, ◌∙◌, arith, ◌+◌, length, inl, inr, [], map}
+use Rattle.sctp_delivery.proofs.Names.{if◌then◌else◌, ◌==◌, nat_le, Contains, ◌||◌, ◌⊎◌, nat_lt, filter, list_any, nat_tests, advance_over, insert_before}
+use Rattle.sctp_delivery.proofs.Names.{at_or_before, comes_before, distance, or-left, or-right, same-is, same-yes, or-split, and, not_both, tsn, distance-tsn}
+use Rattle.sctp_delivery.proofs.Names.{distance-tsn_back, ChunkPayloadData, ForwardTsn, data_of, New, Repeat, Reception, filter_of, follow_forward_tsn}
+use Rattle.sctp_delivery.proofs.Names.{is_stale, max_sack_entries, sack_entries, sack_of_entries, after_forward_tsn, without_incomplete, has_come, is_opposite}
+use Rattle.sctp_delivery.proofs.Names.{with_tsn, has_tsn, following_tsn, ReceiverCall, reports_after, are_apart, passes, was_taken, EachSackTells}
+use Rattle.sctp_delivery.proofs.Names.{NextSackTells, reports_tsn, data_chunk, forward_tsn, Made, ReceiverFollows, Session, list_any_at, cases_lt, common_steps}
+use Rattle.sctp_delivery.proofs.Names.{runs_of, put_before_runs, Sack, is_in_blocks, is_offset}
 use Rattle.std.specs.Prelude.{not}
 use Rattle.sctp_receiver.specs.TsnFilter.{gap_ack_blocks, offsets}
 use Rattle.sctp_delivery.specs.ReceiverCalls as incoming
 use Rattle.sctp_delivery.specs.Sacks.{TellsWhatCame}
-use Rattle.sctp_delivery.proofs.Cases.{at-if, at-test}
+use Rattle.sctp_delivery.proofs.Cases.{at-test}
 use Rattle.sctp_delivery.proofs.Every.{Every, every-contained, every-inserted, every-of, every-passing, one-of, all-of-every}
 use Rattle.sctp_delivery.proofs.ArrivedTsns.{IsArrived, IsKnown, advanced, in_run}
 use Rattle.sctp_delivery.proofs.SackSteps.{IsMadeGiven}
@@ -25,31 +25,21 @@ abbrev IsRun : ℕ × ℕ → Type 0
 IsRun b = b.0 ≤ b.1
 
 put-run : (x : ℕ) (bs : List (ℕ × ℕ)) → Every IsRun bs → Every IsRun (put_before_runs x bs)
-put-run x [] v = (omega arith, tt)
-put-run x (b ∷ bs) v = at-if (Every IsRun) (b.0 == x + 1)
-    (λ e. (let same = same-is b.0 (x + 1) e in omega (arith, same), v.1))
-    (λ e. (omega arith, v))
+put-run h0 h1 h2 = grind (arith, nat_tests, common_steps)
 
 runs-run : (ds : List ℕ) → Every IsRun (runs_of ds)
 runs-run [] = tt
 runs-run (d ∷ ds) = put-run d (runs_of ds) (runs-run ds)
 
 alone : (x d : ℕ) → (x == d) ≡ true → in_run d (x, x) ≡ true
-alone x d e = let same = same-is x d e in and (nat_le x d) (nat_le d x) (grind (arith, nat_tests, same)) (grind (arith, nat_tests, same))
+alone x d e = let same = same-is x d e in and (nat_le x d) (nat_le d x) (grind (arith, nat_tests)) (grind (arith, nat_tests))
 
 put-has : (x d : ℕ) (bs : List (ℕ × ℕ)) → Every IsRun bs → (x == d) ≡ true → list_any (in_run d) (put_before_runs x bs) ≡ true
 put-has x d [] v e = or-left (in_run d (x, x)) false (alone x d e)
-put-has x d (b ∷ bs) v e = grind (arith, nat_tests, same-is x d e, v.0)
+put-has x d (b ∷ bs) v e = grind (arith, nat_tests, same-is x d e)
 
 put-keeps : (x d : ℕ) (bs : List (ℕ × ℕ)) → list_any (in_run d) bs ≡ true → list_any (in_run d) (put_before_runs x bs) ≡ true
-put-keeps x d [] e = absurd (not_both e)
-put-keeps x d (b ∷ bs) e = by (b.0 == x + 1) refl (or-split (in_run d b) (list_any (in_run d) bs) e)
-  where
-    by : (k : Bool) → (b.0 == x + 1) ≡ k → (in_run d b ≡ true) ⊎ (list_any (in_run d) bs ≡ true) → list_any (in_run d)
-        (if k then (x, b.1) ∷ bs else (x, x) ∷ b ∷ bs) ≡ true
-    by true f (inl a) = grind (arith, nat_tests, same-is b.0 (x + 1) f, both (nat_le b.0 d) (nat_le d b.1) a)
-    by true f (inr a) = or-right (in_run d (x, b.1)) (list_any (in_run d) bs) a
-    by false f s = or-right (in_run d (x, x)) (list_any (in_run d) (b ∷ bs)) e
+put-keeps h0 h1 h2 h3 = grind (arith, nat_tests, common_steps)
 
 pub runs-have : (ds : List ℕ) (d : ℕ) → list_any (λ x. x == d) ds ≡ true → list_any (in_run d) (runs_of ds) ≡ true
 runs-have [] d e = absurd (not_both e)
@@ -69,16 +59,7 @@ distance-held f q (x ∷ xs) t h e = by (q (f x)) refl (or-split (x == t) (list_
     by : (k : Bool) → q (f x) ≡ k → ((x == t) ≡ true) ⊎ (list_any (λ u. u == t) xs ≡ true) →
         (list_any (λ u. u == t) xs ≡ true → list_any (λ y. y == f t) (filter q (map f xs)) ≡ true) → list_any (λ y. y == f t)
         (if k then f x ∷ filter q (map f xs) else filter q (map f xs)) ≡ true
-    by true g (inl a) ih = or-left (f x == f t) (list_any (λ y. y == f t) (filter q (map f xs))) (ap (λ u. f u == f t) (same-is x t a) ∙ same-yes (f t))
-    by true g (inr a) ih = or-right (f x == f t) (list_any (λ y. y == f t) (filter q (map f xs))) (ih a)
-    by false g (inl a) ih = absurd (not_both (sym g ∙ ap (λ u. q (f u)) (same-is x t a) ∙ h))
-    by false g (inr a) ih = ih a
-
--- a list that is not full is whole
-pub whole : {A : Type 0} (n : ℕ) (xs : List A) → length (take n xs) < n → take n xs ≡ xs
-whole zero xs lt = absurd (omega (arith, lt))
-whole (suc n) [] lt = refl
-whole (suc n) (x ∷ xs) lt = ap (λ ys. x ∷ ys) (whole n xs (omega (arith, lt)))
+    by h0 h1 h2 h3 = grind (arith, nat_tests, common_steps)
 
 -- # A session in which few TSNs are given out, call by call of the receiver: no TSN is taken twice
 
@@ -96,17 +77,12 @@ pub record AreTaken (p n : ℕ) (r : Reception) (cs : List ChunkPayloadData) : T
   pub apart : are_apart cs ≡ true
 
 pub more-come : (p m n : ℕ) (r : Reception) (cs : List ChunkPayloadData) → m ≤ n → AreTaken p m r cs → AreTaken p n r cs
-more-come p m n r cs le t = record {
-  each = every-of (HasCome p m r) (HasCome p n r) (λ c h. (more-given p m n c.tsn le h.0, h.1)) cs t.each;
-  apart = t.apart;
-}
+more-come p m n r cs le t = grind (arith, nat_tests, common_steps, every-of, more-given)
 
 -- one that did not come is not among them
 pub not-among : (p n : ℕ) (r : Reception) (cs : List ChunkPayloadData) (t : ℕ) → come t r.cumulative_tsn r.beyond ≡ false → Every (HasCome p n r) cs → list_any
     (has_tsn t) cs ≡ false
-not-among p n r cs t fresh h =
-    fails (list_any (has_tsn t) cs) (λ e. let one = one-of (HasCome p n r) (has_tsn t) cs e h in not_both
-    (sym fresh ∙ ap (λ u. come u r.cumulative_tsn r.beyond) (sym (same-is one.0.tsn t one.1)) ∙ one.2.1))
+not-among p n r cs t fresh h = grind (arith, nat_tests, common_steps, one-of, not_both, same-is)
 
 pub fresh-new : (t : ℕ) (answered : Bool) (r : Reception) → New answered ≡ (if has_come t (filter_of r) then Repeat else New answered)
     → has_come t (filter_of r) ≡ false
@@ -209,29 +185,14 @@ module _ (p n : ℕ) (kn : ℕ → Bool) (old new : Session) (few : n < 2 ^ 31) 
 
 pub more-arrived : (p m n : ℕ) (kn kn' : ℕ → Bool) (cumulative : ℕ) (beyond : List ℕ) → m ≤ n → ((t : ℕ) → kn t ≡ true → kn' t ≡ true)
     → IsArrived p m kn cumulative beyond → IsArrived p n kn' cumulative beyond
-more-arrived p m n kn kn' cumulative beyond le more h = record {
-  place = h.place;
-  within = omega (arith, le, h.within);
-  is = h.is;
-  so_far = λ k pos l. more (tsn p k) (h.so_far k pos l);
-  each = every-of (IsKnown p m kn) (IsKnown p n kn') (λ t x. record {
-    place = x.place;
-    some = x.some;
-    within = omega
-        (arith, le, x.within);
-    is = x.is;
-    so = more t x.so;
-  }) beyond h.each;
-}
+more-arrived p m n kn kn' cumulative beyond le more h = grind (arith, nat_tests, common_steps, every-of)
 
 -- ## A TSN comes
 
 -- what is passed up to a FORWARD-TSN that was made
 pub passed-upto : (p n : ℕ) (ms : List Made) (f : ForwardTsn) → n < 2 ^ 31 → (g : IsGiven p n f.new_cumulative_tsn) → Contains ms (forward_tsn f) → (k : ℕ)
     → k ≤ g.place → list_any (passes (tsn p k)) ms ≡ true
-passed-upto p n ms f few g in' k le =
-    let at = upto-yes p k g.place refl g.is (omega (arith, few, le)) (omega (arith, few)) le in
-    list_any_at (passes (tsn p k)) ms in'.0 (forward_tsn f) in'.1 (ap (passes (tsn p k)) in'.2 ∙ at)
+passed-upto p n ms f few g in' k le = grind (arith, nat_tests, common_steps, upto-yes, list_any_at)
 
 module _ (p n : ℕ) (kn now : ℕ → Bool) (old new : Session) (few : n < 2 ^ 31) (m : Every (IsMadeGiven p n) old.made) where
   -- what arrived at the receiver, known by what is known after the call
@@ -250,14 +211,7 @@ module _ (p n : ℕ) (kn now : ℕ → Bool) (old new : Session) (few : n < 2 ^ 
     -- with a new TSN
     hears-one : (t : ℕ) → IsGiven p n t → now t ≡ true → IsArrived p n now old.receiving.receiver.cumulative_tsn
         (insert_before comes_before t old.receiving.receiver.beyond)
-    hears-one t g so = record {
-      place = still.place;
-      within = still.within;
-      is = still.is;
-      so_far = still.so_far;
-      each = every-inserted (IsKnown p n now) comes_before t old.receiving.receiver.beyond
-          (record { place = g.place; some = g.some; within = g.within; is = g.is; so = so }) still.each;
-    }
+    hears-one t g so = grind (arith, nat_tests, common_steps, still, every-inserted)
 
     -- known is what it passes
     abbrev IsKnownUpTo : ForwardTsn → Type 0
@@ -327,14 +281,7 @@ IsInOrder r = IsAscending (filter_of r)
 module _ (p n : ℕ) (r : Reception) (kn : ℕ → Bool) (few : n < 2 ^ 31) (h : IsArrived p n kn r.cumulative_tsn r.beyond) (a : IsInOrder r) where
   -- one that was given out is not half the circle away
   pub near : (t : ℕ) → IsGiven p n t → is_opposite t (filter_of r) ≡ false
-  near t g =
-      let in' = g.within in
-      let within = h.within in
-      let is : distance r.cumulative_tsn t ≡ distance (tsn p h.place) (tsn p g.place) = ap (λ u. distance u t) h.is ∙ ap (distance (tsn p h.place)) g.is in
-      elim (cases_lt g.place h.place) [
-        | inl lt ↦ let back = distance-tsn_back p g.place h.place lt (omega (arith, within, few)) in grind (arith, nat_tests, is, back, within, few)
-        | inr ge ↦ let far = distance-tsn p h.place g.place ge (omega (arith, in', few)) in grind (arith, nat_tests, is, far, in', few)
-      ]
+  near t g = grind (arith, nat_tests, common_steps, cases_lt, distance-tsn_back, distance-tsn)
 
   small-of : (t : ℕ) → IsGiven p n t → t < 2 ^ 32
   small-of t g = let s = tsn-small p g.place in omega (arith, s)
@@ -353,7 +300,7 @@ module _ (p n : ℕ) (r : Reception) (kn : ℕ → Bool) (few : n < 2 ^ 31) (h :
       ahead : is_stale f r ≡ false → comes_before r.cumulative_tsn f.new_cumulative_tsn ≡ true
       ahead stale =
           let past = past-is p g.place h.place g.is h.is (omega (arith, few)) (omega (arith, few)) stale in
-          let e : nat_lt h.place g.place ≡ true = grind (arith, nat_tests, past) in
+          let e : nat_lt h.place g.place ≡ true = grind (arith, nat_tests) in
           ap (λ v. comes_before v f.new_cumulative_tsn) h.is ∙ ap (comes_before (tsn p h.place)) g.is
           ∙ before p h.place g.place (omega (arith, few)) (omega (arith, few)) ∙ e
 
@@ -388,9 +335,7 @@ module _ (p n : ℕ) (s : Session) (kn : ℕ → Bool) (few : n < 2 ^ 31) (h : I
       ]
 
   pub next-untaken : was_taken (following_tsn s.receiving.receiver.cumulative_tsn) s ≡ false
-  next-untaken = fails (was_taken (following_tsn r.cumulative_tsn) s) (λ e.
-      let one = one-of (HasCome p n r) (has_tsn (following_tsn r.cumulative_tsn)) s.receiving.accepted e t.each in
-      expected (ap (λ u. come u r.cumulative_tsn r.beyond) (sym (same-is one.0.tsn (following_tsn r.cumulative_tsn) one.1)) ∙ one.2.1))
+  next-untaken = grind (arith, nat_tests, common_steps, one-of, expected, same-is)
 
   -- one beyond is in a block, if it is not too far
   in-block : (u : ℕ) → is_offset (distance s.receiving.receiver.cumulative_tsn u) ≡ true → list_any (λ v. v == u) s.receiving.receiver.beyond ≡ true
@@ -408,31 +353,16 @@ module _ (p n : ℕ) (s : Session) (kn : ℕ → Bool) (few : n < 2 ^ 31) (h : I
       (or-split (at_or_before c.tsn r.cumulative_tsn) (list_any (λ u. u == c.tsn) r.beyond) k.1)
     where
       past : at_or_before c.tsn s.receiving.receiver.cumulative_tsn ≡ false → 0 < distance s.receiving.receiver.cumulative_tsn c.tsn
-      past e =
-          let g = k.0 in
-          let lt = past-is p g.place h.place g.is h.is (omega (arith, few)) (omega (arith, few)) e in
-          let is : distance r.cumulative_tsn c.tsn ≡ distance (tsn p h.place) (tsn p g.place) = cc (h.is, g.is) in
-          omega (arith, is, distance-tsn p h.place g.place (omega (arith, lt)) (omega (arith, few)), lt)
+      past e = grind (arith, nat_tests, common_steps, past-is, distance-tsn)
 
       beyond-answered : (b : Bool) → nat_le (2 ^ 16) (distance s.receiving.receiver.cumulative_tsn c.tsn) ≡ b
           → 0 < distance s.receiving.receiver.cumulative_tsn c.tsn
           → list_any (λ u. u == c.tsn) s.receiving.receiver.beyond ≡ true → IsAnswered (sack_of_entries credit entries s.receiving.receiver) c
-      beyond-answered true e pos x = or-right (reports_tsn c.tsn (sack_of_entries credit entries r)) (nat_le (2 ^ 16) (distance r.cumulative_tsn c.tsn)) e
-      beyond-answered false e pos x =
-          let offset : is_offset (distance r.cumulative_tsn c.tsn) ≡ true =
-          and (nat_lt 0 (distance r.cumulative_tsn c.tsn)) (nat_lt (distance r.cumulative_tsn c.tsn) (2 ^ 16)) (grind (arith, nat_tests, pos))
-          (grind (arith, nat_tests, e)) in
-          let all = whole entries (gap_ack_blocks (filter_of r)) free in
-          let in' = ap (λ bs. is_in_blocks bs (distance r.cumulative_tsn c.tsn)) all ∙ in-block c.tsn offset x in
-          or-left (reports_tsn c.tsn (sack_of_entries credit entries r)) (nat_le (2 ^ 16) (distance r.cumulative_tsn c.tsn))
-          (or-right (at_or_before c.tsn r.cumulative_tsn)
-          (is_in_blocks (sack_of_entries credit entries r).gap_ack_blocks (distance r.cumulative_tsn c.tsn)) in')
+      beyond-answered h0 h1 h2 h3 = grind (arith, nat_tests, common_steps, or-right, and, in-block, or-left)
 
       by : (b : Bool) → at_or_before c.tsn s.receiving.receiver.cumulative_tsn ≡ b → (at_or_before c.tsn s.receiving.receiver.cumulative_tsn ≡ true) ⊎
           (list_any (λ u. u == c.tsn) s.receiving.receiver.beyond ≡ true) → IsAnswered (sack_of_entries credit entries s.receiving.receiver) c
-      by true e x =
-          or-left (reports_tsn c.tsn (sack_of_entries credit entries r)) (nat_le (2 ^ 16) (distance r.cumulative_tsn c.tsn))
-          (or-left (at_or_before c.tsn r.cumulative_tsn) (is_in_blocks (sack_of_entries credit entries r).gap_ack_blocks (distance r.cumulative_tsn c.tsn)) e)
+      by true e x = grind (arith, nat_tests, common_steps)
       by false e (inl x) = absurd (not_both (sym e ∙ x))
       by false e (inr x) = beyond-answered (nat_le (2 ^ 16) (distance r.cumulative_tsn c.tsn)) refl (past e) x
 

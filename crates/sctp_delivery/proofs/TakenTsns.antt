@@ -1,7 +1,7 @@
 -- A TSN that arrived at a filter stays one that came.
-use Rattle.sctp_delivery.proofs.Names.{◌≡◌, ℕ, ◌+◌, ◌<◌, ◌≤◌, ◌%◌, ◌^◌, Bool, true, false, List, [], ◌∷◌, refl, ap, sym, ◌∙◌, inl, inr, arith, if◌then◌else◌}
-use Rattle.sctp_delivery.proofs.Names.{◌==◌, ◌||◌, ◌⊎◌, filter, list_any, nat_tests, advance_over, insert_before, Seen, at_or_before, or-left, or-right}
-use Rattle.sctp_delivery.proofs.Names.{or-split, same-is, not_both, tsn}
+use Rattle.sctp_delivery.proofs.Names.{common_steps, ◌≡◌, ℕ, ◌+◌, ◌<◌, ◌≤◌, ◌%◌, ◌^◌, Bool, true, false, List, [], ◌∷◌, refl, ap, sym, ◌∙◌, inl, inr, arith}
+use Rattle.sctp_delivery.proofs.Names.{if◌then◌else◌, ◌==◌, ◌||◌, ◌⊎◌, filter, list_any, nat_tests, advance_over, insert_before, Seen, at_or_before, or-left}
+use Rattle.sctp_delivery.proofs.Names.{or-right, or-split, same-is, tsn}
 use Rattle.std.specs.Prelude.{not}
 use Rattle.sctp_delivery.proofs.Every.{Every}
 use Rattle.sctp_delivery.proofs.TsnPlaces.{IsGiven, next-place, upto-yes, upto-is}
@@ -17,9 +17,7 @@ any-inserted q b x (y ∷ ys) e = by (b x y) (λ f. any-inserted q b x ys f) (or
   where
     by : (k : Bool) → ((q x || list_any q ys) ≡ true → list_any q (insert_before b x ys) ≡ true) → (q x ≡ true) ⊎ (list_any q (y ∷ ys) ≡ true) → list_any q
         (if k then x ∷ y ∷ ys else y ∷ insert_before b x ys) ≡ true
-    by true ih s = e
-    by false ih (inl a) = or-right (q y) (list_any q (insert_before b x ys)) (ih (or-left (q x) (list_any q ys) a))
-    by false ih (inr a) = grind (arith, nat_tests)
+    by h0 h1 h2 = grind (arith, nat_tests, common_steps)
 
 any-passing : (q : ℕ → Bool) (t : ℕ) (ts : List ℕ) → q t ≡ true → list_any (λ u. u == t) ts ≡ true → list_any (λ u. u == t) (filter q ts) ≡ true
 any-passing q t [] h e = e
@@ -27,16 +25,11 @@ any-passing q t (x ∷ xs) h e = by (q x) refl (λ f. any-passing q t xs h f) (o
   where
     by : (k : Bool) → q x ≡ k → (list_any (λ u. u == t) xs ≡ true → list_any (λ u. u == t) (filter q xs) ≡ true) → ((x == t) ≡ true) ⊎
         (list_any (λ u. u == t) xs ≡ true) → list_any (λ u. u == t) (if k then x ∷ filter q xs else filter q xs) ≡ true
-    by true f ih (inl a) = or-left (x == t) (list_any (λ u. u == t) (filter q xs)) a
-    by true f ih (inr a) = or-right (x == t) (list_any (λ u. u == t) (filter q xs)) (ih a)
-    by false f ih (inl a) = absurd (not_both (sym f ∙ ap q (same-is x t a) ∙ h))
-    by false f ih (inr a) = ih a
+    by h0 h1 h2 h3 = grind (arith, nat_tests, common_steps)
 
 -- one that came by an earlier cumulative TSN came by a later one
 upto-later : (p n a b : ℕ) (t : ℕ) → n < 2 ^ 31 → a ≤ b → b ≤ n → IsGiven p n t → at_or_before t (tsn p a) ≡ true → at_or_before t (tsn p b) ≡ true
-upto-later p n a b t few le within g e =
-    let first = upto-is p g.place a g.is refl (omega (arith, few)) (omega (arith, le, within, few)) e in
-    upto-yes p g.place b g.is refl (omega (arith, few)) (omega (arith, within, few)) (omega (arith, first, le))
+upto-later p n a b t few le within g e = grind (arith, nat_tests, common_steps, upto-is, upto-yes)
 
 pub advance-keeps : (p n c place : ℕ) (ts : List ℕ) → n < 2 ^ 31 → place ≤ n → c ≡ tsn p place → Every (IsGiven p n) ts → (t : ℕ) → IsGiven p n t
     → come t c ts ≡ true → come t (advance_over c ts).cum (advance_over c ts).held ≡ true
@@ -65,11 +58,7 @@ advance-keeps p n c place (x ∷ xs) few le is each t g h = by (x == (c + 1) % 2
 
 -- a TSN comes
 pub insert-keeps : (b : ℕ → ℕ → Bool) (x c : ℕ) (ts : List ℕ) (t : ℕ) → come t c ts ≡ true → come t c (insert_before b x ts) ≡ true
-insert-keeps b x c ts t h = elim (or-split (at_or_before t c) (list_any (λ u. u == t) ts) h) [
-  | inl a ↦ or-left (at_or_before t c) (list_any (λ u. u == t) (insert_before b x ts)) a
-  | inr a ↦ or-right (at_or_before t c) (list_any (λ u. u == t) (insert_before b x ts))
-      (any-inserted (λ u. u == t) b x ts (or-right (x == t) (list_any (λ u. u == t) ts) a))
-]
+insert-keeps b x c ts t h = grind (arith, nat_tests, common_steps, or-split, or-left, or-right, any-inserted)
 
 -- all up to a later one counts as come
 pub skip-keeps : (p n a b : ℕ) (ts : List ℕ) (t : ℕ) → n < 2 ^ 31 → a ≤ b → b ≤ n → IsGiven p n t → come t (tsn p a) ts ≡ true → come t (tsn p b)

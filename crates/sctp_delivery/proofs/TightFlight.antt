@@ -1,17 +1,17 @@
 -- How many ordered messages of a stream are begun past one that has an ordered chunk in flight: fewer than 2^14.
-use Rattle.sctp_delivery.proofs.Names.{◌≡◌, ℕ, zero, suc, ◌+◌, ◌-◌, ◌%◌, ◌^◌, ◌<◌, ◌≤◌, Bool, true, false, not, List, [], ◌∷◌, length, inl, inr, Option, Some}
-use Rattle.sctp_delivery.proofs.Names.{None, refl, ap, sym, subst, ◌∙◌, arith, ◌⊎◌, ◌==◌, ◌&&◌, if◌then◌else◌, nat_le, cases_lt, nat_tests, negated, same-is}
-use Rattle.sctp_delivery.proofs.Names.{both, not_both, ChunkPayloadData, data_of, Flight, begins_ordered, first_ordered, is_ordered_on, is_too_far, past_number}
-use Rattle.sctp_delivery.proofs.Names.{Transmission, IsAccepted, SenderCall, next_chunk}
+use Rattle.sctp_delivery.proofs.Names.{common_steps, ◌≡◌, ℕ, zero, suc, ◌+◌, ◌-◌, ◌%◌, ◌^◌, ◌<◌, ◌≤◌, Bool, true, false, List, [], ◌∷◌, length, inl, inr}
+use Rattle.sctp_delivery.proofs.Names.{Option, Some, None, refl, ap, sym, subst, ◌∙◌, arith, ◌⊎◌, ◌&&◌, if◌then◌else◌, nat_le, cases_lt, nat_tests, negated}
+use Rattle.sctp_delivery.proofs.Names.{same-is, both, not_both, ChunkPayloadData, data_of, Flight, begins_ordered, first_ordered, is_ordered_on, is_too_far}
+use Rattle.sctp_delivery.proofs.Names.{past_number, Transmission, IsAccepted, SenderCall, next_chunk}
 use Rattle.std.specs.List.{find}
 use Rattle.sctp_delivery.specs.SenderCalls as outgoing
 use Rattle.sctp_delivery.proofs.Calls.{sent_by}
-use Rattle.sctp_delivery.proofs.OrderedEntries.{AreIndexed, IsIndexed, begins_on, begun_on, ends_on, one}
+use Rattle.sctp_delivery.proofs.OrderedEntries.{AreIndexed, IsIndexed, begins_on, begun_on}
 use Rattle.sctp_delivery.proofs.Queues.{IsEnded}
 use Rattle.sctp_delivery.proofs.Senders.{IsMoreBy}
 use Rattle.sctp_delivery.proofs.Sent.{Entry, Numbered, fragment, terminal}
 use Rattle.sctp_delivery.proofs.SpreadCalls.{not-far}
-use Rattle.sctp_delivery.proofs.SpreadEntries.{at-here, at-more, begun_to, is_at, to-all, to-more, to-up, begins-none, one-most}
+use Rattle.sctp_delivery.proofs.SpreadEntries.{at-here, at-more, begun_to, is_at, to-all, to-more, to-up, one-most}
 use Rattle.sctp_delivery.proofs.SpreadFlight.{AreOn, AreSteps}
 use Rattle.sctp_delivery.proofs.UnwrappedArrived.{at-within}
 
@@ -39,10 +39,7 @@ to-few st j k (x ∷ xs) le = elim (cases_lt k (length (x ∷ xs))) [
         let more = step-few st x xs in
         let far : (length xs - j) + 1 ≤ k - j = omega (arith, ge, lt) in
         omega (arith, a, b, c, ih, more, far)
-    | inr more ↦
-        let a = to-all st j (x ∷ xs) more in
-        let b = to-all st k (x ∷ xs) ge in
-        omega (arith, a, b)
+    | inr more ↦ grind (arith, nat_tests, common_steps, to-all)
   ]
 ]
 
@@ -53,18 +50,8 @@ to-same st k (x ∷ xs) e = elim (cases_lt (k + 1) (length (x ∷ xs))) [
   | inl lt ↦
       to-more st (k + 1) x xs (omega (arith, lt)) ∙ to-same st k xs (sym (at-more st (k + 1) x xs (omega (arith, lt))) ∙ e)
       ∙ sym (to-more st k x xs (omega (arith, lt)))
-  | inr ge ↦ elim (cases_lt k (length (x ∷ xs))) [
-    | inl lt ↦
-        let long : k + 1 ≡ length (x ∷ xs) = omega (arith, ge, lt) in
-        to-all st (k + 1) (x ∷ xs) ge ∙ here x (sym (at-here st x xs (k + 1) long) ∙ e) ∙ sym (to-all st k xs (omega (arith, long)))
-        ∙ sym (to-more st k x xs (omega (arith, long)))
-    | inr more ↦ to-all st (k + 1) (x ∷ xs) ge ∙ sym (to-all st k (x ∷ xs) more)
-  ]
+  | inr ge ↦ grind (arith, nat_tests, common_steps, cases_lt, to-all, at-here, to-more)
 ]
-  where
-    here : (y : Entry) → ends_on st (y ∷ xs) ≡ false → begun_on st (y ∷ xs) ≡ begun_on st xs
-    here terminal h = refl
-    here (fragment d w after) h = let n = ap one (begins-none (d.stream_identifier == st) d.beginning_fragment (not d.unordered) h) in omega (arith, n)
 
 -- the last ordered fragment of the stream between two places, if there is one
 pub last-at : (st a m : ℕ) (sent : List Entry) → ((k : ℕ) → a < k → k ≤ m → is_at st k sent ≡ false)

@@ -1,8 +1,8 @@
 -- The numbers of ordered messages that wait: on each stream one higher from message to message, modulo 2^16.
-use Rattle.sctp_delivery.proofs.Names.{◌≡◌, ℕ, ◌+◌, ◌%◌, ◌^◌, ◌<◌, Bool, true, false, not, List, [], ◌∷◌, ◌++◌, refl, ap, sym, subst, ◌∙◌, arith, ◌==◌, ◌&&◌}
-use Rattle.sctp_delivery.proofs.Names.{◌||◌, if◌then◌else◌, list_any, change_where, same-is, same-yes, both, not_both, ChunkPayloadData, is_of, one_lower}
-use Rattle.sctp_delivery.proofs.Names.{with_deadline, without_message, IsWhole, begun, free, none_before, is_on}
-use Rattle.sctp_delivery.proofs.Cases.{at-if, at-test}
+use Rattle.sctp_delivery.proofs.Names.{common_steps, nat_tests, ◌≡◌, ℕ, ◌+◌, ◌%◌, ◌^◌, ◌<◌, Bool, true, false, not, List, [], ◌∷◌, ◌++◌, refl, ap, sym, subst}
+use Rattle.sctp_delivery.proofs.Names.{arith, ◌==◌, ◌&&◌, if◌then◌else◌, list_any, change_where, same-is, same-yes, not_both, ChunkPayloadData, is_of}
+use Rattle.sctp_delivery.proofs.Names.{one_lower, with_deadline, without_message, IsWhole, begun, free, none_before, is_on}
+use Rattle.sctp_delivery.proofs.Cases.{at-test}
 use Rattle.sctp_delivery.proofs.Waiting.{lower}
 
 -- the chunk begins a message of the stream
@@ -24,9 +24,7 @@ turns-behind s (c ∷ cs) ys n m next t u = (t.0, turns-behind s cs ys (number_a
 pub turns-started : (s now : ℕ) (p : ChunkPayloadData → Bool) (cs : List ChunkPayloadData) (n next : ℕ) → Turns s cs n next
     → Turns s (change_where p (with_deadline now) cs) n next
 turns-started s now p [] n next t = t
-turns-started s now p (c ∷ cs) n next t = at-if (λ z. Turns s (z ∷ change_where p (with_deadline now) cs) n next) (p c)
-    (λ e. (t.0, turns-started s now p cs (number_after (counts s c) n) next t.1))
-    (λ e. (t.0, turns-started s now p cs (number_after (counts s c) n) next t.1))
+turns-started s now p (c ∷ cs) n next t = grind (arith, nat_tests, common_steps, turns-started s now p cs (number_after (counts s c) n) next t.1)
 
 -- chunks that begin no message of the stream
 pub turns-past : (s : ℕ) (c : ChunkPayloadData) (cs : List ChunkPayloadData) (n next : ℕ) → counts s c ≡ false → Turns s (c ∷ cs) n next → Turns s cs n next
@@ -39,10 +37,7 @@ inner-not s c e = elim (c.stream_identifier == s) as (λ b. (b && c.beginning_fr
 
 pub without-none : (m : ℕ) (cs : List ChunkPayloadData) → list_any (is_of m) cs ≡ false → without_message m cs ≡ cs
 without-none m [] e = refl
-without-none m (c ∷ cs) e = at-test (λ b. (b || list_any (is_of m) cs) ≡ false → (if not b then c ∷ without_message m cs else without_message m cs) ≡
-    c ∷ cs) (c.message_id == m)
-    (λ e h. absurd (not_both (sym h)))
-    (λ e h. ap (λ ds. c ∷ ds) ((without-none m cs) h)) e
+without-none m (c ∷ cs) e = grind (arith, nat_tests, common_steps, without-none m cs)
 
 pub turns-rest : (s m below : ℕ) (kind : Bool) (cs : List ChunkPayloadData) (n next : ℕ) → IsWhole kind below (begun m) cs → Turns s cs n next
     → Turns s (without_message m cs) n next
@@ -83,28 +78,9 @@ lower-after false n = refl
 
 pub turns-lower : (s : ℕ) (cs : List ChunkPayloadData) (n next : ℕ) → Turns s cs n next → Turns s (change_where (is_on s) one_lower cs) (lower n) (lower next)
 turns-lower s [] n next t = ap lower t
-turns-lower s (c ∷ cs) n next t = at-if (λ z. Turns s (z ∷ change_where (is_on s) one_lower cs) (lower n) (lower next)) (c.stream_identifier == s)
-    (λ e. (numbered, moved (turns-lower s cs (number_after (counts s c) n) next t.1)))
-    (λ e. (
-      λ h. absurd (not_both (sym e ∙ (both (c.stream_identifier == s) c.beginning_fragment h).0)),
-      moved
-          (turns-lower s cs (number_after (counts s c) n) next t.1),
-    ))
-  where
-    numbered : counts s c ≡ true → lower c.stream_sequence_number ≡ lower n
-    numbered e = ap lower (t.0 e)
-
-    moved : Turns s (change_where (is_on s) one_lower cs) (lower (number_after (counts s c) n)) (lower next)
-        → Turns s (change_where (is_on s) one_lower cs) (number_after (counts s c) (lower n)) (lower next)
-    moved ih = subst (λ k. Turns s (change_where (is_on s) one_lower cs) k (lower next)) (lower-after (counts s c) n) ih
+turns-lower s (c ∷ cs) n next t = grind (arith, nat_tests, common_steps, not_both, lower-after, turns-lower s cs (number_after (counts s c) n) next t.1)
 
 -- those of another stream stay
 pub turns-other : (r s : ℕ) → (r ≡ s → ⊥) → (cs : List ChunkPayloadData) (n next : ℕ) → Turns r cs n next → Turns r (change_where (is_on s) one_lower cs) n next
 turns-other r s differ [] n next t = t
-turns-other r s differ (c ∷ cs) n next t = at-if (λ z. Turns r (z ∷ change_where (is_on s) one_lower cs) n next) (c.stream_identifier == s)
-    (λ e. (
-      λ h. absurd (differ (sym (same-is c.stream_identifier r (both (c.stream_identifier == r) c.beginning_fragment h).0) ∙ same-is
-          c.stream_identifier s e)),
-      (turns-other r s differ cs (number_after (counts r c) n) next t.1),
-    ))
-    (λ e. (t.0, turns-other r s differ cs (number_after (counts r c) n) next t.1))
+turns-other r s differ (c ∷ cs) n next t = grind (arith, nat_tests, common_steps, same-is, turns-other r s differ cs (number_after (counts r c) n) next t.1)

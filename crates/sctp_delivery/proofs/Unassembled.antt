@@ -1,16 +1,14 @@
 -- What is unassembled in a queue: what a FORWARD-TSN takes in front, weighed, and that what stays is in order; and after the other calls.
-use Rattle.sctp_delivery.proofs.Names.{◌≡◌, ℕ, ◌+◌, ◌<◌, ◌≤◌, ◌^◌, Bool, true, false, not, List, [], ◌∷◌, refl, sym, subst, ◌∙◌, arith, Option, Some, None}
-use Rattle.sctp_delivery.proofs.Names.{if◌then◌else◌, nat_le, take, drop, sum_by, sum_by-cons, after_leading, insert_before, at_or_before, comes_before16, and}
-use Rattle.sctp_delivery.proofs.Names.{both, nat_tests, tsn, ChunkPayloadData, ChunkSet, Reassembly, ReassemblyState, BecomesComplete, HasNoRun, Pushes}
-use Rattle.sctp_delivery.proofs.Names.{PushesAs, all_complete, chunk_before, front_readable, held_after_ordered_skip, held_after_unordered_skip, is_orderly}
-use Rattle.sctp_delivery.proofs.Names.{is_passed, is_unmixed, rest_among, rest_read, sets_with}
-use Rattle.sctp_reassembly.specs.reassembly_queue.ReassemblyQueue.{after_read, after_ordered_skip, after_unordered_skip}
+use Rattle.sctp_delivery.proofs.Names.{common_steps, ◌≡◌, ℕ, ◌+◌, ◌<◌, ◌≤◌, ◌^◌, Bool, true, false, not, List, [], ◌∷◌, refl, ◌∙◌, arith, if◌then◌else◌, nat_le}
+use Rattle.sctp_delivery.proofs.Names.{sum_by, sum_by-cons, after_leading, at_or_before, and, nat_tests, tsn, ChunkPayloadData, Reassembly, ReassemblyState}
+use Rattle.sctp_delivery.proofs.Names.{HasNoRun, Pushes, held_after_ordered_skip, held_after_unordered_skip, is_orderly, rest_read}
+use Rattle.sctp_reassembly.specs.reassembly_queue.ReassemblyQueue.{after_ordered_skip, after_unordered_skip}
 use Rattle.sctp_reassembly.proofs.lemmas.reassembly_queue.UnassembledRuns.{none_after_drop}
 use Rattle.sctp_receiver.proofs.OneMessage.{named-unmixed, unassembled-unmixed}
 use Rattle.sctp_delivery.proofs.Cases.{at-if}
 use Rattle.sctp_delivery.proofs.Every.{Every, every-inserted, every-joined, every-left, every-of, every-passing, every-taken}
 use Rattle.sctp_delivery.proofs.KeptOrGone.{is_upto, upto-place}
-use Rattle.sctp_delivery.proofs.KeptSets.{IsUnorderedTidy, IsTidy, IsTidySet, IsUnordered}
+use Rattle.sctp_delivery.proofs.KeptSets.{IsUnorderedTidy, IsTidy}
 use Rattle.sctp_delivery.proofs.Rising.{Ascend, ascend-from}
 use Rattle.sctp_delivery.proofs.TsnPlaces.{past-is}
 use Rattle.sctp_delivery.proofs.UnwrappedReads.{leading-each}
@@ -45,20 +43,10 @@ module _ (p n : ℕ) (few : n < 2 ^ 31) where
       (λ e. a)
 
   pub skipped-tidy : (last : ℕ) (q : Reassembly) → IsTidy p n q → IsTidy p n (held_after_ordered_skip last q)
-  skipped-tidy last q t = record {
-    sets = every-passing (IsTidySet p n) (λ s. not (is_passed last s)) q.ordered t.sets;
-    rest =
-        let l = t.rest in
-        record { whole = l.whole; unassembled = l.unassembled; kinds = l.kinds; none = l.none };
-  }
+  skipped-tidy last q t = grind (arith, nat_tests, common_steps, every-passing, not)
 
   pub left-rest : (tsn : ℕ) (q : Reassembly) → IsUnorderedTidy p n q → IsUnorderedTidy p n (held_after_unordered_skip tsn q)
-  left-rest tsn q t = record {
-    whole = t.whole;
-    unassembled = left-ascend 0 (λ x. at_or_before x.tsn tsn) q.unassembled t.unassembled;
-    kinds = leading-each IsUnordered (λ x. at_or_before x.tsn tsn) q.unassembled t.kinds;
-    none = left-none (λ x. at_or_before x.tsn tsn) q.unassembled t.none;
-  }
+  left-rest tsn q t = search (left-ascend, leading-each, left-none)
 
   pub left-tidy : (tsn : ℕ) (q : Reassembly) → IsTidy p n q → IsTidy p n (held_after_unordered_skip tsn q)
   left-tidy tsn q t = record { sets = t.sets; rest = left-rest tsn q t.rest }
@@ -72,55 +60,23 @@ module _ (p n : ℕ) (few : n < 2 ^ 31) where
   rest-more m q le t = record { whole = t.whole; unassembled = ascend-more m 0 q.unassembled le t.unassembled; kinds = t.kinds; none = t.none }
 
   pub tidy-more : (m : ℕ) (q : Reassembly) → n ≤ m → IsTidy p n q → IsTidy p m q
-  tidy-more m q le t = record {
-    sets = every-of (IsTidySet p n) (IsTidySet p m) (λ s e. (ascend-more m 0 s.chunks le e.0, e.1)) q.ordered t.sets;
-    rest = rest-more m q le t.rest;
-  }
+  tidy-more m q le t = grind (arith, nat_tests, common_steps, every-of, ascend-more, rest-more)
 
 pub skipped-orderly : (last : ℕ) (q : ReassemblyState) → is_orderly q ≡ true → is_orderly (after_ordered_skip last q) ≡ true
-skipped-orderly last q h =
-    let b = both (all_complete q.held.unordered) (is_unmixed q.si q.held) h in
-    and (all_complete q.held.unordered) (is_unmixed q.si (held_after_ordered_skip last q.held)) b.0 (named-unmixed q.si last q.held b.1)
+skipped-orderly last q h = grind (arith, nat_tests, common_steps, and, named-unmixed)
 
 pub left-orderly : (tsn : ℕ) (q : ReassemblyState) → is_orderly q ≡ true → is_orderly (after_unordered_skip tsn q) ≡ true
-left-orderly tsn q h =
-    let b = both (all_complete q.held.unordered) (is_unmixed q.si q.held) h in
-    and (all_complete q.held.unordered) (is_unmixed q.si (held_after_unordered_skip tsn q.held)) b.0 (unassembled-unmixed q.si tsn q.held b.1)
+left-orderly tsn q h = grind (arith, nat_tests, common_steps, and, unassembled-unmixed)
 
 -- ## After each call
 
 -- what is unassembled, after a fragment comes and after a message is read
 pub pushed-each : (P : ChunkPayloadData → Type 0) (c : ChunkPayloadData) (said : Bool) (old new : ReassemblyState) → Pushes c said old new → P c
     → Every P old.held.unassembled → Every P new.held.unassembled
-pushed-each P c said old new pushes own e = by c.unordered pushes
-  where
-    late : (b : Bool) → Every P (if b then old.held else record old.held { ordered = sets_with c old.held.ordered }).unassembled
-    late true = e
-    late false = e
-
-    complete : (b : Bool) → BecomesComplete (insert_before chunk_before c old.held.unassembled) old.held new.held b → Every P new.held.unassembled
-    complete true t =
-        let xs = insert_before chunk_before c old.held.unassembled in
-        let all = every-inserted P chunk_before c old.held.unassembled own e in
-        subst (λ (q : Reassembly). Every P q.unassembled) (sym t.moved) (every-joined P (take t.first xs) (drop (t.first + t.count) xs)
-        (every-taken P t.first xs all) (every-left P (t.first + t.count) xs all))
-    complete false t =
-        subst (λ (q : Reassembly). Every P q.unassembled) (sym t.1) (every-inserted P chunk_before c old.held.unassembled own e)
-
-    by : (b : Bool) → PushesAs b c said old new → Every P new.held.unassembled
-    by false x = subst (λ (q : ReassemblyState). Every P q.held.unassembled) (sym x.0) (late (comes_before16 c.stream_sequence_number old.held.next_ssn))
-    by true x = complete said x.0
+pushed-each P c said old new pushes own e = grind (arith, nat_tests, common_steps, every-inserted, every-joined, every-taken, every-left)
 
 pub read-unassembled : (q : Reassembly) → (rest_read q).unassembled ≡ q.unassembled
-read-unassembled q = by q.unordered (front_readable q.next_ssn q.ordered)
-  where
-    front : (o : Option ChunkSet) → (after_read o q).unassembled ≡ q.unassembled
-    front None = refl
-    front (Some s) = refl
-
-    by : (us : List ChunkSet) → (o : Option ChunkSet) → (rest_among us q).unassembled ≡ q.unassembled
-    by [] o = front (front_readable q.next_ssn q.ordered)
-    by (u ∷ us) o = refl
+read-unassembled q = grind (arith, nat_tests, common_steps)
 
 -- those behind the ones in front that stand up to a place stand past it
 pub past-left : (p n : ℕ) → n < 2 ^ 31 → (m : ℕ) → m ≤ n → (low : ℕ) (xs : List ChunkPayloadData) → Ascend p n low xs
@@ -138,6 +94,6 @@ past-left p n few m le low (x ∷ xs) a = at-if (Every (λ c. is_upto p m c.tsn 
     all-past j over (y ∷ ys) b =
         let from = b.1.0 in
         let within = b.1.1 in (
-          upto-place p m b.0 y.tsn b.1.2 (omega (arith, within, few)) ∙ (let t : nat_le b.0 m ≡ false = grind (arith, nat_tests, from, over) in t),
+          upto-place p m b.0 y.tsn b.1.2 (omega (arith, within, few)) ∙ (let t : nat_le b.0 m ≡ false = grind (arith, nat_tests) in t),
           all-past (b.0 + 1) (omega (arith, over, from)) ys b.2,
         )

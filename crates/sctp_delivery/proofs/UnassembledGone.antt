@@ -1,10 +1,9 @@
 -- Where what is held, read or lost is said of ordered chunks, too: an unordered fragment that stays unassembled, up to a place that a FORWARD-TSN goes
 -- to, is of a message that is gone.
-use Rattle.sctp_delivery.proofs.Names.{◌≡◌, ℕ, ◌<◌, ◌≤◌, ◌^◌, true, false, List, [], ◌∷◌, length, Some, None, Option, sym, ◌∙◌, arith, All, both}
-use Rattle.sctp_delivery.proofs.Names.{list_all, filter, is_on, sum_by, at_or_before, fails, not_both, tsn, ChunkPayloadData, ChunkSet, Data, data_of}
-use Rattle.sctp_delivery.proofs.Names.{data_chunk, is_complete}
-use Rattle.sctp_delivery.proofs.Names.{InboundStream, stream_of, is_one_message, all_complete, is_unmixed, are_apart, was_taken, Session, Contains}
-use Rattle.sctp_delivery.proofs.Names.{◌&&◌, completes, slice_index_or}
+use Rattle.sctp_delivery.proofs.Names.{nat_tests, common_steps, ◌≡◌, ℕ, ◌<◌, ◌≤◌, ◌^◌, true, false, List, [], ◌∷◌, length, Some, None, Option, sym, ◌∙◌, arith}
+use Rattle.sctp_delivery.proofs.Names.{All, both, list_all, filter, is_on, sum_by, at_or_before, fails, not_both, tsn, ChunkPayloadData, ChunkSet, Data}
+use Rattle.sctp_delivery.proofs.Names.{data_of, data_chunk, is_complete, InboundStream, stream_of, is_one_message, all_complete, is_unmixed, are_apart}
+use Rattle.sctp_delivery.proofs.Names.{was_taken, Session, Contains, ◌&&◌, slice_index_or}
 use Rattle.sctp_delivery.proofs.Delivered.{AreInner, EachSent, each-from, found-sent, follows, from-few, inner-of}
 use Rattle.sctp_delivery.proofs.Every.{Every, every-of, every-of-all}
 use Rattle.sctp_delivery.proofs.Even.{IsEven, Sorted}
@@ -20,7 +19,7 @@ use Rattle.sctp_delivery.proofs.PassedMessages.{AreCutGone, AreTakenOrGone, Ends
 use Rattle.sctp_delivery.proofs.PassingCalls.{IsGone}
 use Rattle.sctp_delivery.proofs.ReadOnce.{one}
 use Rattle.sctp_delivery.proofs.Senders.{AreSent}
-use Rattle.sctp_delivery.proofs.Sent.{Entry, IsLine, IsPart, Numbered, WasSent, fragment}
+use Rattle.sctp_delivery.proofs.Sent.{Entry, IsLine, IsPart, Numbered, WasSent}
 use Rattle.sctp_delivery.proofs.Sessions as sessions
 use Rattle.sctp_delivery.proofs.TsnPlaces.{base}
 use Rattle.sctp_delivery.proofs.Whole.{AreWholeOn, IsWholeOn}
@@ -63,12 +62,7 @@ module _ (ws : List Numbered) (first : ℕ) (sent : List Entry) (line : IsLine w
       (x.0, only (slice_index_or s.receiving.read i m).fragments x.0 x.1 x.2, x.2))
     where
       only : (cs : List ChunkPayloadData) → is_complete cs ≡ true → is_one_message cs ≡ true → EachSent sent cs → OnlyFirst cs
-      only [] e o w = tt
-      only (c ∷ cs) e o w =
-          (follows ws first sent 0 line indexed c cs w.0.0 w.0.1 w.0.2 w.0.3
-          (from-few sent (omega (arith, long, few)) (fragment (data_of c) w.0.0 w.0.1) w.0.2 w.0.3) (both c.beginning_fragment (completes c cs) e).1
-          (each-from sent (omega (arith, long, few)) cs w.1)
-          (inner-of c cs o)).2
+      only h0 h1 h2 h3 = grind (arith, nat_tests, common_steps, follows, from-few, each-from, inner-of)
 
   abbrev light : IsEven st (IsGone gone sent) (IsNeat p n) s.receiving
   light = record {

@@ -1,16 +1,13 @@
 -- Fragments of unordered messages that are held: none is of a message of which all fragments were taken, so one that a FORWARD-TSN takes out is of a
 -- message that is gone. Of unordered chunks alone it is said how many were taken, read, and are held.
-use Rattle.sctp_delivery.proofs.Names.{◌≡◌, ℕ, zero, suc, ◌+◌, ◌<◌, ◌≤◌, ◌^◌, Bool, true, false, List, [], ◌∷◌, ◌++◌, length, Some, inl, inr, refl, ap, sym}
-use Rattle.sctp_delivery.proofs.Names.{subst, ◌∙◌, arith, ◌||◌, ◌==◌, if◌then◌else◌, filter, list_all, list_any, sum_by, cases_lt, eq-eqb, Contains, Option}
-use Rattle.sctp_delivery.proofs.Names.{None}
-use Rattle.sctp_delivery.proofs.Names.{sum_by-cons, nat_tests, common_steps, at_or_before, or-split, same-is, both, fails, not_both, tsn, ChunkPayloadData}
-use Rattle.sctp_delivery.proofs.Names.{ChunkSet, Data, data_of, data_chunk, is_complete, Reassembly, ReassemblyState, InboundStream, stream_of, fragments_read}
-use Rattle.sctp_delivery.proofs.Names.{held_weight, set_weight, has_tsn, is_on, are_apart, was_taken, Session, Message, all_complete, take, drop}
-use Rattle.sctp_delivery.proofs.Names.{slice_index_or}
-use Rattle.sctp_delivery.proofs.Names.{Pushes, PushesAs, BecomesComplete, insert_before, chunk_before, comes_before16, set_of_run, HasNoRun, rest_read}
-use Rattle.sctp_delivery.proofs.Names.{rest_among, front_readable, after_read}
+use Rattle.sctp_delivery.proofs.Names.{◌≡◌, ℕ, zero, suc, ◌+◌, ◌<◌, ◌≤◌, ◌^◌, Bool, true, false, List, [], ◌∷◌, length, Some, inl, inr, refl, ap, sym, subst}
+use Rattle.sctp_delivery.proofs.Names.{◌∙◌, arith, ◌||◌, if◌then◌else◌, filter, list_all, list_any, sum_by, cases_lt, eq-eqb, Contains, sum_by-cons, nat_tests}
+use Rattle.sctp_delivery.proofs.Names.{common_steps, at_or_before, or-split, same-is, both, fails, not_both, tsn, ChunkPayloadData, ChunkSet, Data, data_of}
+use Rattle.sctp_delivery.proofs.Names.{data_chunk, is_complete, Reassembly, ReassemblyState, InboundStream, stream_of, fragments_read, held_weight, set_weight}
+use Rattle.sctp_delivery.proofs.Names.{has_tsn, is_on, are_apart, was_taken, Session, Message, all_complete, take, drop, slice_index_or, Pushes}
+use Rattle.sctp_delivery.proofs.Names.{BecomesComplete, insert_before, chunk_before, set_of_run, HasNoRun, rest_read}
 use Rattle.sctp_receiver.proofs.CompleteMessages.{pushed-complete, rest-complete}
-use Rattle.sctp_delivery.proofs.Cases.{at-if, at-test, by-test}
+use Rattle.sctp_delivery.proofs.Cases.{at-test, by-test}
 use Rattle.sctp_delivery.proofs.Every.{Every, every-of, every-joined, every-passing}
 use Rattle.sctp_delivery.proofs.Even.{AreOrdered, IsEven, IsKeptByCalls, Sorted, lonely, lonely-kind, lonely-less, lonely-light, lonely-sets, sets-light}
 use Rattle.sctp_delivery.proofs.FragmentPlaces.{Shows, at_place, shown}
@@ -69,32 +66,14 @@ module _ (p n : ℕ) (few : n < 2 ^ 31) where
   pushed-neat x k at answered old new h fresh e = record {
     rest = pushed-rest p n few x k at answered old new h fresh e.rest;
     complete = pushed-complete x answered old new h e.complete;
-    single = at-test (λ b. PushesAs b x answered old new → Every IsSingle new.held.unordered) x.unordered
-        (λ u t. becomes answered t.0)
-        (λ u t. subst (λ (q : ReassemblyState). Every IsSingle q.held.unordered) (sym t.0)
-        (at-if (λ (q : Reassembly). Every IsSingle q.unordered) (comes_before16 x.stream_sequence_number old.held.next_ssn) (λ _. e.single)
-        (λ _. e.single))) h;
+    single = grind (arith, nat_tests, common_steps, becomes);
   }
     where
       becomes : (b : Bool) → BecomesComplete (insert_before chunk_before x old.held.unassembled) old.held new.held b → Every IsSingle new.held.unordered
-      becomes false t = subst (λ (q : Reassembly). Every IsSingle q.unordered) (sym t.1) e.single
-      becomes true t =
-          let xs = insert_before chunk_before x old.held.unassembled in
-          let run = take t.count (drop t.first xs) in
-          subst (λ (q : Reassembly). Every IsSingle q.unordered) (sym t.moved)
-          (every-joined IsSingle old.held.unordered (set_of_run run ∷ []) e.single
-          (set-first run (run-first t.first t.count xs t.run.run.no_other), tt))
+      becomes h0 h1 = grind (arith, nat_tests, common_steps, every-joined, set-first, run-first)
 
   rest-single : (q : Reassembly) → Every IsSingle q.unordered → Every IsSingle (rest_read q).unordered
-  rest-single q h = by q.unordered refl
-    where
-      front : (o : Option ChunkSet) → Every IsSingle (after_read o q).unordered
-      front None = h
-      front (Some s) = h
-
-      by : (us : List ChunkSet) → q.unordered ≡ us → Every IsSingle (rest_among us q).unordered
-      by [] e = front (front_readable q.next_ssn q.ordered)
-      by (u ∷ us) e = (subst (Every IsSingle) e h).1
+  rest-single q h = grind (arith, nat_tests, common_steps)
 
   -- more TSNs are given out
   pub neat-more : (m : ℕ) (q : Reassembly) → n ≤ m → IsNeat p n q → IsNeat p m q
@@ -202,9 +181,7 @@ module _ (ws : List Numbered) (first : ℕ) (sent : List Entry) (line : IsLine w
 
   was-read : (ms : List Message) → AreWholeOn sent st ms → Every Was (fragments_read st ms)
   was-read [] e = tt
-  was-read (m ∷ ms) e = at-test (λ b. Every Was (if b then m.fragments ++ fragments_read st ms else fragments_read st ms)) (m.stream == st)
-      (λ h. every-joined Was m.fragments (fragments_read st ms) (e.0 (same-is m.stream st h)).2 (was-read ms e.1))
-      (λ h. was-read ms e.1)
+  was-read (m ∷ ms) e = grind (arith, nat_tests, common_steps, was-read ms e.1)
 
   -- of the TSN of an unordered fragment
   module _ (y : ℕ) (d : Data) (w : Numbered) (i : IsEntryAt sent y d w) (kind : d.unordered ≡ true) where
@@ -227,13 +204,7 @@ module _ (ws : List Numbered) (first : ℕ) (sent : List Entry) (line : IsLine w
     owns (c ∷ cs) e = omega (arith, own c e.0, owns cs e.1, sum_by-cons (lonely (one t)) c cs, sum_by-cons (one t) c cs)
 
     pub law : taken-on t ≡ R t + held_weight (lonely (one t)) (stream_of st s.receiving.receiver) + sum_by (one t) k.lost
-    law = omega (
-      arith,
-      k.so.weighs (lonely (one t)) (lonely-light (one t)),
-      owns (filter (is_on st) s.receiving.accepted) (every-passing Was (is_on st) s.receiving.accepted was-taken),
-      owns (fragments_read st s.receiving.read) (was-read s.receiving.read whole),
-      owns k.lost (every-of (IsGone gone sent) Was (λ c g. (g.1, g.2.after, g.2.entries, g.2.part)) k.lost k.spent),
-    )
+    law = grind (arith, nat_tests, common_steps, lonely-light, owns, every-passing, was-taken, was-read, every-of)
 
   -- ## A stream
 

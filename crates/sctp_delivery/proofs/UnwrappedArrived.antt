@@ -1,12 +1,11 @@
 -- The fragments of a set by their places: where the set misses a TSN, a place of its message is missing.
-use Rattle.sctp_delivery.proofs.Names.{◌≡◌, ℕ, ◌+◌, ◌-◌, ◌^◌, ◌<◌, ◌≤◌, Bool, true, false, not, List, [], ◌∷◌, length, inl, inr, refl, ap, sym, ◌∙◌, arith, ⊤}
-use Rattle.sctp_delivery.proofs.Names.{◌==◌, ◌&&◌, ◌||◌, if◌then◌else◌, list_any, cases_lt, nat_tests, common_steps, at_or_before, negated, or-split, same-is}
-use Rattle.sctp_delivery.proofs.Names.{same-yes, both, fails, not_both, tsn, ChunkPayloadData, misses, misses_behind, following_tsn, has_tsn, preceding_tsn}
-use Rattle.sctp_delivery.proofs.Cases.{at-test}
-use Rattle.sctp_delivery.proofs.OrderedEntries.{AreJoined, Joins, begins_on, begun_on, ends_on, one}
-use Rattle.sctp_delivery.proofs.Sent.{Entry, fragment, part-itself, terminal}
+use Rattle.sctp_delivery.proofs.Names.{◌≡◌, ℕ, ◌+◌, ◌-◌, ◌^◌, ◌<◌, ◌≤◌, true, false, not, List, [], ◌∷◌, length, inl, inr, refl, ap, sym, ◌∙◌, arith, ⊤, ◌==◌}
+use Rattle.sctp_delivery.proofs.Names.{◌&&◌, ◌||◌, list_any, cases_lt, nat_tests, common_steps, at_or_before, negated, or-split, same-yes, both, not_both, tsn}
+use Rattle.sctp_delivery.proofs.Names.{ChunkPayloadData, misses, misses_behind, following_tsn, has_tsn, preceding_tsn}
+use Rattle.sctp_delivery.proofs.OrderedEntries.{AreJoined, begun_on, ends_on}
+use Rattle.sctp_delivery.proofs.Sent.{Entry, part-itself}
 use Rattle.sctp_delivery.proofs.SpreadEntries.{at-here, at-more, at-part, begun_to, is_at, joined-rest, step-up, to-all, to-most, to-more}
-use Rattle.sctp_delivery.proofs.TsnPlaces.{next-place, same-place, upto-is}
+use Rattle.sctp_delivery.proofs.TsnPlaces.{next-place, upto-is}
 
 -- n TSNs behind the base p. Q z: the place z is one of the message; all between two of these are
 module _ (p n : ℕ) (few : n < 2 ^ 31) (Q : ℕ → Type 0) (among : (j k l : ℕ) → Q j → Q k → j ≤ l → l ≤ k → Q l) where
@@ -32,11 +31,7 @@ module _ (p n : ℕ) (few : n < 2 ^ 31) (Q : ℕ → Type 0) (among : (j k l : �
   -- no chunk has the TSN of a place up to k
   pub none-upto : (j k : ℕ) (cs : List ChunkPayloadData) → j ≤ k → j ≤ n → Rising k cs → list_any (has_tsn (tsn p j)) cs ≡ false
   none-upto j k [] le most r = refl
-  none-upto j k (c ∷ cs) le most r =
-      let off : (c.tsn == tsn p j) ≡ false = fails (c.tsn == tsn p j) (λ e.
-      let same = same-place p r.0.place j (omega (arith, few)) (omega (arith, most, few)) (sym r.0.is ∙ same-is c.tsn (tsn p j) e) in
-      omega (arith, same, le)) in
-      ap (λ b. b || list_any (has_tsn (tsn p j)) cs) off ∙ none-upto j r.0.place cs (omega (arith, le)) most r.1
+  none-upto j k (c ∷ cs) le most r = grind (arith, nat_tests, common_steps, none-upto j r.0.place cs (omega (arith, le)) most r.1)
 
   -- a place of the message, at most m, whose TSN no chunk has
   pub record IsMissing (least m : ℕ) (cs : List ChunkPayloadData) : Type 0 where
@@ -49,9 +44,7 @@ module _ (p n : ℕ) (few : n < 2 ^ 31) (Q : ℕ → Type 0) (among : (j k l : �
   module _ (m : ℕ) (le : m ≤ n) where
     -- the place behind a chunk
     behind : (k : ℕ) (x : ChunkPayloadData) (b : IsBehind k x) → at_or_before (following_tsn x.tsn) (tsn p m) ≡ true → b.place + 1 ≤ m
-    behind k x b e =
-        let next : following_tsn x.tsn ≡ tsn p (b.place + 1) = ap following_tsn b.is ∙ next-place p b.place in
-        upto-is p (b.place + 1) m next refl (omega (arith, few)) (omega (arith, le, few)) e
+    behind k x b e = grind (arith, nat_tests, common_steps, next-place, upto-is)
 
     -- the chunk itself stands elsewhere
     off : (k j : ℕ) (x : ChunkPayloadData) (b : IsBehind k x) → b.place < j → j ≤ n → (x.tsn == tsn p j) ≡ false
@@ -84,10 +77,7 @@ module _ (p n : ℕ) (few : n < 2 ^ 31) (Q : ℕ → Type 0) (among : (j k l : �
                 place = b.place + 1;
                 from = omega arith;
                 upto = up;
-                absent =
-                    ap (λ t. t || list_any (has_tsn (tsn p (b.place + 1))) (y ∷ ys)) (off k (b.place + 1) x b (omega arith) (omega (arith, up, le)))
-                    ∙ none-upto (b.place + 1) (b.place + 1) (y ∷ ys) (omega arith) (omega (arith, up, le))
-                    (record { place = c.place; past = lt; within = c.within; is = c.is; of = c.of; next = c.next; prior = c.prior }, r.1);
+                absent = grind (arith, nat_tests, common_steps, off, none-upto);
                 of = among b.place c.place (b.place + 1) b.of c.of (omega arith) (omega (arith, lt));
               }
           | inr a ↦
@@ -98,9 +88,7 @@ module _ (p n : ℕ) (few : n < 2 ^ 31) (Q : ℕ → Type 0) (among : (j k l : �
                 place = i.place;
                 from = omega (arith, from);
                 upto = i.upto;
-                absent =
-                    ap (λ t. t || list_any (has_tsn (tsn p i.place)) (y ∷ ys)) (off k i.place x b (omega (arith, from)) (omega (arith, upto, le)))
-                    ∙ i.absent;
+                absent = grind (arith, nat_tests, common_steps);
                 of = i.of;
               }
         ]
@@ -135,24 +123,12 @@ module _ (p n : ℕ) (few : n < 2 ^ 31) (Q : ℕ → Type 0) (among : (j k l : �
 
 pub at-within : (st k : ℕ) (sent : List Entry) → is_at st k sent ≡ true → k ≤ length sent
 at-within st k [] e = absurd (not_both e)
-at-within st k (x ∷ xs) e = at-test (λ b. (if b then ends_on st (x ∷ xs) else is_at st k xs) ≡ true → k ≤ length (x ∷ xs)) (length (x ∷ xs) == k)
-    (λ h f. let same = same-is (length (x ∷ xs)) k h in omega (arith, same))
-    (λ h f. let le = (at-within st k xs) f in omega (arith, le)) e
+at-within st k (x ∷ xs) e = grind (arith, nat_tests, common_steps, at-within st k xs)
 
 -- the last entry goes on with one of its message, where it begins none
 ends-before : (st : ℕ) (y : Entry) (ys : List Entry) → AreJoined (y ∷ ys) → ends_on st (y ∷ ys) ≡ true → begun_on st (y ∷ ys) ≡ begun_on st ys
     → ends_on st ys ≡ true
-ends-before st terminal ys j e same = e
-ends-before st (fragment c w after) ys j e same = by c.beginning_fragment refl ys j.0
-  where
-    counted : c.beginning_fragment ≡ true → begins_on st c ≡ true
-    counted h = ap (λ b. (c.stream_identifier == st) && (b && not c.unordered)) h ∙ e
-
-    by : (b : Bool) → c.beginning_fragment ≡ b → (zs : List Entry) → Joins c zs → ends_on st zs ≡ true
-    by true h zs g = let n = ap one (counted h) in absurd (omega (arith, n, same))
-    by false h [] g = absurd (not_both (sym h ∙ g))
-    by false h (terminal ∷ zs) g = absurd (not_both (sym h ∙ g))
-    by false h (fragment d v rest ∷ zs) g = grind (arith, nat_tests, common_steps, g.1 h)
+ends-before h0 h1 h2 h3 h4 h5 = grind (arith, nat_tests, common_steps)
 
 -- between two entries of one message all are of it
 pub between : (st : ℕ) (sent : List Entry) → AreJoined sent → (j k l : ℕ) → is_at st j sent ≡ true → is_at st k sent ≡ true → j ≤ l → l ≤ k

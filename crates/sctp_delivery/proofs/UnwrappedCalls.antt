@@ -1,14 +1,14 @@
 -- In each session the indexes of the ordered messages that are read on a stream rise: a call of the receiver.
-use Rattle.sctp_delivery.proofs.Names.{◌≡◌, ℕ, ◌+◌, ◌%◌, ◌^◌, ◌<◌, ◌≤◌, Bool, true, false, not, List, [], ◌∷◌, ◌++◌, map, Option, Some, None, inl, inr, refl}
-use Rattle.sctp_delivery.proofs.Names.{ap, sym, subst, ◌∙◌, arith, ◌⊎◌, ◌==◌, ◌&&◌, if◌then◌else◌, find, nat_lt, option_map, filter, list_any, option_or}
+use Rattle.sctp_delivery.proofs.Names.{common_steps, ◌≡◌, ℕ, ◌+◌, ◌%◌, ◌^◌, ◌<◌, ◌≤◌, Bool, true, false, not, List, [], ◌∷◌, ◌++◌, map, Option, Some, None, inl}
+use Rattle.sctp_delivery.proofs.Names.{inr, refl, ap, sym, subst, ◌∙◌, arith, ◌⊎◌, ◌==◌, ◌&&◌, if◌then◌else◌, find, nat_lt, option_map, filter, list_any}
 use Rattle.sctp_delivery.proofs.Names.{cases_lt, eq-eqb, nat_tests, find-append, change_where, insert_before, at_or_before, comes_before, negated, or-left}
 use Rattle.sctp_delivery.proofs.Names.{or-right, or-split, same-is, list_any-inserted, list_any-those, both, fails, not_both, tsn, ChunkPayloadData}
-use Rattle.sctp_delivery.proofs.Names.{ChunkForwardTsnStream, ChunkSet, ForwardTsn, has_tsn, is_on, is_complete, Reassembly, held_after_ordered_skip}
-use Rattle.sctp_delivery.proofs.Names.{held_after_unordered_skip, cannot_complete, misses, InboundStream, new_stream, number, skipped_each}
-use Rattle.sctp_delivery.proofs.Names.{ssns_of, stream_forwarded, stream_read, unassembled_forwarded, with_queue, Accepts, Reception, filter_of}
-use Rattle.sctp_delivery.proofs.Names.{follow_forward_tsn, is_open, is_stale, stream_of, Stand, after_forward_tsn, incomplete_forwarded}
-use Rattle.sctp_delivery.proofs.Names.{is_ahead, names_too_far, with_filter, with_tsn, without_incomplete, is_name_too_far, is_named_too_far, is_ssn_too_far}
-use Rattle.sctp_delivery.proofs.Names.{is_too_far_on, has_come, is_pair_of, is_ordered_on, found-passes}
+use Rattle.sctp_delivery.proofs.Names.{ChunkForwardTsnStream, ChunkSet, ForwardTsn, has_tsn, is_on, Reassembly, held_after_ordered_skip}
+use Rattle.sctp_delivery.proofs.Names.{held_after_unordered_skip, cannot_complete, misses, InboundStream, new_stream, number, skipped_each, ssns_of}
+use Rattle.sctp_delivery.proofs.Names.{stream_forwarded, stream_read, unassembled_forwarded, with_queue, Accepts, Reception, filter_of, follow_forward_tsn}
+use Rattle.sctp_delivery.proofs.Names.{is_open, is_stale, stream_of, Stand, after_forward_tsn, incomplete_forwarded, is_ahead, names_too_far, with_filter}
+use Rattle.sctp_delivery.proofs.Names.{with_tsn, without_incomplete, is_name_too_far, is_ssn_too_far, is_too_far_on, has_come, is_pair_of, is_ordered_on}
+use Rattle.sctp_delivery.proofs.Names.{found-passes}
 use Rattle.std.specs.Prelude.{is_some}
 use Rattle.sctp_receiver.specs.Inbound.{has_number}
 use Rattle.sctp_receiver.proofs.Forwarded.{found-followed, found-mapped}
@@ -21,7 +21,7 @@ use Rattle.sctp_delivery.proofs.UnwrappedReads.{AreSets, Gone, IsDue, IsKeptAt, 
 use Rattle.sctp_delivery.proofs.UnwrappedReads.{later-none, read-due, recame, unassembled-due}
 use Rattle.sctp_delivery.proofs.Sessions.{neither, unnot}
 use Rattle.sctp_delivery.proofs.UnwrappedHolds as holds
-use Rattle.sctp_delivery.proofs.UnwrappedHolds.{Where, advance-back, advanced, at-in, beyond-more, on-of, rises-put}
+use Rattle.sctp_delivery.proofs.UnwrappedHolds.{advance-back, advanced, at-in, beyond-more, on-of, rises-put}
 
 -- st: a stream. Of n TSNs from the base p on, B k says how many ordered messages of the stream the first k begin
 -- E k: the chunk at place k is an ordered one of the stream; M c: the chunk was made
@@ -62,29 +62,7 @@ module _ (p st n : ℕ) (B : ℕ → ℕ) (E : ℕ → Bool) (M : ChunkPayloadDa
 
     pub opened-due : (C : ℕ → Type 0) (k reach s max : ℕ) (ls : List InboundStream) → DueOn C k reach (find (has_number st) ls)
         → DueOn C k reach (find (has_number st) (ls ++ new_stream s max ∷ []))
-    opened-due C k reach s max ls d =
-        subst (DueOn C k reach) (sym (find-append (has_number st) ls (new_stream s max ∷ []))) (by (find (has_number st) ls) (s == st) d)
-      where
-        by : (o : Option InboundStream) (b : Bool) → DueOn C k reach o → DueOn C k reach (option_or o (if b then Some (new_stream s max) else None))
-        by None true d =
-            let y = d.1 in
-            record {
-              index = 0;
-              low = 0;
-              next = omega arith;
-              lowest = omega arith;
-              due = omega arith;
-              from = omega arith;
-              near = omega arith;
-              within = omega arith;
-              far = omega (arith, y);
-              sets = tt;
-              kept = λ y le h. absurd (d.2 y le h);
-              unordered = tt;
-              unassembled = tt;
-            }
-        by None false d = d
-        by (Some l) b d = d
+    opened-due C k reach s max ls d = grind (arith, nat_tests, common_steps, find-append)
 
     -- no TSN comes
     abbrev pub moved : (a : ℕ) (old new : Stand) (d : AreDue a old) (k : ℕ)
@@ -118,10 +96,7 @@ module _ (p st n : ℕ) (B : ℕ → ℕ) (E : ℕ → Bool) (M : ChunkPayloadDa
     module _ (a : ℕ) (c : ChunkPayloadData) (old : Stand) (d : AreDue a old) (g : IsStepOf c)
         (fresh : has_come c.tsn (filter_of old.receiver) ≡ false) where
       past : d.arrived.place < g.before + 1
-      past =
-          let h = d.arrived in
-          let e = (neither (at_or_before c.tsn old.receiver.cumulative_tsn) (list_any (λ t. t == c.tsn) old.receiver.beyond) fresh).0 in
-          past-is p (g.before + 1) h.place g.is h.is (omega (arith, few)) (omega (arith, few)) e
+      past = grind (arith, nat_tests, common_steps, neither, past-is)
 
       -- an ordered one that is not too far on is of an index less than half the circle past the lowest one
       pub window : B n ≤ B a + 2 ^ 14 → c.unordered ≡ false → (o : (i : ℕ) × (B (g.before + 1) ≡ i + 1) × (c.stream_sequence_number ≡ i % 2 ^ 16))
@@ -172,14 +147,7 @@ module _ (p st n : ℕ) (B : ℕ → ℕ) (E : ℕ → Bool) (M : ChunkPayloadDa
             elim (or-split (at_or_before (tsn p y) old.receiver.cumulative_tsn)
             (list_any (λ t. t == tsn p y) (insert_before comes_before c.tsn old.receiver.beyond)) k) [
               | inl z ↦ inl (h.0, or-left (at_or_before (tsn p y) old.receiver.cumulative_tsn) (list_any (λ t. t == tsn p y) old.receiver.beyond) z)
-              | inr z ↦ elim (or-split (c.tsn == tsn p y) (list_any (λ t. t == tsn p y) old.receiver.beyond)
-                  (sym (list_any-inserted (λ t. t == tsn p y) comes_before c.tsn old.receiver.beyond) ∙ z)) [
-                    | inl x ↦
-                        let w = g.within in
-                        let same = same-place p y (g.before + 1) (omega (arith, le, few)) (omega (arith, w, few)) (sym (same-is c.tsn (tsn p y) x) ∙ g.is) in
-                        inr (same, h.0)
-                    | inr x ↦ inl (h.0, or-right (at_or_before (tsn p y) old.receiver.cumulative_tsn) (list_any (λ t. t == tsn p y) old.receiver.beyond) x)
-                  ]
+              | inr z ↦ grind (arith, nat_tests, common_steps, or-split, list_any-inserted, same-place, same-is, or-right)
             ]
 
         abbrev build : (more : ℕ) → d.reach ≤ more → more ≤ B n → holds.DueIn p st n B E M d.k more new.receiver
@@ -337,9 +305,7 @@ module _ (p st n : ℕ) (B : ℕ → ℕ) (E : ℕ → Bool) (M : ChunkPayloadDa
 
       missed : Misses m → (i : ℕ) (s : ChunkSet) → Fits i s.chunks → not (cannot_complete t s) ≡ false
           → (z : ℕ) × (z ≤ m) × (E z ≡ true) × (B z ≡ i + 1) × (list_any (has_tsn (tsn p z)) s.chunks ≡ false)
-      missed missing i s h e =
-          let c = both (not (is_complete s.chunks)) (misses t s.chunks) (unnot (cannot_complete t s) e) in
-          missing i s.chunks h (subst (λ u. misses u s.chunks ≡ true) is c.1)
+      missed missing i s h e = grind (arith, nat_tests, common_steps)
 
       -- where each place up to m of a message from the index on is held, no such message misses one
       pub gone-held : Misses m → (index low top : ℕ) (ss : List ChunkSet) (r : Sets low top ss)
@@ -368,17 +334,12 @@ module _ (p st n : ℕ) (B : ℕ → ℕ) (E : ℕ → Bool) (M : ChunkPayloadDa
       -- where the index is past all messages begun up to m
       pub gone-begun : Misses m → (index low top : ℕ) (ss : List ChunkSet) (r : Sets low top ss) → B m ≤ index → Goes index low top ss r
       gone-begun missing index low top [] r past = tt
-      gone-begun missing index low top (s ∷ ss) r past = (
-        λ e. let z = missed missing r.0 s r.1.1 e in let b = z.3 in let x = up z.0 m z.1 in omega (arith, b, x, past),
-        gone-begun missing index (r.0 + 1) top ss r.2 past,
-      )
+      gone-begun missing index low top (s ∷ ss) r past = grind (arith, nat_tests, common_steps, gone-begun missing index (r.0 + 1) top ss r.2 past)
 
     -- one whose place is m
     module _ (a : ℕ) (f : ForwardTsn) (m : ℕ) (old : Stand) (d : AreDue a old) (le : m ≤ n) (is : f.new_cumulative_tsn ≡ tsn p m) where
       pub ahead-is : is_stale f old.receiver ≡ false → d.arrived.place < m
-      ahead-is e =
-          let h = d.arrived in
-          past-is p m h.place is h.is (omega (arith, le, few)) (omega (arith, few)) e
+      ahead-is e = grind (arith, nat_tests, common_steps, past-is)
 
       -- of the one name of the stream what is refused of any does not hold
       pub none-among : (q : ChunkForwardTsnStream → Bool) → (is_ahead f old.receiver && list_any q f.streams) ≡ false → d.arrived.place < m
@@ -386,7 +347,7 @@ module _ (p st n : ℕ) (B : ℕ → ℕ) (E : ℕ → Bool) (M : ChunkPayloadDa
       none-among q e lt x only =
           let h = d.arrived in
           let v = h.within in
-          let t : nat_lt h.place m ≡ true = grind (arith, nat_tests, lt) in
+          let t : nat_lt h.place m ≡ true = grind (arith, nat_tests) in
           let lead : is_ahead f old.receiver ≡ true = cc (h.is, is, before p h.place m (omega (arith, v, few)) (omega (arith, le, few)), t) in
           let any : list_any q f.streams ≡ false = ap (λ b. b && list_any q f.streams) (sym lead) ∙ e in
           let those : list_any q (filter (is_pair_of st) f.streams) ≡ false = fails (list_any q (filter (is_pair_of st) f.streams))
@@ -395,28 +356,15 @@ module _ (p st n : ℕ) (B : ℕ → ℕ) (E : ℕ → Bool) (M : ChunkPayloadDa
 
       pub close : names_too_far f old.receiver ≡ false → d.arrived.place < m → (l : InboundStream) → stream_of st old.receiver ≡ Some l → (k : ℕ)
           → filter (is_pair_of st) f.streams ≡ record { identifier = st; sequence = k } ∷ [] → is_name_too_far k l.queue.held ≡ false
-      close answered lt l g k only =
-          ap (is_named_too_far (record { identifier = st; sequence = k })) (sym g)
-          ∙ none-among (λ x. is_named_too_far x (stream_of x.identifier old.receiver)) answered lt (record { identifier = st; sequence = k }) only
+      close answered lt l g k only = grind (arith, nat_tests, common_steps, none-among)
 
       -- its index is near what is held
       pub name-within : B n ≤ B a + 2 ^ 14 → d.arrived.place < m → (j : ℕ) → j + 1 ≡ B m → (d.reach ≤ j + 1 + 2 ^ 14) × (j + 1 ≤ d.reach + 2 ^ 14)
-      name-within near lt j last =
-          let h = d.arrived in
-          let y = up a h.place h.least_is in
-          (omega (arith, near, y, up h.place m (omega (arith, lt)), last), omega (arith, up m n le, near, y, last))
+      name-within near lt j last = grind (arith, nat_tests, common_steps)
 
       -- where it passes nothing of the stream, all up to it came
       pub clear-came : ((k : ℕ) → a < k → k ≤ m → E k ≡ false) → (y : ℕ) → y ≤ m → E y ≡ true → Came old.receiver.cumulative_tsn old.receiver.beyond y
-      clear-came clear y upto on = elim (cases_lt d.arrived.place y) [
-        | inl lt ↦ let x = d.arrived.least_is in absurd (not_both (sym (clear y (omega (arith, x, lt)) upto) ∙ on))
-        | inr ge ↦
-            let v = d.arrived.within in (
-              on,
-              or-left (at_or_before (tsn p y) old.receiver.cumulative_tsn) (list_any (λ u. u == tsn p y) old.receiver.beyond)
-                  (upto-yes p y d.arrived.place refl d.arrived.is (omega (arith, upto, le, few)) (omega (arith, v, few)) ge),
-            )
-      ]
+      clear-came clear y upto on = grind (arith, nat_tests, common_steps, cases_lt, not_both, or-left, upto-yes)
 
       -- the queue of the stream, by its names
       pub named-by : (l : InboundStream) → stream_of st old.receiver ≡ Some l
@@ -441,14 +389,7 @@ module _ (p st n : ℕ) (B : ℕ → ℕ) (E : ℕ → Bool) (M : ChunkPayloadDa
       now-is = by-stale false
 
       pub found-after : is_stale f old.receiver ≡ false → stream_of st new.receiver ≡ option_map changed (stream_of st old.receiver)
-      found-after e =
-          ap (stream_of st) (now-is e) ∙ found-mapped st (incomplete_forwarded f.new_cumulative_tsn) (λ l. refl) (follow_forward_tsn f old.receiver).streams
-          ∙ ap (option_map (incomplete_forwarded f.new_cumulative_tsn)) (found-followed st f old.receiver) ∙ twice (stream_of st old.receiver)
-        where
-          twice : (o : Option InboundStream) → option_map (incomplete_forwarded f.new_cumulative_tsn)
-              (option_map (λ l. unassembled_forwarded f.new_cumulative_tsn (stream_forwarded f.streams l)) o) ≡ option_map changed o
-          twice None = refl
-          twice (Some l) = refl
+      found-after e = grind (arith, nat_tests, common_steps, now-is, found-mapped, found-followed)
 
     module _ (a : ℕ) (near : B n ≤ B a + 2 ^ 14) (f : ForwardTsn) (m : ℕ) (old new : Stand) (d : AreDue a old) (le : m ≤ n)
         (is : f.new_cumulative_tsn ≡ tsn p m) (after : new.receiver ≡ after_forward_tsn f old.receiver)
@@ -491,11 +432,7 @@ module _ (p st n : ℕ) (B : ℕ → ℕ) (E : ℕ → Bool) (M : ChunkPayloadDa
           elim (or-split (at_or_before (tsn p y) t) (list_any (λ u. u == tsn p y) rest) k) [
             | inl z ↦
                 inl (upto-is p y m refl is (omega (arith, most, few)) (omega (arith, le, few)) z)
-            | inr z ↦ inr (
-              h.0,
-              or-right (at_or_before (tsn p y) old.receiver.cumulative_tsn) (list_any (λ u. u == tsn p y) old.receiver.beyond)
-                  (list_any-those (λ u. u == tsn p y) (λ u. not (at_or_before u t)) old.receiver.beyond z),
-            )
+            | inr z ↦ grind (arith, nat_tests, common_steps, or-right, list_any-those, not)
           ]
 
       -- with this reach

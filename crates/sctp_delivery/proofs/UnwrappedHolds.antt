@@ -1,11 +1,11 @@
 -- In each session the indexes of the ordered messages that are read on a stream rise: what is due on the stream, and what came.
 use Rattle.sctp_delivery.proofs.Names.{◌≡◌, ℕ, ◌+◌, ◌%◌, ◌^◌, ◌<◌, ◌≤◌, Bool, true, false, List, [], ◌∷◌, Option, Some, None, inl, inr, refl, ap, sym, ◌∙◌}
-use Rattle.sctp_delivery.proofs.Names.{arith, not, length, subst, ⊤, ◌⊎◌, ◌==◌, if◌then◌else◌, nat_lt, ◌&&◌, nat_le, list_any, filter, cases_lt, eq-eqb}
-use Rattle.sctp_delivery.proofs.Names.{nat_tests, Seen, advance_over, insert_before, at_or_before, at_or_before16, comes_before16, or-left, or-right, or-split}
-use Rattle.sctp_delivery.proofs.Names.{same-is, not_both, both, fails, tsn, ChunkPayloadData, chunk_before, has_tsn, InboundStream, Reception, stream_of}
-use Rattle.sctp_delivery.proofs.Names.{Stand, is_ordered_on, common_steps, at_or_before16-index, comes_before16-index, next16, ChunkSet, has_ssn}
-use Rattle.sctp_delivery.proofs.Names.{is_complete, new_set, set_before, sets_with, Reassembly, after_read, front_readable, held_after_ordered_push}
-use Rattle.sctp_delivery.proofs.Names.{held_after_ordered_skip, is_passed, is_readable, cannot_complete, held_after_incomplete_skip, is_name_too_far}
+use Rattle.sctp_delivery.proofs.Names.{arith, not, length, ⊤, ◌⊎◌, ◌==◌, if◌then◌else◌, nat_lt, nat_le, list_any, filter, cases_lt, eq-eqb, nat_tests, Seen}
+use Rattle.sctp_delivery.proofs.Names.{advance_over, insert_before, at_or_before, at_or_before16, or-left, or-right, or-split, same-is, not_both, both, fails}
+use Rattle.sctp_delivery.proofs.Names.{tsn, ChunkPayloadData, chunk_before, has_tsn, InboundStream, Reception, stream_of, Stand, is_ordered_on, common_steps}
+use Rattle.sctp_delivery.proofs.Names.{at_or_before16-index, comes_before16-index, next16, ChunkSet, is_complete, sets_with, Reassembly, after_read}
+use Rattle.sctp_delivery.proofs.Names.{front_readable, held_after_ordered_push, held_after_ordered_skip, is_passed, cannot_complete, held_after_incomplete_skip}
+use Rattle.sctp_delivery.proofs.Names.{is_name_too_far}
 use Rattle.sctp_delivery.proofs.Cases.{at-if, at-test}
 use Rattle.sctp_delivery.proofs.Every.{Every, one-of, every-inserted, every-of, every-passing}
 use Rattle.sctp_delivery.proofs.TakenTsns.{come, any-inserted}
@@ -13,7 +13,7 @@ use Rattle.sctp_delivery.proofs.TsnPlaces.{before, next-place, same-place, upto-
 use Rattle.sctp_delivery.proofs.UnwrappedReads.{IsDue, recame}
 use Rattle.sctp_delivery.proofs.Sessions.{neither, unnot}
 use Rattle.sctp_reassembly.specs.reassembly_queue.Fragments.{with_chunk}
-use Rattle.sctp_delivery.proofs.KeptSets.{front-read, without_front, every-first}
+use Rattle.sctp_delivery.proofs.KeptSets.{front-read, every-first}
 use Rattle.sctp_delivery.proofs.UnwrappedReads as reads
 
 abbrev pub Where : Bool → Type 0 → Type 0 → Type 0
@@ -88,25 +88,13 @@ module _ (p st n : ℕ) (B : ℕ → ℕ) (E : ℕ → Bool) (M : ChunkPayloadDa
   module _ (few : n < 2 ^ 31) where
     -- no TSN that was not given out came
     pub none-past : (reach least c : ℕ) (ts : List ℕ) → Covers reach least c ts → (y : ℕ) → n < y → y ≤ 2 ^ 31 → come (tsn p y) c ts ≡ true → ⊥
-    none-past reach least c ts h y lt most e = elim (or-split (at_or_before (tsn p y) c) (list_any (λ t. t == tsn p y) ts) e) [
-      | inl g ↦
-          omega (arith, upto-is p y h.place refl h.is most (omega (arith, few)) g, lt)
-      | inr g ↦
-          let o = one-of (IsBeyond reach) (λ t. t == tsn p y) ts g h.each in
-          let k = same-place p (o.2.before + 1) y (omega (arith, few)) (omega (arith, most)) (sym o.2.is ∙ same-is o.0 (tsn p y) o.1) in
-          omega (arith, k, lt)
-    ]
+    none-past reach least c ts h y lt most e = grind (arith, nat_tests, common_steps, or-split, upto-is, one-of, same-place, same-is)
 
   module _ (few : n < 2 ^ 31) (up : (j k : ℕ) → j ≤ k → B j ≤ B k) where
     -- ## What came
 
     pub beyond-more : (reach more t : ℕ) → reach ≤ more → IsBeyond reach t → IsBeyond more t
-    beyond-more reach more t le b = record {
-      before = b.before;
-      within = b.within;
-      is = b.is;
-      so = elim b.so [ inl x ↦ inl x | inr x ↦ inr (omega (arith, x, le)) ];
-    }
+    beyond-more reach more t le b = grind (arith, nat_tests, common_steps)
 
     -- where the first TSN beyond is the next one, all is covered up to it
     onward : (reach least c t : ℕ) (ts : List ℕ) (h : Covers reach least c (t ∷ ts)) → (t == (c + 1) % 2 ^ 32) ≡ true
@@ -139,12 +127,7 @@ module _ (p st n : ℕ) (B : ℕ → ℕ) (E : ℕ → Bool) (M : ChunkPayloadDa
     -- what came by a later cumulative TSN came before
     upto-back : (place y : ℕ) (t c : ℕ) → y ≤ n → place + 1 ≤ n → c ≡ tsn p place → t ≡ tsn p (place + 1) → at_or_before (tsn p y) t ≡ true
         → (at_or_before (tsn p y) c ≡ true) ⊎ ((t == tsn p y) ≡ true)
-    upto-back place y t c le within is next e =
-        let l = upto-is p y (place + 1) refl next (omega (arith, le, few)) (omega (arith, within, few)) e in
-        elim (cases_lt place y) [
-          | inl lt ↦ let same : place + 1 ≡ y = omega (arith, lt, l) in inr (eq-eqb t (tsn p y) (next ∙ ap (tsn p) same))
-          | inr ge ↦ inl (upto-yes p y place refl is (omega (arith, le, few)) (omega (arith, within, few)) ge)
-        ]
+    upto-back place y t c le within is next e = grind (arith, nat_tests, common_steps, upto-is, cases_lt, eq-eqb, upto-yes)
 
     pub advance-back : (reach least c : ℕ) (ts : List ℕ) → Covers reach least c ts → (y : ℕ) → y ≤ n
         → come (tsn p y) (advance_over c ts).cum (advance_over c ts).held ≡ true → come (tsn p y) c ts ≡ true
@@ -155,20 +138,7 @@ module _ (p st n : ℕ) (B : ℕ → ℕ) (E : ℕ → Bool) (M : ChunkPayloadDa
             → (Covers reach least t ts → come (tsn p y) (advance_over t ts).cum (advance_over t ts).held ≡ true → come (tsn p y) t ts ≡ true)
             → (let s : Seen = if b then advance_over t ts else (let r : Seen = record { cum = c; held = t ∷ ts } in r) in
             come (tsn p y) s.cum s.held ≡ true) → come (tsn p y) c (t ∷ ts) ≡ true
-        by false f ih g = g
-        by true f ih g =
-            let j = onward reach least c t ts h f in
-            let at = j.1 in
-            let k = ih j.0 g in
-            elim (or-split (at_or_before (tsn p y) t) (list_any (λ u. u == tsn p y) ts) k) [
-              | inl m ↦ elim (upto-back h.place y t c le (omega (arith, at)) h.is (j.0.is ∙ ap (tsn p) at) m) [
-                | inl z ↦ or-left (at_or_before (tsn p y) c) (list_any (λ u. u == tsn p y) (t ∷ ts)) z
-                | inr z ↦ or-right (at_or_before (tsn p y) c) (list_any (λ u. u == tsn p y) (t ∷ ts))
-                    (or-left (t == tsn p y) (list_any (λ u. u == tsn p y) ts) z)
-              ]
-              | inr m ↦ or-right (at_or_before (tsn p y) c) (list_any (λ u. u == tsn p y) (t ∷ ts))
-                  (or-right (t == tsn p y) (list_any (λ u. u == tsn p y) ts) m)
-            ]
+        by h0 h1 h2 h3 = grind (arith, nat_tests, common_steps, onward, or-split, upto-back, or-left, or-right)
 
     -- ## A set
 
@@ -192,17 +162,12 @@ module _ (p st n : ℕ) (B : ℕ → ℕ) (E : ℕ → Bool) (M : ChunkPayloadDa
         order = cc (o.is, r.0.is, before p (o.before + 1) (r.0.before + 1) (omega (arith, few)) (omega (arith, few)))
 
         differ : o.before ≡ r.0.before → ⊥
-        differ same =
-            let e : c.tsn ≡ x.tsn = r.0.is ∙ ap (λ k. tsn p (k + 1)) (sym same) ∙ sym o.is in
-            not_both (sym (neither (c.tsn == x.tsn) (list_any (has_tsn x.tsn) cs) none).0 ∙ eq-eqb c.tsn x.tsn e)
+        differ same = grind (arith, nat_tests, common_steps)
 
     rises-at : (i low y : ℕ) (cs : List ChunkPayloadData) → y ≤ n → Rises i low cs → list_any (has_tsn (tsn p y)) cs ≡ true → B y ≡ i + 1
     rises-at i low y [] le r e = absurd (not_both e)
     rises-at i low y (c ∷ cs) le r e = elim (or-split (c.tsn == tsn p y) (list_any (has_tsn (tsn p y)) cs) e) [
-      | inl h ↦
-          let o = r.0 in
-          let same = same-place p (o.before + 1) y (omega (arith, few)) (omega (arith, le, few)) (sym o.is ∙ same-is c.tsn (tsn p y) h) in
-          ap B (sym same) ∙ o.begun
+      | inl h ↦ grind (arith, nat_tests, common_steps)
       | inr h ↦ rises-at i (r.0.before + 1) y cs le r.2 h
     ]
 
@@ -253,33 +218,16 @@ module _ (p n : ℕ) (B : ℕ → ℕ) where
   -- with the same ordered messages
   pub current-same : (low top : ℕ) (L : ℕ → Type 0) (q r : Reassembly) → r.next_ssn ≡ q.next_ssn → r.ordered ≡ q.ordered → IsCurrent low top L q
       → IsCurrent low top L r
-  current-same low top L q r e f c = record {
-    index = c.index;
-    next = e ∙ c.next;
-    from = c.from;
-    upto = c.upto;
-    late = c.late;
-    whole = subst (Every (IsWholeAt c.index)) (sym f) c.whole;
-    some = subst (Every IsSome) (sym f) c.some;
-  }
+  current-same low top L q r e f c = grind (arith, nat_tests, common_steps)
 
 -- a fragment of the index or a later one is put in
 pub put-in : (x : ChunkPayloadData) (index i : ℕ) (q : Reassembly) → q.next_ssn ≡ index % 2 ^ 16 → x.stream_sequence_number ≡ i % 2 ^ 16 → index ≤ i
     → i < index + 2 ^ 15 → held_after_ordered_push x q ≡ record q { ordered = sets_with x q.ordered }
-put-in x index i q next is le near =
-    let order : nat_lt i index ≡ false = grind (arith, nat_tests, le) in
-    let off : comes_before16 x.stream_sequence_number q.next_ssn ≡ false =
-    ap (λ m. comes_before16 m q.next_ssn) is ∙ ap (comes_before16 (i % 2 ^ 16)) next
-    ∙ comes_before16-index i index (omega (arith, near)) (omega (arith, le)) ∙ order in
-    ap (λ b. if b then q else record q { ordered = sets_with x q.ordered }) off
+put-in x index i q next is le near = grind (arith, nat_tests, common_steps, comes_before16-index)
 
 filter-none : (r : ChunkSet → Bool) (ss : List ChunkSet) → Every (λ s. r s ≡ false) ss → (filter r ss ≡ []) × (filter (λ s. not (r s)) ss ≡ ss)
 filter-none r [] e = (refl, refl)
-filter-none r (s ∷ ss) e =
-    let ih = filter-none r ss e.1 in (
-      ap (λ b. if b then s ∷ filter r ss else filter r ss) e.0 ∙ ih.0,
-      ap (λ b. if not b then s ∷ filter (λ t. not (r t)) ss else filter (λ t. not (r t)) ss) e.0 ∙ ap (λ ts. s ∷ ts) ih.1,
-    )
+filter-none r (s ∷ ss) e = grind (arith, nat_tests, common_steps, filter-none r ss e.1)
 
 pub same-uncut : (t : ℕ) (q : Reassembly) → Every (λ s. cannot_complete t s ≡ false) q.ordered → held_after_incomplete_skip t q ≡ q
 same-uncut t q e = grind (arith, nat_tests, filter-none (cannot_complete t) q.ordered e)
@@ -311,10 +259,7 @@ module _ (p n : ℕ) (B : ℕ → ℕ) (Fits : ℕ → List ChunkPayloadData →
     IsPut index s = (list_any (has_tsn x.tsn) s.chunks ≡ true) ⊎ IsWhole index s
 
     has-put : (s : ChunkSet) → list_any (has_tsn x.tsn) (with_chunk x s).chunks ≡ true
-    has-put s = at-if (λ z. list_any (has_tsn x.tsn) z ≡ true) (list_any (has_tsn x.tsn) s.chunks)
-        (λ e. e)
-        (λ e. any-inserted (has_tsn x.tsn) chunk_before x s.chunks
-        (or-left (has_tsn x.tsn x) (list_any (has_tsn x.tsn) s.chunks) (eq-eqb x.tsn x.tsn refl)))
+    has-put s = grind (arith, nat_tests, common_steps, any-inserted, or-left, eq-eqb)
 
     some-inserted : (cs : List ChunkPayloadData) → 0 < length (insert_before chunk_before x cs)
     some-inserted [] = omega arith
@@ -324,45 +269,20 @@ module _ (p n : ℕ) (B : ℕ → ℕ) (Fits : ℕ → List ChunkPayloadData →
     some-put s h = at-if (λ z. 0 < length z) (list_any (has_tsn x.tsn) s.chunks) (λ e. h) (λ e. some-inserted s.chunks)
 
     pub some-with : (ss : List ChunkSet) → Every IsSome ss → Every IsSome (sets_with x ss)
-    some-with ss h = at-if (Every IsSome) (list_any (has_ssn x.stream_sequence_number) ss)
-        (λ e. every-first IsSome (has_ssn x.stream_sequence_number) (with_chunk x) ss
-        (every-of IsSome (λ s. IsSome s × (has_ssn x.stream_sequence_number s ≡ true → IsSome (with_chunk x s))) (λ s w. (w, λ k. some-put s w))
-        ss h))
-        (λ e. every-inserted IsSome set_before (new_set x) ss (omega arith) h)
+    some-with ss h = grind (arith, nat_tests, common_steps, every-first, every-of, some-put, every-inserted)
 
     put-with : (index : ℕ) (ss : List ChunkSet) → Every (IsWhole index) ss → Every (IsPut index) (sets_with x ss)
-    put-with index ss h = at-if (Every (IsPut index)) (list_any (has_ssn x.stream_sequence_number) ss)
-        (λ e. every-first (IsPut index) (has_ssn x.stream_sequence_number) (with_chunk x) ss (every-of (IsWhole index)
-        (λ s. IsPut index s × (has_ssn x.stream_sequence_number s ≡ true → IsPut index (with_chunk x s))) (λ s w. (inr w, λ k. inl (has-put s)))
-        ss h))
-        (λ e. every-inserted (IsPut index) set_before (new_set x) ss
-        (inl (or-left (has_tsn x.tsn x) false (eq-eqb x.tsn x.tsn refl))) (every-of (IsWhole index) (IsPut index) (λ s w. inr w) ss h))
+    put-with index ss h = grind (arith, nat_tests, common_steps, every-first, every-of, has-put, every-inserted, or-left, eq-eqb)
 
     -- the sets with a chunk of the index or a later one are as complete as before
     whole-with : (index y low top : ℕ) (ss : List ChunkSet) → y ≤ n → x.tsn ≡ tsn p y → index < B y → AreSets low top ss → Every (IsPut index) ss
         → Every (IsWhole index) ss
     whole-with index y low top [] le is lt r e = tt
-    whole-with index y low top (s ∷ ss) le is lt r e = (
-      elim e.0 [
-        | inl h ↦ λ z most there under.
-            let a = at-in r.0 y s.chunks le r.1.1 (subst (λ t. list_any (has_tsn t) s.chunks ≡ true) is h) in
-            absurd (omega (arith, a, at-in r.0 z s.chunks most r.1.1 there, lt, under))
-        | inr h ↦ h
-      ],
-      whole-with index y (r.0 + 1) top ss le is lt r.2 e.1,
-    )
+    whole-with index y low top (s ∷ ss) le is lt r e = grind (arith, nat_tests, common_steps, whole-with index y (r.0 + 1) top ss le is lt r.2 e.1)
 
     pub current-put : (low top : ℕ) (L : ℕ → Type 0) (q : Reassembly) (c : IsNow low top L q) (y l t : ℕ) → y ≤ n → x.tsn ≡ tsn p y
         → c.index < B y → AreSets l t (sets_with x q.ordered) → IsNow low top L (record q { ordered = sets_with x q.ordered })
-    current-put low top L q c y l t le is lt r = record {
-      index = c.index;
-      next = c.next;
-      from = c.from;
-      upto = c.upto;
-      late = c.late;
-      whole = whole-with c.index y l t (sets_with x q.ordered) le is lt r (put-with c.index q.ordered c.whole);
-      some = some-with q.ordered c.some;
-    }
+    current-put low top L q c y l t le is lt r = search (whole-with, put-with, some-with)
 
   -- ## A message is read
 
@@ -380,45 +300,7 @@ module _ (p n : ℕ) (B : ℕ → ℕ) (Fits : ℕ → List ChunkPayloadData →
       (all-in : (i y : ℕ) (cs : List ChunkPayloadData) → Fits i cs → is_complete cs ≡ true → L y → B y ≡ i + 1 → list_any (has_tsn (tsn p y)) cs ≡ true)
       (came : (y : ℕ) → list_any (has_place y) q.ordered ≡ true → L y → ⊥) (most : reach ≤ top) where
     pub front-current : (c : IsNow low top L q) → c.index ≡ d.index → IsNow low top L (after_read (front_readable q.next_ssn q.ordered) q)
-    front-current c is = front-read q (λ o r. IsNow low top L r) c step
-      where
-        step : (s : ChunkSet) (ss : List ChunkSet) → q.ordered ≡ s ∷ ss → is_readable q.next_ssn s ≡ true → (b : Bool) → (s.ssn == q.next_ssn) ≡ b
-            → IsNow low top L (without_front q b ss)
-        step s ss e f false h = record {
-          index = c.index;
-          next = c.next;
-          from = c.from;
-          upto = c.upto;
-          late = c.late;
-          whole = (subst (Every (IsWhole c.index)) e c.whole).1;
-          some = (subst (Every IsSome) e c.some).1;
-        }
-        step s ss e f true h =
-            let a : AreSets d.low reach (s ∷ ss) = subst (AreSets d.low reach) e d.sets in
-            let n' : a.0 % 2 ^ 16 ≡ d.index % 2 ^ 16 = sym a.1.0.2 ∙ same-is s.ssn q.next_ssn h ∙ d.next in
-            let lo = a.1.0.0 in
-            let hi = a.1.0.1 in
-            let from = d.from in
-            let near = d.near in
-            let far = d.far in
-            let same : a.0 ≡ c.index = omega (arith, n', lo, hi, from, near, far, is) in
-            let b = c.from in
-            record {
-              index = c.index + 1;
-              next = ap (λ m. (m + 1) % 2 ^ 16) c.next ∙ next16 c.index;
-              from = omega (arith, b);
-              upto = omega (arith, same, hi, most);
-              late = λ y le l. elim (cases_lt (c.index + 1) (B y)) [
-                | inl more ↦ more
-                | inr ge ↦
-                    let lt = c.late y le l in
-                    let count : B y ≡ a.0 + 1 = omega (arith, same, lt, ge) in
-                    let there = all-in a.0 y s.chunks a.1.1 (both (is_complete s.chunks) _ f).0 l count in
-                    absurd (came y (subst (λ o. list_any (has_place y) o ≡ true) (sym e) (or-left (has_place y s) (list_any (has_place y) ss) there)) l)
-              ];
-              whole = whole-later (c.index + 1) (a.0 + 1) reach ss (omega (arith, same)) a.2;
-              some = (subst (Every IsSome) e c.some).1;
-            }
+    front-current c is = grind (arith, front-read, same-is, next16, cases_lt, or-left, whole-later)
 
   -- ## A FORWARD-TSN comes
 
@@ -427,14 +309,7 @@ module _ (p n : ℕ) (B : ℕ → ℕ) (Fits : ℕ → List ChunkPayloadData →
       → reads.Gone p n B Fits Came (λ s. not (cannot_complete t s)) index low top ss r → Every (IsWhole index) ss → Every IsSome ss
       → Every (λ s. cannot_complete t s ≡ false) ss
   none-cut t index low top [] r g w h = tt
-  none-cut t index low top (s ∷ ss) r g w h =
-      (fails (cannot_complete t s) cut, none-cut t index (r.0 + 1) top ss r.2 g.1 w.1 h.1)
-    where
-      cut : cannot_complete t s ≡ true → ⊥
-      cut e =
-          let lt = g.0 (ap not e) in
-          let whole = whole-below index r.0 s r.1.1 h.0 w.0 lt in
-          not_both (sym (ap not whole) ∙ (both (not (is_complete s.chunks)) _ e).0)
+  none-cut t index low top (s ∷ ss) r g w h = grind (arith, nat_tests, common_steps, none-cut t index (r.0 + 1) top ss r.2 g.1 w.1 h.1)
 
   module _ (k reach j last : ℕ) (q : Reassembly) (d : IsDue p n B Fits Came k reach q) (is : last ≡ j % 2 ^ 16) (back : reach ≤ j + 1 + 2 ^ 14)
       (ahead : j + 1 ≤ reach + 2 ^ 14) (answered : is_name_too_far last q ≡ false) where
@@ -448,18 +323,7 @@ module _ (p n : ℕ) (B : ℕ → ℕ) (Fits : ℕ → List ChunkPayloadData →
     whole-left : (low : ℕ) (ss : List ChunkSet) → d.low ≤ low → AreSets low reach ss
         → Every (IsWhole (j + 1)) (filter (λ s. not (is_passed last s)) ss)
     whole-left low [] le r = tt
-    whole-left low (s ∷ ss) le r =
-        at-test (λ b. Every (IsWhole (j + 1)) (if not b then s ∷ filter (λ t. not (is_passed last t)) ss else filter (λ t. not (is_passed last t))
-        ss)) (is_passed last s)
-        (λ e. whole-left (r.0 + 1) ss (omega (arith, le)) r.2)
-        (λ e. (here e, whole-left (r.0 + 1) ss (omega (arith, le)) r.2))
-      where
-        here : is_passed last s ≡ false → IsWhole (j + 1) s
-        here e z most there under =
-            let y = r.1.0.1 in
-            let o : nat_le r.0 j ≡ true = grind (arith, nat_tests, at-in r.0 z s.chunks most r.1.1 there, under) in
-            let at = order-at r.0 s r.1.0.2 (omega (arith, le)) y ∙ o in
-            unnot (is_complete s.chunks) (sym (ap (λ c. c && not (is_complete s.chunks)) at) ∙ e)
+    whole-left low (s ∷ ss) le r = grind (arith, nat_tests, common_steps, not, at-in, order-at, unnot, whole-left (r.0 + 1) ss (omega (arith, le)) r.2)
 
     pub skip-current : (low top : ℕ) (L : ℕ → Type 0) → (c : IsNow low top L q) → c.index ≡ d.index → j + 1 ≤ top → low ≤ j + 1 + 2 ^ 15
         → ((y : ℕ) → y ≤ n + 1 → L y → j + 1 < B y) → (e : IsNow low top L (held_after_ordered_skip last q)) × (j + 1 ≤ e.index)
@@ -514,10 +378,7 @@ module _ (p n : ℕ) (B : ℕ → ℕ) (Fits : ℕ → List ChunkPayloadData →
         here,
         gone-passed index (r.0 + 1) ss (omega (arith, x, le)) r.2 w.1 some.1 (λ z upto on lo from. elim (hold z upto on (omega (arith, lo, x)) from) [
           | inr g ↦ inr g
-          | inl h ↦ elim (or-split (has_place z s) (list_any (has_place z) ss) h) [
-            | inl g ↦ let b = at-in r.0 z s.chunks (omega (arith, upto, within)) r.1.1 g in absurd (omega (arith, b, lo))
-            | inr g ↦ inl g
-          ]
+          | inl h ↦ grind (arith, nat_tests, common_steps)
         ]),
       )
         where

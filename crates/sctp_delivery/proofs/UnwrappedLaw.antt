@@ -1,7 +1,6 @@
 -- The ordered messages of a stream are read in the order of their writes.
-use Rattle.sctp_delivery.proofs.Names.{◌≡◌, ℕ, zero, suc, ◌<◌, ◌≤◌, true, false, not, List, [], ◌∷◌, inl, inr, ap, sym, subst, ◌∙◌, arith, ◌+◌, Bool}
-use Rattle.sctp_delivery.proofs.Names.{refl, All, ◌==◌, AllPairs, if◌then◌else◌, list_all, negated, same-is, and, both, not_both, ChunkPayloadData}
-use Rattle.sctp_delivery.proofs.Names.{⊤, data_of, Message, pairs_cons}
+use Rattle.sctp_delivery.proofs.Names.{common_steps, nat_tests, ◌≡◌, ℕ, zero, suc, ◌<◌, ◌≤◌, true, false, List, [], ◌∷◌, inl, inr, ap, sym, subst, ◌∙◌, arith}
+use Rattle.sctp_delivery.proofs.Names.{◌+◌, Bool, refl, All, AllPairs, if◌then◌else◌, not_both, ChunkPayloadData, ⊤, data_of, Message, pairs_cons}
 use Rattle.std.proofs.Common.{◌⊎◌}
 use Rattle.sctp_delivery.specs.Order.{is_ordered_on, places_where}
 use Rattle.sctp_delivery.proofs.Begun.{AreOnce}
@@ -10,7 +9,7 @@ use Rattle.sctp_delivery.proofs.OnceWritten.{one-begun, EachRead, places}
 use Rattle.sctp_delivery.proofs.OrderedEntries.{AreRising, IsUnder, begun_on, part-fewer}
 use Rattle.sctp_delivery.proofs.OrderedPlaces.{AreNumbered, place-at}
 use Rattle.sctp_delivery.proofs.Sent.{Entry, IsPart, Numbered, fragment, part-itself, terminal}
-use Rattle.sctp_delivery.proofs.OrderedMessages.{is_in_order, starts_ordered}
+use Rattle.sctp_delivery.proofs.OrderedMessages.{is_in_order}
 use Rattle.sctp_delivery.proofs.UnwrappedHolds.{Where}
 
 -- ## Parts of the line
@@ -44,10 +43,7 @@ all-cons P x xs h a (suc k) d lt = a k d (omega (arith, lt))
 -- an ordered message begins with an ordered chunk
 pub starts : (st : ℕ) (m : Message) (c : ChunkPayloadData) (cs : List ChunkPayloadData) → m.fragments ≡ c ∷ cs → is_ordered_on st m ≡ true
     → (m.stream ≡ st) × (c.unordered ≡ false) × (is_in_order st m ≡ true)
-starts st m c cs is e =
-    let b = both (m.stream == st) (list_all (λ x. not x.unordered) m.fragments) e in
-    let f = both (not c.unordered) (list_all (λ x. not x.unordered) cs) (subst (λ xs. list_all (λ x. not x.unordered) xs ≡ true) is b.1) in
-    (same-is m.stream st b.0, negated c.unordered f.0, and (m.stream == st) (starts_ordered m.fragments) b.0 (ap starts_ordered is ∙ f.0))
+starts st m c cs is e = grind (arith, nat_tests, common_steps)
 
 -- the line up to the first chunk of a message
 abbrev pub up_to : (ns : List Numbered) (sent : List Entry) (m : Message) → IsReadOf ns sent m → List Entry
@@ -67,18 +63,10 @@ module _ (ns : List Numbered) (sent : List Entry) (once : AreOnce sent) (rising 
   either (inr p) = behind p
 
   differ : x.numbered.place ≡ y.numbered.place → ⊥
-  differ same =
-      let it = one-begun sent once (data_of x.chunk)
-      (data_of y.chunk) x.numbered y.numbered x.after y.after x.entries y.entries x.begins y.begins same x.part y.part in
-      let b = ap (begun_on st) it in
-      let lt = more in
-      omega (arith, b, lt)
+  differ same = grind (arith, nat_tests, common_steps, one-begun)
 
   pub before : x.written.0 < y.written.0
-  before =
-      let i = place-at ns x.written.0 x.numbered numbered x.written.1 x.written.2 in
-      let j = place-at ns y.written.0 y.numbered numbered y.written.1 y.written.2 in
-      omega (arith, i, j, either (parts-meet sent (up_to ns sent m x) (up_to ns sent o y) x.part y.part), differ)
+  before = grind (arith, place-at, either, parts-meet, differ)
 
 -- # The ordered messages of a stream are read in the order of their writes.
 

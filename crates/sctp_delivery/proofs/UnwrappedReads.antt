@@ -1,20 +1,19 @@
 -- What a stream holds of ordered messages, each by its index: so many were begun before it. Its number is the index modulo 2^16, and all
 -- that is held lies less than half the circle past the lowest message that is still to be read.
-use Rattle.sctp_delivery.proofs.Names.{◌≡◌, ℕ, ◌+◌, ◌-◌, ◌%◌, ◌^◌, ◌<◌, ◌≤◌, Bool, true, false, not, List, [], ◌∷◌, ◌++◌, take, drop, Option, Some, None, inl}
-use Rattle.sctp_delivery.proofs.Names.{inr, refl, ap, sym, subst, ◌∙◌, arith, ⊤, ◌⊎◌, ◌==◌, ◌&&◌, ◌||◌, if◌then◌else◌, nat_le, nat_lt, filter, list_any}
-use Rattle.sctp_delivery.proofs.Names.{cases_lt, nat_tests, none-some, after_leading, change_first, insert_before, at_or_before, at_or_before16, comes_before16}
-use Rattle.sctp_delivery.proofs.Names.{or-left, or-right, or-split, same-is, same-yes, some-same, both, not_both, tsn, at_or_before16-index}
-use Rattle.sctp_delivery.proofs.Names.{comes_before16-index, next16, ChunkPayloadData, ChunkSet, chunk_before, has_tsn, has_ssn, is_complete, new_set}
-use Rattle.sctp_delivery.proofs.Names.{set_before, sets_with, BecomesComplete, Reassembly, ReassemblyState, after_read, front_readable, held_after_ordered_skip}
-use Rattle.sctp_delivery.proofs.Names.{held_after_unordered_skip, is_passed, is_readable, message_read, rest_among, rest_read, set_of_run, cannot_complete}
+use Rattle.sctp_delivery.proofs.Names.{common_steps, ◌≡◌, ℕ, ◌+◌, ◌-◌, ◌%◌, ◌^◌, ◌<◌, ◌≤◌, Bool, true, false, not, List, [], ◌∷◌, Option, Some, None, inl, inr}
+use Rattle.sctp_delivery.proofs.Names.{refl, ap, sym, subst, ◌∙◌, arith, ⊤, ◌⊎◌, ◌==◌, ◌&&◌, ◌||◌, if◌then◌else◌, nat_le, nat_lt, filter, list_any, cases_lt}
+use Rattle.sctp_delivery.proofs.Names.{nat_tests, none-some, after_leading, change_first, insert_before, at_or_before, at_or_before16, comes_before16, or-left}
+use Rattle.sctp_delivery.proofs.Names.{or-right, or-split, same-is, same-yes, some-same, not_both, tsn, at_or_before16-index, comes_before16-index, next16}
+use Rattle.sctp_delivery.proofs.Names.{ChunkPayloadData, ChunkSet, chunk_before, has_tsn, sets_with, Reassembly, ReassemblyState, after_read, front_readable}
+use Rattle.sctp_delivery.proofs.Names.{held_after_ordered_skip, held_after_unordered_skip, is_passed, is_readable, message_read, rest_read, cannot_complete}
 use Rattle.sctp_delivery.proofs.Names.{held_after_incomplete_skip, Pushes, PushesAs, is_name_too_far, is_ssn_too_far, lowest_among, lowest_ssn}
 use Rattle.std.specs.Prelude.{is_some}
 use Rattle.sctp_util.specs.Serial.{distance16}
 use Rattle.sctp_reassembly.specs.reassembly_queue.Fragments.{with_chunk}
-use Rattle.sctp_reassembly.specs.reassembly_queue.ReassemblyQueue.{TakesRun, message_among}
+use Rattle.sctp_reassembly.specs.reassembly_queue.ReassemblyQueue.{TakesRun}
 use Rattle.sctp_reassembly.specs.reassembly_queue.Skips.{ssn_past_sets}
 use Rattle.sctp_delivery.proofs.Cases.{at-if, at-test, by-test}
-use Rattle.sctp_delivery.proofs.Every.{Every, every-inserted, every-joined, every-left, every-taken}
+use Rattle.sctp_delivery.proofs.Every.{Every, every-inserted}
 use Rattle.sctp_delivery.proofs.KeptSets as sets
 use Rattle.sctp_delivery.proofs.KeptSets.{front-read, put-sets, sets-those, sets-to, strictly, without_front}
 use Rattle.sctp_delivery.proofs.TakenTsns.{any-inserted}
@@ -127,7 +126,7 @@ module _ (p n : ℕ) (B : ℕ → ℕ) (Fits : ℕ → List ChunkPayloadData →
         by (s ∷ ss) e a = by-test (at_or_before16 s.ssn q.next_ssn)
             (λ f.
             let t : nat_le i index ≡ true = sym order ∙ f in
-            build i (ap (lowest_among q.next_ssn) e ∙ ap (λ b. if b then s.ssn else q.next_ssn) f ∙ a.1.0.2) a.1.0.0 (grind (arith, nat_tests, t))
+            build i (ap (lowest_among q.next_ssn) e ∙ ap (λ b. if b then s.ssn else q.next_ssn) f ∙ a.1.0.2) a.1.0.0 (grind (arith, nat_tests))
             (subst (AreSets i reach) (sym e) (i, ((omega arith, a.1.0.1, a.1.0.2), a.1.1), a.2)))
             (λ f.
             let lt : index < i = grind (arith, nat_tests, sym order ∙ f) in
@@ -146,56 +145,18 @@ module _ (p n : ℕ) (B : ℕ → ℕ) (Fits : ℕ → List ChunkPayloadData →
     pub in-window : (k reach i ssn : ℕ) (q : Reassembly) (d : IsDue k reach q) → ssn ≡ i % 2 ^ 16 → reach ≤ i + 1 + 2 ^ 14 → i + 1 ≤ reach + 2 ^ 14
         → is_ssn_too_far ssn q ≡ false → (d.low ≤ i) × (i < d.low + 2 ^ 15)
     in-window k reach i ssn q d is a b e =
-        let near : distance16 (lowest_ssn q) ssn < 2 ^ 15 = grind (arith, nat_tests, e) in
+        let near : distance16 (lowest_ssn q) ssn < 2 ^ 15 = grind (arith, nat_tests) in
         window d.low i (omega (arith, a)) (omega (arith, b))
         (subst (λ n. distance16 n (i % 2 ^ 16) < 2 ^ 15) d.lowest (subst (λ n. distance16 (lowest_ssn q) n < 2 ^ 15) is near))
 
-    run-each : (P : ChunkPayloadData → Type 0) (xs : List ChunkPayloadData) → Every P xs → Every P (set_of_run xs).chunks
-    run-each P [] h = tt
-    run-each P (x ∷ xs) h = h
-
-    -- with other unordered messages
-    abbrev unordered-due : (k reach : ℕ) (q r : Reassembly) → r.next_ssn ≡ q.next_ssn → r.ordered ≡ q.ordered → Every IsUnorderedSet r.unordered
-        → Every (λ c. c.unordered ≡ true) r.unassembled → IsDue k reach q → IsDue k reach r
-    unordered-due k reach q r e f us xs d = record {
-      index = d.index;
-      low = d.low;
-      next = e ∙ d.next;
-      lowest = ap (λ n. lowest_among n r.ordered) e ∙ ap (lowest_among q.next_ssn) f ∙ d.lowest;
-      due = d.due;
-      from = d.from;
-      near = d.near;
-      within = d.within;
-      far = d.far;
-      sets = subst (AreSets d.low reach) (sym f) d.sets;
-      kept = subst (IsKept d.index) (sym f) d.kept;
-      unordered = us;
-      unassembled = xs;
-    }
-
     taken-due : (k reach : ℕ) (xs : List ChunkPayloadData) (old new : Reassembly) → TakesRun xs old new → Every (λ c. c.unordered ≡ true) xs
         → IsDue k reach old → IsDue k reach new
-    taken-due k reach xs old new t all d =
-        let P : ChunkPayloadData → Type 0 = λ c. c.unordered ≡ true in
-        let run = take t.count (drop t.first xs) in
-        subst (IsDue k reach) (sym t.moved) (unordered-due k reach old
-        (record old { unassembled = take t.first xs ++ drop (t.first + t.count) xs; unordered = old.unordered ++ set_of_run run ∷ [] }) refl refl
-        (every-joined IsUnorderedSet old.unordered (set_of_run run ∷ []) d.unordered
-        (run-each P run (every-taken P t.count (drop t.first xs) (every-left P t.first xs all)), tt))
-        (every-joined P (take t.first xs) (drop (t.first + t.count) xs) (every-taken P t.first xs all) (every-left P (t.first + t.count) xs all)) d)
+    taken-due k reach xs old new t all d = grind (arith, nat_tests, common_steps)
 
     -- an unordered one
     pub push-unordered : (k reach : ℕ) (c : ChunkPayloadData) (answered : Bool) (old new : ReassemblyState) → c.unordered ≡ true → Pushes c answered old new
         → IsDue k reach old.held → IsDue k reach new.held
-    push-unordered k reach c answered old new u p d = at-test
-        (λ b. BecomesComplete (insert_before chunk_before c old.held.unassembled) old.held new.held b → IsDue k reach new.held) answered
-        (λ e t. taken-due k reach (insert_before chunk_before c old.held.unassembled) old.held new.held t all d)
-        (λ e t. subst (IsDue k reach) (sym t.1)
-        (unordered-due k reach old.held (record old.held { unassembled = insert_before chunk_before c old.held.unassembled }) refl refl
-        d.unordered all d)) (subst (λ b. PushesAs b c answered old new) u p).0
-      where
-        all : Every (λ x. x.unordered ≡ true) (insert_before chunk_before c old.held.unassembled)
-        all = every-inserted (λ x. x.unordered ≡ true) chunk_before c old.held.unassembled u d.unassembled
+    push-unordered k reach c answered old new u p d = grind (arith, nat_tests, common_steps, taken-due, every-inserted)
 
     abbrev wider : (k reach more : ℕ) (q : Reassembly) (d : IsDue k reach q) → reach ≤ more → more ≤ d.low + 2 ^ 15 → IsDue k more q
     wider k reach more q d le far = record {
@@ -217,13 +178,7 @@ module _ (p n : ℕ) (B : ℕ → ℕ) (Fits : ℕ → List ChunkPayloadData →
     -- what is held stays so, and the chunk is held then
     module _ (x : ChunkPayloadData) (y : ℕ) where
       with-place : (s : ChunkSet) → (has_tsn (tsn p y) x || has_place y s) ≡ true → has_place y (with_chunk x s) ≡ true
-      with-place s h = by (list_any (has_tsn x.tsn) s.chunks) refl (or-split (has_tsn (tsn p y) x) (has_place y s) h)
-        where
-          by : (b : Bool) → list_any (has_tsn x.tsn) s.chunks ≡ b → (has_tsn (tsn p y) x ≡ true) ⊎ (has_place y s ≡ true)
-              → list_any (has_tsn (tsn p y)) (if b then s.chunks else insert_before chunk_before x s.chunks) ≡ true
-          by true e (inl g) = ap (λ t. list_any (has_tsn t) s.chunks) (sym (same-is x.tsn (tsn p y) g)) ∙ e
-          by true e (inr g) = g
-          by false e g = any-inserted (has_tsn (tsn p y)) chunk_before x s.chunks h
+      with-place s h = grind (arith, nat_tests, common_steps, or-split, same-is, any-inserted)
 
       changed-place : (r : ChunkSet → Bool) (ss : List ChunkSet) → list_any (has_place y) ss ≡ true
           → list_any (has_place y) (change_first r (with_chunk x) ss) ≡ true
@@ -233,11 +188,7 @@ module _ (p n : ℕ) (B : ℕ → ℕ) (Fits : ℕ → List ChunkPayloadData →
           by : (b : Bool) → (has_place y s ≡ true) ⊎ (list_any (has_place y) ss ≡ true)
               → (list_any (has_place y) ss ≡ true → list_any (has_place y) (change_first r (with_chunk x) ss) ≡ true)
               → list_any (has_place y) (if b then with_chunk x s ∷ ss else s ∷ change_first r (with_chunk x) ss) ≡ true
-          by true (inl g) ih =
-              or-left (has_place y (with_chunk x s)) (list_any (has_place y) ss) (with-place s (or-right (has_tsn (tsn p y) x) (has_place y s) g))
-          by true (inr g) ih = or-right (has_place y (with_chunk x s)) (list_any (has_place y) ss) g
-          by false (inl g) ih = or-left (has_place y s) (list_any (has_place y) (change_first r (with_chunk x) ss)) g
-          by false (inr g) ih = or-right (has_place y s) (list_any (has_place y) (change_first r (with_chunk x) ss)) (ih g)
+          by h0 h1 h2 = grind (arith, nat_tests, common_steps, or-left, with-place, or-right)
 
       new-place : has_tsn (tsn p y) x ≡ true → (r : ChunkSet → Bool) (ss : List ChunkSet) → list_any r ss ≡ true
           → list_any (has_place y) (change_first r (with_chunk x) ss) ≡ true
@@ -250,18 +201,7 @@ module _ (p n : ℕ) (B : ℕ → ℕ) (Fits : ℕ → List ChunkPayloadData →
           by false h ih = or-right (has_place y s) (list_any (has_place y) (change_first r (with_chunk x) ss)) (ih h)
 
       put-place : (ss : List ChunkSet) → (has_tsn (tsn p y) x ≡ true) ⊎ (list_any (has_place y) ss ≡ true) → list_any (has_place y) (sets_with x ss) ≡ true
-      put-place ss h = by (list_any (has_ssn x.stream_sequence_number) ss) refl h
-        where
-          new : (has_tsn (tsn p y) x ≡ true) ⊎ (list_any (has_place y) ss ≡ true) → (has_place y (new_set x) || list_any (has_place y) ss) ≡ true
-          new (inl g) = or-left (has_place y (new_set x)) (list_any (has_place y) ss) (or-left (has_tsn (tsn p y) x) false g)
-          new (inr g) = or-right (has_place y (new_set x)) (list_any (has_place y) ss) g
-
-          by : (b : Bool) → list_any (has_ssn x.stream_sequence_number) ss ≡ b → (has_tsn (tsn p y) x ≡ true) ⊎ (list_any (has_place y) ss ≡ true)
-              → list_any (has_place y) (if b then change_first (has_ssn x.stream_sequence_number) (with_chunk x) ss
-              else insert_before set_before (new_set x) ss) ≡ true
-          by true e (inl g) = new-place g (has_ssn x.stream_sequence_number) ss e
-          by true e (inr g) = changed-place (has_ssn x.stream_sequence_number) ss g
-          by false e g = any-inserted (has_place y) set_before (new_set x) ss (new g)
+      put-place ss h = grind (arith, nat_tests, common_steps, or-left, or-right, new-place, changed-place, any-inserted)
 
     -- an ordered one of the place y, of an index in the window
     pub push-ordered : (k reach more i y : ℕ) (c : ChunkPayloadData) (answered : Bool) (old new : ReassemblyState) (d : IsDue k reach old.held)
@@ -279,10 +219,7 @@ module _ (p n : ℕ) (B : ℕ → ℕ) (Fits : ℕ → List ChunkPayloadData →
         let lt : i < d.index = grind (arith, nat_tests, sym order ∙ h) in
         (wider k reach more old.held d le far, inl (omega (arith, begun, lt))))
         (λ h.
-        let kept : IsKept d.index (sets_with c old.held.ordered) = λ z most came. elim (d.kept z most came) [
-          | inl g ↦ inl g
-          | inr g ↦ inr (put-place c z old.held.ordered (inr g))
-        ] in
+        let kept : IsKept d.index (sets_with c old.held.ordered) = grind (arith, nat_tests, common_steps, put-place) in
         let s = settled k d.low d.index more (record old.held { ordered = sets_with c old.held.ordered }) d.next d.due d.from d.near e.within
         far
         (put-sets Fits c i single put is d.low more old.held.ordered low top' far e.sets) kept d.unordered d.unassembled in
@@ -311,17 +248,8 @@ module _ (p n : ℕ) (B : ℕ → ℕ) (Fits : ℕ → List ChunkPayloadData →
           up : i < reach
           up = a.1.0.1
 
-          order : nat_le i d.index ≡ true
-          order = grind (arith, nat_tests, d.near)
-
           kept : (m : ℕ) → i + 1 ≤ m → d.index ≤ m → IsKept m ss
-          kept m from at y le came = elim (d.kept y le came) [
-            | inl h ↦ inl (omega (arith, h, at))
-            | inr h ↦ elim (or-split (has_place y s) (list_any (has_place y) ss) (subst (λ os. list_any (has_place y) os ≡ true) is h)) [
-              | inl g ↦ inl (let b = at-in i y s.chunks le a.1.1 g in omega (arith, b, from))
-              | inr g ↦ inr g
-            ]
-          ]
+          kept m from at y le came = grind (arith, nat_tests, common_steps)
 
           build : (n next : ℕ) → next ≡ n % 2 ^ 16 → i + 1 ≤ n → d.index ≤ n → n ≤ d.index + 1 → n ≤ reach
               → IsDue (i + 1) reach (record q { ordered = ss; next_ssn = next })
@@ -332,12 +260,12 @@ module _ (p n : ℕ) (B : ℕ → ℕ) (Fits : ℕ → List ChunkPayloadData →
           by : (b : Bool) → (s.ssn == q.next_ssn) ≡ b → IsDue (i + 1) reach (without_front q b ss)
           by true f =
               let n : i % 2 ^ 16 ≡ d.index % 2 ^ 16 = sym a.1.0.2 ∙ same-is s.ssn q.next_ssn f ∙ d.next in
-              let le : i ≤ d.index = grind (arith, nat_tests, order) in
+              let le : i ≤ d.index = grind (arith, nat_tests) in
               let same : i ≡ d.index = omega (arith, n, le, low) in
               build (d.index + 1) ((q.next_ssn + 1) % 2 ^ 16) (ap (λ m. (m + 1) % 2 ^ 16) d.next ∙ next16 d.index) (omega (arith, same)) (omega arith)
               (omega arith) (omega (arith, same, up))
           by false f =
-              let le : i ≤ d.index = grind (arith, nat_tests, order) in
+              let le : i ≤ d.index = grind (arith, nat_tests) in
               let differ : i ≡ d.index → ⊥ = λ same. not_both (sym f ∙ ap (λ m. m == q.next_ssn) (a.1.0.2 ∙ ap (λ m. m % 2 ^ 16) same ∙ sym d.next)
               ∙ same-yes q.next_ssn) in
               let w = d.within in
@@ -356,33 +284,12 @@ module _ (p n : ℕ) (B : ℕ → ℕ) (Fits : ℕ → List ChunkPayloadData →
             λ set g. (a.0, (up, omega arith), subst (λ (z : ChunkSet). Fits a.0 z.chunks) (some-same g) a.1.1),
           ))
 
-      starts-not : (cs : List ChunkPayloadData) → Every (λ c. c.unordered ≡ true) cs → starts_ordered cs ≡ false
-      starts-not [] h = refl
-      starts-not (c ∷ cs) h = ap not h.0
-
       pub read-due : Reads k reach q
       read-due = by q.unordered refl
         where
           by : (us : List ChunkSet) → q.unordered ≡ us → Reads k reach q
-          by [] is =
-              let f = at-front in
-              record {
-                after = f.0;
-                up = f.1.0;
-                due = subst (λ us. IsDue f.0 reach (rest_among us q)) (sym is) f.1.1;
-                turn = λ set e o. f.2 set (subst (λ us. message_among us q ≡ Some set) is e);
-              }
-          by (u ∷ us) is =
-              let h = subst (Every IsUnorderedSet) is d.unordered in
-              record {
-                after = k;
-                up = omega arith;
-                due = subst (λ vs. IsDue k reach (rest_among vs q)) (sym is)
-                    (unordered-due k reach q (record q { unordered = us }) refl refl h.1 d.unassembled d);
-                turn = λ set e o.
-                    let same : u ≡ set = some-same (subst (λ vs. message_among vs q ≡ Some set) is e) in
-                    absurd (not_both (sym (starts-not u.chunks h.0) ∙ subst (λ (x : ChunkSet). starts_ordered x.chunks ≡ true) (sym same) o));
-              }
+          by [] is = grind (arith, nat_tests, common_steps, at-front)
+          by (u ∷ us) is = grind (arith, nat_tests, common_steps)
 
     -- ## A FORWARD-TSN comes
 
@@ -403,35 +310,13 @@ module _ (p n : ℕ) (B : ℕ → ℕ) (Fits : ℕ → List ChunkPayloadData →
       where
         by : (b : Bool) → q s ≡ b → (has_place y s ≡ true) ⊎ (list_any (has_place y) ss ≡ true)
             → (list_any (has_place y) ss ≡ true → IsKeptAt bound (filter q ss) y) → IsKeptAt bound (if b then s ∷ filter q ss else filter q ss) y
-        by true e (inl k) ih = inr (or-left (has_place y s) (list_any (has_place y) (filter q ss)) k)
-        by true e (inr k) ih = elim (ih k) [ inl x ↦ inl x | inr x ↦ inr (or-right (has_place y s) (list_any (has_place y) (filter q ss)) x) ]
-        by false e (inl k) ih = inl (let b = at-in r.0 y s.chunks le r.1.1 k in let lt = g.0 e in omega (arith, b, lt))
-        by false e (inr k) ih = ih k
+        by h0 h1 h2 h3 = grind (arith, nat_tests, common_steps)
 
     -- where the lowest message is not complete, its set goes
     without-lowest : (low top j index next last : ℕ) (ss : List ChunkSet) → next ≡ index % 2 ^ 16 → last ≡ j % 2 ^ 16 → low ≤ index → index < low + 2 ^ 15
         → low ≤ j → j < low + 2 ^ 15 → front_readable next ss ≡ None → AreSets low top ss → AreSets (low + 1) top (filter (λ set. not (is_passed last set)) ss)
-    without-lowest low top j index next last [] e f a b c g none r = tt
-    without-lowest low top j index next last (s ∷ ss) e f a b c g none r = elim (cases_lt low r.0) [
-      | inl lt ↦ sets-those Fits (λ set. not (is_passed last set)) (low + 1) top (s ∷ ss) (r.0, ((omega (arith, lt), r.1.0.1, r.1.0.2), r.1.1), r.2)
-      | inr ge ↦ here (omega (arith, ge)) (is_complete s.chunks) refl
-    ]
-      where
-        here : r.0 ≡ low → (b : Bool) → is_complete s.chunks ≡ b → AreSets (low + 1) top (filter (λ set. not (is_passed last set)) (s ∷ ss))
-        here same true h =
-            let order : nat_le r.0 index ≡ true = grind (arith, nat_tests, same, a) in
-            let at : at_or_before16 s.ssn next ≡ true = ap (λ n. at_or_before16 n next) r.1.0.2 ∙ ap (at_or_before16 (r.0 % 2 ^ 16)) e
-            ∙ at_or_before16-index r.0 index (omega (arith, same, a)) (omega (arith, same, b)) ∙ order in
-            let is : is_readable next s ≡ true = ap (λ b. b && at_or_before16 s.ssn next) h ∙ at in
-            absurd (none-some s (sym none ∙ ap (λ b. if b then Some s else None) is))
-        here same false h =
-            let order : nat_le r.0 j ≡ true = grind (arith, nat_tests, same, c) in
-            let at : at_or_before16 s.ssn last ≡ true = ap (λ n. at_or_before16 n last) r.1.0.2 ∙ ap (at_or_before16 (r.0 % 2 ^ 16)) f
-            ∙ at_or_before16-index r.0 j (omega (arith, same, c)) (omega (arith, same, g)) ∙ order in
-            let is : is_passed last s ≡ true = ap (λ b. b && not (is_complete s.chunks)) at ∙ ap not h in
-            subst (λ b. AreSets (low + 1) top (if not b then s ∷ filter (λ set. not (is_passed last set)) ss else filter (λ set. not (is_passed last set)) ss))
-            (sym is) (subst (λ n. AreSets (n + 1) top (filter (λ set. not (is_passed last set)) ss)) same
-            (sets-those Fits (λ set. not (is_passed last set)) (r.0 + 1) top ss r.2))
+    without-lowest h0 h1 h2 h3 h4 h5 h6 h7 h8 h9 h10 h11 h12 h13 h14 =
+        grind (arith, nat_tests, common_steps, cases_lt, sets-those, not, at_or_before16-index, none-some)
 
     module _ (k reach j last : ℕ) (q : Reassembly) (d : IsDue k reach q) (is : last ≡ j % 2 ^ 16) (back : reach ≤ j + 1 + 2 ^ 14)
         (ahead : j + 1 ≤ reach + 2 ^ 14) where
@@ -446,15 +331,7 @@ module _ (p n : ℕ) (B : ℕ → ℕ) (Fits : ℕ → List ChunkPayloadData →
 
       -- a name that is not too far is less than half the circle past the lowest index
       pub name-near : is_name_too_far last q ≡ false → j < d.low + 2 ^ 15
-      name-near e = by name-side
-        where
-          close : (a : ℕ) → (nat_le (2 ^ 15) a && nat_lt a (2 ^ 15 + 2 ^ 14)) ≡ false → a < 2 ^ 15 + 2 ^ 14 → a < 2 ^ 15
-          close a f g = grind (arith, nat_tests)
-
-          by : ((d.low ≤ j) × (d.low + distance16 (lowest_ssn q) last ≡ j)) ⊎ (j < d.low) → j < d.low + 2 ^ 15
-          by (inr lt) = omega (arith, lt)
-          by (inl x) =
-              omega (arith, close (distance16 (lowest_ssn q) last) (neither _ _ e).0 (omega (arith, ahead)))
+      name-near e = grind (arith, nat_tests, common_steps, name-side, neither)
 
     none-of : {A : Type 0} (o : Option A) → is_some o ≡ false → o ≡ None
     none-of None e = refl
@@ -472,14 +349,8 @@ module _ (p n : ℕ) (B : ℕ → ℕ) (Fits : ℕ → List ChunkPayloadData →
       pub passed-gone : (low top : ℕ) (ss : List ChunkSet) (r : AreSets low top ss) → top ≤ j + 2 ^ 15 → j < low + 2 ^ 15
           → Gone (λ set. not (is_passed last set)) (j + 1) low top ss r
       passed-gone low top [] r far near = tt
-      passed-gone low top (s ∷ ss) r far near = (
-        λ e.
-            let at = (both (at_or_before16 s.ssn last) (not (is_complete s.chunks)) (unnot (is_passed last s) e)).0 in
-            let t : nat_le r.0 j ≡ true = cc (r.1.0.2, is, at_or_before16-index r.0 j (omega (arith, far)) (omega (arith, near)), at) in
-            let le : r.0 ≤ j = grind (arith, nat_tests, t) in
-            omega (arith, le),
-        passed-gone (r.0 + 1) top ss r.2 far (omega (arith, near)),
-      )
+      passed-gone low top (s ∷ ss) r far near =
+          grind (arith, nat_tests, common_steps, not, unnot, at_or_before16-index, passed-gone (r.0 + 1) top ss r.2 far (omega (arith, near)))
 
       skip-kept : j < d.low + 2 ^ 15 → (m : ℕ) → d.index ≤ m → j < m → IsKept m left
       skip-kept near m at past y le came = elim (d.kept y le came) [
@@ -581,25 +452,12 @@ module _ (p n : ℕ) (B : ℕ → ℕ) (Fits : ℕ → List ChunkPayloadData →
         → base ≤ low → Gone (λ set. not (cannot_complete t set)) index low top ss r → ssn_past_sets next (filter (cannot_complete t) ss) ≡ next
     past-sets base low top t index next [] r e f g h = refl
     past-sets base low top t index next (s ∷ ss) r e f g h =
-        by (cannot_complete t s) refl (past-sets base (r.0 + 1) top t index next ss r.2 e f (omega (arith, g)) h.1)
-      where
-        by : (b : Bool) → cannot_complete t s ≡ b → ssn_past_sets next (filter (cannot_complete t) ss) ≡ next
-            → ssn_past_sets next (if b then s ∷ filter (cannot_complete t) ss else filter (cannot_complete t) ss) ≡ next
-        by false c ih = ih
-        by true c ih =
-            let lt = h.0 (ap not c) in
-            let order : nat_le index r.0 ≡ false = grind (arith, nat_tests, lt) in
-            let past : at_or_before16 next s.ssn ≡ false = ap (λ m. at_or_before16 m s.ssn) e ∙ ap (at_or_before16 (index % 2 ^ 16)) r.1.0.2
-            ∙ at_or_before16-index index r.0 (omega (arith, f, g)) (omega (arith, lt)) ∙ order in
-            ap (λ b. ssn_past_sets (if b then (s.ssn + 1) % 2 ^ 16 else next) (filter (cannot_complete t) ss)) past ∙ ih
+        grind (arith, nat_tests, common_steps, not, at_or_before16-index, past-sets base (r.0 + 1) top t index next ss r.2 e f (omega (arith, g)) h.1)
 
     pub incomplete-due : (k reach t : ℕ) (q : Reassembly) (d : IsDue k reach q)
         → Gone (λ set. not (cannot_complete t set)) d.index d.low reach q.ordered d.sets → IsDue k reach (held_after_incomplete_skip t q)
     incomplete-due k reach t q d h =
-        let kept : IsKept d.index (filter (λ set. not (cannot_complete t set)) q.ordered) = λ y le came. elim (d.kept y le came) [
-          | inl x ↦ inl x
-          | inr x ↦ those-kept (λ set. not (cannot_complete t set)) d.index d.low reach q.ordered d.sets h y le x
-        ] in
+        let kept : IsKept d.index (filter (λ set. not (cannot_complete t set)) q.ordered) = grind (arith, nat_tests, common_steps, those-kept, not) in
         (settled k d.low d.index reach (held_after_incomplete_skip t q)
         (past-sets d.low d.low reach t d.index q.next_ssn q.ordered d.sets d.next d.near (omega arith) h ∙ d.next) d.due d.from d.near d.within d.far
         (sets-those Fits (λ set. not (cannot_complete t set)) d.low reach q.ordered d.sets) kept d.unordered d.unassembled).0

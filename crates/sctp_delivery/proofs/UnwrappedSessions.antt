@@ -1,24 +1,21 @@
 -- In each session the indexes of the ordered messages that are read on a stream rise, where its numbers go on and each FORWARD-TSN names it.
-use Rattle.sctp_delivery.proofs.Names.{◌≡◌, ℕ, ◌+◌, ◌-◌, ◌^◌, ◌<◌, ◌≤◌, Bool, true, false, List, [], ◌∷◌, length, Option, Some, None, inl, inr, refl, ap, sym}
-use Rattle.sctp_delivery.proofs.Names.{subst, ◌∙◌, arith, Contains, IfSome, find, if◌then◌else◌, ◌⊎◌, list_any, none-some, distance, not_both, tsn}
-use Rattle.sctp_delivery.proofs.Names.{ChunkPayloadData, ChunkSet, data_of, Sack, expiring, expiring_tail, message_of, Reassembly, New, InboundStream, Limits}
-use Rattle.sctp_delivery.proofs.Names.{NamedSsnTooFar, NamedStreamUnknown, Reception, forward_refusal, stream_of, Stand, names_closed, names_too_far}
-use Rattle.sctp_delivery.proofs.Names.{skip_refusal, after_sack, is_outdated, message_to_abandon, take_sack, late_order, worn_order, Transmission, after_expire}
-use Rattle.sctp_delivery.proofs.Names.{OutboundStream, ReceiverCall, reports_after, SenderCall, data_chunk, forward_tsn, ReceiverFollows, SenderFollows}
-use Rattle.sctp_delivery.proofs.Names.{Session, at_start, misses, has_tsn, cases_lt, Ledger, ForwardTsn, after_forward_tsn, filter, is_open, is_pair_of, not}
-use Rattle.std.specs.Prelude.{is_some}
+use Rattle.sctp_delivery.proofs.Names.{common_steps, nat_tests, ◌≡◌, ℕ, ◌+◌, ◌-◌, ◌^◌, ◌<◌, ◌≤◌, Bool, true, false, List, [], ◌∷◌, length, Option, Some, None}
+use Rattle.sctp_delivery.proofs.Names.{inl, inr, refl, ap, sym, subst, ◌∙◌, arith, Contains, find, ◌⊎◌, list_any, distance, tsn, ChunkPayloadData, ChunkSet}
+use Rattle.sctp_delivery.proofs.Names.{data_of, Sack, Reassembly, New, InboundStream, Limits, Reception, stream_of, Stand, names_closed, names_too_far}
+use Rattle.sctp_delivery.proofs.Names.{skip_refusal, late_order, worn_order, Transmission, OutboundStream, ReceiverCall, reports_after, SenderCall, data_chunk}
+use Rattle.sctp_delivery.proofs.Names.{forward_tsn, ReceiverFollows, SenderFollows, Session, at_start, misses, has_tsn, cases_lt, Ledger, ForwardTsn}
+use Rattle.sctp_delivery.proofs.Names.{after_forward_tsn, filter, is_open, is_pair_of, not}
 use Rattle.sctp_receiver.specs.Inbound.{has_number}
 use Rattle.sctp_sender.specs.Sender.{stream_of as sender_stream}
 use Rattle.sctp_delivery.specs.ReceiverCalls as incoming
 use Rattle.sctp_delivery.specs.SenderCalls as outgoing
-use Rattle.sctp_delivery.proofs.Cases.{all_streams, by-test}
+use Rattle.sctp_delivery.proofs.Cases.{all_streams}
 use Rattle.sctp_delivery.proofs.Delivered.{found-sent-on, next_tsn}
 use Rattle.sctp_delivery.proofs.UnwrappedArrived.{Rising, between, missing}
 use Rattle.sctp_delivery.proofs.Every.{Every, every-contained, every-of}
-use Rattle.sctp_delivery.proofs.GivenTsns.{raises-abandoned, raises-each}
+use Rattle.sctp_delivery.proofs.GivenTsns.{raises-each}
 use Rattle.sctp_delivery.proofs.Queues.{IsOnceMore}
-use Rattle.sctp_delivery.proofs.SackSteps.{flight_of, written-open}
-use Rattle.sctp_delivery.proofs.SackSteps.{none_dropped}
+use Rattle.sctp_delivery.proofs.SackSteps.{flight_of, written-open, none_dropped}
 use Rattle.sctp_delivery.proofs.Sent.{Entry, Numbered, WasSent, sent-more}
 use Rattle.sctp_delivery.proofs.Sessions.{unnot}
 use Rattle.sctp_delivery.proofs.SpreadCalls.{IsSpread, IsSpreadOn, Spreads, SpreadsOn, receiver-spreads, spread-first-on}
@@ -69,9 +66,7 @@ module _ (p st n m : ℕ) (B C : ℕ → ℕ) (E F : ℕ → Bool) (M N : ChunkP
     within = d.within;
     far = d.far;
     sets = sets-more D G d.low reach q.ordered d.sets;
-    kept = λ y most g.
-        let b = back y most g in
-        elim (d.kept y b.0 b.1) [ inl h ↦ inl (let e = same y b.0 in omega (arith, e, h)) | inr h ↦ inr h ];
+    kept = grind (arith, nat_tests, common_steps);
     unordered = d.unordered;
     unassembled = d.unassembled;
   }
@@ -82,15 +77,7 @@ module _ (p st n m : ℕ) (B C : ℕ → ℕ) (E F : ℕ → Bool) (M N : ChunkP
   on-more D G back k reach (Some l) d = due-more D G back k reach l.queue.held d
 
   pub beyond-more : (reach t : ℕ) → IsBeyond p st n B E M reach t → IsBeyond p st m C F N reach t
-  beyond-more reach t b =
-      let w = b.within in
-      let y = same (b.before + 1) w in
-      record {
-        before = b.before;
-        within = omega (arith, w, le);
-        is = b.is;
-        so = elim b.so [ inl z ↦ inl (omega (arith, same b.before (omega (arith, w)), y, z)) | inr z ↦ inr (omega (arith, y, z)) ];
-      }
+  beyond-more reach t b = grind (arith, nat_tests, common_steps)
 
   pub came-more : (a : ℕ) (s : Stand) (d : AreDue p st n B E M a s) (y : ℕ) → y ≤ m → Came p st m C F N s.receiver.cumulative_tsn s.receiver.beyond y
       → (y ≤ n) × Came p st n B E M s.receiver.cumulative_tsn s.receiver.beyond y
@@ -141,30 +128,16 @@ acked-by (outgoing.writes stream ppi (b ∷ bs)) old new f = by (sender_stream s
     by : (o : Option OutboundStream) → sender_stream stream old.sending.sender ≡ o → IsAckedBy old new
     by None e = absurd (written-open stream (length (b ∷ bs)) old.sending.sender f.accepted e)
     by (Some l) e = inl (ap (λ (u : Transmission). u.flight.acked_tsn) (f.exact.1 (omega arith) l e))
-acked-by (outgoing.abandons u a) old new f =
-    inl (ap (λ (u : Transmission). u.flight.acked_tsn) f.exact
-    ∙ (raises-abandoned 0 1 (message_to_abandon u (flight_of old)) (flight_of old) (omega arith)).acked)
+acked-by (outgoing.abandons u a) old new f = grind (arith, nat_tests, common_steps)
 acked-by (outgoing.expires now None) old new f = inl (ap (λ (u : Transmission). u.flight.acked_tsn) (f.exact.1.1 refl))
-acked-by (outgoing.expires now (Some e)) old new f = by (expiring now (flight_of old).queue) f.exact.0 f.exact.1.0
-  where
-    by : (o : Option ChunkPayloadData) → true ≡ is_some o → IfSome o (λ c. new.sending.sender ≡ after_expire c e.bytes now old.sending.sender)
-        → IsAckedBy old new
-    by None s i = absurd (not_both (sym s))
-    by (Some c) s i = inl (ap (λ (u : Transmission). u.flight.acked_tsn) i)
+acked-by (outgoing.expires now (Some e)) old new f = grind (arith, nat_tests, common_steps)
 acked-by (outgoing.expires_tail now None) old new f = inl (ap (λ (u : Transmission). u.flight.acked_tsn) (f.exact.1 refl))
-acked-by (outgoing.expires_tail now (Some a)) old new f =
-    inl (ap (λ (u : Transmission). u.flight.acked_tsn) f.exact.0
-    ∙ (raises-abandoned 0 1 (message_of (expiring_tail now (flight_of old).queue)) (flight_of old) (omega arith)).acked)
+acked-by (outgoing.expires_tail now (Some a)) old new f = grind (arith, nat_tests, common_steps)
 acked-by (outgoing.expires_late now gone) old new f =
     inl (ap (λ (u : Transmission). u.flight.acked_tsn) f.exact ∙ (raises-each 0 (late_order now (flight_of old)) (flight_of old)).acked)
 acked-by (outgoing.expires_rexmit gone) old new f =
     inl (ap (λ (u : Transmission). u.flight.acked_tsn) f.exact ∙ (raises-each 0 (worn_order (flight_of old)) (flight_of old)).acked)
-acked-by (outgoing.takes_sack k gone) old new f = by-test (is_outdated k (flight_of old))
-    (λ e. inl (now ∙ ap (λ b. (if b then flight_of old else take_sack k (flight_of old)).acked_tsn) e))
-    (λ e. inr (k, f.handed, now ∙ ap (λ b. (if b then flight_of old else take_sack k (flight_of old)).acked_tsn) e))
-  where
-    now : (flight_of new).acked_tsn ≡ (after_sack k (flight_of old)).acked_tsn
-    now = ap (λ (u : Transmission). u.flight.acked_tsn) f.exact
+acked-by (outgoing.takes_sack k gone) old new f = grind (arith, nat_tests, common_steps)
 acked-by call old new f = inl (ap (λ (u : Transmission). u.flight.acked_tsn) f.step.sender)
 
 -- ## A session
@@ -212,15 +185,7 @@ module _ (st first : ℕ) where
       let m = n + distance (next_tsn old) (next_tsn new) in
       let b = x.spread.step.numbered.acked in
       let is = x.spread.step.numbered.acked_is in
-      let least : b ≤ d.arrived.place = elim (acked-by call old new f) [
-        | inl e ↦
-            let same : b ≡ i.step.numbered.acked = omega (arith, few, is, e, i.step.numbered.acked_is) in
-            omega (arith, same)
-        | inr k ↦
-            let u = every-contained (IsUpTo d.arrived.place) old.sacks k.0 k.1 t.1 in
-            let same = same-place (base first) b u.0 (omega (arith, few)) (omega (arith, few)) (sym is ∙ k.2 ∙ u.1) in
-            omega (arith, same)
-      ] in
+      let least : b ≤ d.arrived.place = grind (arith, nat_tests, common_steps, acked-by, every-contained, same-place) in
       subst (IsAnswered m x.more b) (sym f.after) (
         are-more (base first) st n m (to sent) (to x.more) (at sent) (at x.more) (Was sent) (Was x.more) few (omega arith)
             (same-to n sent x.more i.long x.once) (to-up st n m x.more (omega arith)) (same-at n sent x.more i.long x.once)
@@ -293,12 +258,8 @@ module _ (st first : ℕ) where
             within = o.within;
             is = o.is;
             of = (ap (at sent) (sym same) ∙ e.on ∙ o.on, o.begun);
-            next = λ open' most.
-                let x = e.next open' (omega (arith, same, most)) in
-                (ap (λ k. at sent (k + 1)) (sym same) ∙ x.0 ∙ o.on, ap (λ k. to sent (k + 1)) (sym same) ∙ x.1 ∙ begun);
-            prior = λ open'.
-                let x = e.prior open' in
-                (ap (at sent) (sym back) ∙ x.1 ∙ o.on, ap (to sent) (sym back) ∙ sym (e.inner open') ∙ begun);
+            next = grind (arith, nat_tests, common_steps);
+            prior = grind (arith, nat_tests, common_steps);
           },
           rising-of j (o.before + 1) cs r.2,
         )
@@ -311,14 +272,7 @@ module _ (st first : ℕ) where
         (g.place, g.upto, g.of.0, g.of.1, g.absent)
 
     pub refused : (f : _) (r : Reception) → skip_refusal f r ≡ None → (names_too_far f r ≡ false) × (names_closed f r ≡ false)
-    refused f r e = by (names_closed f r) refl (names_too_far f r) refl e
-      where
-        by : (a : Bool) → names_closed f r ≡ a → (b : Bool) → names_too_far f r ≡ b
-            → (if a then Some NamedStreamUnknown else (if b then Some NamedSsnTooFar else forward_refusal f r)) ≡ None
-            → (names_too_far f r ≡ false) × (names_closed f r ≡ false)
-        by true g b h k = absurd (none-some NamedStreamUnknown (sym k))
-        by false g true h k = absurd (none-some NamedSsnTooFar (sym k))
-        by false g false h k = (h, g)
+    refused f r e = grind (arith, nat_tests, common_steps)
 
     module _ (new : Session) (d : AreDue (base first) st n (to sent) (at sent) (Was sent) acked old.receiving) where
       abbrev Old : ℕ → Type 0
@@ -368,17 +322,12 @@ module _ (st first : ℕ) where
           read-on-due (base first) st n (to sent) (at sent)
           (Was sent) few grows acked stream old.receiving new.receiving d (ap (λ (r : Reception). r.streams) f.step.receiver)
           (ap (λ (r : Reception). r.cumulative_tsn) f.step.receiver) (ap (λ (r : Reception). r.beyond) f.step.receiver)
-      due-after call f =
-          same-streams (ap (λ (r : Reception). r.streams) f.step.receiver) (ap (λ (r : Reception). r.cumulative_tsn) f.step.receiver)
-          (ap (λ (r : Reception). r.beyond) f.step.receiver)
+      due-after call f = grind (arith, nat_tests, common_steps, same-streams)
 
   -- the SACKs that were made
   answered-after : (place more : ℕ) (old : Session) (call : ReceiverCall) → old.receiving.receiver.cumulative_tsn ≡ tsn (base first) place → place ≤ more
       → Every (IsUpTo place) old.sacks → Every (IsUpTo more) (reports_after call old.receiving.receiver old.sacks)
-  answered-after place more old (incoming.reports credit) is le h = ((place, is, le), upto-more place more old.sacks le h)
-  answered-after place more old (incoming.reports_within credit bytes) is le h = ((place, is, le), upto-more place more old.sacks le h)
-  answered-after place more old (incoming.makes_sack credit bytes) is le h = ((place, is, le), upto-more place more old.sacks le h)
-  answered-after place more old call is le h = upto-more place more old.sacks le h
+  answered-after h0 h1 h2 h3 h4 h5 h6 = grind (arith, nat_tests, common_steps, upto-more)
 
   -- what is due then, where the sender stays as it is and the SACKs say so much
   pub answered-beside : (on dropped : ℕ → Bool) (n : ℕ) (old new : Session) (ns : List Numbered) (sent : List Entry)
@@ -435,23 +384,7 @@ receiver-unwrapped first n call old new ns sent few f i =
 pub answered-first : (st first : ℕ) (on dropped : ℕ → Bool) (size max most : ℕ) (limits : Option Limits) (small : first < 2 ^ 32) (some : 0 < size)
     → IsAnswered st first 0 [] (spread-first-on on dropped first size max most limits small some).step.numbered.acked
     (at_start first size max most limits)
-answered-first st first on dropped size max most limits small some = (
-  record {
-    k = 0;
-    reach = 0;
-    due = (refl, refl, λ y le h. absurd (let z : y ≡ 0 = omega (arith, le) in not_both h.0));
-    most = omega arith;
-    arrived = record {
-      place = 0;
-      least_is = let total = (spread-first-on on dropped first size max most limits small some).step.numbered.total in omega (arith, total);
-      within = omega arith;
-      is = omega arith;
-      covered = omega arith;
-      each = tt;
-    };
-  },
-  tt,
-)
+answered-first st first on dropped size max most limits small some = grind (arith, nat_tests, common_steps)
 
 pub unwrapped-first : (first size max most : ℕ) (limits : Option Limits) → first < 2 ^ 32 → 0 < size
     → IsUnwrapped first 0 (at_start first size max most limits) [] []

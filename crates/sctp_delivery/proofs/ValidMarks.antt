@@ -1,8 +1,7 @@
 -- What is so of the chunks that wait and of those in flight, whatever a sender does: only what was taken is acknowledged.
 use Rattle.sctp_delivery.proofs.Names.{◌≡◌, ⊤, ℕ, Bool, true, false, List, length, Option, refl, ap, sym, ◌∙◌, arith, ◌||◌, nat_tests, or-left, or-right}
-use Rattle.sctp_delivery.proofs.Names.{or-split}
-use Rattle.sctp_delivery.proofs.Names.{both, not_both, change_where, ChunkPayloadData, PayloadProtocolIdentifier, Sack, as_abandoned, as_acknowledged, Outbound}
-use Rattle.sctp_delivery.proofs.Names.{abandoned_of, all_started, expired_of, sent_next, terminal_chunk, with_message, with_inflight, next_pending}
+use Rattle.sctp_delivery.proofs.Names.{or-split, not_both, change_where, ChunkPayloadData, PayloadProtocolIdentifier, Sack, as_abandoned, as_acknowledged}
+use Rattle.sctp_delivery.proofs.Names.{Outbound, abandoned_of, all_started, expired_of, sent_next, terminal_chunk, with_message, with_inflight, next_pending}
 use Rattle.sctp_delivery.proofs.Names.{OutboundStream, Flight, after_sack, reports, reports_anew, abandoned_each, fragments_with_mode, after_misses, missed}
 use Rattle.sctp_delivery.proofs.Every.{Every, every-all, every-of, every-pair}
 use Rattle.sctp_delivery.proofs.QueueChunks.{EachIs, abandoned, each-abandoned, each-fragment, expired, marked, missed-some, pushed, sacked, sent, started}
@@ -97,7 +96,7 @@ module _ (taken passed : ℕ → Bool) where
   IsAnswered k c = reports k c ≡ true → (taken c.tsn || passed c.tsn) ≡ true
 
   pub came-of : (c : ChunkPayloadData) → Right c → (taken c.tsn || passed c.tsn) ≡ true → (taken c.tsn || c.abandoned) ≡ true
-  came-of c r e = grind (arith, nat_tests, or-left, or-right, or-split)
+  came-of c r e = grind (arith, nat_tests)
 
   pub sack-valid : (k : Sack) (f : Flight) → Every (IsAnswered k) f.queue.inflight.chunks → Valid f.queue → Valid (after_sack k f).queue
   sack-valid k f answered s = record {
@@ -107,7 +106,7 @@ module _ (taken passed : ℕ → Bool) where
   }
     where
       acknowledged : (c : ChunkPayloadData) → reports_anew k c ≡ true → Right c × IsAnswered k c → Right (as_acknowledged c) × IsAnswered k (as_acknowledged c)
-      acknowledged c h2 h3 = grind (arith, nat_tests, both, came-of)
+      acknowledged c h2 h3 = grind (arith, nat_tests)
 
       after : EachIs IsUnmarked (λ c. Right c × IsAnswered k c) (after_sack k f).queue
       after = sacked IsUnmarked (λ c. Right c × IsAnswered k c) k acknowledged f (record {
@@ -133,4 +132,4 @@ more-passed taken passed passed' q more s = record {
 }
   where
     one : (c : ChunkPayloadData) → IsRight taken passed c × (passed' c.tsn ≡ true → (passed c.tsn || c.abandoned) ≡ true) → IsRight taken passed' c
-    one c h2 = grind (arith, nat_tests, or-split)
+    one c h2 = grind (arith, nat_tests)

@@ -1,16 +1,14 @@
 -- A message that was read has the whole range of places of each of its fragments.
-use Rattle.sctp_delivery.proofs.Names.{◌≡◌, ℕ, suc, ◌+◌, ◌<◌, ◌≤◌, ◌%◌, ◌^◌, true, false, List, [], ◌∷◌, ◌++◌, length, inl, inr, ap, sym, subst, ◌∙◌, arith}
-use Rattle.sctp_delivery.proofs.Names.{◌==◌, if◌then◌else◌, list_any, sum_by, cases_lt, eq-eqb, sum_by-append, nat_tests, or-left, or-right, or-split}
-use Rattle.sctp_delivery.proofs.Names.{same-is, both, not_both, tsn, ChunkPayloadData, Data, data_of, completes, is_complete, Message, fragments_read}
-use Rattle.sctp_delivery.proofs.Names.{has_tsn}
-use Rattle.sctp_delivery.proofs.Cases.{at-test, by-test}
+use Rattle.sctp_delivery.proofs.Names.{common_steps, ◌≡◌, ℕ, ◌+◌, ◌<◌, ◌≤◌, ◌%◌, ◌^◌, true, false, List, [], ◌∷◌, length, inl, inr, ap, sym, subst, ◌∙◌, arith}
+use Rattle.sctp_delivery.proofs.Names.{◌==◌, list_any, sum_by, cases_lt, eq-eqb, sum_by-append, nat_tests, or-left, or-right, or-split, same-is, both, not_both}
+use Rattle.sctp_delivery.proofs.Names.{tsn, ChunkPayloadData, Data, data_of, completes, is_complete, Message, fragments_read, has_tsn}
 use Rattle.sctp_delivery.proofs.Delivered.{EachSent}
 use Rattle.sctp_delivery.proofs.Every.{Every}
 use Rattle.sctp_delivery.proofs.FragmentPlaces.{Shows, part-place}
 use Rattle.sctp_delivery.proofs.InTheEnd.{some-of}
 use Rattle.sctp_delivery.proofs.KeptSets.{OnlyFirst}
 use Rattle.sctp_delivery.proofs.ReadOnce.{none-count, one}
-use Rattle.sctp_delivery.proofs.Sent.{Entry, IsLine, Numbered, WasSent, fragment, part-length, part-line}
+use Rattle.sctp_delivery.proofs.Sent.{Entry, IsLine, Numbered, WasSent, part-length, part-line}
 use Rattle.sctp_delivery.proofs.TsnPlaces.{base, next-place, same-place}
 
 -- a chunk of the place
@@ -36,18 +34,7 @@ module _ (ws : List Numbered) (first : ℕ) (sent : List Entry) (few : length se
   n = length sent
 
   pub place-of : (c : ChunkPayloadData) → WasSent sent (data_of c) → (j : ℕ) × IsOn p n f c j
-  place-of c s =
-      let l = part-line ws first sent (fragment (data_of c) s.0 s.1 ∷ s.2) s.3 line in
-      let long = part-length sent (fragment (data_of c) s.0 s.1 ∷ s.2) s.3 in (
-        suc (length s.2),
-        record {
-          some = omega arith;
-          within = omega (arith, long);
-          is = omega arith;
-          data' =
-              sym (part-place f sent agr (data_of c) s.0 s.1 s.2 s.3);
-        },
-      )
+  place-of c s = grind (arith, part-line, part-length, part-place)
 
   -- the next TSN is that of the next place
   next-on : (c y : ChunkPayloadData) (j : ℕ) → IsOn p n f c j → WasSent sent (data_of y) → y.tsn ≡ (c.tsn + 1) % 2 ^ 32 → IsOn p n f y (j + 1)
@@ -63,10 +50,7 @@ module _ (ws : List Numbered) (first : ℕ) (sent : List Entry) (few : length se
   back : (c : ChunkPayloadData) (cs : List ChunkPayloadData) (j : ℕ) → IsOn p n f c j → completes c cs ≡ true → EachSent sent cs
       → Every (λ (d : ChunkPayloadData). d.beginning_fragment ≡ false) cs
       → (i : ℕ) → i ≤ n → list_any (has_tsn (tsn p i)) (c ∷ cs) ≡ true → (j ≤ i) × ((l : ℕ) → j < l → l ≤ i → (f l).beginning_fragment ≡ false)
-  back c [] j h e s g i le there = elim (or-split (has_tsn (tsn p i) c) false there) [
-    | inl k ↦ let same = same-on c j i h le k in (omega (arith, same), λ l lt short. absurd (omega (arith, same, lt, short)))
-    | inr k ↦ absurd (not_both k)
-  ]
+  back c [] j h e s g i le there = grind (arith, nat_tests, common_steps)
   back c (y ∷ ys) j h e s g i le there =
       let b = both (y.tsn == (c.tsn + 1) % 2 ^ 32) (completes y ys) e in
       let on = next-on c y j h s.0 (same-is y.tsn ((c.tsn + 1) % 2 ^ 32) b.0) in
@@ -109,26 +93,11 @@ module _ (ws : List Numbered) (first : ℕ) (sent : List Entry) (few : length se
         let h = place-of c s.0 in
         let r = back c cs h.0 h.1 b.1 s.1 o j within there in
         let first' : (f h.0).beginning_fragment ≡ true = ap (λ (d : Data). d.beginning_fragment) (sym h.1.data') ∙ b.0 in
-        let same : h.0 ≡ a = elim (cases_lt h.0 a) [
-          | inl lt ↦ absurd (not_both (sym (r.1 a lt upto) ∙ begins))
-          | inr ge ↦ elim (cases_lt a h.0) [
-            | inl lt ↦ absurd (not_both (sym (inner h.0 lt r.0) ∙ first'))
-            | inr le ↦ omega (arith, ge, le)
-          ]
-        ] in
+        let same : h.0 ≡ a = grind (arith, nat_tests, common_steps) in
         forth c cs a (subst (IsOn p n f c) same h.1) b.1 s.1 k to open'
 
     -- so where one place was read on the stream, the other was
     pub read-whole : (st : ℕ) (ms : List Message) → AreWholeOn sent st ms
         → 0 < sum_by (one (tsn p j)) (fragments_read st ms) → 0 < sum_by (one (tsn p k)) (fragments_read st ms)
     read-whole st [] all lt = absurd (omega (arith, lt))
-    read-whole st (m ∷ ms) all lt = at-test (λ b. 0 < sum_by (one (tsn p j)) (if b then m.fragments ++ fragments_read st ms else fragments_read st ms)
-        → 0 < sum_by (one (tsn p k)) (if b then m.fragments ++ fragments_read st ms else fragments_read st ms)) (m.stream == st)
-        (λ e more.
-        let x = sum_by-append (one (tsn p j)) m.fragments (fragments_read st ms) in
-        let y = sum_by-append (one (tsn p k)) m.fragments (fragments_read st ms) in
-        let facts = all.0 (same-is m.stream st e) in
-        by-test (list_any (has_tsn (tsn p j)) m.fragments)
-        (λ h. let w = some-of (tsn p k) m.fragments (whole-of m.fragments facts.0 facts.1 facts.2 h) in omega (arith, y, w))
-        (λ h. let w = (read-whole st ms all.1) (omega (arith, x, none-count (tsn p j) m.fragments h, more)) in omega (arith, y, w)))
-        (λ e more. (read-whole st ms all.1) more) lt
+    read-whole st (m ∷ ms) all lt = grind (arith, nat_tests, common_steps, sum_by-append, same-is, some-of, whole-of, none-count, read-whole st ms all.1)

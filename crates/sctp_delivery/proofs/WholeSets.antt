@@ -1,19 +1,15 @@
 -- What a queue holds whole of ordered messages: each set before the next number is complete, and stays so until it is read, whatever FORWARD-TSNs name.
-use Rattle.sctp_delivery.proofs.Names.{◌≡◌, ℕ, ◌+◌, ◌%◌, ◌^◌, ◌<◌, ◌≤◌, Bool, true, false, not, List, [], ◌∷◌, Option, Some, inl, inr, refl, ap, sym}
-use Rattle.sctp_delivery.proofs.Names.{subst, ◌∙◌, arith, ◌⊎◌, ◌==◌, ◌&&◌, if◌then◌else◌, filter, list_any, nat_le, nat_lt, cases_lt}
-use Rattle.sctp_delivery.proofs.Names.{nat_tests, fails, both, not_both, same-is, eq-eqb, next16, or-split, tsn}
-use Rattle.sctp_delivery.proofs.Names.{at_or_before16-index, comes_before16-index, change_first, insert_before, ChunkPayloadData, chunk_before, ChunkSet}
-use Rattle.sctp_delivery.proofs.Names.{has_ssn, has_tsn, new_set, set_before, BecomesComplete, Pushes, PushesAs, Reassembly, ReassemblyState, is_complete}
-use Rattle.sctp_delivery.proofs.Names.{held_after_incomplete_skip, held_after_ordered_push, held_after_ordered_skip, held_after_unordered_skip, is_passed}
-use Rattle.sctp_delivery.proofs.Names.{is_readable, message_read, rest_among, rest_read, cannot_complete}
-use Rattle.sctp_delivery.proofs.Names.{length}
+use Rattle.sctp_delivery.proofs.Names.{common_steps, ◌≡◌, ℕ, ◌+◌, ◌%◌, ◌^◌, ◌<◌, ◌≤◌, Bool, true, false, not, List, [], ◌∷◌, Option, Some, inl, inr, refl, ap}
+use Rattle.sctp_delivery.proofs.Names.{sym, subst, ◌∙◌, arith, ◌⊎◌, if◌then◌else◌, filter, list_any, nat_le, nat_lt, cases_lt, nat_tests, fails, both, not_both}
+use Rattle.sctp_delivery.proofs.Names.{same-is, eq-eqb, next16, or-split, tsn, at_or_before16-index, comes_before16-index, change_first, insert_before}
+use Rattle.sctp_delivery.proofs.Names.{ChunkPayloadData, ChunkSet, has_ssn, has_tsn, new_set, set_before, Pushes, PushesAs, Reassembly, ReassemblyState}
+use Rattle.sctp_delivery.proofs.Names.{is_complete, held_after_incomplete_skip, held_after_ordered_push, held_after_ordered_skip, held_after_unordered_skip}
+use Rattle.sctp_delivery.proofs.Names.{is_passed, message_read, rest_read, cannot_complete, length}
 use Rattle.sctp_reassembly.specs.reassembly_queue.Fragments.{with_chunk}
-use Rattle.sctp_reassembly.specs.reassembly_queue.ReassemblyQueue.{message_among}
-use Rattle.sctp_reassembly.specs.reassembly_queue.Skips.{ssn_past_sets}
 use Rattle.sctp_util.specs.Serial.{at_or_before16, comes_before16, distance16}
-use Rattle.sctp_delivery.proofs.Cases.{at-if, at-test, by-test}
+use Rattle.sctp_delivery.proofs.Cases.{at-if, by-test}
 use Rattle.sctp_delivery.proofs.Every.{Every, every-inserted, every-of, every-passing}
-use Rattle.sctp_delivery.proofs.KeptSets.{every-first, front-read, without_front}
+use Rattle.sctp_delivery.proofs.KeptSets.{every-first, front-read}
 use Rattle.sctp_delivery.proofs.Sessions.{unnot}
 use Rattle.sctp_delivery.proofs.UnwrappedReads.{AreSets, Gone, IsDue, later-none}
 
@@ -35,36 +31,19 @@ same-front q r e f h = subst (λ n. IsFront n r.ordered) (sym e) (subst (IsFront
 put-front : (x : ChunkPayloadData) (next : ℕ) (ss : List ChunkSet) → comes_before16 x.stream_sequence_number next ≡ false → IsFront next ss
     → IsFront next (if list_any (has_ssn x.stream_sequence_number) ss then change_first (has_ssn x.stream_sequence_number) (with_chunk x) ss
     else insert_before set_before (new_set x) ss)
-put-front x next ss off h = at-if (IsFront next) (list_any (has_ssn x.stream_sequence_number) ss)
-    (λ e. every-first (IsBefore next) (has_ssn x.stream_sequence_number) (with_chunk x) ss
-    (every-of (IsBefore next) (λ s. IsBefore next s × (has_ssn x.stream_sequence_number s ≡ true → IsBefore next (with_chunk x s)))
-    (λ s w. (w, λ k t. absurd (not_both (sym off ∙ ap (λ m. comes_before16 m next) (sym (same-is s.ssn x.stream_sequence_number k)) ∙ t)))) ss h))
-    (λ e. every-inserted (IsBefore next) set_before (new_set x) ss (λ t. absurd (not_both (sym off ∙ t))) h)
+put-front x next ss off h = grind (arith, nat_tests, common_steps, every-first, every-of, not_both, same-is, every-inserted)
 
 before-next : (a b : ℕ) → comes_before16 a ((b + 1) % 2 ^ 16) ≡ true → at_or_before16 a b ≡ true
 unfolding comes_before16 at_or_before16 distance16
-before-next a b e =
-    let m = (b + 1) % 2 ^ 16 in
-    let x = both (nat_lt 0 (distance16 a m)) (nat_lt (distance16 a m) (2 ^ 15)) e in
-    let some : 0 < distance16 a m = grind (arith, nat_tests, x.0) in
-    let near : distance16 a m < 2 ^ 15 = grind (arith, nat_tests, x.1) in
-    let less : distance16 a b < 2 ^ 15 = omega (arith, some, near) in
-    grind (arith, nat_tests, less)
+before-next a b e = grind (arith, nat_tests, common_steps)
 
 -- where incomplete ones up to the name go, those up to it are complete
 passed-front : (last : ℕ) (ss : List ChunkSet) → IsFront ((last + 1) % 2 ^ 16) (filter (λ s. not (is_passed last s)) ss)
 passed-front last [] = tt
-passed-front last (s ∷ ss) = at-test
-    (λ b. IsFront ((last + 1) % 2 ^ 16) (if not b then s ∷ filter (λ x. not (is_passed last x)) ss else filter (λ x. not (is_passed last x)) ss))
-    (is_passed last s) (λ e. passed-front last ss) (λ e. (
-      λ t. unnot (is_complete s.chunks) (sym (ap (λ c. c && not (is_complete s.chunks)) (before-next s.ssn last t)) ∙ e),
-      passed-front last ss,
-    ))
+passed-front last (s ∷ ss) = grind (arith, nat_tests, common_steps, not, unnot, before-next, passed-front last ss)
 
 pub skipped-front : (last : ℕ) (q : Reassembly) → HasFront q → HasFront (held_after_ordered_skip last q)
-skipped-front last q h = at-if (λ n. IsFront n (filter (λ s. not (is_passed last s)) q.ordered)) (at_or_before16 q.next_ssn last)
-    (λ e. passed-front last q.ordered)
-    (λ e. every-passing (IsBefore q.next_ssn) (λ s. not (is_passed last s)) q.ordered h)
+skipped-front last q h = grind (arith, nat_tests, common_steps, not, passed-front, every-passing)
 
 -- ## A message that is held whole
 
@@ -93,22 +72,15 @@ module _ (p n : ℕ) (B : ℕ → ℕ) (Fits : ℕ → List ChunkPayloadData →
   Sets low ss = AreSets p n B Fits Came low reach ss
 
   order-of : (s : ChunkSet) (i : ℕ) → s.ssn ≡ i % 2 ^ 16 → d.low ≤ i → i < reach → comes_before16 s.ssn q.next_ssn ≡ nat_lt i d.index
-  order-of s i e lo hi =
-      let far = d.far in
-      let from = d.from in
-      let near = d.near in
-      cc (e, d.next, comes_before16-index i d.index (omega (arith, hi, far, from)) (omega (arith, near, lo)))
+  order-of s i e lo hi = grind (arith, nat_tests, common_steps, comes_before16-index)
 
   -- one of an earlier message is before the next number, so it is complete
   pub before-is : (s : ChunkSet) (i : ℕ) → s.ssn ≡ i % 2 ^ 16 → d.low ≤ i → i < reach → i < d.index → comes_before16 s.ssn q.next_ssn ≡ true
-  before-is s i e lo hi lt = let less : nat_lt i d.index ≡ true = grind (arith, nat_tests, lt) in order-of s i e lo hi ∙ less
+  before-is s i e lo hi lt = let less : nat_lt i d.index ≡ true = grind (arith, nat_tests) in order-of s i e lo hi ∙ less
 
   -- with the same next number, and all that is held whole of earlier messages
   abbrev Keeps : Reassembly → Type 0
   Keeps r = (r.next_ssn ≡ q.next_ssn) × HasFront r × ((i : ℕ) → i < d.index → IsHeldIn Fits i q.ordered → IsHeldIn Fits i r.ordered)
-
-  same-kept : (r : Reassembly) → r.next_ssn ≡ q.next_ssn → r.ordered ≡ q.ordered → Keeps r
-  same-kept r e f = (e, same-front q r e f h, λ i lt k. subst (IsHeldIn Fits i) (sym f) k)
 
   -- ## A fragment comes
 
@@ -124,32 +96,17 @@ module _ (p n : ℕ) (B : ℕ → ℕ) (Fits : ℕ → List ChunkPayloadData →
         lo = r.1.0.0
 
         other : has_ssn x.stream_sequence_number s ≡ true → Fits i s.chunks × (is_complete s.chunks ≡ true) → ⊥
-        other e f =
-            let same = one i r.0 s.chunks f.0 r.1.1 f.1 in
-            let t = before-is s r.0 r.1.0.2 (omega (arith, lo, le)) r.1.0.1 (omega (arith, same, lt)) in
-            not_both (sym off ∙ ap (λ m. comes_before16 m q.next_ssn) (sym (same-is s.ssn x.stream_sequence_number e)) ∙ t)
+        other e f = grind (arith, nat_tests, common_steps, before-is, lo, not_both, same-is)
 
     put-kept : Keeps (held_after_ordered_push x q)
-    put-kept = at-if Keeps (comes_before16 x.stream_sequence_number q.next_ssn)
-        (λ e. (refl, h, λ i lt f. f))
-        (λ e. (
-          refl,
-          put-front x q.next_ssn q.ordered e h,
-          λ i lt f. at-if (IsHeldIn Fits i) (list_any (has_ssn x.stream_sequence_number) q.ordered)
-              (λ g. held-changed d.low q.ordered (omega arith) d.sets e i lt f)
-              (λ g. held-inserted Fits i set_before (new_set x) q.ordered f),
-        ))
+    put-kept = grind (arith, nat_tests, common_steps, put-front, held-changed, held-inserted)
 
     pub pushed-front : (answered : Bool) (old new : ReassemblyState) → old.held ≡ q → Pushes x answered old new → Keeps new.held
     pushed-front answered old new is pushes = by x.unordered pushes
       where
         by : (b : Bool) → PushesAs b x answered old new → Keeps new.held
         by false t = subst (λ (s : ReassemblyState). Keeps s.held) (sym t.0) (subst (λ z. Keeps (held_after_ordered_push x z)) (sym is) put-kept)
-        by true t = at-test (λ b. BecomesComplete (insert_before chunk_before x old.held.unassembled) old.held new.held b → Keeps new.held) answered
-            (λ e u. same-kept new.held (ap (λ (z : Reassembly). z.next_ssn) u.moved ∙ ap (λ (z : Reassembly). z.next_ssn) is)
-            (ap (λ (z : Reassembly). z.ordered) u.moved ∙ ap (λ (z : Reassembly). z.ordered) is))
-            (λ e u. same-kept new.held (ap (λ (z : Reassembly). z.next_ssn) u.1 ∙ ap (λ (z : Reassembly). z.next_ssn) is)
-            (ap (λ (z : Reassembly). z.ordered) u.1 ∙ ap (λ (z : Reassembly). z.ordered) is)) t.0
+        by true t = grind (arith, nat_tests, common_steps)
 
   -- ## A message is read
 
@@ -168,60 +125,12 @@ module _ (p n : ℕ) (B : ℕ → ℕ) (Fits : ℕ → List ChunkPayloadData →
       let far = d.far in
       let from = d.from in
       let next : (q.next_ssn + 1) % 2 ^ 16 ≡ (d.index + 1) % 2 ^ 16 = ap (λ m. (m + 1) % 2 ^ 16) d.next ∙ next16 d.index in
-      let less : nat_lt r.0 (d.index + 1) ≡ false = grind (arith, nat_tests, lo, le) in
-      let off : comes_before16 s.ssn ((q.next_ssn + 1) % 2 ^ 16) ≡ false =
-      ap (λ m. comes_before16 m ((q.next_ssn + 1) % 2 ^ 16)) r.1.0.2 ∙ ap (comes_before16 (r.0 % 2 ^ 16)) next
-      ∙ comes_before16-index r.0 (d.index + 1) (omega (arith, hi, far, from)) (omega (arith, lo, le)) ∙ less in
+      let less : nat_lt r.0 (d.index + 1) ≡ false = grind (arith, nat_tests) in
+      let off : comes_before16 s.ssn ((q.next_ssn + 1) % 2 ^ 16) ≡ false = grind (arith, nat_tests, common_steps, comes_before16-index) in
       (λ t. absurd (not_both (sym off ∙ t)), next-front (r.0 + 1) ss (omega (arith, lo, le)) r.2)
 
   pub read-next : IsReadOne (message_read q) (rest_read q)
-  read-next = by q.unordered refl
-    where
-      step : (s : ChunkSet) (ss : List ChunkSet) → q.ordered ≡ s ∷ ss → is_readable q.next_ssn s ≡ true → (b : Bool) → (s.ssn == q.next_ssn) ≡ b
-          → IsReadOne (Some s) (without_front q b ss)
-      step s ss is e b f =
-          let a = subst (Sets d.low) is d.sets in
-          let lo = a.1.0.0 in
-          let hi = a.1.0.1 in
-          let far = d.far in
-          let from = d.from in
-          let near = d.near in
-          let order : nat_le a.0 d.index ≡ true = cc (
-            a.1.0.2,
-            d.next,
-            at_or_before16-index a.0 d.index (omega (arith, hi, far, from)) (omega (arith, near, lo)),
-            (both (is_complete s.chunks) _ e).1,
-          ) in
-          let le : a.0 ≤ d.index = grind (arith, nat_tests, order) in
-          elim (cases_lt a.0 d.index) [
-            | inl lt ↦ late b f (λ t. let same : a.0 % 2 ^ 16 ≡ d.index % 2 ^ 16 = sym a.1.0.2 ∙ same-is s.ssn q.next_ssn t ∙ d.next in
-                omega (arith, same, lt, lo, near))
-            | inr ge ↦
-                let same : a.0 ≡ d.index = omega (arith, le, ge) in
-                let here : (s.ssn == q.next_ssn) ≡ true = eq-eqb s.ssn q.next_ssn (a.1.0.2 ∙ ap (λ m. m % 2 ^ 16) same ∙ sym d.next) in
-                go b (sym f ∙ here) same hi a.1.1 a.2
-          ]
-        where
-          kept : (i : ℕ) → IsHeldIn Fits i q.ordered → IsHeldIn Fits i ss ⊎ ((set : ChunkSet) × (Some s ≡ Some set) × Fits i set.chunks)
-          kept i held = elim (subst (IsHeldIn Fits i) is held) [ inl x ↦ inr (s, refl, x.0) | inr x ↦ inl x ]
-
-          late : (b : Bool) → (s.ssn == q.next_ssn) ≡ b → ((s.ssn == q.next_ssn) ≡ true → ⊥) → IsReadOne (Some s) (without_front q b ss)
-          late true f none = absurd (none f)
-          late false f none = record { front = (subst (IsFront q.next_ssn) is h).1; next = inl refl; held = kept }
-
-          go : (b : Bool) → b ≡ true → {i : ℕ} → i ≡ d.index → i < reach → Fits i s.chunks → Sets (i + 1) ss → IsReadOne (Some s) (without_front q b ss)
-          go false t same hi fits rest = absurd (not_both t)
-          go true t same hi fits rest = record {
-            front = next-front (d.index + 1) ss (omega arith) (subst (λ j. Sets (j + 1) ss) same rest);
-            next = inr (s, refl, subst (λ j. Fits j s.chunks) same fits, omega (arith, same, hi), ap (λ m. (m + 1) % 2 ^ 16) d.next ∙ next16 d.index);
-            held = kept;
-          }
-
-      by : (us : List ChunkSet) → q.unordered ≡ us → IsReadOne (message_read q) (rest_read q)
-      by [] is = subst (λ us. IsReadOne (message_among us q) (rest_among us q)) (sym is)
-          (front-read q IsReadOne (record { front = h; next = inl refl; held = λ i held. inl held }) step)
-      by (u ∷ us) is = subst (λ vs. IsReadOne (message_among vs q) (rest_among vs q)) (sym is)
-          (record { front = h; next = inl refl; held = λ i held. inl held })
+  read-next = grind (arith, at_or_before16-index, cases_lt, same-is, eq-eqb, not_both, next-front, next16, front-read)
 
   -- ## What cannot become complete goes
 
@@ -243,21 +152,14 @@ module _ (p n : ℕ) (B : ℕ → ℕ) (Fits : ℕ → List ChunkPayloadData →
     stay : (ss : List ChunkSet) → Every (λ s. cannot_complete t s ≡ false) ss
         → (filter (λ s. not (cannot_complete t s)) ss ≡ ss) × (filter (cannot_complete t) ss ≡ [])
     stay [] e = (refl, refl)
-    stay (s ∷ ss) e =
-        let r = stay ss e.1 in (
-          ap (λ b. if not b then s ∷ filter (λ x. not (cannot_complete t x)) ss else filter (λ x. not (cannot_complete t x)) ss) e.0 ∙ ap (λ xs. s ∷ xs) r.0,
-          ap (λ b. if b then s ∷ filter (cannot_complete t) ss else filter (cannot_complete t) ss) e.0 ∙ r.1,
-        )
+    stay (s ∷ ss) e = grind (arith, nat_tests, common_steps, stay ss e.1)
 
     -- nothing of ordered messages does
     abbrev pub IsUncut : Reassembly → Type 0
     IsUncut r = (r.next_ssn ≡ q.next_ssn) × (r.ordered ≡ q.ordered) × HasFront r
 
     pub cut-front : Goes d.low q.ordered d.sets → IsUncut (held_after_incomplete_skip t (held_after_unordered_skip t q))
-    cut-front g =
-        let r = stay q.ordered (none-goes d.low q.ordered d.sets (omega arith) h g) in
-        let next = ap (ssn_past_sets q.next_ssn) r.1 in
-        (next, r.0, same-front q (held_after_incomplete_skip t (held_after_unordered_skip t q)) next r.0 h)
+    cut-front g = grind (arith, nat_tests, common_steps, stay, none-goes, same-front)
 
   -- ## A name of the stream comes
 
@@ -272,10 +174,7 @@ module _ (p n : ℕ) (B : ℕ → ℕ) (Fits : ℕ → List ChunkPayloadData →
       (λ e. (d.index, d.next, omega arith, inl refl))
     where
       order : at_or_before16 q.next_ssn last ≡ nat_le d.index j
-      order =
-          let w = d.within in
-          let f = d.from in
-          cc (d.next, is, at_or_before16-index d.index j (omega (arith, back, w)) (omega (arith, near, f)))
+      order = grind (arith, nat_tests, common_steps, at_or_before16-index)
 
 -- ## A message of which a place is held
 
@@ -318,15 +217,6 @@ module _ (p n : ℕ) (B : ℕ → ℕ) (Fits : ℕ → List ChunkPayloadData →
         ] in
         elim (set-of z i le count (r.0 + 1) ss r.2 f) [
           | inl g ↦ inl (inr g)
-          | inr g ↦ inr (
-            g.0,
-            g.1,
-            g.2,
-            g.3,
-            λ y most begun held. elim (or-split (has y s) (list_any (has y) ss) held) [
-              | inl x ↦ let b = at-in r.0 y s.chunks most r.1.1 x in absurd (omega (arith, b, begun, more))
-              | inr x ↦ g.4 y most begun x
-            ],
-          )
+          | inr g ↦ grind (arith, nat_tests, common_steps)
         ]
   ]

@@ -1,16 +1,15 @@
 -- A write, and a message that expires: what the calls make of the queues and the streams.
 use Rattle.sctp_delivery.proofs.Names.{◌≡◌, ℕ, ◌+◌, ◌%◌, ◌^◌, ◌<◌, Bool, true, false, not, List, ◌∷◌, length, map, drop, Option, Some, None, refl, ap, sym}
-use Rattle.sctp_delivery.proofs.Names.{subst, ◌∙◌, arith, ◌==◌, ◌&&◌, if◌then◌else◌, nat_lt, nat_tests, none-some, always, numbers_where, change_where, pieces}
-use Rattle.sctp_delivery.proofs.Names.{by_same, negated, same-is, same-yes, some-same, both, ChunkPayloadData, PayloadProtocolIdentifier, is_ordered, expiring}
-use Rattle.sctp_delivery.proofs.Names.{is_expired, passing, with_message_id, next_pending, after_expiry, fragments_with_mode, has_number, with_reliability}
-use Rattle.sctp_delivery.proofs.Names.{wrote, Transmission, after_expire, write_refusal, written_to, OutboundStream, fragment_at, Made}
+use Rattle.sctp_delivery.proofs.Names.{subst, ◌∙◌, arith, ◌==◌, ◌&&◌, if◌then◌else◌, nat_lt, nat_tests, always, numbers_where, change_where, pieces, by_same}
+use Rattle.sctp_delivery.proofs.Names.{negated, same-is, same-yes, both, ChunkPayloadData, PayloadProtocolIdentifier, is_ordered, expiring, is_expired, passing}
+use Rattle.sctp_delivery.proofs.Names.{with_message_id, next_pending, after_expiry, fragments_with_mode, has_number, with_reliability, wrote, Transmission}
+use Rattle.sctp_delivery.proofs.Names.{after_expire, write_refusal, written_to, OutboundStream, fragment_at, Made}
 use Rattle.sctp_sender.specs.Sender.{stream_of}
-use Rattle.sctp_sender.proofs.SenderStreams.{made, one-message, unknown}
+use Rattle.sctp_sender.proofs.SenderStreams.{made, one-message}
 use Rattle.sctp_delivery.proofs.Cases.{where-is, where-yes}
 use Rattle.sctp_delivery.proofs.Fragments.{fragments-turn, fragments-wait, nth}
 use Rattle.sctp_delivery.proofs.Numbers.{all-open, apart-changed, found-there, is_there, number-changed, number-elsewhere, number-found, number-is, number_of}
-use Rattle.sctp_delivery.proofs.Numbers.{open-of}
-use Rattle.sctp_delivery.proofs.Numbers.{size-found, steady-changed, sized-changed, there-changed, there-found}
+use Rattle.sctp_delivery.proofs.Numbers.{open-of, size-found, steady-changed, sized-changed, there-changed, there-found}
 use Rattle.sctp_delivery.proofs.Pushing.{IsLower, expired, pushed}
 use Rattle.sctp_delivery.proofs.Senders.{IsHeldOn, ResultOn, calm}
 use Rattle.sctp_delivery.proofs.Sending.{next-fits}
@@ -97,14 +96,14 @@ module _ (on : ℕ → Bool) (ws : List Numbered) (first : ℕ) (t : Transmissio
 
 -- the stream of a write that is not refused
 pub accepted-stream : (stream len : ℕ) (t : Transmission) → write_refusal stream len t ≡ None → (l : OutboundStream) × (stream_of stream t ≡ Some l)
-accepted-stream stream len t e = grind (arith, nat_tests, unknown)
+accepted-stream stream len t e = grind (arith, nat_tests)
 
 -- ## A message expires
 
 -- an unsent message in front, past its deadline
 pub in-front : (now : ℕ) (o : Option ChunkPayloadData) (c : ChunkPayloadData) → passing (is_expired now) o ≡ Some c
     → (o ≡ Some c) × (c.beginning_fragment ≡ true)
-in-front now o c h4 = grind (arith, nat_tests, both, none-some, some-same)
+in-front now o c h4 = grind (arith, nat_tests)
 
 pub expires-one : (on : ℕ → Bool) (ws : List Numbered) (first : ℕ) (t : Transmission) (sent : List Entry) (ms : List Made) → IsHeldOn on ws first t sent
     → (now : ℕ) (c : ChunkPayloadData) (bytes : ℕ) → expiring now t.flight.queue ≡ Some c → ResultOn on None ws ws first sent (after_expire c bytes now t) ms ms

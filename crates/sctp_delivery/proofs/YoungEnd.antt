@@ -1,15 +1,11 @@
 -- Reliable sessions of a whole life: where nothing waits, nothing is in flight and nothing is held, each write was read exactly once.
-use Rattle.sctp_delivery.proofs.Names.{◌⊎◌, ◌≡◌, ℕ, zero, suc, ◌+◌, ◌-◌, ◌%◌, ◌<◌, ◌≤◌, ◌^◌, Bool, true, false, List, [], ◌∷◌, ◌++◌, length, Option, Some, None}
-use Rattle.sctp_delivery.proofs.Names.{refl}
-use Rattle.sctp_delivery.proofs.Names.{ap, sym, subst, ◌∙◌, arith, inl, inr, cases_lt, ◌==◌, ◌||◌, if◌then◌else◌, list_all, list_any, filter, Contains}
-use Rattle.sctp_delivery.proofs.Names.{StandAt, sum_by, sum_by-cons, insert_before, both, not_both, or-left, or-right, or-split, same-is, same-yes}
-use Rattle.sctp_delivery.proofs.Names.{tsn, ChunkPayloadData, ChunkSet, Data, data_of, data_chunk, is_on, has_tsn, is_complete, is_one_message, completes}
-use Rattle.sctp_delivery.proofs.Names.{Message}
-use Rattle.sctp_delivery.proofs.Names.{fragments_on, fragments_read, held_weight, message_on, stream_of, New, Reception, Stand, Ledger, ReceiverCall}
-use Rattle.sctp_delivery.proofs.Names.{SenderCall}
-use Rattle.sctp_delivery.proofs.Names.{Call, RunsTo, Session, SenderFollows, ReceiverFollows, at_start, of_receiver, of_sender, is_reliable}
-use Rattle.sctp_delivery.proofs.Names.{is_reliable_at_receiver}
-use Rattle.sctp_delivery.proofs.Names.{is_reliable_at_sender, is_all_acknowledged, holds_nothing, slice_index_or, Pending, Unknown}
+use Rattle.sctp_delivery.proofs.Names.{common_steps, nat_tests, ◌⊎◌, ◌≡◌, ℕ, zero, suc, ◌+◌, ◌-◌, ◌%◌, ◌<◌, ◌≤◌, ◌^◌, Bool, true, false, List, [], ◌∷◌, length}
+use Rattle.sctp_delivery.proofs.Names.{Option, Some, None, refl, ap, sym, subst, ◌∙◌, arith, inl, inr, cases_lt, ◌==◌, ◌||◌, if◌then◌else◌, list_all, list_any}
+use Rattle.sctp_delivery.proofs.Names.{filter, Contains, StandAt, sum_by, sum_by-cons, insert_before, both, not_both, or-left, or-right, or-split, same-is}
+use Rattle.sctp_delivery.proofs.Names.{same-yes, tsn, ChunkPayloadData, ChunkSet, Data, data_of, is_on, has_tsn, is_complete, is_one_message, completes}
+use Rattle.sctp_delivery.proofs.Names.{Message, fragments_on, fragments_read, held_weight, message_on, stream_of, New, Reception, Stand, Ledger, ReceiverCall}
+use Rattle.sctp_delivery.proofs.Names.{SenderCall, Call, RunsTo, Session, SenderFollows, ReceiverFollows, at_start, of_receiver, of_sender, is_reliable}
+use Rattle.sctp_delivery.proofs.Names.{is_reliable_at_receiver, is_reliable_at_sender, is_all_acknowledged, holds_nothing, slice_index_or, Pending, Unknown}
 use Rattle.sctp_util.specs.Serial.{at_or_before, comes_before}
 use Rattle.sctp_receiver.specs.ReceiverRuns.{with_message}
 use Rattle.sctp_receiver.proofs.Handed.{taken-more}
@@ -41,9 +37,9 @@ use Rattle.sctp_delivery.proofs.TakenCalls.{Knows}
 use Rattle.sctp_delivery.proofs.TakenTsns.{come}
 use Rattle.sctp_delivery.proofs.TsnPlaces.{IsGiven, base, upto-is, upto-yes}
 use Rattle.sctp_delivery.proofs.TakenAgain.{Flies, flies}
-use Rattle.sctp_delivery.proofs.YoungOwn.{AreAt, AreRead, AreReadOn, IsOwned, IsWhole, absent, all-recent, all-whole, apart, held_with, now-held}
-use Rattle.sctp_delivery.proofs.YoungOwn.{owned-first, reads-are, receiver-owned, sender-owned}
-use Rattle.sctp_delivery.proofs.YoungReads.{IsPlaced, IsYoungSession, each-from, floor, more-long, receiver-young, recent-place, sender-young, young-first}
+use Rattle.sctp_delivery.proofs.YoungOwn.{AreAt, AreRead, AreReadOn, IsOwned, IsWhole, absent, all-recent, all-whole, apart, held_with, now-held, owned-first}
+use Rattle.sctp_delivery.proofs.YoungOwn.{reads-are, receiver-owned, sender-owned}
+use Rattle.sctp_delivery.proofs.YoungReads.{IsYoungSession, each-from, floor, more-long, receiver-young, recent-place, sender-young, young-first}
 
 -- ## What came
 
@@ -54,18 +50,7 @@ HasCome first a q s = (q < a) ⊎ Knows (tsn (base first) (q + 1)) s.receiving.r
 -- the next TSN did not come
 unknown-next : (p n t cumulative : ℕ) (beyond : List ℕ) → n < 2 ^ 31 → IsArrived p n any cumulative beyond → t ≡ tsn p (n + 1)
     → come t cumulative beyond ≡ true → ⊥
-unknown-next p n t cumulative beyond few h is e = elim (or-split (at_or_before t cumulative) (list_any (λ u. u == t) beyond) e) [
-  | inl b ↦
-      let within = h.within in
-      let le = upto-is p (n + 1) h.place is h.is (omega (arith, few)) (omega (arith, within, few)) b in
-      omega (arith, le, within)
-  | inr b ↦
-      let x = one-of (IsKnown p n any) (λ u. u == t) beyond b h.each in
-      let same = same-is x.0 t x.1 in
-      let at = x.2.is in
-      let within = x.2.within in
-      omega (arith, same, at, within, is, few)
-]
+unknown-next p n t cumulative beyond few h is e = grind (arith, nat_tests, common_steps, or-split, upto-is, one-of, same-is)
 
 flies-at : (first : ℕ) (s : Session) (sent : List Entry) (e : IsSet first s.sending.sender.flight sent) (q : ℕ) → e.acked ≤ q → q < length sent
     → Flies (tsn (base first) (q + 1)) s
@@ -90,21 +75,7 @@ module _ (first : ℕ) (call : SenderCall) (old new : Session) (ns : List Number
   same = ap (λ (s : Session). s.receiving) f.after
 
   reached : set-after.acked ≤ e.acked + j.arrived.place
-  reached =
-      let long = more-long sent x.more x.once in
-      let lo = long.0 in
-      let hi = long.1 in
-      let total = e.total in
-      let is = e.is in
-      let total' = set-after.total in
-      let is' = set-after.is in
-      let at = j.arrived.is in
-      let within = j.arrived.within in
-      let at' = k.arrived.is in
-      let within' = k.arrived.within in
-      let cum = ap (λ (r : Stand). r.receiver.cumulative_tsn) same in
-      let was = j.few in
-      omega (arith, lo, hi, total, is, total', is', at, within, at', within', cum, was, few)
+  reached = grind (arith, nat_tests, common_steps, more-long, set-after, same)
 
   came-before : (q : ℕ) → q < length x.more → HasCome first set-after.acked q new → (q < length sent) × HasCome first e.acked q old
   came-before q lt (inl b) =
@@ -203,10 +174,7 @@ module _ (old new : Session) (few : count_in_flight new < 2 ^ 31) (j : IsNear ol
   ])
     where
       split : K u ≡ true → Knows u old.receiving.receiver ⊎ (c.tsn ≡ u)
-      split e = elim (or-split (come u old.receiving.receiver.cumulative_tsn old.receiving.receiver.beyond) (u == c.tsn) e) [
-        | inl b ↦ inl b
-        | inr b ↦ inr (sym (same-is u c.tsn b))
-      ]
+      split e = grind (arith, nat_tests, common_steps, or-split, same-is)
 
 -- ## What became of a first fragment that came
 
@@ -236,12 +204,7 @@ before-of s st t h lt = at (fragments_on (stream_of st s.receiving.receiver)) (h
 
 -- a part that is no longer
 old-part : (sent more : List Entry) (x : Entry) (xs : List Entry) → IsOnceMore sent more → IsPart (x ∷ xs) more → length xs < length sent → IsPart (x ∷ xs) sent
-old-part sent more x xs (inl e) p lt = subst (IsPart (x ∷ xs)) e p
-old-part sent more x xs (inr y) p lt = by (subst (IsPart (x ∷ xs)) y.1 p)
-  where
-    by : IsPart (x ∷ xs) (y.0 ∷ sent) → IsPart (x ∷ xs) sent
-    by (inl e) = let n = ap length e in absurd (omega (arith, n, lt))
-    by (inr q) = q
+old-part h0 h1 h2 h3 h4 h5 h6 = grind (arith, nat_tests, common_steps)
 
 module _ (first : ℕ) (call : SenderCall) (old new : Session) (ns : List Numbered) (sent : List Entry) (f : SenderFollows call old new)
     (h : Holds first old ns sent)
@@ -301,32 +264,18 @@ module _ (first : ℕ) (call : ReceiverCall) (old new : Session) (ns : List Numb
     weights : (held_with d.tsn st new + sum_by (one d.tsn) (fragments_read st new.receiving.read)
         ≡ sum_by (one d.tsn) (filter (is_on st) new.receiving.accepted))
         × (held_with d.tsn st old + sum_by (one d.tsn) (fragments_read st old.receiving.read) ≡ sum_by (one d.tsn) (filter (is_on st) old.receiving.accepted))
-    weights =
-        let a = (kn.kept st).weighs (one d.tsn) tt in
-        let c = (ko.kept st).weighs (one d.tsn) tt in
-        (omega (arith, a), omega (arith, c))
+    weights = grind (arith, nat_tests, common_steps)
 
     -- at such a place, one with the same TSN is the same
     same-entry : (c : Data) (v : Numbered) (rest : List ℕ) (ys : List Entry) → IsPart (fragment c v rest ∷ ys) sent → c.tsn ≡ d.tsn
         → floor (length sent) ≤ length xs → floor (length sent) ≤ length ys → fragment c v rest ∷ ys ≡ fragment d w after ∷ xs
-    same-entry c v rest ys r same lo low =
-        let n = (part-line ns first sent (fragment c v rest ∷ ys) r line).0.number in
-        let up = part-length sent (fragment c v rest ∷ ys) r in
-        let m = number in
-        let lt = within in
-        same-parts sent (fragment c v rest ∷ ys) (fragment d w after ∷ xs) r p (omega (arith, n, m, same, lo, low, up, lt))
+    same-entry c v rest ys r same lo low = grind (arith, part-line, part-length, same-parts)
 
     -- where as much was taken or more, and the same was read
     still : (c : ReceiverCall) → new.receiving.read ≡ old.receiving.read
         → sum_by (one d.tsn) (filter (is_on st) old.receiving.accepted) ≤ sum_by (one d.tsn) (filter (is_on st) new.receiving.accepted)
         → IsThere old sent ps d xs → IsThere new sent qs d xs
-    still c read more (inl z) = inl (kept-place (length xs + 1) z)
-    still c read more (inr z) =
-        let a = weights.0 in
-        let u = weights.1 in
-        let r = ap (λ ms. sum_by (one d.tsn) (fragments_read st ms)) read in
-        let held = z.1 in
-        inr (z.0, omega (arith, a, u, r, held, more))
+    still h0 h1 h2 h3 = grind (arith, nat_tests, common_steps, kept-place, weights)
 
     known-old : HasCome first e.acked (length xs) old → IsThere old sent ps d xs
     known-old come = t d w after xs p b come
@@ -352,23 +301,7 @@ module _ (first : ℕ) (call : ReceiverCall) (old new : Session) (ns : List Numb
         keep come = still call g.step.read (let m = more in omega (arith, m)) (known-old come)
 
         anew : c.tsn ≡ d.tsn → e.acked ≤ length xs → IsThere new sent qs d xs
-        anew same le =
-            let a = every-contained (IsPlaced sent) ages (record { chunk = data_chunk (data_of c); age = y'.0 }) y'.2 i.placed in
-            let less = y'.1 in
-            let age = a.4 in
-            let total = e.total in
-            let few' = j.few in
-            let low : floor (length sent) ≤ length xs = omega (arith, total, few', le) in
-            let it = same-entry (data_of c) a.0 a.1 a.2 a.3 same low (omega (arith, age, less)) in
-            let chunk : data_of c ≡ d = cc in
-            let here : is_on st c ≡ true = ap (λ (x : Data). x.stream_identifier == st) chunk ∙ same-yes st in
-            let one-is : one d.tsn c ≡ 1 = ap (λ b. if b then 1 else 0) (ap (λ u. u == d.tsn) same ∙ same-yes d.tsn) in
-            let sum : ◌≡◌ {A = ℕ} (if is_on st c then one d.tsn c else 0) 1 = ap (λ b. if b then one d.tsn c else 0) here ∙ one-is in
-            let m = more in
-            let u = weights.0 in
-            let v = weights.1 in
-            let r = ap (λ ms. sum_by (one d.tsn) (fragments_read st ms)) g.step.read in
-            inr (low, omega (arith, sum, m, u, v, r))
+        anew same le = grind (arith, nat_tests, common_steps, every-contained, y', same-entry, same-yes, weights)
 
         by : HasCome first e.acked (length xs) new → IsThere new sent qs d xs
         by (inl lt) = keep (inl lt)
@@ -428,16 +361,7 @@ module _ (first : ℕ) (call : ReceiverCall) (old new : Session) (ns : List Numb
           read = g.step.read ∙ ap (λ o. with_message stream o old.receiving.read) m
 
           elsewhere : (stream == st) ≡ false → IsThere new sent qs d xs
-          elsewhere n =
-              let a = weights.0 in
-              let u = weights.1 in
-              let r = ap (λ ms. sum_by (one d.tsn) (fragments_read st ms)) read in
-              let s : sum_by (one d.tsn) (fragments_read st (record { stream = stream; fragments = set.chunks } ∷ old.receiving.read))
-              ≡ sum_by (one d.tsn) (fragments_read st old.receiving.read) =
-              ap (λ b. sum_by (one d.tsn) (if b then set.chunks ++ fragments_read st old.receiving.read else fragments_read st old.receiving.read)) n in
-              let c = ap (λ cs. sum_by (one d.tsn) (filter (is_on st) cs)) g.step.accepted in
-              let held = z.1 in
-              inr (z.0, omega (arith, a, u, r, s, c, held))
+          elsewhere n = grind (arith, nat_tests, common_steps, weights, read)
 
           first-one : 0 < sum_by (one d.tsn) set.chunks → IsThere new sent qs d xs
           first-one lt = by on
@@ -480,13 +404,7 @@ module _ (first : ℕ) (call : ReceiverCall) (old new : Session) (ns : List Numb
     quiet-there : (cumulative : new.receiving.receiver.cumulative_tsn ≡ old.receiving.receiver.cumulative_tsn)
         → new.receiving.receiver.beyond ≡ old.receiving.receiver.beyond → new.receiving.read ≡ old.receiving.read
         → new.receiving.accepted ≡ old.receiving.accepted → HasCome first e.acked (length xs) new → IsThere new sent qs d xs
-    quiet-there cumulative beyond read accepted came =
-        still call read (let c = ap (λ cs. sum_by (one d.tsn) (filter (is_on st) cs)) accepted in omega (arith, c)) (known-old (by came))
-      where
-        by : HasCome first e.acked (length xs) new → HasCome first e.acked (length xs) old
-        by (inl lt) = inl lt
-        by (inr y) = inr (subst (λ c. come (tsn (base first) (length xs + 1)) c old.receiving.receiver.beyond ≡ true) cumulative
-            (subst (λ c. come (tsn (base first) (length xs + 1)) new.receiving.receiver.cumulative_tsn c ≡ true) beyond y))
+    quiet-there cumulative beyond read accepted came = grind (arith, still, known-old)
 
   receiver-there : is_reliable_at_receiver call ≡ true → AreThere first new sent e.acked qs
   receiver-there reliable d w after xs p b come = by call refl reliable f
@@ -495,13 +413,8 @@ module _ (first : ℕ) (call : ReceiverCall) (old new : Session) (ns : List Numb
       by (incoming.takes c (New said)) is r g = takes-there d w after xs p b c said is come
       by (incoming.reads stream) is r g = reads-there d w after xs p b stream is come
       by (incoming.follows c) is r g = absurd (not_both r)
-      by (incoming.opens stream) is r g =
-          quiet-there d w after xs p b (ap (λ (y : Reception). y.cumulative_tsn) g.step.receiver.1)
-          (ap (λ (y : Reception). y.beyond) g.step.receiver.1) g.step.read
-          g.step.accepted come
-      by c is r g =
-          quiet-there d w after xs p b (ap (λ (y : Reception). y.cumulative_tsn) g.step.receiver) (ap (λ (y : Reception). y.beyond) g.step.receiver) g.step.read
-          g.step.accepted come
+      by (incoming.opens stream) is r g = grind (arith, nat_tests, common_steps, quiet-there)
+      by c is r g = grind (arith, nat_tests, common_steps, quiet-there)
 
 -- ## Each session
 
@@ -509,15 +422,7 @@ whole-before : (cs : List Call) (old new : Session) → RunsTo old cs new → Ev
 whole-before [] old new r h = subst (λ (s : Session). Every IsWhole s.receiving.read) r h
 whole-before (of_sender call ∷ cs) old new r h =
     subst (λ (s : Stand). Every IsWhole s.read) (ap (λ (s : Session). s.receiving) r.1.0.after) (whole-before cs r.0 new r.1.1 h)
-whole-before (of_receiver call ∷ cs) old new r h = by call r.1.0 (whole-before cs r.0 new r.1.1 h)
-  where
-    less : (o : Option ChunkSet) (stream : ℕ) → Every IsWhole (with_message stream o old.receiving.read) → Every IsWhole old.receiving.read
-    less None stream h = h
-    less (Some set) stream h = h.1
-
-    by : (c : ReceiverCall) → ReceiverFollows c old r.0 → Every IsWhole r.0.receiving.read → Every IsWhole old.receiving.read
-    by (incoming.reads stream) f h = less (message_on stream old.receiving.receiver) stream (subst (Every IsWhole) f.step.read h)
-    by c f h = subst (Every IsWhole) f.step.read h
+whole-before (of_receiver call ∷ cs) old new r h = grind (arith, nat_tests, common_steps, whole-before cs r.0 new r.1.1 h)
 
 record After (first : ℕ) (s : Session) : Type 0 where
   numbered : List Numbered

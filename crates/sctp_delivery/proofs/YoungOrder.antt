@@ -1,17 +1,15 @@
 -- Sessions of a whole life: the ordered messages of a stream are read in the order of their writes.
-use Rattle.sctp_delivery.proofs.Names.{◌≡◌, ℕ, ◌+◌, ◌-◌, ◌%◌, ◌<◌, ◌≤◌, ◌^◌, Bool, true, false, not, List, [], ◌∷◌, length, Option, Some, None}
-use Rattle.sctp_delivery.proofs.Names.{refl, ap, sym, subst, ◌∙◌, arith, nat_tests, inl, inr, ⊤, ◌==◌, if◌then◌else◌, list_all, find}
-use Rattle.sctp_delivery.proofs.Names.{option_map, AllPairs, both, not_both, same-is, none-some, tsn, ChunkPayloadData, ChunkSet, data_of, data_chunk}
-use Rattle.sctp_delivery.proofs.Names.{forward_tsn, ForwardTsn, fragments_on, InboundStream, Reception, Stand, stream_of, stream_read, message_on, Message}
-use Rattle.sctp_delivery.proofs.Names.{New, Limits, is_open, names_closed, names_too_far, skip_refusal, forward_refusal, NamedStreamUnknown}
-use Rattle.sctp_delivery.proofs.Names.{NamedSsnTooFar, ReceiverCall, SenderCall, ReceiverFollows, SenderFollows, Session, Call, RunsTo, at_start, of_receiver}
-use Rattle.sctp_delivery.proofs.Names.{of_sender}
-use Rattle.sctp_delivery.proofs.Names.{AreReadInOrder, StandAt, nat_lt, change_where, Modes, at_first, modes_after, modes_from}
-use Rattle.sctp_delivery.proofs.Names.{after_forward_tsn, filter_of, has_come, is_pair_of, list_any, list_any-those, or-left, same-yes, with_filter, with_tsn}
-use Rattle.sctp_delivery.proofs.Names.{◌⊎◌, ◌&&◌}
+use Rattle.sctp_delivery.proofs.Names.{common_steps, ◌≡◌, ℕ, ◌+◌, ◌-◌, ◌%◌, ◌<◌, ◌≤◌, ◌^◌, Bool, true, false, not, List, [], ◌∷◌, length, Option, Some, None}
+use Rattle.sctp_delivery.proofs.Names.{refl, ap, sym, subst, ◌∙◌, arith, nat_tests, inl, inr, ⊤, ◌==◌, if◌then◌else◌, list_all, find, option_map, AllPairs}
+use Rattle.sctp_delivery.proofs.Names.{both, not_both, same-is, none-some, tsn, ChunkPayloadData, ChunkSet, data_of, data_chunk, forward_tsn, ForwardTsn}
+use Rattle.sctp_delivery.proofs.Names.{fragments_on, InboundStream, Reception, Stand, stream_of, stream_read, message_on, Message, New, Limits, is_open}
+use Rattle.sctp_delivery.proofs.Names.{names_closed, names_too_far, skip_refusal, ReceiverCall, SenderCall, ReceiverFollows, SenderFollows, Session, Call}
+use Rattle.sctp_delivery.proofs.Names.{RunsTo, at_start, of_receiver, of_sender, AreReadInOrder, StandAt, change_where, Modes, at_first, modes_after}
+use Rattle.sctp_delivery.proofs.Names.{modes_from, after_forward_tsn, filter_of, has_come, is_pair_of, list_any, list_any-those, or-left, same-yes, with_filter}
+use Rattle.sctp_delivery.proofs.Names.{with_tsn, ◌⊎◌, ◌&&◌}
 use Rattle.sctp_util.specs.Serial.{comes_before, distance}
-use Rattle.sctp_receiver.specs.Inbound.{numbers_of}
-use Rattle.sctp_receiver.specs.Receiver.{repeat_tsn}
+use Rattle.sctp_receiver.specs.Inbound.{numbers_of, has_number}
+use Rattle.sctp_receiver.specs.Receiver.{repeat_tsn, message_of}
 use Rattle.sctp_receiver.specs.Resets.{stream_reset}
 use Rattle.sctp_receiver.proofs.Closed.{others-left}
 use Rattle.sctp_receiver.proofs.StreamCosts.{are_apart}
@@ -19,17 +17,13 @@ use Rattle.sctp_delivery.specs.EveryCall.{ReceiverDoes, ReceiverOther, closes_in
 use Rattle.sctp_delivery.specs.EveryOrder.{breaks}
 use Rattle.sctp_delivery.specs.EveryRecent.{IsPassedYoung, IsRecentAny}
 use Rattle.sctp_delivery.proofs.EveryTurns.{near-names}
-use Rattle.sctp_receiver.specs.Inbound.{has_number}
-use Rattle.sctp_receiver.specs.Receiver.{message_of}
 use Rattle.sctp_receiver.specs.ReceiverRuns.{with_message}
 use Rattle.std.proofs.Common.{◌≢◌}
 use Rattle.sctp_delivery.specs.Modes.{AreReadAsWritten, was_written_ordered}
 use Rattle.sctp_delivery.specs.Order.{is_ordered_on, places_where}
 use Rattle.sctp_delivery.specs.ReceiverCalls as incoming
 use Rattle.sctp_delivery.specs.Recent.{Aged, AreForwardsYoung, AreRecent, AreYoung, HoldsRecent, IsAmongYoung, IsForwardYoung, IsRecent, IsYoung}
-use Rattle.sctp_delivery.specs.Recent.{WhileAllAreYoung}
-use Rattle.sctp_delivery.specs.Recent.{AfterEachYoungRun}
-use Rattle.sctp_delivery.specs.Recent.{aged_after}
+use Rattle.sctp_delivery.specs.Recent.{WhileAllAreYoung, AfterEachYoungRun, aged_after}
 use Rattle.sctp_delivery.specs.Session.{count_in_flight}
 use Rattle.sctp_delivery.proofs.Calls.{numbered_after}
 use Rattle.sctp_delivery.proofs.Cases.{all_streams, by-test}
@@ -41,7 +35,7 @@ use Rattle.sctp_delivery.proofs.Queues.{IsOnceMore}
 use Rattle.sctp_delivery.proofs.Recent.{IsNear, near-first, receiver-near, sender-near}
 use Rattle.sctp_delivery.proofs.Sent.{Entry, IsLine, Numbered, fragment, part-length, part-line}
 use Rattle.sctp_delivery.proofs.Sessions.{unnot}
-use Rattle.sctp_delivery.proofs.SpreadEntries.{begun_to, to-all, to-more, to-part, to-up}
+use Rattle.sctp_delivery.proofs.SpreadEntries.{begun_to, to-part, to-up}
 use Rattle.sctp_delivery.proofs.TakenCalls.{fresh-new}
 use Rattle.sctp_delivery.proofs.TsnPlaces.{base}
 use Rattle.sctp_delivery.proofs.UnwrappedCalls.{AreDueSince, IsNamingTo, followed-due, moved, none-among, opened-due, other-due, quiet, taken-due}
@@ -61,23 +55,13 @@ use Rattle.sctp_delivery.proofs.YoungTurns.{At, Begun, Due, Stands, due-later, d
 
 -- what a FORWARD-TSN that is not refused names
 refused : (f : ForwardTsn) (r : Reception) → skip_refusal f r ≡ None → (names_too_far f r ≡ false) × (names_closed f r ≡ false)
-refused f r e = by (names_closed f r) refl (names_too_far f r) refl e
-  where
-    by : (a : Bool) → names_closed f r ≡ a → (b : Bool) → names_too_far f r ≡ b
-        → (if a then Some NamedStreamUnknown else (if b then Some NamedSsnTooFar else forward_refusal f r)) ≡ None
-        → (names_too_far f r ≡ false) × (names_closed f r ≡ false)
-    by true g b h k = absurd (none-some NamedStreamUnknown (sym k))
-    by false g true h k = absurd (none-some NamedSsnTooFar (sym k))
-    by false g false h k = (h, g)
+refused f r e = grind (arith, nat_tests, common_steps)
 
 -- a TSN before the next one, to which a young FORWARD-TSN goes, is of a place that is less than 2^31 TSNs old
 recent-name : (first n place age next t : ℕ) → place ≤ n → n < place + age + 2 ^ 31 → age < 2 ^ 31 → next ≡ (first + n) % 2 ^ 32
     → t ≡ tsn (base first) place → comes_before t next ≡ true → floor n ≤ place
 unfolding comes_before distance
-recent-name first n place age next t upto far less is at e =
-    let b = both (nat_lt 0 (distance t next)) (nat_lt (distance t next) (2 ^ 31)) e in
-    let near : distance t next < 2 ^ 31 = grind (arith, nat_tests, b.1) in
-    omega (arith, upto, far, less, is, at, near)
+recent-name first n place age next t upto far less is at e = grind (arith, nat_tests, common_steps)
 
 abbrev pub alone : Reception → Stand
 alone r = record { receiver = r; accepted = []; read = [] }
@@ -141,20 +125,10 @@ module _ (going : ℕ → Bool) (st first : ℕ) (goes : going st ≡ true) (old
   grows j k le = to-up st (low + j) (low + k) sent (omega (arith, le))
 
   near : B n ≤ B a + 2 ^ 14
-  near =
-      let top = to-all st (low + n) sent (omega arith) in
-      let from = acked-from in
-      let at : low + a ≡ x.set.acked = omega (arith, from) in
-      let here = ap (λ k. begun_to st k sent) at in
-      let y = x.near st goes in
-      omega (arith, top, here, y)
+  near = grind (arith, nat_tests, common_steps)
 
   stands-of : (c : ChunkPayloadData) → IsAmongYoung (data_chunk (data_of c)) ages → M c
-  stands-of c y =
-      let b = every-contained (IsPlaced sent) ages (record { chunk = data_chunk (data_of c); age = y.0 }) y.2 placed in
-      let less = y.1 in
-      let le = b.4 in
-      (b.0, b.1, b.2, b.3, omega (arith, less, le))
+  stands-of c y = grind (arith, nat_tests, common_steps)
 
   module _ (d : Due st first sent low a r) where
     abbrev pub Now : Type 0
@@ -192,12 +166,7 @@ module _ (going : ℕ → Bool) (st first : ℕ) (goes : going st ≡ true) (old
         let by = ap (λ k. begun_to st k sent) there in
         let is : g.new_cumulative_tsn ≡ tsn p m = omega (arith, at, from) in
         let le : m ≤ n = omega (arith, upto, from) in
-        let naming : IsNamingTo p st n B E M a m g.streams = elim (z.4 st goes) [
-          | inl t ↦
-              let u = t.1 in
-              inl (t.0, omega (arith, u, to, by), λ k lt most. t.2 (low + k) (omega (arith, lt, there)) (omega (arith, most, here)))
-          | inr t ↦ inr (t.0, t.1 ∙ sym to, t.2)
-        ] in
+        let naming : IsNamingTo p st n B E M a m g.streams = grind (arith, nat_tests, common_steps) in
         followed-due p st n B E M few grows a near g m (alone r) (alone s) d le is after naming close
         (λ lt j only. elim open' [
           | inl all ↦ unnot (is_open st r) (none-among p st n B E M few grows a g m (alone r) d le is (λ o. not (is_open o.identifier r)) all lt
@@ -325,25 +294,10 @@ turned-more st sent more once j k le (m ∷ ms) [] t = tt
 turned-more st sent more once j k le (m ∷ ms) (p ∷ ps) t = by (is_in_order st m) t (λ i l. turned-more st sent more once i i (omega arith) ms ps)
     (turned-more st sent more once j k le ms ps)
   where
-    long : (length sent ≤ length more) × (length more ≤ length sent + 1)
-    long = more-long sent more once
-
-    same : p ≤ length sent → begun_to st p more ≡ begun_to st p sent
-    same le = by once
-      where
-        by : IsOnceMore sent more → begun_to st p more ≡ begun_to st p sent
-        by (inl e) = ap (begun_to st p) e
-        by (inr x) = ap (begun_to st p) x.1 ∙ to-more st p x.0 sent le
-
     by : (b : Bool) → Where b ((i : ℕ) × (i < j) × (p ≤ length sent) × (begun_to st p sent ≡ i + 1) × AreTurned st sent i ms ps) (AreTurned st sent j ms ps)
         → ((i : ℕ) → i < j → AreTurned st sent i ms ps → AreTurned st more i ms ps) → (AreTurned st sent j ms ps → AreTurned st more k ms ps)
         → Where b ((i : ℕ) × (i < k) × (p ≤ length more) × (begun_to st p more ≡ i + 1) × AreTurned st more i ms ps) (AreTurned st more k ms ps)
-    by true u ih jh =
-        let lt = u.1 in
-        let upto = u.2 in
-        let lo = long.0 in
-        (u.0, omega (arith, lt, le), omega (arith, upto, lo), same upto ∙ u.3, ih u.0 lt u.4)
-    by false u ih jh = jh u
+    by h0 h1 h2 h3 = grind (arith, nat_tests, common_steps)
 
 -- ## A session
 
@@ -399,10 +353,7 @@ module _ (going calm : ℕ → Bool) (sub : (st : ℕ) → calm st ≡ true → 
   Then st = (e : Due st first sent (floor (length sent)) start new.receiving.receiver) × AreTurned st sent e.k new.receiving.read qs
 
   none-read : new.receiving.read ≡ old.receiving.read → (new.receiving.read ≡ old.receiving.read) × (qs ≡ ps)
-  none-read e = elim on [
-    | inl o ↦ o
-    | inr o ↦ absurd (longer o.0 old.receiving.read (sym o.2 ∙ e))
-  ]
+  none-read e = grind (arith, nat_tests, common_steps, longer)
 
   quiet-turn : (st : ℕ) (c : calm st ≡ true) → new.receiving.read ≡ old.receiving.read
       → AreDueSince (base first + floor (length sent)) st (length sent - floor (length sent)) (Begun st first sent (floor (length sent)))
@@ -510,17 +461,7 @@ module _ (going calm : ℕ → Bool) (first : ℕ) (call : SenderCall) (old new 
 
     -- what is acknowledged has come
     reached : z.set.acked ≤ from + was.arrived.place
-    reached =
-        let lo = long.0 in
-        let hi = long.1 in
-        let total = z.set.total in
-        let is = z.set.is in
-        let came = j.arrived.is in
-        let within = j.arrived.within in
-        let cum = ap (λ (s : Stand). s.receiver.cumulative_tsn) same in
-        let at = was.arrived.is in
-        let upto = was.arrived.within in
-        omega (arith, lo, hi, total, is, came, within, cum, at, upto, few')
+    reached = grind (arith, long, same)
 
     late : (d : ChunkPayloadData) (b : ℕ) → comes_before d.tsn (next_tsn new) ≡ true → b + 1 ≤ length sent - from → d.tsn ≡ tsn (base first + from) (b + 1)
         → up-to ≤ b
@@ -550,11 +491,7 @@ module _ (going calm : ℕ → Bool) (first : ℕ) (call : SenderCall) (old new 
   pub sender-turned : IsTurned calm first new more z.set.acked ps
   sender-turned = record {
     due = λ st c. (then-due st c).0;
-    turned = λ st c.
-        let e = then-due st c in
-        let k = e.1 in
-        subst (λ (s : Stand). AreTurned st more e.0.k s.read ps) (sym same)
-        (turned-more st sent more y.once (t.due st c).k e.0.k (omega (arith, k)) old.receiving.read ps (t.turned st c));
+    turned = grind (arith, nat_tests, common_steps, then-due, same, turned-more);
   }
 
 -- ## Each session
@@ -574,17 +511,7 @@ all-then : (first : ℕ) (cs : List Call) (old new : Session) (ns : List Numbere
     → AreRecent old cs new r → AreYoung ages old cs new r → AreForwardsYoung ages old cs new r → IsNear old → IsYoungSession first old ns sent ages
     → (ps : List ℕ) → IsOwned old sent ps → (x : IsSpreadOut first old sent ages) → IsTurned all_streams first old sent x.set.acked ps → (m : Modes)
     → IsAsSaid m old ns sent → After first (modes_from m cs) new
-all-then first [] old new ns sent ages r q y z j i ps h x t m u = record {
-  numbered = ns;
-  sent = sent;
-  ages = ages;
-  places' = ps;
-  young = subst (λ s. IsYoungSession first s ns sent ages) (sym r) i;
-  owned = subst (λ s. IsOwned s sent ps) (sym r) h;
-  acked = x.set.acked;
-  turned = subst (λ s. IsTurned all_streams first s sent x.set.acked ps) (sym r) t;
-  said = subst (λ s. IsAsSaid m s ns sent) (sym r) u;
-}
+all-then first [] old new ns sent ages r q y z j i ps h x t m u = grind (arith, nat_tests, common_steps)
 all-then first (of_sender call ∷ cs) old new ns sent ages r q y z j i ps h x t m u =
     let g = sender-step first call old r.0 ns sent r.1.0 i.holds in
     let k = sender-near old r.0 q.1 j call r.1.0 q.0 in
@@ -631,20 +558,7 @@ module _ (st : ℕ) (ns : List Numbered) (first : ℕ) (sent : List Entry) (once
 pub turned-first : (calm : ℕ → Bool) (first size max most : ℕ) (limits : Option Limits) → first < 2 ^ 32
     → IsTurned calm first (at_start first size max most limits) [] 0 []
 turned-first calm first size max most limits small = record {
-  due = λ st c. record {
-    k = 0;
-    reach = 0;
-    due = (refl, refl, λ y le h. absurd (not_both h.0));
-    most = omega arith;
-    arrived = record {
-      place = 0;
-      least_is = omega arith;
-      within = omega arith;
-      is = omega (arith, small);
-      covered = omega arith;
-      each = tt;
-    };
-  };
+  due = grind (arith, nat_tests, common_steps);
   turned = λ st c. tt;
 }
 

@@ -1,13 +1,10 @@
 -- Sessions of a whole life: no write is read twice, while what is handed over and what is held is less than 2^31 TSNs old.
-use Rattle.sctp_delivery.proofs.Names.{◌⊎◌, Limits, ◌≡◌, ℕ, zero, suc, ◌+◌, ◌%◌, ◌<◌, ◌≤◌, ◌^◌, Bool, true, false, List, [], ◌∷◌, length, Option, Some, None}
-use Rattle.sctp_delivery.proofs.Names.{refl, ap, sym, subst, ◌∙◌, arith, nat_tests, inl, inr, if◌then◌else◌, nat_lt, list_all}
-use Rattle.sctp_delivery.proofs.Names.{All, AllPairs, pairs_cons, sum_by, sum_by-cons, AllPass-from_list_all, both, and}
-use Rattle.sctp_delivery.proofs.Names.{not, not_both, fails, negated, same-is, same-yes, ChunkPayloadData, ChunkSet, Data, data_of}
-use Rattle.sctp_delivery.proofs.Names.{is_on, has_tsn, is_complete}
-use Rattle.sctp_delivery.proofs.Names.{is_one_message, Message, fragments_on, held_weight, message_on, stream_of, New, ReceiverCall}
-use Rattle.sctp_delivery.proofs.Names.{SenderCall, Call, RunsTo, Session, SenderFollows, ReceiverFollows, at_start, of_receiver, of_sender, Reception, Stand}
-use Rattle.sctp_delivery.proofs.Names.{Ledger}
-use Rattle.sctp_delivery.proofs.Names.{AreWritesOfTheirOwn, StandAt}
+use Rattle.sctp_delivery.proofs.Names.{common_steps, ◌⊎◌, Limits, ◌≡◌, ℕ, zero, suc, ◌+◌, ◌%◌, ◌<◌, ◌≤◌, ◌^◌, Bool, true, false, List, [], ◌∷◌, length, Option}
+use Rattle.sctp_delivery.proofs.Names.{Some, None, refl, ap, sym, subst, ◌∙◌, arith, nat_tests, inl, inr, if◌then◌else◌, nat_lt, list_all, All, AllPairs}
+use Rattle.sctp_delivery.proofs.Names.{pairs_cons, sum_by, sum_by-cons, AllPass-from_list_all, both, and, not, not_both, fails, negated, same-is}
+use Rattle.sctp_delivery.proofs.Names.{ChunkPayloadData, ChunkSet, Data, data_of, is_on, has_tsn, is_complete, is_one_message, Message, fragments_on}
+use Rattle.sctp_delivery.proofs.Names.{held_weight, message_on, stream_of, New, ReceiverCall, SenderCall, Call, RunsTo, Session, SenderFollows, ReceiverFollows}
+use Rattle.sctp_delivery.proofs.Names.{at_start, of_receiver, of_sender, Reception, Stand, Ledger, AreWritesOfTheirOwn, StandAt}
 use Rattle.std.proofs.Common.{◌≢◌}
 use Rattle.sctp_util.specs.Serial.{comes_before, distance}
 use Rattle.sctp_receiver.specs.ReceiverRuns.{with_message}
@@ -151,7 +148,7 @@ module _ (going : ℕ → Bool) (first : ℕ) (call : SenderCall) (old new : Ses
   is-next : (t : ℕ) → t < 2 ^ 32 → gives t old new ≡ true → t ≡ next_tsn old
   unfolding distance
   is-next t small g =
-      let lt : distance (next_tsn old) t < distance (next_tsn old) (next_tsn new) = grind (arith, nat_tests, g) in
+      let lt : distance (next_tsn old) t < distance (next_tsn old) (next_tsn new) = grind (arith, nat_tests) in
       let a = i.holds.held.stands.counted in
       let b = x.holds.held.stands.counted in
       let long = more-long sent x.more x.once in
@@ -185,16 +182,7 @@ module _ (going : ℕ → Bool) (first : ℕ) (call : SenderCall) (old new : Ses
       }
 
   pub sender-owned : IsOwned new x.more ps
-  sender-owned = record {
-    single = λ st t. let e = same-held t st in let le = h.single st t in omega (arith, e, le);
-    missing = still-missing;
-    once = (
-      subst (λ (r : Stand). AreRead new x.more r.read ps) (sym same)
-          (read-kept old new sent x.more x.once still-done old.receiving.read ps h.once.0),
-      h.once.1,
-    );
-    recent = recent;
-  }
+  sender-owned = grind (arith, nat_tests, common_steps, same-held, still-missing, same, read-kept, still-done)
 
 -- ## A call of the receiver
 
@@ -239,10 +227,7 @@ module _ (going : ℕ → Bool) (first : ℕ) (call : ReceiverCall) (old new : S
 
   -- none is held with the TSN of the chunk that is taken
   pub absent : IsAbsent call old
-  absent st d said is =
-      let g = subst (λ c. ReceiverFollows c old new) is f in
-      let q' = subst (λ c. IsRecent (of_receiver c) old) is q in
-      h.missing d.tsn (small old new few j d said g q') (flies old new few j d said g q') (fresh old new few j d said g q') st
+  absent st d said is = grind (arith, small, flies)
 
   -- a chunk that did not come is not the one that is taken
   not-it : (t : ℕ) → (Knows t new.receiving.receiver → ⊥) → (d : ChunkPayloadData) (said : Bool) → call ≡ incoming.takes d (New said) → (d.tsn ≡ t → ⊥)
@@ -254,11 +239,7 @@ module _ (going : ℕ → Bool) (first : ℕ) (call : ReceiverCall) (old new : S
   -- nor is one that came before
   not-known : (t : ℕ) → (Flies t old → Knows t old.receiving.receiver) → (d : ChunkPayloadData) (said : Bool) → call ≡ incoming.takes d (New said)
       → (d.tsn ≡ t → ⊥)
-  not-known t known d said is same =
-      let g = subst (λ c. ReceiverFollows c old new) is f in
-      let q' = subst (λ c. IsRecent (of_receiver c) old) is q in
-      fresh old new few j d said g q' (subst (λ u. Knows u old.receiving.receiver) (sym same)
-      (known (subst (λ u. Flies u old) same (flies old new few j d said g q'))))
+  not-known t known d said is same = grind (arith, nat_tests, common_steps, flies)
 
   missing-still : (t : ℕ) → t < 2 ^ 32 → Flies t new → (Knows t new.receiving.receiver → ⊥) → (st : ℕ) → held_with t st new ≡ 0
   missing-still t small fl off st =
@@ -312,17 +293,10 @@ module _ (going : ℕ → Bool) (first : ℕ) (call : ReceiverCall) (old new : S
         t = c.tsn
 
         counted : 1 ≤ sum_by (one t) set.chunks
-        counted =
-            let more = sum_by-cons (one t) c cs in
-            let here : one t c ≡ 1 = ap (λ b. if b then 1 else 0) (same-yes t) in
-            let same = ap (sum_by (one t)) chunks in
-            omega (arith, more, here, same)
+        counted = grind (arith, nat_tests, common_steps)
 
         on : c.stream_identifier ≡ stream
-        on =
-            let b = both (is_recent sent stream c) (list_all (is_recent sent stream) cs)
-            (subst (λ ds. list_all (is_recent sent stream) ds ≡ true) chunks all-recent) in
-            same-is c.stream_identifier stream (both (is_on stream c) _ b.0).0
+        on = grind (arith, nat_tests, common_steps, all-recent, same-is)
 
         number : c.tsn ≡ (first + length e.0.2) % 2 ^ 32
         number = (part-line ns first sent (fragment (data_of c) e.0.0 e.0.1 ∷ e.0.2) e.0.3 i.holds.held.stands.queued.line).0.number
@@ -410,14 +384,7 @@ record After (first : ℕ) (s : Session) : Type 0 where
 owned-then : (first : ℕ) (cs : List Call) (old new : Session) (ns : List Numbered) (sent : List Entry) (ages : List Aged) (r : RunsTo old cs new)
     → AreRecent old cs new r → AreYoung ages old cs new r → IsNear old → IsYoungSession first old ns sent ages → (ps : List ℕ) → IsOwned old sent ps
     → After first new
-owned-then first [] old new ns sent ages r q y j i ps h = record {
-  numbered = ns;
-  sent = sent;
-  ages = ages;
-  young = subst (λ s. IsYoungSession first s ns sent ages) (sym r) i;
-  places' = ps;
-  owned = subst (λ s. IsOwned s sent ps) (sym r) h;
-}
+owned-then first [] old new ns sent ages r q y j i ps h = grind (arith, nat_tests, common_steps)
 owned-then first (of_sender call ∷ cs) old new ns sent ages r q y j i ps h =
     let x = sender-step first call old r.0 ns sent r.1.0 i.holds in
     let k = sender-near old r.0 q.1 j call r.1.0 q.0 in

@@ -1,12 +1,10 @@
 -- Sessions of a whole life: each message that is read was written, while what is handed over and what is held is less than 2^31 TSNs old.
-use Rattle.sctp_delivery.proofs.Names.{◌≡◌, ℕ, ◌+◌, ◌-◌, ◌%◌, ◌<◌, ◌≤◌, ◌^◌, Bool, true, false, List, [], ◌∷◌, length, map, Option, Some, None, refl, ap}
-use Rattle.sctp_delivery.proofs.Names.{sym, subst, ◌∙◌, arith, nat_tests, inl, inr, ◌&&◌, ◌||◌, if◌then◌else◌, nat_le, nat_lt, list_all}
-use Rattle.sctp_delivery.proofs.Names.{Contains, slice_index_or, sum_by, sum_by-cons, AllPass-from_list_all, both, and, not_both}
-use Rattle.sctp_delivery.proofs.Names.{or-left, or-right, or-split, ChunkPayloadData, ChunkSet, Data, data_of, is_on, is_complete, is_one_message, Limits}
-use Rattle.sctp_delivery.proofs.Names.{Message}
-use Rattle.sctp_delivery.proofs.Names.{fragments_on, held_weight, message_on, stream_of, New, AreWrites, ReceiverCall, SenderCall}
-use Rattle.sctp_delivery.proofs.Names.{Made, data_chunk, forward_tsn, with_chunk, ⊤, Call, RunsTo, Session, SenderFollows, ReceiverFollows, at_start}
-use Rattle.sctp_delivery.proofs.Names.{of_receiver, of_sender, next_chunk}
+use Rattle.sctp_delivery.proofs.Names.{common_steps, ◌≡◌, ℕ, ◌+◌, ◌-◌, ◌%◌, ◌<◌, ◌≤◌, ◌^◌, Bool, true, false, List, [], ◌∷◌, length, map, Option, Some, None}
+use Rattle.sctp_delivery.proofs.Names.{refl, ap, sym, subst, ◌∙◌, arith, nat_tests, inl, inr, ◌&&◌, ◌||◌, if◌then◌else◌, nat_le, list_all, Contains}
+use Rattle.sctp_delivery.proofs.Names.{slice_index_or, sum_by, sum_by-cons, AllPass-from_list_all, both, and, not_both, or-left, or-right, or-split}
+use Rattle.sctp_delivery.proofs.Names.{ChunkPayloadData, ChunkSet, Data, data_of, is_on, is_complete, is_one_message, Limits, Message, fragments_on}
+use Rattle.sctp_delivery.proofs.Names.{held_weight, message_on, stream_of, New, AreWrites, ReceiverCall, SenderCall, Made, data_chunk, forward_tsn, with_chunk}
+use Rattle.sctp_delivery.proofs.Names.{⊤, Call, RunsTo, Session, SenderFollows, ReceiverFollows, at_start, of_receiver, of_sender, next_chunk}
 use Rattle.sctp_util.specs.Serial.{comes_before, distance}
 use Rattle.sctp_receiver.specs.ReceiverRuns.{with_message}
 use Rattle.sctp_receiver.proofs.Weights.{message_weight}
@@ -22,7 +20,7 @@ use Rattle.sctp_delivery.proofs.Kept.{held-weighs}
 use Rattle.sctp_delivery.proofs.Queues.{IsOnceMore}
 use Rattle.sctp_delivery.proofs.SameData.{is_same, same-data, same-itself}
 use Rattle.sctp_delivery.proofs.Senders.{IsMoreBy}
-use Rattle.sctp_delivery.proofs.Sent.{Entry, IsPart, Numbered, WasSentFrom, fragment, part-length, part-line, terminal}
+use Rattle.sctp_delivery.proofs.Sent.{Entry, IsPart, Numbered, fragment, part-length, part-line, terminal}
 use Rattle.sctp_delivery.proofs.Sessions as sessions
 use Rattle.sctp_delivery.proofs.Sessions.{all-pass, fails}
 
@@ -43,7 +41,7 @@ from-test low d (terminal ∷ xs) e = let x = from-test low d xs e in (x.0, x.1,
 from-test low d (fragment c w after ∷ xs) e = elim (or-split (nat_le low (length xs) && is_same c d) (stands_from low d xs) e) [
   | inl h ↦
       let b = both (nat_le low (length xs)) (is_same c d) h in
-      let le : low ≤ length xs = grind (arith, nat_tests, b.0) in
+      let le : low ≤ length xs = grind (arith, nat_tests) in
       let same = same-data c d b.1 in
       (w, after, xs, inl (ap (λ x. fragment x w after ∷ xs) (sym same)), le)
   | inr h ↦ let x = from-test low d xs h in (x.0, x.1, x.2, inr x.3, x.4)
@@ -52,12 +50,7 @@ from-test low d (fragment c w after ∷ xs) e = elim (or-split (nat_le low (leng
 pub to-test : (low : ℕ) (d : Data) (w : Numbered) (after : List ℕ) (xs sent : List Entry) → IsPart (fragment d w after ∷ xs) sent → low ≤ length xs
     → stands_from low d sent ≡ true
 to-test low d w after xs [] p le = cc
-to-test low d w after xs (y ∷ ys) (inl e) le =
-    subst (λ zs. stands_from low d zs ≡ true) e
-    (or-left (nat_le low (length xs) && is_same d d) (stands_from low d xs) (and (nat_le low (length xs)) (is_same d d) t (same-itself d)))
-  where
-    t : nat_le low (length xs) ≡ true
-    t = grind (arith, nat_tests, le)
+to-test low d w after xs (y ∷ ys) (inl e) le = grind (arith, nat_tests, common_steps, or-left, and, same-itself)
 to-test low d w after xs (terminal ∷ ys) (inr p) le = to-test low d w after xs ys p le
 to-test low d w after xs (fragment c v rest ∷ ys) (inr p) le =
     or-right (nat_le low (length ys) && is_same c d) (stands_from low d ys) (to-test low d w after xs ys p le)
@@ -132,31 +125,20 @@ more-long sent more (inl e) = let n = ap length e in (omega (arith, n), omega (a
 more-long sent more (inr x) = let n = ap length x.1 in (omega (arith, n), omega (arith, n))
 
 pub each-more : (sent more : List Entry) → IsOnceMore sent more → (low : ℕ) (cs : List ChunkPayloadData) → EachSentFrom low sent cs → EachSentFrom low more cs
-each-more sent more once low cs e =
-    every-of (λ c. WasSentFrom low sent (data_of c)) (λ c. WasSentFrom low more (data_of c))
-    (λ c x. (x.0, x.1, x.2, more-part sent more (fragment (data_of c) x.0 x.1 ∷ x.2) once x.3, x.4)) cs e
+each-more sent more once low cs e = grind (arith, nat_tests, common_steps, every-of, more-part)
 
 read-more : (sent more : List Entry) → IsOnceMore sent more → (m : Message) → IsReadFrom sent m → IsReadFrom more m
 read-more sent more once m r = (r.0, each-more sent more once r.0 m.fragments r.1)
 
 placed-older : (given : ℕ) (sent more : List Entry) → IsOnceMore sent more → length more ≤ length sent + given → (a : Aged) → IsPlaced sent a
     → IsPlaced more (older given a)
-placed-older given sent more once few a x = by a.chunk x
-  where
-    by : (m : Made) → IsPlacedAt sent a.age m → IsPlacedAt more (a.age + given) m
-    by (data_chunk d) x =
-        let le = x.4 in
-        (x.0, x.1, x.2, more-part sent more (fragment d x.0 x.1 ∷ x.2) once x.3, omega (arith, le, few))
-    by (forward_tsn f) x = tt
+placed-older given sent more once few a x = grind (arith, nat_tests, common_steps)
 
 -- a TSN before the next one is of a place that is less than 2^31 TSNs old
 pub recent-place : (first n k next t : ℕ) → k < n → n ≤ k + 2 ^ 31 → next ≡ (first + n) % 2 ^ 32 → t ≡ (first + k) % 2 ^ 32 → comes_before t next ≡ true
     → floor n ≤ k
 unfolding comes_before distance
-recent-place first n k next t lt most is at e =
-    let b = both (nat_lt 0 (distance t next)) (nat_lt (distance t next) (2 ^ 31)) e in
-    let near : distance t next < 2 ^ 31 = grind (arith, nat_tests, b.1) in
-    omega (arith, lt, most, is, at, near)
+recent-place first n k next t lt most is at e = grind (arith, nat_tests, common_steps)
 
 module _ (going : ℕ → Bool) (first : ℕ) (call : SenderCall) (old new : Session) (ns : List Numbered) (sent : List Entry) (ages : List Aged)
     (f : SenderFollows call old new) (i : IsYoungOn going first old ns sent ages) (recent : HoldsRecent new) where
@@ -176,9 +158,7 @@ module _ (going : ℕ → Bool) (first : ℕ) (call : SenderCall) (old new : Ses
     where
       by : (o : Option ChunkPayloadData) → IsMoreBy o sent x.more
           → Every (IsPlaced x.more) (map (λ m. record { chunk = m; age = 1 }) (with_chunk o []))
-      by None g = tt
-      by (Some c) g = let n = ap length g.2 in
-          ((g.0, g.1, sent, subst (IsPart (fragment (data_of c) g.0 g.1 ∷ sent)) (sym g.2) (inl refl), omega (arith, n)), tt)
+      by h0 h1 = grind (arith, nat_tests, common_steps)
   new-placed (outgoing.forwards t g) h = (tt, tt)
   new-placed (outgoing.forwards_within bytes g) h = (tt, tt)
   new-placed c g = tt
@@ -208,10 +188,7 @@ module _ (going : ℕ → Bool) (first : ℕ) (call : SenderCall) (old new : Ses
   sender-young = record {
     holds = x.holds;
     placed = all-placed;
-    held = λ st.
-        let o = stream_of st new.receiving.receiver in
-        let was = ap (λ r. list_all (is_recent sent st) (fragments_on (stream_of st r.receiver))) same ∙ i.held st in
-        both-pass (is_recent sent st) (λ c. comes_before c.tsn (next_tsn new)) (is_recent x.more st) (still-recent st) (fragments_on o) was (recent st);
+    held = grind (arith, nat_tests, common_steps, same, both-pass, still-recent);
     read = subst (λ r. Every (IsReadFrom x.more) r.read) (sym same)
         (every-of (IsReadFrom sent) (IsReadFrom x.more) (read-more sent x.more x.once) old.receiving.read i.read);
   }
@@ -231,12 +208,7 @@ module _ (going : ℕ → Bool) (first : ℕ) (call : ReceiverCall) (old new : S
   -- what is handed over is recent
   pub handed-recent : (st : ℕ) (c : ChunkPayloadData) (said : Bool) → IsYoung (of_receiver (incoming.takes c (New said))) ages → is_on st c ≡ true
       → is_recent sent st c ≡ true
-  handed-recent st c said y on =
-      let a = every-contained (IsPlaced sent) ages (record { chunk = data_chunk (data_of c); age = y.0 }) y.2 i.placed in
-      let less = y.1 in
-      let le = a.4 in
-      and (is_on st c) (stands_from (floor (length sent)) (data_of c) sent) on
-      (to-test (floor (length sent)) (data_of c) a.0 a.1 a.2 sent a.3 (omega (arith, le, less)))
+  handed-recent st c said y on = grind (arith, nat_tests, common_steps, every-contained, and, to-test)
 
   held-after : (c : ReceiverCall) → ReceiverFollows c old new → IsYoung (of_receiver c) ages → (st : ℕ)
       → held_weight (fails (is_recent sent st)) (stream_of st new.receiving.receiver) ≡ 0

@@ -1,8 +1,7 @@
 -- Sessions of a whole life: no SACK is refused that is less than 2^31 TSNs old.
-use Rattle.sctp_delivery.proofs.Names.{◌≡◌, ℕ, ◌+◌, ◌-◌, ◌<◌, ◌≤◌, ◌^◌, Bool, true, false, [], length, map, None, refl, ap, ap₂, sym, subst, ◌∙◌}
-use Rattle.sctp_delivery.proofs.Names.{arith, nat_tests, inl, inr, cases_lt, if◌then◌else◌, tsn, distance-tsn, Sack, Flight, Reception, is_outdated}
-use Rattle.sctp_delivery.proofs.Names.{sack_refusal, max_sack_entries, sack_entries, after_sack, take_sack}
-use Rattle.sctp_delivery.proofs.Names.{sack_of_entries, Session, SenderCall, SenderFollows, ReceiverCall}
+use Rattle.sctp_delivery.proofs.Names.{common_steps, ◌≡◌, ℕ, ◌+◌, ◌-◌, ◌<◌, ◌≤◌, ◌^◌, Bool, true, false, [], length, map, None, refl, sym, subst, ◌∙◌, arith}
+use Rattle.sctp_delivery.proofs.Names.{nat_tests, inl, inr, cases_lt, if◌then◌else◌, tsn, distance-tsn, Sack, Flight, Reception, is_outdated, sack_refusal}
+use Rattle.sctp_delivery.proofs.Names.{max_sack_entries, sack_entries, after_sack, take_sack, sack_of_entries, Session, SenderCall, SenderFollows, ReceiverCall}
 use Rattle.sctp_util.specs.Serial.{at_or_before, comes_before, distance}
 use Rattle.sctp_outbound.specs.payload_queue.Blocks.{is_in_blocks}
 use Rattle.sctp_sender.specs.Flight.{count_acked}
@@ -25,15 +24,7 @@ IsSackAt first n k =
     × ((d : ℕ) → is_in_blocks k.sack.gap_ack_blocks d ≡ true → (0 < d) × (x + d ≤ n))
 
 pub sack-later : (first n m given : ℕ) → n ≤ m → m ≤ n + given → (k : AgedSack) → IsSackAt first n k → IsSackAt first m (sack_older given k)
-sack-later first n m given le most k h =
-    let upto = h.2 in
-    let old = h.3 in (
-      h.0,
-      h.1,
-      omega (arith, upto, le),
-      omega (arith, old, most),
-      λ d e. let b = h.4 d e in let far = b.1 in (b.0, omega (arith, far, le)),
-    )
+sack-later first n m given le most k h = grind (arith, nat_tests, common_steps)
 
 -- ## How many TSNs were given out
 
@@ -66,10 +57,7 @@ given-after first n call old new f few i j e = elim (sender-moves old new few i 
       let p = old.sending.sender.flight.acked_tsn in
       let more = l.long in
       let all = e.total in
-      let far : distance (next_tsn old) (next_tsn new) ≡ count_in_flight new - count_in_flight old =
-      ap₂ distance i.regular.regular.numbered.next_is (j.regular.regular.numbered.next_is ∙ ap (λ a. tsn a (count_in_flight new + 1)) l.acked)
-      ∙ distance-tsn p (count_in_flight old + 1) (count_in_flight new + 1) (omega (arith, more)) (omega (arith, few))
-      ∙ (let d : count_in_flight new + 1 - (count_in_flight old + 1) ≡ count_in_flight new - count_in_flight old = omega arith in d) in (
+      let far : distance (next_tsn old) (next_tsn new) ≡ count_in_flight new - count_in_flight old = grind (arith, nat_tests, common_steps, distance-tsn) in (
         e.acked + count_in_flight new,
         omega (arith, all, more),
         omega (arith, all, more, far),
@@ -126,32 +114,16 @@ module _ (first most : ℕ) (s : Session) (i : IsNear s) (e : AreGiven first mos
 
     near : distance k.cumulative_tsn_ack r.cumulative_tsn < 2 ^ 31
     unfolding at_or_before
-    near = grind (arith, nat_tests, recent)
+    near = grind (arith, nat_tests)
 
     -- it is not past what came
     close : e.acked + i.arrived.place < x + 2 ^ 31
     unfolding distance
-    close =
-        let total = e.total in
-        let is = e.is in
-        let at = i.arrived.is in
-        let within = i.arrived.within in
-        let here = h.1 in
-        let upto = h.2 in
-        let old = h.3 in
-        let few = i.few in
-        let d = near in
-        omega (arith, total, is, at, within, here, upto, old, young, few, d)
+    close = grind (arith, nat_tests, common_steps, near)
 
     outdated : x < e.acked → is_outdated k f ≡ true
     unfolding comes_before distance
-    outdated lt =
-        let is = e.is in
-        let here = h.1 in
-        let c = close in
-        let lo : 0 < distance k.cumulative_tsn_ack f.acked_tsn = omega (arith, is, here, c, lt) in
-        let hi : distance k.cumulative_tsn_ack f.acked_tsn < 2 ^ 31 = omega (arith, is, here, c, lt) in
-        grind (arith, nat_tests, lo, hi)
+    outdated lt = grind (arith, nat_tests, common_steps, close)
 
     truthful : e.acked ≤ x → IsTruthful f.acked_tsn n any k
     truthful le =
@@ -164,10 +136,7 @@ module _ (first most : ℕ) (s : Session) (i : IsNear s) (e : AreGiven first mos
           within = omega (arith, total, upto, le);
           is = omega (arith, is, here, le);
           so_far = λ j pos most. refl;
-          blocks = λ d b.
-              let y = h.4 d b in
-              let far = y.1 in
-              record { some = y.0; within = omega (arith, total, far, le); so = refl };
+          blocks = grind (arith, nat_tests, common_steps);
         }
 
     pub is-taken : sack_refusal k f ≡ None

@@ -1,9 +1,8 @@
 -- In a whole life few ordered messages of a stream are begun past the place acknowledged, and a FORWARD-TSN names the last ones up to its place.
-use Rattle.sctp_delivery.proofs.Names.{◌≡◌, ℕ, ◌+◌, ◌-◌, ◌<◌, ◌≤◌, ◌^◌, Bool, true, false, List, [], length, map, refl, ap, sym, subst, ◌∙◌}
-use Rattle.sctp_delivery.proofs.Names.{arith, inl, inr, ⊤, Option, Some, None, if◌then◌else◌, tsn, distance-tsn, ahead, ForwardTsn, Flight, Sack}
-use Rattle.sctp_delivery.proofs.Names.{Released, ChunkPayloadData, Made, data_chunk, forward_tsn, with_chunk, next_chunk, Session, SenderCall, ReceiverCall}
-use Rattle.sctp_delivery.proofs.Names.{data_of, of_receiver, Ledger, Limits, at_start}
-use Rattle.sctp_delivery.proofs.Names.{SenderFollows, of_sender, is_outdated, take_sack, after_sack, IsAccepted, Name, Transmission, named_up_to}
+use Rattle.sctp_delivery.proofs.Names.{common_steps, nat_tests, ◌≡◌, ℕ, ◌+◌, ◌<◌, ◌≤◌, ◌^◌, Bool, true, List, [], length, map, refl, ap, sym, subst, ◌∙◌, arith}
+use Rattle.sctp_delivery.proofs.Names.{inl, ⊤, Option, Some, None, tsn, distance-tsn, ahead, ForwardTsn, ChunkPayloadData, Made, data_chunk, forward_tsn}
+use Rattle.sctp_delivery.proofs.Names.{with_chunk, next_chunk, Session, SenderCall, ReceiverCall, data_of, of_receiver, Ledger, Limits, at_start, SenderFollows}
+use Rattle.sctp_delivery.proofs.Names.{of_sender, IsAccepted, Name, Transmission, named_up_to}
 use Rattle.sctp_util.specs.Serial.{distance}
 use Rattle.sctp_delivery.specs.Recent.{Aged, aged_after, new_chunks, older}
 use Rattle.sctp_delivery.specs.SenderCalls as outgoing
@@ -73,50 +72,7 @@ module _ (going : ℕ → Bool) (first : ℕ) (call : SenderCall) (old new : Ses
 
   -- no lower place is acknowledged
   rises : a ≤ set'.acked
-  rises =
-      let t = p.set.total in
-      let is = p.set.is in
-      let t' = set'.total in
-      let is' = set'.is in
-      let long = more-long sent x.more x.once in
-      let lo = long.0 in
-      let hi = long.1 in
-      let was = i.few in
-      elim (sender-moves old new few i call f) [
-        | inl l ↦ let acked = l.acked in let n = l.long in omega (arith, t, is, t', is', lo, hi, was, few, acked, n)
-        | inr y ↦ by y (is_outdated y.0 u.flight) refl
-      ]
-    where
-      by : (y : (k : Sack) × (gone : List Released) × (call ≡ outgoing.takes_sack k gone) × (new.sending.sender.flight ≡ after_sack k u.flight)) (b : Bool)
-          → is_outdated y.0 u.flight ≡ b → a ≤ set'.acked
-      by y true e =
-          let t = p.set.total in
-          let is = p.set.is in
-          let t' = set'.total in
-          let is' = set'.is in
-          let long = more-long sent x.more x.once in
-          let lo = long.0 in
-          let hi = long.1 in
-          let was = i.few in
-          let same = y.3 ∙ ap (λ b. if b then u.flight else take_sack y.0 u.flight) e in
-          let acked = ap (λ (v : Flight). v.acked_tsn) same in
-          omega (arith, t, is, t', is', lo, hi, was, few, acked)
-      by y false e =
-          let t = p.set.total in
-          let is = p.set.is in
-          let t' = set'.total in
-          let is' = set'.is in
-          let long = more-long sent x.more x.once in
-          let lo = long.0 in
-          let hi = long.1 in
-          let was = i.few in
-          let same = y.3 ∙ ap (λ b. if b then u.flight else take_sack y.0 u.flight) e in
-          let acked = ap (λ (v : Flight). v.acked_tsn) same in
-          let fits = sack-fits old new few i call f y.0 y.1 y.2 in
-          let at = sack-place y.0 u.flight fits.0 fits.1 i.regular.regular.numbered e in
-          let c = at.0 in
-          let cum = at.1 in
-          omega (arith, t, is, t', is', lo, hi, was, few, acked, c, cum)
+  rises = grind (arith, set', more-long, sender-moves, sack-fits, sack-place)
 
   near-after : (c : SenderCall) → IsAccepted c u → IsMoreBy (sent_by c u) sent x.more → (st : ℕ) → going st ≡ true → spread.IsNear st a x.more
   near-after (outgoing.sends now) ok grown st o = by (next_chunk now u) refl grown
@@ -147,9 +103,7 @@ module _ (going : ℕ → Bool) (first : ℕ) (call : SenderCall) (old new : Ses
       let base-is = p.set.is in
       let here : g.new_cumulative_tsn ≡ tsn (base first) (a + k) = omega (arith, is, base-is) in
       let none : run.acked ≡ 0 = omega (arith, total) in
-      let far : ahead u.flight g.new_cumulative_tsn ≡ k = ap (λ z. distance z g.new_cumulative_tsn) at ∙ ap (distance (tsn u.flight.acked_tsn run.acked)) is
-      ∙ distance-tsn u.flight.acked_tsn run.acked k (omega (arith, past)) (omega (arith, upto, short, was, none))
-      ∙ (let e : k - run.acked ≡ k = omega (arith, none) in e) in
+      let far : ahead u.flight g.new_cumulative_tsn ≡ k = grind (arith, nat_tests, common_steps, distance-tsn) in
       let long = more-long sent x.more x.once in
       let lo = long.0 in
       let hi = long.1 in (
@@ -174,11 +128,7 @@ module _ (going : ℕ → Bool) (first : ℕ) (call : SenderCall) (old new : Ses
         g.accepted.1,
     tt,
   )
-  new-named (outgoing.forwards_within bytes c) g = (
-    named-new c (passable-end u.flight.acked_tsn (count_in_flight old) u.flight i.regular.regular.numbered i.few c.new_cumulative_tsn g.accepted.0
-        g.accepted.1) g.accepted.2,
-    tt,
-  )
+  new-named (outgoing.forwards_within bytes c) g = grind (arith, nat_tests, common_steps, named-new, passable-end)
   new-named c g = tt
 
   pub sender-spread : IsSpreadOver going first new x.more (aged_after (of_sender call) old new ages)

@@ -1,8 +1,7 @@
 -- What a stream holds and awaits, seen from the first place that is less than 2^31 TSNs old: so what is so of few TSNs is so in a whole life.
-use Rattle.sctp_delivery.proofs.Names.{◌≡◌, ℕ, ◌+◌, ◌-◌, ◌<◌, ◌≤◌, ◌^◌, Bool, true, false, List, [], ◌∷◌, ◌++◌, length, Option, Some, None, refl, ap}
-use Rattle.sctp_delivery.proofs.Names.{sym, subst, ◌∙◌, arith, inl, inr, list_all, list_all-append, list_any, both}
-use Rattle.sctp_delivery.proofs.Names.{tsn, ChunkPayloadData, ChunkSet, data_of, has_tsn, fragments_of_sets, fragments_on, InboundStream}
-use Rattle.sctp_delivery.proofs.Names.{Reassembly, Reception, stream_of, misses}
+use Rattle.sctp_delivery.proofs.Names.{common_steps, nat_tests, ◌≡◌, ℕ, ◌+◌, ◌-◌, ◌<◌, ◌≤◌, ◌^◌, Bool, true, false, List, [], ◌∷◌, length, Option, Some, None}
+use Rattle.sctp_delivery.proofs.Names.{refl, ap, sym, subst, ◌∙◌, arith, inl, inr, list_all, list_all-append, list_any, both, tsn, ChunkPayloadData, ChunkSet}
+use Rattle.sctp_delivery.proofs.Names.{data_of, has_tsn, fragments_of_sets, fragments_on, InboundStream, Reassembly, Reception, stream_of, misses}
 use Rattle.sctp_receiver.specs.TsnFilter.{rise_beyond}
 use Rattle.sctp_util.specs.Serial.{distance}
 use Rattle.sctp_delivery.proofs.Every.{every-both}
@@ -11,7 +10,6 @@ use Rattle.sctp_delivery.proofs.Queues.{IsOnceMore}
 use Rattle.sctp_delivery.proofs.Recent.{rise-each}
 use Rattle.sctp_delivery.proofs.Sent.{Entry, IsLine, Numbered, fragment, part-length, part-line}
 use Rattle.sctp_delivery.proofs.SpreadEntries.{IsEntry, begun_to, is_at, made-entry, to-up}
-use Rattle.sctp_delivery.proofs.TakenTsns.{come}
 use Rattle.sctp_delivery.proofs.TsnPlaces.{base}
 use Rattle.sctp_delivery.proofs.UnwrappedArrived.{Rising, between, missing}
 use Rattle.sctp_delivery.proofs.UnwrappedHolds.{AreDue, Came, DueOn, Fits, IsBeyond, IsOf, IsStepOf, Rises}
@@ -100,10 +98,7 @@ module _ (st first : ℕ) where
 
       came-back : (cum : ℕ) (beyond : List ℕ) (y : ℕ) → Came p' st n' (Begun sent (low + d)) (At sent (low + d)) (Stands sent (low + d)) cum beyond y
           → Came p st n (Begun sent low) (At sent low) (Stands sent low) cum beyond (y + d)
-      came-back cum beyond y c =
-          let at : low + (y + d) ≡ low + d + y = omega arith in
-          let t : tsn p (y + d) ≡ tsn p' y = omega arith in
-          (ap (λ k. is_at st k sent) at ∙ c.0, ap (λ u. come u cum beyond) t ∙ c.1)
+      came-back cum beyond y c = grind (arith, nat_tests, common_steps)
 
       held-later : (cum : ℕ) (beyond : List ℕ) (k reach : ℕ) (r : Reassembly) → list_all q (fragments_of_sets r.ordered) ≡ true
           → IsDue p n (Begun sent low) (Fits p st n (Begun sent low) (At sent low) (Stands sent low))
@@ -139,10 +134,7 @@ module _ (st first : ℕ) where
           → DueOn p' st n' (Begun sent (low + d)) (At sent (low + d)) (Stands sent (low + d))
           (Came p' st n' (Begun sent (low + d)) (At sent (low + d)) (Stands sent (low + d)) cum beyond) k reach o
       on-later cum beyond k reach None e x = (x.0, x.1, λ y le c. x.2 (y + d) (omega (arith, le)) (came-back cum beyond y c))
-      on-later cum beyond k reach (Some l) e x =
-          let h = l.queue.held in
-          held-later cum beyond k reach h (both (list_all q (fragments_of_sets h.ordered)) (list_all q (fragments_of_sets h.unordered ++ h.unassembled))
-          (sym (list_all-append q (fragments_of_sets h.ordered) (fragments_of_sets h.unordered ++ h.unassembled)) ∙ e)).0 x
+      on-later cum beyond k reach (Some l) e x = grind (arith, nat_tests, common_steps, held-later, list_all-append)
 
       beyond-later : (reach place cum t : ℕ) → place ≤ n → cum ≡ tsn p place → d ≤ place → (1 < distance cum t) × (distance cum t < 2 ^ 31)
           → IsBeyond p st n (Begun sent low) (At sent low) (Stands sent low) reach t
@@ -287,12 +279,8 @@ module _ (st first : ℕ) where
             within = o.within;
             is = o.is;
             of = (ap (λ k. is_at st k sent) (sym same) ∙ e.on ∙ o.on, o.begun);
-            next = λ open' most.
-                let n = e.next open' (omega (arith, same, most, within)) in
-                (ap (λ k. is_at st k sent) (sym more) ∙ n.0 ∙ o.on, ap (λ k. begun_to st k sent) (sym more) ∙ n.1 ∙ begun);
-            prior = λ open'.
-                let n = e.prior open' in
-                (ap (λ k. is_at st k sent) (sym back) ∙ n.1 ∙ o.on, ap (λ k. begun_to st k sent) (sym back) ∙ sym (e.inner open') ∙ begun);
+            next = grind (arith, nat_tests, common_steps);
+            prior = grind (arith, nat_tests, common_steps);
           },
           rising-of j (o.before + 1) cs r.2,
         )

@@ -1,6 +1,6 @@
 //! What comes in a datagram (RFC 9260 5, 6, 8.5, 9).
 
-ghost use Rattle.std.specs.Prelude.{◌≡◌, ◌⊎◌, ◌<◌, ◌≤◌, ℕ, List, [], ◌∷◌, None, Some, Ok, IfOk, IfSome, OnErr, OnOk, true, false, drop, length, option_map};
+ghost use Rattle.std.specs.Prelude.{◌≡◌, ◌≢◌, ◌⊎◌, ◌<◌, ◌≤◌, ℕ, List, [], ◌∷◌, None, Some, Ok, IfOk, IfSome, OnErr, OnOk, true, false, drop, length, option_map};
 ghost use Rattle.std.specs.List.{AllByRecursion};
 ghost use Rattle.sctp_association.specs.Single.{AloneOn};
 ghost use Rattle.sctp_association.specs.AcksDue.{acks_of, ended};
@@ -15,15 +15,18 @@ ghost use Rattle.sctp_association.specs.Cookies.{IsAlive, IsSealed, cookie_in};
 ghost use Rattle.sctp_association.specs.Ends.{EndsIn, EndsOn, IsAborted, abort_for};
 ghost use Rattle.sctp_association.specs.Entering.{usable_in};
 ghost use Rattle.sctp_association.specs.Halves.{HalvesAlike, halves_of};
-ghost use Rattle.sctp_association.specs.Expected.{AsExpected, BringsCookie, IsDue, IsExpected, is_expected};
+ghost use Rattle.sctp_association.specs.Expected.{AsExpected, IsDue, IsExpected, is_expected};
 ghost use Rattle.sctp_association.specs.Lasting.{KeepsLimits};
 ghost use Rattle.sctp_association.specs.Sacks.{HearsFirstOf, HearsOn, TakesSacksOf};
+ghost use Rattle.sctp_association.specs.Partly.{CutsData, CutsReconfig, CutsSkip};
+ghost use Rattle.sctp_association.specs.Parts.{PartOf, WalksTo};
 ghost use Rattle.sctp_association.specs.Paths.{MovesBehind, MovesByFirstOf, MovesOn, all_go_on};
 ghost use Rattle.sctp_association.specs.Reached.{most_user_data};
 ghost use Rattle.sctp_association.specs.Rows.{RowOn, Settles, has_row};
 ghost use Rattle.sctp_association.specs.Steps.{is_accepted, is_taken};
 ghost use Rattle.sctp_association.specs.Telling.{Tells, TellsEnd};
 ghost use Rattle.sctp_association.specs.Timers.{KeepsTimers};
+ghost use Rattle.sctp_association.specs.ToldBy.{TellsByData, TellsByShutdown, TellsBySack};
 ghost use Rattle.sctp_association.specs.Once.{none_seen, seen};
 ghost use Rattle.sctp_association.specs.Walks.{FirstOn, OtherOn, Walks, WalksOf};
 ghost use Rattle.sctp_association.specs.Tags.{AdmitsFirst, BeginsByCookie, EndsWithFirst, FirstIs, FirstIsAlive, IsFor, first_type, is_admitted, is_all_or_nothing};
@@ -39,7 +42,7 @@ ghost use Rattle.sctp_datagram.specs.Framing.{StartsWith};
 ghost use Rattle.sctp_datagram.specs.Places.{IsPlace, TellsAll, place_at};
 ghost use Rattle.sctp_datagram.specs.declared.datagram.ChunkPlace.{ChunkPlace};
 ghost use Rattle.sctp_handshake.specs.Answers.{silent};
-ghost use Rattle.sctp_handshake.specs.declared.state.State.TheVariants.{Closed};
+ghost use Rattle.sctp_handshake.specs.declared.state.State.TheVariants.{Closed, CookieWait};
 ghost use Rattle.sctp_util.specs.Field.{u32_at};
 ghost use Rattle.sctp_util.specs.declared.error.Error.TheVariants.{ErrOutOfMemory};
 
@@ -209,11 +212,16 @@ impl Association {
         // 3.3.10, 5.1, 6.2, 9).
         ensures over { EndsIn datagram.now self.old self.new }
         // Each of its chunks makes in its turn what RFC 9260 says of its type: `AloneOn` has a field for each. Or it is passed over, since the state
-        // does not expect it, or its kind came before. No more is read behind an INIT, a stale cookie or an ABORT of either side, and at a chunk that
-        // may not stand in the packet. Then a shutdown may go on (4, 5, 6, 8.3, 8.5, 9).
+        // does not expect it, or its kind came before. No more is read behind an INIT, a stale cookie or an ABORT of either side, at a chunk that may not
+        // stand in the packet, and at an INIT ACK that says nothing. Then a shutdown may go on (4, 5, 6, 8.3, 8.5, 9).
         ensures walks { result ≡ Ok Accepted → self.old.is_over ≡ false
             → (chunks : List ChunkPlace) → TellsAll place_at datagram.now chunks
             → WalksOf chunks datagram.now now self.old self.new }
+        // Where memory is wanting behind the first change, so do its chunks up to the one at which it is. That one changes nothing; or streams are open
+        // that DATA or a FORWARD-TSN names; or a RE-CONFIG is followed in part. Nothing behind it is read, and the SACK of what came before is due.
+        ensures in_part { result ≡ Ok Partly
+            → (chunks : List ChunkPlace) → TellsAll place_at datagram.now chunks
+            → PartOf chunks datagram.now now self.old self.new }
     {
         let zero = if self.config.zero_checksum {
             ZeroChecksum::Allowed
@@ -306,6 +314,8 @@ impl Association {
         ensures over { EndsIn datagram.now self.old self.new }
         ensures walks { result ≡ Ok Accepted
             → WalksOf chunks.entry.left datagram.now now self.old self.new }
+        ensures in_part { result ≡ Ok Partly
+            → PartOf chunks.entry.left datagram.now now self.old self.new }
     {
         let mut chunks = chunks;
         let tag = chunks.header().verification_tag;
@@ -445,6 +455,8 @@ impl Association {
         ensures over { EndsIn datagram.now self.old self.new }
         ensures walks { result ≡ true → Walks (u32_at datagram.now 4) datagram.now now
             (seen first none_seen) chunks.entry.left self.old self.new }
+        ensures in_part { result ≡ false → WalksTo (u32_at datagram.now 4) datagram.now now
+            (seen first none_seen) chunks.entry.left self.old self.new }
     {
         let mut chunks = chunks;
         let tag = chunks.header().verification_tag;
@@ -570,14 +582,28 @@ impl Association {
         ensures over { IfOk result (λ s. EndsOn chunk datagram.now s self.old self.new) }
         ensures still { goes_on chunk.typ ≡ true
             → IfOk result (λ s. StillOn chunk datagram.now s self.old self.new) }
-        ensures why { is_admitted chunk tag count self.old.machine ≡ true
-            → chunk.typ ≡ 2 → BringsCookie chunk datagram.now
-            → (r : Reason) → result ≡ Ok (step.Refused r) → r ≡ Unexpected }
+        ensures unexpected { chunk.typ ≡ 2 → result ≡ Ok (step.Refused Unexpected)
+            → self.old.machine.state ≢ CookieWait }
+        ensures waits { is_admitted chunk tag count self.old.machine ≡ true → chunk.typ ≡ 2
+            → (r : Reason) → result ≡ Ok (step.Refused r) → (r ≡ Unexpected → ⊥)
+            → self.old.machine.state ≡ CookieWait }
         ensures expected { is_admitted chunk tag count self.old.machine ≡ true
             → has_row chunk.typ ≡ true
             → IfOk result (λ s. AsExpected (is_expected chunk.typ self.old) s) }
         ensures alone { IfOk result
             (λ s. AloneOn chunk tag datagram.now now s self.old self.new) }
+        ensures by_sack { chunk.typ ≡ 3 → result ≡ Ok step.Next
+            → TellsBySack chunk datagram.now self.old self.new }
+        ensures by_shutdown { chunk.typ ≡ 7 → result ≡ Ok step.Next
+            → TellsByShutdown self.old self.new }
+        ensures by_data { chunk.typ ≡ 0 → result ≡ Ok step.Next
+            → TellsByData chunk datagram.now self.old self.new }
+        ensures cut_data { chunk.typ ≡ 0 → result ≡ Ok step.Cut
+            → CutsData chunk datagram.now self.old self.new }
+        ensures cut_skip { chunk.typ ≡ 192 → result ≡ Ok step.Cut
+            → CutsSkip chunk datagram.now self.old self.new }
+        ensures cut_resets { chunk.typ ≡ 130 → result ≡ Ok step.Cut
+            → CutsReconfig chunk datagram.now now self.old self.new }
     {
         if !self.admits(chunk, tag, count) {
             return Ok(Step::Refused(Reason::Tag));
@@ -619,6 +645,8 @@ impl Association {
         ensures row { IfOk result (λ s. RowOn chunk datagram.now now s self.old self.new) }
         ensures acks { IfOk result (λ s. AcksOn chunk datagram.now now s self.old self.new) }
         ensures events { BringsOnly chunk datagram.now self.old self.new }
+        ensures long { result ≡ Ok step.Next → TellsByData chunk datagram.now self.old self.new }
+        ensures cut { result ≡ Ok step.Cut → CutsData chunk datagram.now self.old self.new }
     {
         if !self.machine.state().takes_data() {
             return Ok(Step::Refused(Reason::Unexpected));
@@ -658,6 +686,7 @@ impl Association {
         ensures row { IfOk result (λ s. RowOn chunk datagram.now now s self.old self.new) }
         ensures acks { IfOk result (λ s. AcksOn chunk datagram.now now s self.old self.new) }
         ensures events { BringsOnly chunk datagram.now self.old self.new }
+        ensures cut { result ≡ Ok step.Cut → CutsSkip chunk datagram.now self.old self.new }
     {
         if !self.machine.state().takes_data() {
             return Ok(Step::Refused(Reason::Unexpected));
@@ -721,6 +750,7 @@ impl Association {
         ensures row { IfOk result (λ s. RowOn chunk datagram.now now s self.old self.new) }
         ensures acks { IfOk result (λ s. AcksOn chunk datagram.now now s self.old self.new) }
         ensures events { BringsOnly chunk datagram.now self.old self.new }
+        ensures lows { result ≡ Ok step.Next → TellsBySack chunk datagram.now self.old self.new }
     {
         if !self.machine.state().takes_sacks() {
             return Ok(Step::Refused(Reason::Unexpected));

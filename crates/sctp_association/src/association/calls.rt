@@ -81,6 +81,8 @@ impl Association {
           outbound = self.new.outbound;
           events = self.new.events;
         } }
+        // There is room for the event that its buffered amount falls.
+        ensures room { OnOk result (stream < length self.new.events.low) }
         ensures quiet { BringsNone self.old.events self.new.events }
         ensures err { OnErr result (self.new ≡ self.old) }
     {
@@ -122,6 +124,8 @@ impl Association {
           outbound = self.new.outbound;
           events = self.new.events;
         } }
+        // There is room for the event that its buffered amount falls.
+        ensures room { OnOk result (stream < length self.new.events.low) }
         ensures quiet { BringsNone self.old.events self.new.events }
         ensures err { OnErr result (self.new ≡ self.old) }
     {
@@ -158,6 +162,8 @@ impl Association {
           outbound = self.new.outbound;
           events = self.new.events;
         } }
+        // There is room for the event that its buffered amount falls.
+        ensures room { OnOk result (stream < length self.new.events.low) }
         ensures quiet { BringsNone self.old.events self.new.events }
         ensures err { OnErr result (self.new ≡ self.old) }
     {

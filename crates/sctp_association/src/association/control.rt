@@ -12,6 +12,7 @@ ghost use Rattle.sctp_association.specs.Lasting.{LastsNoLonger};
 ghost use Rattle.sctp_association.specs.Leaving.{AsksNoMore, OwesNothingNew, StaysDue, owed_of, replies_of};
 ghost use Rattle.sctp_association.specs.Rows.{FollowsAnswer, Settles, cause_code, drained_where, over_by, owed_by, owed_once};
 ghost use Rattle.sctp_association.specs.Most.{shutdowns_left};
+ghost use Rattle.sctp_association.specs.Requesting.{resets_of};
 ghost use Rattle.sctp_association.specs.Sending.{holds_nothing};
 ghost use Rattle.sctp_association.specs.Telling.{PassesOn, TellsEnd, ending_by};
 ghost use Rattle.sctp_association.specs.declared.event.Ending.TheVariants.{Aborted};
@@ -22,6 +23,7 @@ ghost use Rattle.sctp_handshake.specs.Endings.{on_drained};
 ghost use Rattle.sctp_handshake.specs.States.{accepts_writes};
 
 use super::{Association, outbound_config};
+use crate::asking::Asking;
 use crate::due::{Alone, AloneKind};
 use crate::event::Ending;
 use crate::inbound::{Inbound, InboundConfig};
@@ -30,7 +32,7 @@ use sctp_cookie::{HmacSha256, Mac};
 use sctp_handshake::{AbortCause, Answer, Offer, Reply, State, Told};
 use sctp_path::Heartbeat;
 use sctp_receiver::receiver::limits::Limits;
-use sctp_reset::{OwnRequests, PeerRequests};
+use sctp_reset::PeerRequests;
 use sctp_util::field::read_u32;
 
 // The code of a cause (RFC 9260 3.3.10).
@@ -253,7 +255,7 @@ impl Association {
                 self.inbound = None;
                 let first_tsn = self.machine.own().first_tsn;
                 self.outbound = Outbound::new(self.alloc, outbound_config(&self.config, first_tsn));
-                self.requests = OwnRequests::new(self.alloc, first_tsn);
+                self.requests = Asking::new(self.alloc, first_tsn);
                 self.control.stop();
                 self.guard.stop();
                 self.begin(now);
@@ -323,6 +325,7 @@ impl Association {
         ensures stays { StaysDue self.old self.new }
         ensures asks { OwesNothingNew (owed_of self.old) (owed_of self.new) }
         ensures moments { AsksNoMore now self.old self.new }
+        ensures resets { resets_of self.new ≡ resets_of self.old }
         ensures settles { Settles now self.old self.new }
         ensures alone { self.new.due.alone ≡ self.old.due.alone }
         ensures shut { shutdowns_left self.old.machine.state ≡ 0
@@ -354,6 +357,7 @@ impl Association {
         ensures stays { StaysDue self.old self.new }
         ensures asks { OwesNothingNew (owed_of self.old) (owed_of self.new) }
         ensures moments { AsksNoMore now self.old self.new }
+        ensures resets { resets_of self.new ≡ resets_of self.old }
         ensures due { self.new.due ≡ owed_by (drained_where
             (holds_nothing self.old.outbound.sender) self.old.machine).answer.reply 0 self.old.due }
         ensures wants { self.new.wants_shutdown ≡ self.old.wants_shutdown }

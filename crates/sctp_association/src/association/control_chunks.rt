@@ -17,6 +17,7 @@ ghost use Rattle.sctp_association.specs.Fresh.{fresh_tag};
 ghost use Rattle.sctp_association.specs.Rows.{FollowsAnswer, StepsOn, error_row, tag_of};
 ghost use Rattle.sctp_association.specs.Shutting.{ShutsOn};
 ghost use Rattle.sctp_association.specs.Telling.{PassesOn, Tells, TellsEnd, ending_by};
+ghost use Rattle.sctp_association.specs.ToldBy.{TellsByShutdown};
 ghost use Rattle.sctp_association.specs.declared.association.Reason.{Reason};
 ghost use Rattle.sctp_association.specs.declared.association.Reason.TheVariants.{Unexpected};
 ghost use Rattle.sctp_association.specs.declared.association.arrivals.Step.TheVariants as step;
@@ -105,6 +106,8 @@ impl Association {
             → IfOk result (λ s. AsExpected (expects chunk.typ self.old) s) }
         ensures alone { IsOther chunk.typ → (tag : ℕ) → IfOk result
             (λ s. AloneOn chunk tag datagram.now now s self.old self.new) }
+        ensures lows { chunk.typ ≡ 7 → result ≡ Ok step.Next
+            → TellsByShutdown self.old self.new }
     {
         match chunk.typ {
             4 => self.take_heartbeat(datagram, chunk),
@@ -204,6 +207,7 @@ impl Association {
             ≡ brought_at 7 self.old.events self.new.events }
         ensures low { AddsOnly (IsLowBy chunk datagram.now self.old)
             self.old.events.low self.new.events.low }
+        ensures lows { result ≡ Ok step.Next → TellsByShutdown self.old self.new }
         ensures row { IfOk result
             (λ s. StepsOn (on_shutdown self.old.machine) 0 now s self.old self.new) }
         ensures expected { chunk.typ ≡ 7 → IfOk result (λ s. AsExpected

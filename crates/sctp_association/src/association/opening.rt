@@ -8,7 +8,7 @@ ghost use Rattle.sctp_association.specs.Events.{brought_at};
 ghost use Rattle.sctp_association.specs.Kept.{OwesNoMore, OwesTicket, ticket_in_kind};
 ghost use Rattle.sctp_association.specs.Cookies.{IsAlive, IsSealed, cookie_in};
 ghost use Rattle.sctp_association.specs.Halves.{HalvesAlike, halves_of};
-ghost use Rattle.sctp_association.specs.Expected.{AsExpected, BringsCookie, IsEchoExpected, IsInitAckExpected, IsInitExpected, may_begin, speaks};
+ghost use Rattle.sctp_association.specs.Expected.{AsExpected, IsEchoExpected, IsInitAckExpected, IsInitExpected, may_begin, speaks};
 ghost use Rattle.sctp_association.specs.Openings.{EchoesOn, InitAckOn, owed_to_init};
 ghost use Rattle.sctp_association.specs.Reports.{AnswersHostName, EndsBegun, EndsByHostName, report_with, value_in};
 ghost use Rattle.sctp_association.specs.Rows.{StepsOn};
@@ -101,7 +101,8 @@ impl Association {
         }
     }
 
-    /// Takes an INIT ACK (RFC 9260 5.1 C, 5.2.3): its cookie is kept, to be echoed. By one with a Host Name Address what was begun ends (5.1.2).
+    /// Takes an INIT ACK that this side waits for (RFC 9260 5.1 C, 5.2.3): its cookie is kept, to be echoed. By one with a Host Name Address, or
+    /// without a cookie, what was begun ends (5.1, 5.1.2).
     #[inline(never)]
     pub(super) fn take_init_ack(
         &mut self,
@@ -114,8 +115,11 @@ impl Association {
         requires typ { chunk.typ ≡ 2 }
         ensures tells { Tells self.old self.new }
         ensures refused { (r : Reason) → result ≡ Ok (step.Refused r) → self.new ≡ self.old }
-        ensures why { BringsCookie chunk datagram.now
-            → (r : Reason) → result ≡ Ok (step.Refused r) → r ≡ Unexpected }
+        // One that this side does not wait for is passed over (RFC 9260 5.2.3), and no other.
+        ensures unexpected { result ≡ Ok (step.Refused Unexpected)
+            → self.old.machine.state ≢ CookieWait }
+        ensures waits { (r : Reason) → result ≡ Ok (step.Refused r) → (r ≡ Unexpected → ⊥)
+            → self.old.machine.state ≡ CookieWait }
         ensures err { OnErr result (self.new ≡ self.old) }
         ensures whole { result ≡ Ok step.Cut → ⊥ }
         ensures came { ArrivesAsOffered datagram.now self.old self.new }
@@ -128,6 +132,9 @@ impl Association {
         ensures expected { IsInitAckExpected chunk datagram.now self.old
             → (r : Reason) → result ≡ Ok (step.Refused r) → ⊥ }
     {
+        if self.machine.state() != State::CookieWait {
+            return Ok(Step::Refused(Reason::Unexpected));
+        }
         let Ok(value) = init_value(bytes_of(datagram, chunk)) else {
             return Ok(Step::Refused(Reason::NoPacket));
         };
@@ -148,14 +155,10 @@ impl Association {
         };
         let cookie = Bytes::copy_from_slice(self.alloc, cookie)?;
         let reported = self.reported_in(value)?;
-        let before = self.machine.state();
         let answer = self.machine.init_ack(offer);
-        if answer.reply.is_none() && answer.told.is_none() {
-            return Ok(Step::Refused(Reason::Unexpected));
-        }
         self.cookie = Some(cookie);
         self.note_params(reported);
-        self.follow(before, answer, offer.tag, now);
+        self.follow(State::CookieWait, answer, offer.tag, now);
         Ok(Step::Next)
     }
 
@@ -176,14 +179,15 @@ impl Association {
     fn end_begun(&mut self, value: &[u8], kind: AloneKind, raw: Option<Bytes>) -> Step
         requires long { 16 ≤ length value.now }
         requires no_ticket { ticket_in_kind kind ≡ None }
+        requires waits { self.old.machine.state ≡ CookieWait }
         ensures tells { TellsEnd self.old self.new }
         ensures ends { result ≡ step.Stop
             → EndsBegun kind raw (u32_at value.now 0) self.old self.new }
         ensures events { self.new.events
             ≡ brought_at 2 self.old.events self.new.events }
-        ensures begun { result ≡ step.Stop → self.old.machine.state ≡ CookieWait }
-        ensures taken { self.old.machine.state ≡ CookieWait → u32_at value.now 0 ≢ 0
-            → result ≡ step.Stop }
+        ensures tagged { result ≡ step.Stop → u32_at value.now 0 ≢ 0 }
+        ensures taken { u32_at value.now 0 ≢ 0 → result ≡ step.Stop }
+        ensures why { result ≡ step.Refused Unexpected → ⊥ }
         ensures never { result ≡ step.Next → ⊥ }
         ensures whole { result ≡ step.Cut → ⊥ }
         ensures refused { (r : Reason) → result ≡ step.Refused r → self.new ≡ self.old }
@@ -191,9 +195,6 @@ impl Association {
         ensures peer { KeepsPeer self.old self.new }
     {
         let tag = read_u32(value, 0);
-        if self.machine.state() != State::CookieWait {
-            return Step::Refused(Reason::Unexpected);
-        }
         if tag == 0 {
             return Step::Refused(Reason::NoPacket);
         }

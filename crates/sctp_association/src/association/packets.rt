@@ -10,15 +10,20 @@ ghost use Rattle.sctp_association.specs.Idle.{HasNoSackDue, IsIdle, MayReply, Ma
 ghost use Rattle.sctp_association.specs.Kept.{IsUnmoved, unknown_in};
 ghost use Rattle.sctp_association.specs.Lasting.{LastsNoLonger};
 ghost use Rattle.sctp_association.specs.Leaving.{AsksNoMore, IsDueOrData, IsSentIn, IsStreamTold, LeavesBy, LeavesInto, OwesNothingNew, beats, owed_at, owed_before, owed_of, replies_of};
+ghost use Rattle.sctp_association.specs.Lows.{AddsWhere};
 ghost use Rattle.sctp_association.specs.Most.{FewerWherePut, most_data, most_packets};
 ghost use Rattle.sctp_association.specs.Offering.{IsReplyOf, OffersAsDue, PutsReply, answered, init_with};
 ghost use Rattle.sctp_association.specs.declared.due.AloneKind.{AloneKind};
 ghost use Rattle.sctp_association.specs.declared.inbound.Inbound.{Inbound};
+ghost use Rattle.sctp_association.specs.Ordered.{IsInOrder, PutsInOrder, PutsTypes, control_order};
+ghost use Rattle.sctp_association.specs.Probing.{LeavesBeat, PutsBeat, Waits, WaitsIdle};
 ghost use Rattle.sctp_association.specs.Reads.{IsSameBeside};
 ghost use Rattle.sctp_association.specs.Replying.{AddsReply, IsReply, LeavesAlone, PutsOne, header_to, host_name_causes};
 ghost use Rattle.sctp_association.specs.Reports.{one_cause, unrecognized_in};
+ghost use Rattle.sctp_association.specs.Requesting.{KeepsResets, LeavesResetBy, LeavesResetIn, OwesNoReset, PutsReset, resets_of};
 ghost use Rattle.sctp_association.specs.Rows.{SettlesToSend};
 ghost use Rattle.sctp_association.specs.Sending.{IsTimed};
+ghost use Rattle.sctp_association.specs.Settled.{LeavesSettled};
 ghost use Rattle.sctp_association.specs.Skips.{LeavesSkip, LeavesSkipBy};
 ghost use Rattle.sctp_association.specs.Still.{IsLater, heartbeat_time};
 ghost use Rattle.sctp_association.specs.Telling.{Tells};
@@ -33,6 +38,7 @@ ghost use Rattle.sctp_handshake.specs.declared.state.State.TheVariants.{CookieEc
 ghost use Rattle.sctp_packets.specs.Draft.{IsDraft};
 ghost use Rattle.sctp_packets.specs.Packet.{Parts};
 ghost use Rattle.sctp_params.specs.Param.{heartbeat_info};
+ghost use Rattle.sctp_sender.specs.Thresholds.{fell};
 ghost use Rattle.sctp_params.specs.ParamKind.{parameter_of};
 
 use super::Association;
@@ -80,8 +86,11 @@ impl Association {
         ensures tells { Tells self.old self.new }
         ensures over { self.old.is_over ≡ true → self.old.due.alone ≡ None
             → (result ≡ Ok false) × (self.new ≡ self.old) }
-        // It tells no more than that a buffered amount fell to its low threshold.
+        // It tells no more than that a buffered amount fell to its low threshold: as messages are abandoned or expire, exactly of those streams, where
+        // there is room for them (`write` makes it).
         ensures quiet { self.new.events ≡ record self.old.events { low = self.new.events.low } }
+        ensures lows { AddsWhere (λ s. fell s self.old.outbound.sender self.new.outbound.sender)
+            self.old.events.low self.new.events.low }
         ensures made { Transmits (is_sent result) (sides_of self.old) (sides_of self.new) }
         // An INIT has the first TSN of this side; an INIT ACK has a cookie over the ticket that was due.
         ensures offers { is_sent result ≡ true → OffersAsDue self.old self.new.draft.bytes }
@@ -92,6 +101,9 @@ impl Association {
         // The shutdown that was asked for begins, and goes on where nothing waits or is in flight (RFC 9260 9.2).
         ensures settles { self.old.due.alone ≡ None → self.old.is_over ≡ false
             → OnOk result (SettlesToSend now self.old self.new) }
+        // So the SHUTDOWN or SHUTDOWN-ACK is due as its state is entered, and leaves or stays due.
+        ensures enters { self.old.due.alone ≡ None → self.old.is_over ≡ false
+            → OnOk result (LeavesSettled (is_sent result) self.old self.new) }
         // T2-shutdown, and T5-shutdown-guard, begin as its state is entered, whatever is answered.
         ensures timers { EntersTimers now self.old self.new }
         // The one reply that is due leaves first, in a packet of its own, with exactly its chunks.
@@ -115,6 +127,15 @@ impl Association {
         ensures leaves { LeavesBy (is_sent result) self.old self.new }
         // So a FORWARD-TSN does, unless none can be made that a packet has room for.
         ensures skips { LeavesSkipBy (is_sent result) self.old self.new }
+        // A RE-CONFIG has the response that is due, and the request whose moment has come, which may begin now (RFC 6525 5.1, 5.2.1). One that does
+        // not leave stays due; where there is no datagram none is.
+        ensures resets { LeavesResetBy now result self.old self.new }
+        // A HEARTBEAT leaves only where one is due, and one at most: its answer is to have this moment in it. Else the one that is awaited stays, and when
+        // the next one is due, but where DATA leaves now (8.3).
+        ensures beats { LeavesBeat now (is_sent result) self.old self.new }
+        // Its control chunks stand in one order, with one of each type at most, but two ERRORs; behind them stands DATA (6.10).
+        ensures order { is_sent result ≡ true → self.old.due.alone ≡ None
+            → IsInOrder self.new.draft.bytes }
         // Nothing else comes to be due, but a SHUTDOWN or SHUTDOWN-ACK where nothing waits or is in flight; no HEARTBEAT or RE-CONFIG (`moments`).
         ensures asks { OwesNothingNew (owed_of self.old) (owed_of self.new) }
         ensures moments { AsksNoMore now self.old self.new }
@@ -162,8 +183,14 @@ impl Association {
         ensures skips { LeavesSkip (IsSentIn (is_sent result) self.new.draft.bytes)
             self.old.draft.limit self.old.outbound.sender self.old.outbound.is_skip_due
             self.new.outbound.is_skip_due }
+        ensures resets { LeavesResetIn now (is_sent result) self.old.outbound.sender
+            self.old self.new }
+        ensures beats { LeavesBeat now (is_sent result) self.old self.new }
+        ensures unasked { result ≡ Ok false → self.new.machine.state ≢ CookieEchoed
+            → OwesNoReset now self.old.outbound.sender (resets_of self.old) }
         ensures fewer { result ≡ Ok true
             → most_packets now self.new < most_packets now self.old }
+        ensures order { is_sent result ≡ true → IsInOrder self.new.draft.bytes }
     {
         self.draft.begin(header)?;
         let filled = self.fill(now);
@@ -403,8 +430,16 @@ impl Association {
         ensures skips { (p : Parts) → IsDraft p self.old.draft.bytes
             → LeavesSkip (Stands self.old.draft.bytes self.new.draft.bytes) self.old.draft.limit
             self.old.outbound.sender self.old.outbound.is_skip_due self.new.outbound.is_skip_due }
+        ensures resets { (p : Parts) → IsDraft p self.old.draft.bytes
+            → PutsReset now self.old self.new }
+        ensures beats { PutsBeat (WaitsIdle now) now self.old self.new }
+        ensures unasked { OnOk result (self.new.machine.state ≢ CookieEchoed
+            → IfNoneAdded self.old.draft.bytes self.new.draft.bytes
+            (OwesNoReset now self.old.outbound.sender (resets_of self.old))) }
         ensures fewer { (p : Parts) → IsDraft p self.old.draft.bytes
             → FewerWherePut (most_packets now self.old) (most_packets now self.new)
+            self.old.draft.bytes self.new.draft.bytes }
+        ensures order { PutsInOrder control_order
             self.old.draft.bytes self.new.draft.bytes }
     {
         self.put_cookies();
@@ -432,6 +467,13 @@ impl Association {
         ensures full { IsAsFull self.old.outbound self.new.outbound }
         ensures leaves { LeavesInto self.old self.new }
         ensures skip { self.new.outbound.is_skip_due ≡ self.old.outbound.is_skip_due }
+        ensures resets { (p : Parts) → IsDraft p self.old.draft.bytes
+            → PutsReset now self.old self.new }
+        ensures beats { PutsBeat Waits now self.old self.new }
+        ensures unasked { OnOk result (IfNoneAdded self.old.draft.bytes self.new.draft.bytes
+            (OwesNoReset now self.old.outbound.sender (resets_of self.old))) }
+        ensures order { PutsTypes (7 ∷ 8 ∷ 5 ∷ 4 ∷ 9 ∷ 9 ∷ 130 ∷ [])
+            self.old.draft.bytes self.new.draft.bytes }
     {
         self.put_shutdown();
         self.put_heartbeats(now)?;
@@ -458,7 +500,11 @@ impl Association {
         ensures skips { 12 ≤ length self.old.draft.bytes
             → LeavesSkip (Stands self.old.draft.bytes self.new.draft.bytes) self.old.draft.limit
             self.old.outbound.sender self.old.outbound.is_skip_due self.new.outbound.is_skip_due }
+        ensures resets { resets_of self.new ≡ resets_of self.old }
+        ensures beats { WaitsIdle now self.old self.new }
         ensures fewer { FewerWherePut (most_data self.old.outbound) (most_data self.new.outbound)
+            self.old.draft.bytes self.new.draft.bytes }
+        ensures order { PutsInOrder (192 ∷ [])
             self.old.draft.bytes self.new.draft.bytes }
     {
         if !self.machine.state().sends_data() {
@@ -474,6 +520,7 @@ impl Association {
     fn note_use(&mut self, now: u64)
         ensures rest { self.new ≡ record self.old { heartbeat = self.new.heartbeat } }
         ensures moments { AsksNoMore now self.old self.new }
+        ensures beats { WaitsIdle now self.old self.new }
     {
         if let Some(heartbeat) = &mut self.heartbeat {
             if self.outbound.was_used(now) {
@@ -488,16 +535,20 @@ impl Association {
         ensures owes { IfNoneAdded self.old.draft.bytes self.new.draft.bytes
             (self.new.due.cookie_ack ≡ false) }
         ensures leaves { LeavesInto self.old self.new }
+        ensures order { PutsTypes (10 ∷ 11 ∷ [])
+            self.old.draft.bytes self.new.draft.bytes }
     {
         self.put_cookie_echo();
         self.put_cookie_ack();
     }
 
     // The cookie stays, since its COOKIE-ECHO may be lost.
-    #[tactic(auto, using(crate::proofs::Others::others_one, crate::proofs::Others::others_none, crate::proofs::Others::others_then))]
+    #[tactic(auto, using(crate::proofs::Ordered::order_one, crate::proofs::Ordered::order_none, crate::proofs::Others::others_one, crate::proofs::Others::others_none, crate::proofs::Others::others_then))]
     fn put_cookie_echo(&mut self)
         ensures others { PutsOthers self.old self.new }
         ensures leaves { LeavesInto self.old self.new }
+        ensures order { PutsTypes (10 ∷ [])
+            self.old.draft.bytes self.new.draft.bytes }
     {
         if !self.due.cookie_echo {
             return;
@@ -514,12 +565,14 @@ impl Association {
     }
 
     // Puts the COOKIE-ACK that is due.
-    #[tactic(auto, using(crate::proofs::Others::others_one, crate::proofs::Others::others_none, crate::proofs::Others::others_then))]
+    #[tactic(auto, using(crate::proofs::Ordered::order_one, crate::proofs::Ordered::order_none, crate::proofs::Others::others_one, crate::proofs::Others::others_none, crate::proofs::Others::others_then))]
     fn put_cookie_ack(&mut self)
         ensures others { PutsOthers self.old self.new }
         ensures owes { IfNonePut self.old.draft.bytes self.new.draft.bytes
             (self.new.due.cookie_ack ≡ false) }
         ensures leaves { LeavesInto self.old self.new }
+        ensures order { PutsTypes (11 ∷ [])
+            self.old.draft.bytes self.new.draft.bytes }
     {
         if self.due.cookie_ack && self.draft.put(&ChunkCookieAck) {
             self.due.cookie_ack = false;
@@ -527,7 +580,7 @@ impl Association {
     }
 
     // Puts the SACK that is due, or one that waits where DATA goes with it (RFC 9260 6.1).
-    #[tactic(auto, using(crate::proofs::Others::same_puts))]
+    #[tactic(auto, using(crate::proofs::Ordered::order_one, crate::proofs::Ordered::order_none, crate::proofs::Others::same_puts))]
     fn put_sack(&mut self, now: u64) -> Result<(), Fault>
         ensures made { PutsOnce self.old self.new }
         ensures kept { IsUnmoved self.old self.new }
@@ -537,6 +590,8 @@ impl Association {
         ensures full { IsAsFull self.old.outbound self.new.outbound }
         ensures leaves { LeavesInto self.old self.new }
         ensures skip { self.new.outbound.is_skip_due ≡ self.old.outbound.is_skip_due }
+        ensures order { PutsTypes (3 ∷ [])
+            self.old.draft.bytes self.new.draft.bytes }
     {
         let has_data = self.outbound.has_data() && self.machine.state().sends_data();
         match &mut self.inbound {
@@ -557,13 +612,15 @@ impl Association {
         ensures full { IsAsFull self.old.outbound self.new.outbound }
         ensures leaves { LeavesInto self.old self.new }
         ensures skip { self.new.outbound.is_skip_due ≡ self.old.outbound.is_skip_due }
+        ensures order { PutsTypes (7 ∷ 8 ∷ [])
+            self.old.draft.bytes self.new.draft.bytes }
     {
         self.put_shutdown_asked();
         self.put_shutdown_ack();
     }
 
     // Puts the SHUTDOWN that is due: it acknowledges what a SACK would.
-    #[tactic(auto, using(crate::proofs::Others::same_puts))]
+    #[tactic(auto, using(crate::proofs::Ordered::order_one, crate::proofs::Ordered::order_none, crate::proofs::Others::same_puts))]
     fn put_shutdown_asked(&mut self)
         ensures made { PutsOnce self.old self.new }
         ensures kept { IsUnmoved self.old self.new }
@@ -574,6 +631,8 @@ impl Association {
         ensures full { IsAsFull self.old.outbound self.new.outbound }
         ensures leaves { LeavesInto self.old self.new }
         ensures skip { self.new.outbound.is_skip_due ≡ self.old.outbound.is_skip_due }
+        ensures order { PutsTypes (7 ∷ [])
+            self.old.draft.bytes self.new.draft.bytes }
     {
         if !self.due.shutdown {
             return;
@@ -590,7 +649,7 @@ impl Association {
     }
 
     // Puts the SHUTDOWN-ACK that is due.
-    #[tactic(auto, using(crate::proofs::Others::others_one, crate::proofs::Others::others_none, crate::proofs::Others::others_then))]
+    #[tactic(auto, using(crate::proofs::Ordered::order_one, crate::proofs::Ordered::order_none, crate::proofs::Others::others_one, crate::proofs::Others::others_none, crate::proofs::Others::others_then))]
     fn put_shutdown_ack(&mut self)
         ensures others { PutsOthers self.old self.new }
         ensures owes { IfNonePut self.old.draft.bytes self.new.draft.bytes
@@ -598,6 +657,8 @@ impl Association {
         ensures asked { self.new.due.shutdown ≡ self.old.due.shutdown }
         ensures acks { sack_delay self.new ≡ sack_delay self.old }
         ensures leaves { LeavesInto self.old self.new }
+        ensures order { PutsTypes (8 ∷ [])
+            self.old.draft.bytes self.new.draft.bytes }
     {
         if self.due.shutdown_ack && self.draft.put(&ChunkShutdownAck) {
             self.due.shutdown_ack = false;
@@ -614,6 +675,10 @@ impl Association {
             ((self.new.due.heartbeat ≡ None) × (beats now self.new ≡ false))) }
         ensures acks { sack_delay self.new ≡ sack_delay self.old }
         ensures leaves { LeavesInto self.old self.new }
+        ensures resets { KeepsResets self.old self.new }
+        ensures beats { PutsBeat Waits now self.old self.new }
+        ensures order { PutsTypes (5 ∷ 4 ∷ [])
+            self.old.draft.bytes self.new.draft.bytes }
     {
         self.put_heartbeat_ack()?;
         match self.next_heartbeat() {
@@ -624,7 +689,7 @@ impl Association {
 
     // Puts the answer to a HEARTBEAT. It waits for a packet that is empty, where one has no room for it; one that is too long for that is
     // dropped, since no control chunk is cut (RFC 9260 6.10, 8.3).
-    #[tactic(auto, using(crate::proofs::Others::others_one, crate::proofs::Others::others_none, crate::proofs::Others::others_then))]
+    #[tactic(auto, using(crate::proofs::Ordered::order_one, crate::proofs::Ordered::order_none, crate::proofs::Others::others_one, crate::proofs::Others::others_none, crate::proofs::Others::others_then))]
     #[inline(never)]
     fn put_heartbeat_ack(&mut self) -> Result<(), Fault>
         ensures others { PutsOthers self.old self.new }
@@ -632,6 +697,8 @@ impl Association {
             (self.new.due.heartbeat ≡ None)) }
         ensures acks { sack_delay self.new ≡ sack_delay self.old }
         ensures leaves { LeavesInto self.old self.new }
+        ensures order { PutsTypes (5 ∷ [])
+            self.old.draft.bytes self.new.draft.bytes }
     {
         let Some(info) = &self.due.heartbeat else {
             return Ok(());
@@ -644,7 +711,7 @@ impl Association {
     }
 
     // Puts a HEARTBEAT with this time. The next one is later.
-    #[tactic(auto, using(crate::proofs::Owing::used_later, crate::proofs::Others::same_puts))]
+    #[tactic(auto, using(crate::proofs::Ordered::order_one, crate::proofs::Ordered::order_none, crate::proofs::Owing::used_later, crate::proofs::Others::same_puts, crate::proofs::Requesting::keeps_same))]
     #[inline(never)]
     fn put_heartbeat(&mut self, now: u64) -> Result<(), Fault>
         requires due { beats now self.old ≡ true }
@@ -658,6 +725,10 @@ impl Association {
         ensures owes { OnOk result (IfNonePut self.old.draft.bytes self.new.draft.bytes
             (beats now self.new ≡ false)) }
         ensures replies { replies_of self.new ≡ replies_of self.old }
+        ensures resets { KeepsResets self.old self.new }
+        ensures beats { PutsBeat Waits now self.old self.new }
+        ensures order { PutsTypes (4 ∷ [])
+            self.old.draft.bytes self.new.draft.bytes }
     {
         let Some(heartbeat) = &mut self.heartbeat else {
             return Ok(());
@@ -675,7 +746,7 @@ impl Association {
 
     // Puts the ERROR about a chunk of no such stream (RFC 9260 6.5, 3.3.10.1), if it fits: it waits for a packet that is empty, into which it
     // always fits. Refuses only for memory, and nothing has changed then.
-    #[tactic(auto, using(crate::proofs::Others::others_one, crate::proofs::Others::others_none, crate::proofs::Others::others_then))]
+    #[tactic(auto, using(crate::proofs::Ordered::order_one, crate::proofs::Ordered::order_none, crate::proofs::Others::others_one, crate::proofs::Others::others_none, crate::proofs::Others::others_then))]
     fn put_unknown_stream(&mut self) -> Result<(), Fault>
         ensures others { PutsOthers self.old self.new }
         ensures acks { sack_delay self.new ≡ sack_delay self.old }
@@ -683,6 +754,8 @@ impl Association {
         ensures owes { OnOk result (IfNonePut self.old.draft.bytes self.new.draft.bytes
             (unknown_in self.new.inbound ≡ None)) }
         ensures err { OnErr result (self.new ≡ self.old) }
+        ensures order { PutsTypes (9 ∷ [])
+            self.old.draft.bytes self.new.draft.bytes }
     {
         let Some(inbound) = &self.inbound else {
             return Ok(());

@@ -1,15 +1,21 @@
 //! Streams that are reset (RFC 6525; RFC 8831 6.7).
 
-ghost use Rattle.std.specs.Prelude.{◌≡◌, ◌⊎◌, ◌<◌, ◌≤◌, true, false, Ok, Err, IfErr, IfOk, IfSome, IsOk, OnOk, OnErr, drop, is_some, length};
+ghost use Rattle.std.specs.Prelude.{◌≡◌, ◌⊎◌, ◌<◌, ◌≤◌, max, true, false, Ok, Err, IfErr, IfOk, IfSome, IsOk, OnOk, OnErr, drop, is_some, length, take, ◌∷◌, []};
+ghost use Rattle.std.specs.Option.{option_map};
 ghost use Rattle.sctp_association.specs.Arrivals.{CallsArrive, HearsBy, Does, Follows, IsReset, IsResetAt, IsRestart, ParamAsks, ParamAsksIn, ReceivedIn};
 ghost use Rattle.sctp_association.specs.Kept.{IsKept, IsUnmoved, RestStays};
 ghost use Rattle.sctp_association.specs.Calls.{is_resettable};
 ghost use Rattle.sctp_association.specs.Events.{BringsNone};
 ghost use Rattle.sctp_association.specs.Expected.{AsExpected, takes_resets};
 ghost use Rattle.sctp_association.specs.Halves.{HalvesAlike, PutsDue, halves_of, receiver_of};
+ghost use Rattle.sctp_association.specs.Filled.{IfNonePut};
 ghost use Rattle.sctp_association.specs.Idle.{sack_delay};
 ghost use Rattle.sctp_association.specs.Leaving.{AsksNoMore, IsReconfigOf, PutsReconfig, replies_of, requests_due, responses_due};
+ghost use Rattle.sctp_association.specs.Partly.{ParamPart, ParamsPart, RequestPart, ResetsPart, ResetsPartListed, StaysUnreset};
 ghost use Rattle.sctp_association.specs.Reconfigs.{FollowsBytes, ParamOn, ReconfigOn, RequestOn, ResetsEach, ResetsListed, ResetsStream, answered, denied_by, inbound_agreed, number_at, numbers_from};
+ghost use Rattle.sctp_association.specs.Ordered.{PutsTypes};
+ghost use Rattle.sctp_association.specs.Probing.{KeepsBeat};
+ghost use Rattle.sctp_association.specs.Requesting.{HasRoom, IsFewOf, OwesNoReset, PutsExact, PutsReset, begun, due_of, first_response, last_asked, reconfig_with, request_wire, resets_of, sent_where};
 ghost use Rattle.sctp_association.specs.Telling.{Tells, TellsEnd};
 ghost use Rattle.sctp_association.specs.declared.fault.Fault.TheVariants.{NoSuchStream, OutOfMemory};
 ghost use Rattle.sctp_association.specs.declared.association.Reason.{Reason};
@@ -23,9 +29,11 @@ ghost use Rattle.sctp_params.specs.declared.param.param_reconfig_response.Reconf
 ghost use Rattle.sctp_association.specs.Still.{IsLater, request_time};
 ghost use Rattle.sctp_chunks.specs.Reconfig.{reconfig_of};
 ghost use Rattle.sctp_reset.specs.Own.{after_ask, is_idle};
+ghost use Rattle.sctp_reset.specs.Peer.{without_first};
 
 use super::arrivals::{Step, unless_memory};
 use super::{Association, Reason};
+use crate::asking::MOST_STREAMS;
 use crate::fault::Fault;
 use bytes::Bytes;
 use sctp_chunks::ChunkReconfig;
@@ -37,20 +45,19 @@ use sctp_params::{
 use sctp_reset::{Answer, Due};
 use sctp_sender::sender::refusal::SenderRefusal;
 
-// The most streams of a request: it then fits into the least packet.
-const MOST_STREAMS: usize = 64;
-
 // The most parameters of a RE-CONFIG chunk (RFC 6525 3.1).
 const MOST_PARAMS: usize = 2;
 
 // The most bytes of a RE-CONFIG chunk of this side: a response, and a request of so many streams.
-const MOST_BYTES: usize = 4 + 12 + 16 + 2 * MOST_STREAMS;
+const MOST_BYTES: usize = 4 + 20 + 16 + 2 * MOST_STREAMS;
 
 // A RE-CONFIG chunk with a response, a request, or both in this order (RFC 6525 3.1).
 fn reconfig(
     response: Option<ParamReconfigResponse>,
     request: Option<ParamOutgoingResetRequest>,
 ) -> Option<ChunkReconfig>
+    ensures exact { option_map reconfig_of result
+        ≡ reconfig_with response (option_map reset_request_of request) }
     ensures own { IfSome result (λ c. IsReconfigOf (is_some response) (is_some request)
         (reconfig_of c)) }
     ensures some { IfSome result (λ c. is_some (reconfig_of c).param_a ≡ true) }
@@ -107,6 +114,7 @@ impl Association {
     }
 
     /// Puts the RE-CONFIG chunk that is due, where there is room for it (RFC 6525 5.1, 5.2): a packet has one.
+    #[tactic(auto, using(crate::proofs::Ordered::order_one, crate::proofs::Ordered::order_none))]
     pub(super) fn put_resets(&mut self, now: u64) -> Result<(), Fault>
         ensures made { PutsDue now self.old self.new }
         ensures halves { HalvesAlike self.old self.new }
@@ -114,6 +122,12 @@ impl Association {
         ensures moments { AsksNoMore now self.old self.new }
         ensures acks { sack_delay self.new ≡ sack_delay self.old }
         ensures replies { replies_of self.new ≡ replies_of self.old }
+        ensures resets { 12 ≤ length self.old.draft.bytes → PutsReset now self.old self.new }
+        ensures beats { KeepsBeat self.old self.new }
+        ensures none { OnOk result (IfNonePut self.old.draft.bytes self.new.draft.bytes
+            (OwesNoReset now self.old.outbound.sender (resets_of self.old))) }
+        ensures order { PutsTypes (130 ∷ [])
+            self.old.draft.bytes self.new.draft.bytes }
     {
         if self.draft.room() < MOST_BYTES {
             return Ok(());
@@ -130,6 +144,8 @@ impl Association {
     #[tactic(auto, using(crate::proofs::Resetting::taken, crate::proofs::Resetting::fewer))]
     fn next_response(&mut self) -> Option<ParamReconfigResponse>
         ensures rest { self.new ≡ record self.old { peer_requests = self.new.peer_requests } }
+        ensures first { result ≡ first_response self.old.peer_requests }
+        ensures left { self.new.peer_requests ≡ option_map without_first self.old.peer_requests }
         ensures fewer { responses_due self.new.peer_requests
             ≤ responses_due self.old.peer_requests }
         ensures taken { is_some result ≡ true → responses_due self.new.peer_requests
@@ -151,6 +167,9 @@ impl Association {
     )
         ensures puts { PutsReconfig (is_some response) (is_some request)
             self.old.draft self.new.draft }
+        // Where it has room it is put, and says exactly these.
+        ensures exact { HasRoom self.old.draft → IsFewOf (option_map reset_request_of request)
+            → PutsExact now response (option_map reset_request_of request) self.old self.new }
         ensures once { is_some request ≡ true → self.new.draft ≡ self.old.draft
             ⊎ IsLater now (request_time self.new) }
         ensures under { is_some self.new.requests.under_way
@@ -174,6 +193,8 @@ impl Association {
 
     // A RE-CONFIG left: where it has a request, that leaves again later than now, so that it leaves once at a moment.
     fn note_sent(&mut self, is_asking: bool, now: u64)
+        ensures sent { self.new.requests ≡ sent_where is_asking now
+            (max self.old.outbound.rto.rto 1) self.old.requests }
         ensures later { is_asking ≡ true → IsLater now (request_time self.new) }
         ensures under { is_some self.new.requests.under_way
             ≡ is_some self.old.requests.under_way }
@@ -188,6 +209,14 @@ impl Association {
 
     // Begins the next request, where none is under way, and answers the one that is due.
     fn next_request(&mut self, now: u64) -> Result<Option<ParamOutgoingResetRequest>, Fault>
+        ensures begun { OnOk result
+            (self.new.requests ≡ begun now self.old.outbound.sender self.old.requests) }
+        ensures exact { IfOk result (λ o. option_map reset_request_of o ≡ option_map
+            (request_wire (last_asked self.old.peer_requests))
+            (due_of now self.new.requests.under_way)) }
+        ensures few { IfOk result (λ o. IsFewOf (option_map reset_request_of o)) }
+        ensures err { OnErr result ((self.new.requests ≡ self.old.requests) ⊎
+            (self.new.requests ≡ begun now self.old.outbound.sender self.old.requests)) }
         ensures due { IfOk result (λ o. is_some o ≡ true
             → (requests_due now self.old.requests ≡ true)
             × (is_some self.new.requests.under_way ≡ true)) }
@@ -205,6 +234,14 @@ impl Association {
     #[inline(never)]
     fn next_asked(&mut self, now: u64) -> Result<Option<ParamOutgoingResetRequest>, Fault>
         requires asked { is_idle self.old.requests ≡ false }
+        ensures begun { OnOk result
+            (self.new.requests ≡ begun now self.old.outbound.sender self.old.requests) }
+        ensures exact { IfOk result (λ o. option_map reset_request_of o ≡ option_map
+            (request_wire (last_asked self.old.peer_requests))
+            (due_of now self.new.requests.under_way)) }
+        ensures few { IfOk result (λ o. IsFewOf (option_map reset_request_of o)) }
+        ensures err { OnErr result ((self.new.requests ≡ self.old.requests) ⊎
+            (self.new.requests ≡ begun now self.old.outbound.sender self.old.requests)) }
         ensures due { IfOk result (λ o. is_some o ≡ true
             → (requests_due now self.old.requests ≡ true)
             × (is_some self.new.requests.under_way ≡ true)) }
@@ -218,53 +255,49 @@ impl Association {
 
     // Begins the next request, where none is under way.
     fn begin_request(&mut self, now: u64) -> Result<(), Fault>
-        ensures under { is_some self.old.requests.under_way ≡ true → self.new ≡ self.old }
+        ensures begun { OnOk result
+            (self.new.requests ≡ begun now self.old.outbound.sender self.old.requests) }
         ensures rest { self.new ≡ record self.old { requests = self.new.requests } }
+        ensures err { OnErr result (self.new ≡ self.old) }
     {
-        if self.requests.next_time().is_some() {
-            return Ok(());
-        }
-        let sender = &self.outbound.sender;
-        let last_tsn = sender.next_tsn().wrapping_sub(1);
-        let begun = self.requests.begin(
-            self.alloc,
-            |stream| sender.is_drained(stream),
-            MOST_STREAMS,
-            last_tsn,
-            now,
-        );
-        match begun {
+        match self.requests.begin(self.alloc, &self.outbound.sender, now) {
             Ok(()) => Ok(()),
             Err(_) => Err(Fault::OutOfMemory),
         }
     }
 
     // The request that is due, for the first time or again.
-    #[tactic(auto, using(crate::proofs::Resetting::due_is))]
+    #[tactic(auto, using(crate::proofs::Requesting::due_is))]
     fn request_due(&self, now: u64) -> Result<Option<ParamOutgoingResetRequest>, Fault>
-        ensures { IfOk result (λ o. is_some o ≡ true
+        ensures exact { IfOk result (λ o. option_map reset_request_of o ≡ option_map
+            (request_wire (last_asked self.now.peer_requests))
+            (due_of now self.now.requests.under_way)) }
+        ensures few { IfOk result (λ o. IsFewOf (option_map reset_request_of o)) }
+        ensures due { IfOk result (λ o. is_some o ≡ true
             → (is_some self.now.requests.under_way ≡ true)
             × (requests_due now self.now.requests ≡ true)) }
     {
         let Some(request) = self.requests.due(now) else {
             return Ok(None);
         };
-        // A time that passes the greatest moment does not come.
-        if request.at == u64::MAX {
-            return Ok(None);
-        }
         let mut streams = Vec::with_capacity(self.alloc, request.streams.len())?;
         streams.extend_from_slice(&request.streams)?;
-        let last_number = match &self.peer_requests {
-            Some(peer) => peer.last_number(),
-            None => 0,
-        };
         Ok(Some(ParamOutgoingResetRequest {
             reconfig_request_sequence_number: request.number,
-            reconfig_response_sequence_number: last_number,
+            reconfig_response_sequence_number: self.last_asked(),
             sender_last_tsn: request.last_tsn,
             stream_identifiers: streams,
         }))
+    }
+
+    // The number of the last request of the peer; 0 where the association did not stand.
+    fn last_asked(&self) -> u32
+        ensures { result ≡ last_asked self.now.peer_requests }
+    {
+        match &self.peer_requests {
+            Some(peer) => peer.last_number(),
+            None => 0,
+        }
     }
 
     /// Takes a RE-CONFIG chunk: of its parameters those that are requests or responses, and of requests to reset streams the first (RFC 6525
@@ -290,6 +323,8 @@ impl Association {
             (λ s. AsExpected (takes_resets self.old.machine.state) s) }
         ensures reconfig { IfOk result
             (λ s. ReconfigOn chunk datagram.now now s self.old self.new) }
+        ensures part { result ≡ Ok step.Cut → ParamsPart 2
+            (take chunk.length (drop chunk.at datagram.now)) 4 false now self.old self.new }
     {
         if !self.machine.state().takes_data() && !self.machine.state().takes_sacks() {
             return Ok(Step::Refused(Reason::Unexpected));
@@ -329,6 +364,7 @@ impl Association {
         ensures kept { IsKept self.old self.new }
         ensures rest { RestStays self.old self.new }
         ensures made { OnOk result (ParamOn typ raw.now at now self.old self.new) }
+        ensures part { OnErr result (ParamPart (drop at raw.now) self.old self.new) }
     {
         match typ {
             13 | 16 => self.follow_param(raw, at, now),
@@ -345,6 +381,7 @@ impl Association {
         ensures kept { IsKept self.old self.new }
         ensures rest { RestStays self.old self.new }
         ensures made { OnOk result (FollowsBytes (drop at raw.now) now self.old self.new) }
+        ensures part { OnErr result (ParamPart (drop at raw.now) self.old self.new) }
     {
         if at > raw.len() {
             return Ok(());
@@ -376,6 +413,10 @@ impl Association {
         if start.saturating_add(4) > raw.len() {
             return;
         }
+        // A shorter one has no number (RFC 6525 4).
+        if sctp_util::field::read_u16(&raw[at..], 2) < 8 {
+            return;
+        }
         let number = sctp_util::field::read_u32(&raw[start..], 0);
         if let Due::Perform = peer.request(number) {
             peer.answered(ReconfigResult::Denied);
@@ -390,6 +431,8 @@ impl Association {
         ensures kept { IsKept self.old self.new }
         ensures rest { RestStays self.old self.new }
         ensures made { OnOk result (RequestOn (reset_request_of request.now)
+            self.old.peer_requests self.old self.new) }
+        ensures part { OnErr result (RequestPart (reset_request_of request.now)
             self.old.peer_requests self.old self.new) }
     {
         let Some(peer) = &mut self.peer_requests else {
@@ -416,6 +459,8 @@ impl Association {
         ensures rest { RestStays self.old self.new }
         ensures listed { IfOk result (λ r. ResetsListed request.now.sender_last_tsn
             request.now.stream_identifiers.items r self.old self.new) }
+        ensures part { OnErr result (ResetsPartListed request.now.sender_last_tsn
+            request.now.stream_identifiers.items self.old self.new) }
     {
         if request.stream_identifiers.is_empty() {
             return self.perform_all(request.sender_last_tsn);
@@ -442,6 +487,8 @@ impl Association {
         ensures each { IfOk result (λ r. ResetsEach last_tsn false
             (numbers_from (inbound_agreed (agreed self.old.machine)) 0)
             SuccessPerformed r self.old self.new) }
+        ensures part { OnErr result (ResetsPart last_tsn false
+            (numbers_from (inbound_agreed (agreed self.old.machine)) 0) self.old self.new) }
     {
         let streams = match self.machine.agreed() {
             Some(agreed) => agreed.inbound_streams,
@@ -470,6 +517,7 @@ impl Association {
         ensures rest { RestStays self.old self.new }
         ensures one { IfOk result
             (λ r. ResetsStream stream last_tsn is_named r self.old self.new) }
+        ensures cut { OnErr result (StaysUnreset self.old self.new) }
     {
         match &mut self.inbound {
             Some(inbound) => inbound.reset(stream, last_tsn, is_named, &mut self.events),

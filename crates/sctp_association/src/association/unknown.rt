@@ -1,9 +1,10 @@
 //! What the peer sent and this side does not know (RFC 9260 3.2, 3.2.1, 3.2.2).
 
-ghost use Rattle.std.specs.Prelude.{◌≡◌, ◌⊎◌, ◌+◌, ◌-◌, ◌<◌, ◌≤◌, ◌++◌, ℕ, if◌then◌else◌, None, Some, Ok, IfOk, IfSome, OnOk, OnErr, length, map};
+ghost use Rattle.std.specs.Prelude.{◌≡◌, ◌⊎◌, ◌+◌, ◌-◌, ◌<◌, ◌≤◌, ◌++◌, ℕ, if◌then◌else◌, None, Some, Ok, IfOk, IfSome, OnOk, OnErr, length, map, ◌∷◌, []};
 ghost use Rattle.sctp_association.specs.Halves.{PutsOthers};
 ghost use Rattle.sctp_association.specs.Kept.{OwesNoMore};
 ghost use Rattle.sctp_association.specs.Leaving.{LeavesInto};
+ghost use Rattle.sctp_association.specs.Ordered.{PutsTypes};
 ghost use Rattle.sctp_association.specs.Reports.{host_name_told, most_reported, params_told, reported_after, unrecognized_in};
 ghost use Rattle.sctp_association.specs.Rows.{StepsOn};
 ghost use Rattle.sctp_association.specs.declared.association.Reason.{Reason};
@@ -167,7 +168,7 @@ impl Association {
 
     /// Puts the ERROR about what this side does not know, if it fits: it waits for a packet that is empty, into which it always fits. Refuses
     /// only for memory, and nothing has changed then.
-    #[tactic(auto, using(crate::proofs::Others::others_one, crate::proofs::Others::others_none, crate::proofs::Others::others_then))]
+    #[tactic(auto, using(crate::proofs::Ordered::order_one, crate::proofs::Ordered::order_none, crate::proofs::Others::others_one, crate::proofs::Others::others_none, crate::proofs::Others::others_then))]
     pub(super) fn put_report(&mut self) -> Result<(), Fault>
         ensures others { PutsOthers self.old self.new }
         ensures once { OnOk result (self.new.due.report ≡ None
@@ -182,6 +183,8 @@ impl Association {
         } }
         ensures err { OnErr result (self.new ≡ self.old) }
         ensures leaves { LeavesInto self.old self.new }
+        ensures order { PutsTypes (9 ∷ [])
+            self.old.draft.bytes self.new.draft.bytes }
     {
         if self.due.report.is_none() {
             return Ok(());
@@ -190,7 +193,7 @@ impl Association {
     }
 
     // The same, where one is due: seldom, and so apart.
-    #[tactic(auto, using(crate::proofs::Others::others_one, crate::proofs::Others::others_none, crate::proofs::Others::others_then))]
+    #[tactic(auto, using(crate::proofs::Ordered::order_one, crate::proofs::Ordered::order_none, crate::proofs::Others::others_one, crate::proofs::Others::others_none, crate::proofs::Others::others_then))]
     #[inline(never)]
     fn write_report(&mut self) -> Result<(), Fault>
         ensures others { PutsOthers self.old self.new }
@@ -206,6 +209,8 @@ impl Association {
         } }
         ensures err { OnErr result (self.new ≡ self.old) }
         ensures leaves { LeavesInto self.old self.new }
+        ensures order { PutsTypes (9 ∷ [])
+            self.old.draft.bytes self.new.draft.bytes }
     {
         let Some(report) = &self.due.report else {
             return Ok(());

@@ -1,12 +1,13 @@
 //! What a SACK acknowledges (RFC 9260 6.2.1, 6.3, 7.2).
 
-ghost use Rattle.std.specs.Prelude.{◌≡◌, ◌⊎◌, ◌-◌, ◌==◌, not, if◌then◌else◌, None, true, is_some, Ok, IfOk, OnErr};
+ghost use Rattle.std.specs.Prelude.{◌≡◌, ◌⊎◌, ◌-◌, ◌==◌, length, not, if◌then◌else◌, None, true, is_some, Ok, IfOk, OnErr};
 ghost use Rattle.std.specs.List.{list_any};
 ghost use Rattle.sctp_association.specs.Ends.{IsForged};
 ghost use Rattle.sctp_association.specs.Acks.{acked_by, grown_by, size_acked, without_blocks};
 ghost use Rattle.sctp_association.specs.Arrivals.{AsksToHear, HearsBy, IsCount, without_gaps};
 ghost use Rattle.sctp_association.specs.Brought.{AddsOnly, falls_at, falls_by};
 ghost use Rattle.sctp_association.specs.Counts.{HasLimitsOf, IsCountedAlike};
+ghost use Rattle.sctp_association.specs.Lows.{PutsAll};
 ghost use Rattle.sctp_association.specs.Paths.{IsMissedBefore, MovesBy, cleared_by, taken_as, measured_again, measured_by, missing_before, sent_once, trips_of};
 ghost use Rattle.sctp_association.specs.Sacks.{HearsSackFirst};
 ghost use Rattle.sctp_association.specs.Shutting.{ShutsBy};
@@ -15,7 +16,7 @@ ghost use Rattle.sctp_association.specs.declared.outbound.acks.SackTaken.TheVari
 ghost use Rattle.sctp_chunks.specs.Wire.{sack_chunk, shutdown_chunk};
 ghost use Rattle.sctp_data.specs.SelectiveAck.{sack_of};
 ghost use Rattle.sctp_sender.specs.Sender.{after_acked};
-ghost use Rattle.sctp_sender.specs.Thresholds.{tells_low};
+ghost use Rattle.sctp_sender.specs.Thresholds.{fell, tells_low};
 ghost use Rattle.sctp_stream.specs.Stats.{count_up};
 ghost use Rattle.sctp_util.specs.Serial.{distance};
 
@@ -71,6 +72,8 @@ fn sent_once(released: &[Released]) -> Option<u64>
 fn note_low(low: &mut StreamSet, released: &[Released])
     ensures stays { Stays low.old low.new }
     ensures only { AddsOnly (λ n. list_any (tells_low n) released.now ≡ true) low.old low.new }
+    ensures told { PutsAll (λ n. list_any (tells_low n) released.now) low.old low.new }
+    ensures room { length low.new ≡ length low.old }
 {
     for one in released {
         if one.is_low {
@@ -91,8 +94,12 @@ impl Outbound {
         now: u64,
     ) -> Result<SackTaken, Fault>
         ensures low { Stays low.old low.new }
+        ensures room { length low.new ≡ length low.old }
         ensures fell { AddsOnly (λ n. falls_at n (without_blocks tsn) self.old.sender ≡ true)
             low.old low.new }
+        // Each stream is added whose buffered amount falls, if the set has room for it.
+        ensures told { IfOk result (λ taken. PutsAll (λ n. fell n self.old.sender self.new.sender)
+            low.old low.new) }
         ensures hearing { HearsBy (AsksToHear (shutdown_chunk tsn))
             self.old.sender self.new.sender }
         ensures acked { result ≡ Ok Taken
@@ -136,9 +143,13 @@ impl Outbound {
     ) -> Result<SackTaken, Fault>
         // Whatever it answers, the sender is called for this SACK alone.
         ensures low { Stays low.old low.new }
+        ensures room { length low.new ≡ length low.old }
         // Of streams only those are added whose buffered amount falls to the low threshold.
         ensures fell { AddsOnly (λ n. falls_by n (sack_of sack.old) self.old ≡ true)
             low.old low.new }
+        // And each such stream is, if the set has room for it.
+        ensures told { result ≡ Ok Taken
+            → PutsAll (λ n. falls_by n (sack_of sack.old) self.old) low.old low.new }
         ensures hearing { HearsBy (AsksToHear (sack_chunk (sack_of sack.old)))
             self.old.sender self.new.sender }
         // The sender takes it, or it is outdated.

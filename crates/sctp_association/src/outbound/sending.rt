@@ -1,11 +1,12 @@
 //! What goes into a packet (RFC 9260 6.1, 6.10).
 
-ghost use Rattle.std.specs.Prelude.{◌≡◌, ◌⊎◌, ◌+◌, ◌-◌, ◌^◌, ◌<◌, ◌≤◌, [], min, true, false, None, Some, IfOk, IfSome, OnErr, OnOk, find, length};
+ghost use Rattle.std.specs.Prelude.{◌≡◌, ◌⊎◌, ◌+◌, ◌-◌, ◌^◌, ◌<◌, ◌≤◌, [], min, true, false, None, Some, IfOk, IfSome, OnErr, OnOk, find, length, ◌∷◌};
 ghost use Rattle.sctp_association.specs.Congested.{LeavesWithin, Resends, SendsNew, StaysOrAgain, StaysOrLeaves, begun, idle_at, may_again, path_of, used_after};
 ghost use Rattle.sctp_association.specs.Counts.{CountsNone, IsCountedAlong, IsCountedOn};
 ghost use Rattle.sctp_association.specs.Filled.{IfNonePut};
 ghost use Rattle.sctp_association.specs.Idle.{SendsNoneAgain, SendsNoneNew, WaitsBehind, WaitsForSacks, in_flight};
 ghost use Rattle.sctp_association.specs.Most.{FewerWherePut, most_data};
+ghost use Rattle.sctp_association.specs.Ordered.{PutsInOrder, PutsTypes};
 ghost use Rattle.sctp_association.specs.Packets.{PutsOut, PutsSkip, Stands};
 ghost use Rattle.sctp_association.specs.Sending.{EndsWithin, IsTimed, flight_of, idle_times, is_early, is_front_late, is_later, lowered_times, lowered, marked_in, may_send_again, may_send_next, sent_at};
 ghost use Rattle.sctp_association.specs.Skips.{LeavesSkip};
@@ -59,6 +60,7 @@ impl Outbound {
         ensures within { LeavesWithin now self.old self.new }
         ensures fewer { FewerWherePut (most_data self.old) (most_data self.new)
             packet.old.bytes packet.new.bytes }
+        ensures order { PutsInOrder (192 ∷ []) packet.old.bytes packet.new.bytes }
     {
         let filled = self.put_all(packet, now);
         self.run_timer(now);
@@ -83,6 +85,7 @@ impl Outbound {
         ensures within { LeavesWithin now self.old self.new }
         ensures fewer { FewerWherePut (most_data self.old) (most_data self.new)
             packet.old.bytes packet.new.bytes }
+        ensures order { PutsInOrder (192 ∷ []) packet.old.bytes packet.new.bytes }
     {
         self.put_skip(packet)?;
         self.put_lost(packet, now)?;
@@ -90,6 +93,7 @@ impl Outbound {
     }
 
     // Puts the FORWARD-TSN that is due (RFC 3758 3.5 C3, F2), before any DATA.
+    #[tactic(auto, using(crate::proofs::Ordered::order_one, crate::proofs::Ordered::order_none))]
     fn put_skip(&mut self, packet: &mut Draft) -> Result<(), Fault>
         ensures made { PutsSkip self.old.is_skip_due self.new.is_skip_due self.old.sender
             self.new.sender packet.old.bytes packet.new.bytes }
@@ -105,6 +109,7 @@ impl Outbound {
             self.old.sender self.old.is_skip_due self.new.is_skip_due }
         ensures fewer { FewerWherePut (most_data self.old) (most_data self.new)
             packet.old.bytes packet.new.bytes }
+        ensures order { PutsTypes (192 ∷ []) packet.old.bytes packet.new.bytes }
     {
         if !self.is_skip_due {
             return Ok(());

@@ -9,4 +9,5 @@ returns c = record {
   handled = setups.each-datagram-keeps;
   turned = setups.each-set-up-turns;
   delivered = setups.each-set-up-delivers;
+  delivered_recent = setups.each-set-up-delivers-young;
 }

@@ -20,9 +20,9 @@ returns-in-Ok-clause-linked c =
     let second : host_of other no_log ≡ first_host back = law.begun back c.args.peer_config.mtu other refl c.in-Ok.ensures.halves in
     let linked = c.two_associations_go_on.ensures.begun forth back (party one no_log) (party other no_log) (same ∙ first) second in
     let set = c.two_associations_begin_once.ensures in
-    let made = set.begun forth back (party new no_log) (party other no_log) c.args.config c.args.peer_config c.args.secrets.cookie_key
+    let made = (set.begun forth back (party new no_log) (party other no_log) c.args.config c.args.peer_config c.args.secrets.cookie_key
     c.args.peer_secrets.cookie_key first second c.in_ok-one.ensures.made c.in-Ok.ensures.made (record { most = refl; limits = refl })
-    (record { most = refl; limits = refl }) in
+    (record { most = refl; limits = refl })).0 in
     let asked : BeginsToAsk new one × HasAsked one = (search rules, search rules) in
     let next = set.quiet forth back asks [] (party new no_log) (party one no_log) (party other no_log) made refl asked tt same refl in
     record { link = linked.0; plain = linked.1; set = next.next; fit = ((search rules, omega arith), (search rules, omega arith)) }

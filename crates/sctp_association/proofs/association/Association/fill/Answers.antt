@@ -12,6 +12,11 @@ use Rattle.sctp_path.specs.Timers.{is_due}
 use Rattle.sctp_association.proofs.Others.{beats_same, beats_then, due_then, once_puts, others_once, others_puts, others_then, skip_kept, skip_so, timed_then}
 use Rattle.sctp_association.proofs.Others.{data_then, due_data}
 use Rattle.sctp_association.proofs.association.Association.fill.Goals as goal
+use Rattle.sctp_association.proofs.Requesting.{asks_none, keeps_then, once_keep, others_keep, puts_first, puts_later, puts_none, sent_keep}
+use Rattle.sctp_association.proofs.Probing as probe
+use Rattle.sctp_association.proofs.Ordered as ordered
+use Rattle.sctp_association.specs.Ordered.{control_order}
+use Rattle.std.proofs.Common.{◌∷◌}
 
 pub returns-in_err-put_sack-clause-made : goal.returns-in_err-put_sack-clause-made
 returns-in_err-put_sack-clause-made c = due_data c.args.self.now c.put_sack.new.self c.args.now (
@@ -275,3 +280,124 @@ returns-clause-skips c p draft =
     (control.leaves.limit ∙ sack.leaves.limit ∙ cookies.leaves.limit)
     (ap (λ (p : Path). p.sender) (control.full.path ∙ sack.full.path ∙ cookies.others.halves.path))
     (control.skip ∙ sack.skip ∙ ap (λ (p : Path). p.skip) cookies.others.halves.path) (c.put_data.ensures.skips longer.0)
+
+-- ## A RE-CONFIG
+
+pub returns-then-is_empty-clause-resets : goal.returns-then-is_empty-clause-resets
+returns-then-is_empty-clause-resets c p draft = puts_none c.args.now c.args.self.now c.put_cookies.new.self
+    (others_keep c.args.self.now c.put_cookies.new.self c.put_cookies.ensures.others)
+
+pub returns-else-is_empty-clause-resets : goal.returns-else-is_empty-clause-resets
+returns-else-is_empty-clause-resets c p draft = puts_none c.args.now c.args.self.now c.put_report.new.self (
+    others_keep c.args.self.now c.put_report.new.self
+    (others_then _ c.put_cookies.new.self _ c.put_cookies.ensures.others c.put_report.ensures.others)
+    )
+
+pub returns-in_err-put_sack-clause-resets : goal.returns-in_err-put_sack-clause-resets
+returns-in_err-put_sack-clause-resets c p draft = puts_none c.args.now c.args.self.now c.put_sack.new.self (
+    keeps_then c.args.self.now c.put_cookies.new.self c.put_sack.new.self
+    (others_keep c.args.self.now c.put_cookies.new.self c.put_cookies.ensures.others)
+    (once_keep c.put_cookies.new.self c.put_sack.new.self c.put_sack.ensures.made c.put_sack.ensures.timed)
+    )
+
+pub returns-in_err-put_control-clause-resets : goal.returns-in_err-put_control-clause-resets
+returns-in_err-put_control-clause-resets c p draft =
+    let acked = keeps_then c.args.self.now c.put_cookies.new.self c.put_sack.new.self
+    (others_keep c.args.self.now c.put_cookies.new.self c.put_cookies.ensures.others)
+    (once_keep c.put_cookies.new.self c.put_sack.new.self c.put_sack.ensures.made c.put_sack.ensures.timed) in
+    puts_later c.args.now c.args.self.now c.put_sack.new.self c.put_control.new.self acked
+    (ap (λ (p : Path). p.sender) (c.put_sack.ensures.full.path ∙ c.put_cookies.ensures.others.halves.path))
+    (c.put_sack.ensures.full.rto ∙ c.put_cookies.ensures.others.kept.rto) (c.put_control.ensures.resets _ (acked.added.draft p draft))
+
+pub returns-clause-resets : goal.returns-clause-resets
+returns-clause-resets c p draft =
+    let acked = keeps_then c.args.self.now c.put_cookies.new.self c.put_sack.new.self
+    (others_keep c.args.self.now c.put_cookies.new.self c.put_cookies.ensures.others)
+    (once_keep c.put_cookies.new.self c.put_sack.new.self c.put_sack.ensures.made c.put_sack.ensures.timed) in
+    let controlled = puts_later c.args.now c.args.self.now c.put_sack.new.self c.put_control.new.self acked
+    (ap (λ (p : Path). p.sender) (c.put_sack.ensures.full.path ∙ c.put_cookies.ensures.others.halves.path))
+    (c.put_sack.ensures.full.rto ∙ c.put_cookies.ensures.others.kept.rto) (c.put_control.ensures.resets _ (acked.added.draft p draft)) in
+    puts_first c.args.now c.args.self.now c.put_control.new.self c.put_data.new.self controlled
+    (sent_keep c.put_control.new.self c.put_data.new.self c.put_data.ensures.made c.put_data.ensures.resets)
+
+pub returns-clause-unasked : goal.returns-clause-unasked
+returns-clause-unasked c = on_ok c.put_data.result (λ state p draft short.
+    let acked = keeps_then c.args.self.now c.put_cookies.new.self c.put_sack.new.self
+    (others_keep c.args.self.now c.put_cookies.new.self c.put_cookies.ensures.others)
+    (once_keep c.put_cookies.new.self c.put_sack.new.self c.put_sack.ensures.made c.put_sack.ensures.timed) in
+    let two = acked.added.draft p draft in
+    let last = added_longer _ _ _ _ c.put_data.ensures.made.added (c.put_control.ensures.made.added.draft _ two) in
+    asks_none c.args.now c.args.self.now c.put_sack.new.self acked.same
+    (ap (λ (p : Path). p.sender) (c.put_sack.ensures.full.path ∙ c.put_cookies.ensures.others.halves.path))
+    (c.in_ok-put_control.ensures.unasked _ two (omega (arith, short, last.1))))
+
+-- ## Which HEARTBEAT
+
+pub returns-then-is_empty-clause-beats : goal.returns-then-is_empty-clause-beats
+returns-then-is_empty-clause-beats c = probe.puts_idle c.args.now c.args.self.now c.put_cookies.new.self
+    (probe.puts_none c.args.now c.args.self.now c.put_cookies.new.self
+    (probe.others_keep c.args.self.now c.put_cookies.new.self c.put_cookies.ensures.others))
+
+pub returns-else-is_empty-clause-beats : goal.returns-else-is_empty-clause-beats
+returns-else-is_empty-clause-beats c = probe.puts_idle c.args.now c.args.self.now c.put_report.new.self (
+    probe.puts_none c.args.now c.args.self.now c.put_report.new.self (
+    probe.others_keep c.args.self.now c.put_report.new.self
+    (others_then _ c.put_cookies.new.self _ c.put_cookies.ensures.others c.put_report.ensures.others)
+    )
+    )
+
+pub returns-in_err-put_sack-clause-beats : goal.returns-in_err-put_sack-clause-beats
+returns-in_err-put_sack-clause-beats c = probe.puts_idle c.args.now c.args.self.now c.put_sack.new.self (
+    probe.puts_none c.args.now c.args.self.now c.put_sack.new.self (
+    probe.keeps_then c.args.self.now c.put_cookies.new.self c.put_sack.new.self
+    (probe.others_keep c.args.self.now c.put_cookies.new.self c.put_cookies.ensures.others)
+    (probe.once_keep c.put_cookies.new.self c.put_sack.new.self c.put_sack.ensures.made c.put_sack.ensures.timed)
+    )
+    )
+
+pub returns-in_err-put_control-clause-beats : goal.returns-in_err-put_control-clause-beats
+returns-in_err-put_control-clause-beats c =
+    let acked = probe.keeps_then c.args.self.now c.put_cookies.new.self c.put_sack.new.self
+    (probe.others_keep c.args.self.now c.put_cookies.new.self c.put_cookies.ensures.others)
+    (probe.once_keep c.put_cookies.new.self c.put_sack.new.self c.put_sack.ensures.made c.put_sack.ensures.timed) in
+    probe.puts_idle c.args.now c.args.self.now c.put_control.new.self (
+    probe.puts_later c.args.now c.args.self.now c.put_sack.new.self c.put_control.new.self acked
+    (beats_same c.args.now _ _ (timed_then _ _ _ c.put_cookies.ensures.others.timed c.put_sack.ensures.timed)) c.put_control.ensures.beats
+    )
+
+pub returns-clause-beats : goal.returns-clause-beats
+returns-clause-beats c =
+    let acked = probe.keeps_then c.args.self.now c.put_cookies.new.self c.put_sack.new.self
+    (probe.others_keep c.args.self.now c.put_cookies.new.self c.put_cookies.ensures.others)
+    (probe.once_keep c.put_cookies.new.self c.put_sack.new.self c.put_sack.ensures.made c.put_sack.ensures.timed) in
+    let controlled = probe.puts_later c.args.now c.args.self.now c.put_sack.new.self c.put_control.new.self acked
+    (beats_same c.args.now _ _ (timed_then _ _ _ c.put_cookies.ensures.others.timed c.put_sack.ensures.timed)) c.put_control.ensures.beats in
+    probe.puts_data c.args.now c.args.self.now c.put_control.new.self c.put_data.new.self controlled c.put_data.ensures.made c.put_data.ensures.beats
+
+-- ## In their order
+
+pub returns-then-is_empty-clause-order : goal.returns-then-is_empty-clause-order
+returns-then-is_empty-clause-order c = ordered.order_data control_order _ _
+    (ordered.order_more (10 ∷ 11 ∷ []) (3 ∷ 7 ∷ 8 ∷ 5 ∷ 4 ∷ 9 ∷ 9 ∷ 130 ∷ 192 ∷ []) _ _ c.put_cookies.ensures.order)
+
+pub returns-else-is_empty-clause-order : goal.returns-else-is_empty-clause-order
+returns-else-is_empty-clause-order c = ordered.order_data control_order _ _
+    (ordered.order_then (10 ∷ 11 ∷ []) (3 ∷ 7 ∷ 8 ∷ 5 ∷ 4 ∷ 9 ∷ 9 ∷ 130 ∷ 192 ∷ []) _ _ _ c.put_cookies.ensures.order
+    (ordered.order_late (3 ∷ 7 ∷ 8 ∷ 5 ∷ 4 ∷ []) (9 ∷ 9 ∷ 130 ∷ 192 ∷ []) _ _
+    (ordered.order_more (9 ∷ []) (9 ∷ 130 ∷ 192 ∷ []) _ _ c.put_report.ensures.order)))
+
+pub returns-in_err-put_sack-clause-order : goal.returns-in_err-put_sack-clause-order
+returns-in_err-put_sack-clause-order c = ordered.order_data control_order _ _
+    (ordered.order_then (10 ∷ 11 ∷ []) (3 ∷ 7 ∷ 8 ∷ 5 ∷ 4 ∷ 9 ∷ 9 ∷ 130 ∷ 192 ∷ []) _ _ _ c.put_cookies.ensures.order
+    (ordered.order_more (3 ∷ []) (7 ∷ 8 ∷ 5 ∷ 4 ∷ 9 ∷ 9 ∷ 130 ∷ 192 ∷ []) _ _ c.put_sack.ensures.order))
+
+pub returns-in_err-put_control-clause-order : goal.returns-in_err-put_control-clause-order
+returns-in_err-put_control-clause-order c = ordered.order_data control_order _ _
+    (ordered.order_then (10 ∷ 11 ∷ []) (3 ∷ 7 ∷ 8 ∷ 5 ∷ 4 ∷ 9 ∷ 9 ∷ 130 ∷ 192 ∷ []) _ _ _ c.put_cookies.ensures.order
+    (ordered.order_then (3 ∷ []) (7 ∷ 8 ∷ 5 ∷ 4 ∷ 9 ∷ 9 ∷ 130 ∷ 192 ∷ []) _ _ _ c.put_sack.ensures.order
+    (ordered.order_more (7 ∷ 8 ∷ 5 ∷ 4 ∷ 9 ∷ 9 ∷ 130 ∷ []) (192 ∷ []) _ _ c.put_control.ensures.order)))
+
+pub returns-clause-order : goal.returns-clause-order
+returns-clause-order c = ordered.order_before (10 ∷ 11 ∷ []) (3 ∷ 7 ∷ 8 ∷ 5 ∷ 4 ∷ 9 ∷ 9 ∷ 130 ∷ 192 ∷ []) _ _ _ c.put_cookies.ensures.order
+    (ordered.order_before (3 ∷ []) (7 ∷ 8 ∷ 5 ∷ 4 ∷ 9 ∷ 9 ∷ 130 ∷ 192 ∷ []) _ _ _ c.put_sack.ensures.order
+    (ordered.order_before (7 ∷ 8 ∷ 5 ∷ 4 ∷ 9 ∷ 9 ∷ 130 ∷ []) (192 ∷ []) _ _ _ c.put_control.ensures.order c.put_data.ensures.order))

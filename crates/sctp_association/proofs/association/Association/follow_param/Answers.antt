@@ -8,6 +8,10 @@ use Rattle.sctp_association.proofs.Arrived.{param_follows_of, responded_of}
 use Rattle.sctp_association.proofs.Reconfigs.{kind_other, none_left, read_none, read_some}
 use Rattle.sctp_params.specs.declared.param.param_kind.ParamKind.TheVariants.{OutgoingResetRequest, ReconfigResponse}
 use Rattle.sctp_params.specs.ParamKind.{ReadsParam, parameter_of}
+use Rattle.std.proofs.Common.{inr}
+use Rattle.sctp_association.proofs.First.{on_err}
+use Rattle.sctp_association.proofs.Partly.{err_map}
+use Rattle.sctp_params.specs.ResetRequest.{reset_request_of}
 use Rattle.sctp_association.proofs.association.Association.follow_param.Goals as goal
 
 pub returns-then-at-len-clause-came : goal.returns-then-at-len-clause-came
@@ -52,6 +56,7 @@ returns c =
       came = follows_same _ _ _ _ refl;
       kept = record { config = refl; key = refl; machine = refl; owes = λ t e. e; sending = (λ e. e, λ e. e) };
       rest = rest_same _;
+      part = tt;
       made = inl (
         parameter_of c.in-Ok.param,
         subst (λ l. ReadsParam l (parameter_of c.in-Ok.param)) cut c.in-Ok.ensures.found,
@@ -72,3 +77,31 @@ returns-in-ReconfigResponse-clause-made c =
     let reads = subst (λ p. ReadsParam c.in_ok-rest.rest (parameter_of p)) c.in-ReconfigResponse.is c.in-Ok.ensures.found in
     read_some c.in_ok-rest.rest c.args.raw.now c.args.at c.args.now c.args.self.now c.take_response.new.self cut c.take_response.result
     (parameter_of (ReconfigResponse c.in-ReconfigResponse.response)) reads c.take_response.ensures.made
+
+-- ## Where memory is wanting
+
+pub returns-in_err-rest-clause-part : goal.returns-in_err-rest-clause-part
+returns-in_err-rest-clause-part c = on_err _ (inl refl)
+
+pub returns-in-Err-clause-part : goal.returns-in-Err-clause-part
+returns-in-Err-clause-part c = on_err _ (inl refl)
+
+pub returns-in-OutgoingResetRequest-clause-part : goal.returns-in-OutgoingResetRequest-clause-part
+returns-in-OutgoingResetRequest-clause-part c =
+    let cut : c.in_ok-rest.rest ≡ drop c.args.at c.args.raw.now = c.in_ok-rest.ensures.ok ∙ take_rest c.args.raw.now c.args.at in
+    let reads = subst (λ p. ReadsParam c.in_ok-rest.rest (parameter_of p)) c.in-OutgoingResetRequest.is c.in-Ok.ensures.found in
+    err_map c.take_request.result (λ h. inr (inl (
+      reset_request_of c.in-OutgoingResetRequest.request,
+      subst (λ l. ReadsParam l (parameter_of (OutgoingResetRequest c.in-OutgoingResetRequest.request))) cut reads,
+      h,
+    ))) c.take_request.ensures.part
+
+pub returns-in-ReconfigResponse-clause-part : goal.returns-in-ReconfigResponse-clause-part
+returns-in-ReconfigResponse-clause-part c =
+    let cut : c.in_ok-rest.rest ≡ drop c.args.at c.args.raw.now = c.in_ok-rest.ensures.ok ∙ take_rest c.args.raw.now c.args.at in
+    let reads = subst (λ p. ReadsParam c.in_ok-rest.rest (parameter_of p)) c.in-ReconfigResponse.is c.in-Ok.ensures.found in
+    on_err c.take_response.result (inr (inr (
+      c.in-ReconfigResponse.response,
+      subst (λ l. ReadsParam l (parameter_of (ReconfigResponse c.in-ReconfigResponse.response))) cut reads,
+      record { hearing = c.take_response.ensures.hearing; inbound = c.take_response.ensures.inbound },
+    )))

@@ -1,3 +1,4 @@
+use Rattle.sctp_association.specs.Parts.{PartOf}
 use Rattle.sctp_association.specs.Walks.{WalksOf}
 use Rattle.sctp_association.proofs.Telling.{tells_due, tells_same}
 use Rattle.std.proofs.Common.{ap, inl, refl, rules, ◌∙◌, List, subst, sym, ◌≡◌, ◌∷◌}
@@ -44,6 +45,7 @@ returns-in-Err c = record {
   first = λ closed stands. absurd (stands closed);
   memory = on_err _ refl;
   partly = λ e. absurd (never_told _ _ e refl c.dropped_by.ensures.never);
+  in_part = λ e. absurd (never_told _ _ e refl c.dropped_by.ensures.never);
   takes = λ one typ e. absurd (never_told _ _ e refl c.dropped_by.ensures.never);
   over = λ going over. absurd (false≢true (sym going ∙ over));
   walks = λ e. absurd (never_told _ _ e refl c.dropped_by.ensures.never);
@@ -165,3 +167,14 @@ returns-clause-walks c is going chunks tells =
     let all : TellsAll place_at c.args.datagram.now c.in-Ok.chunks.left = search rules in
     subst (λ (l : List ChunkPlace). WalksOf l c.args.datagram.now c.args.now c.args.self.now c.take_chunks.new.self) (told_once _ _ _ all tells)
     (c.take_chunks.ensures.walks is)
+
+-- ## Where memory is wanting
+
+pub returns-then-self-2-clause-in_part : goal.returns-then-self-2-clause-in_part
+returns-then-self-2-clause-in_part c is = absurd (c.take_after_end.ensures.whole (search rules))
+
+pub returns-clause-in_part : goal.returns-clause-in_part
+returns-clause-in_part c is chunks tells =
+    let all : TellsAll place_at c.args.datagram.now c.in-Ok.chunks.left = search rules in
+    subst (λ (l : List ChunkPlace). PartOf l c.args.datagram.now c.args.now c.args.self.now c.take_chunks.new.self) (told_once _ _ _ all tells)
+    (c.take_chunks.ensures.in_part is)

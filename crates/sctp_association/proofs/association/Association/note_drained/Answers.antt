@@ -5,6 +5,7 @@ use Rattle.sctp_association.proofs.Known.{keeps_by, knows_drained}
 use Rattle.sctp_association.proofs.Going.{drained_told}
 use Rattle.sctp_association.proofs.Leaving.{drained_beats, drained_owes}
 use Rattle.sctp_association.proofs.association.Association.note_drained.Goals as goal
+use Rattle.sctp_association.proofs.Requesting.{both_same}
 
 pub returns-clause-peer : goal.returns-clause-peer
 returns-clause-peer c =
@@ -54,3 +55,8 @@ returns-clause-alone c =
 pub returns-clause-shut : goal.returns-clause-shut
 returns-clause-shut c none = ap (λ (m : Machine). m.state) c.follow.ensures.kept.machine
     ∙ drained_shut c.args.self.now.machine _ _ c.drained-answer.ensures none
+
+pub returns-clause-resets : goal.returns-clause-resets
+returns-clause-resets c =
+    let told = drained_told _ _ c.drained-answer.ensures.answer in
+    both_same _ _ _ _ (c.follow.ensures.requests told) (c.follow.ensures.peer_requests told)

@@ -11,6 +11,9 @@ use Rattle.sctp_association.proofs.Known.{kept_then, rest_same, rest_then}
 use Rattle.sctp_association.proofs.Reconfigs.{each_over, each_step, each_stop, listed_all, listed_some, progress_other, wrong_result}
 use Rattle.sctp_association.specs.Reconfigs.{ResetsEach, result_with}
 use Rattle.sctp_params.specs.declared.param.param_reconfig_response.ReconfigResult.TheVariants.{InProgress, SuccessPerformed}
+use Rattle.sctp_association.proofs.First.{on_err}
+use Rattle.sctp_association.proofs.Partly.{err_map, part_none, part_some, part_step, part_stop}
+use Rattle.sctp_association.specs.Partly.{ResetsPart}
 use Rattle.sctp_association.proofs.association.Association.perform.Goals as goal
 use Rattle.sctp_association.proofs.association.Association.perform.Goals.{in-SuccessPerformed, in_default}
 
@@ -34,6 +37,7 @@ loop-stream-init c = record {
   tells = to_same;
   rest = rest_same _;
   each = λ outcome new h. h;
+  part = λ new h. h;
 }
 
 pub loop-stream-preserved : goal.loop-stream-preserved
@@ -57,6 +61,12 @@ loop-stream-preserved c =
         | in_default w ↦ λ outcome new h. c.loop-stream.invariant.each outcome new
             (each_step _ _ _ _ _ _ lt c.in_ok-wrong.wrong _ _ c.in_ok-wrong.ensures.one w.in_default.not-InProgress
             (w.outcome-is ∙ sym (wrong_result c.loop-stream.outcome c.in_ok-wrong.wrong w.in_default.not-SuccessPerformed)) outcome new h)
+      ];
+      part = elim c.match-branch-2.branch [
+        | in-SuccessPerformed w ↦ λ new h. c.loop-stream.invariant.part new
+            (part_step _ _ _ _ lt _ c.in_ok-wrong.wrong _ c.in_ok-wrong.ensures.one (λ e. progress_other (sym e ∙ w.in-SuccessPerformed.is)) new h)
+        | in_default w ↦ λ new h. c.loop-stream.invariant.part new
+            (part_step _ _ _ _ lt _ c.in_ok-wrong.wrong _ c.in_ok-wrong.ensures.one w.in_default.not-InProgress new h)
       ];
     }
 
@@ -109,3 +119,21 @@ returns-clause-listed c =
     listed_some c.args.request.now.sender_last_tsn streams.items c.loop-stream.outcome c.args.self.now c.loop-stream.self some
     (subst (λ l. ResetsEach c.args.request.now.sender_last_tsn true l SuccessPerformed c.loop-stream.outcome c.args.self.now c.loop-stream.self)
     c.deref-stream-items.ensures.value all)
+
+-- ## Where memory is wanting
+
+pub returns-then-is_empty-clause-part : goal.returns-then-is_empty-clause-part
+returns-then-is_empty-clause-part c =
+    let streams = c.args.request.now.stream_identifiers in
+    let none : streams.items ≡ [] = nil_from_length streams.items (grind (arith, nat_tests, streams.ok.0, c.is_empty.ensures, c.if-is_empty.true)) in
+    err_map c.perform_all.result (part_none c.args.request.now.sender_last_tsn streams.items c.args.self.now c.perform_all.new.self none)
+    c.perform_all.ensures.part
+
+pub returns-in_err-wrong-clause-part : goal.returns-in_err-wrong-clause-part
+returns-in_err-wrong-clause-part c =
+    let streams = c.args.request.now.stream_identifiers in
+    let some : 0 < length streams.items = grind (arith, nat_tests, streams.ok.0, c.is_empty.ensures, c.if-is_empty.false) in
+    let all = c.loop-stream.invariant.part c.perform_one.new.self
+    (part_stop _ _ _ _ c.loop-stream-test.true _ c.perform_one.new.self c.in_err-wrong.ensures.cut) in
+    on_err _ (part_some c.args.request.now.sender_last_tsn streams.items c.args.self.now c.perform_one.new.self some
+    (subst (λ l. ResetsPart c.args.request.now.sender_last_tsn true l c.args.self.now c.perform_one.new.self) c.deref-stream-items.ensures.value all))

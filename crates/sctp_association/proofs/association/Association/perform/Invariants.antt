@@ -1,6 +1,7 @@
 use Rattle.sctp_association.specs.Arrivals.{Does, Follows, ParamAsks}
 use Rattle.sctp_association.specs.Kept.{IsKept, RestStays}
 use Rattle.std.specs.Prelude.{drop, true}
+use Rattle.sctp_association.specs.Partly.{ResetsPart}
 use Rattle.sctp_association.specs.Reconfigs.{ResetsEach}
 use Rattle.sctp_association.specs.declared.association.Association.{Association}
 use Rattle.sctp_params.specs.declared.param.param_reconfig_response.ReconfigResult.{ReconfigResult}
@@ -21,4 +22,6 @@ invariant-loop-stream l = record {
   each : (outcome : ReconfigResult) (new : Association)
       → ResetsEach l.request.sender_last_tsn true (drop l.stream-index l.stream-items) l.outcome outcome l.self new
       → ResetsEach l.request.sender_last_tsn true l.stream-items SuccessPerformed outcome l.initial.self new;
+  part : (new : Association) → ResetsPart l.request.sender_last_tsn true (drop l.stream-index l.stream-items) l.self new
+      → ResetsPart l.request.sender_last_tsn true l.stream-items l.initial.self new;
 }

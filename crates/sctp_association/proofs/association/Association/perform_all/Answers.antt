@@ -7,6 +7,9 @@ use Rattle.sctp_handshake.specs.declared.machine.Machine.{Machine}
 use Rattle.sctp_params.specs.declared.param.param_reconfig_response.ReconfigResult.TheVariants.{InProgress, SuccessPerformed}
 use Rattle.sctp_association.proofs.Arrived.{one_of_all, received_in_of, received_in_same, received_in_then}
 use Rattle.sctp_association.proofs.Known.{kept_then, rest_same, rest_then}
+use Rattle.sctp_association.proofs.First.{on_err}
+use Rattle.sctp_association.proofs.Partly.{part_all, part_last}
+use Rattle.sctp_association.specs.Partly.{ResetsPart}
 use Rattle.sctp_association.proofs.association.Association.perform_all.Goals as goal
 use Rattle.sctp_association.proofs.association.Association.perform_all.Goals.{in-None, in-Some}
 
@@ -19,6 +22,7 @@ loop-stream-init c = record {
   rest = rest_same _;
   each = λ left is outcome new h. subst (λ n. ResetsEach c.args.last_tsn false (numbers_from n 0) SuccessPerformed outcome c.args.self.now new)
       (omega (arith, is)) h;
+  part = λ left is new h. subst (λ n. ResetsPart c.args.last_tsn false (numbers_from n 0) c.args.self.now new) (omega (arith, is)) h;
 }
 
 pub loop-stream-preserved : goal.loop-stream-preserved
@@ -30,6 +34,8 @@ loop-stream-preserved c = record {
   rest = rest_then _ _ _ c.loop-stream.invariant.rest c.perform_one.ensures.rest;
   each = λ left is outcome new h. c.loop-stream.invariant.each (left + 1) (omega (arith, is)) outcome new
       (all_step _ _ left _ _ (left + 1) refl _ c.in_ok-perform_one.ensures.one (search rules) outcome new h);
+  part = λ left is new h. c.loop-stream.invariant.part (left + 1) (omega (arith, is)) new
+      (part_all _ _ left _ _ (left + 1) refl _ c.in_ok-perform_one.ensures.one (search rules) new h);
 }
 
 -- the streams that were agreed
@@ -63,3 +69,13 @@ returns-clause-each c =
     ] in
     subst (λ n. ResetsEach c.args.last_tsn false (numbers_from n 0) SuccessPerformed SuccessPerformed c.args.self.now c.loop-stream.self) same
     (c.loop-stream.invariant.each 0 (omega arith) SuccessPerformed c.loop-stream.self (refl, refl))
+
+pub returns-in_err-perform_one-clause-part : goal.returns-in_err-perform_one-clause-part
+returns-in_err-perform_one-clause-part c =
+    let same : AgreedIn c.match-agreed.streams c.args.self.now.machine = elim c.match-agreed.branch [
+      | in-Some w ↦ w.streams-is ∙ sym (ap inbound_agreed (sym c.agreed.ensures ∙ w.in-Some.is))
+      | in-None w ↦ w.streams-is ∙ sym (ap inbound_agreed (sym c.agreed.ensures ∙ w.in-None.is))
+    ] in
+    on_err _ (subst (λ n. ResetsPart c.args.last_tsn false (numbers_from n 0) c.args.self.now c.perform_one.new.self) same
+    (c.loop-stream.invariant.part (c.match-agreed.streams - c.loop-stream.stream) (omega arith) c.perform_one.new.self
+    (part_last _ _ (c.match-agreed.streams - (c.loop-stream.stream + 1)) _ c.perform_one.new.self _ (omega arith) c.in_err-perform_one.ensures.cut)))

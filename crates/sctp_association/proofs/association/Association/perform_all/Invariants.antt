@@ -1,5 +1,6 @@
 use Rattle.std.proofs.Common.{◌≡◌, ℕ, ◌+◌}
 use Rattle.std.specs.Prelude.{false}
+use Rattle.sctp_association.specs.Partly.{ResetsPart}
 use Rattle.sctp_association.specs.Reconfigs.{ResetsEach, numbers_from}
 use Rattle.sctp_association.specs.declared.association.Association.{Association}
 use Rattle.sctp_params.specs.declared.param.param_reconfig_response.ReconfigResult.{ReconfigResult}
@@ -21,4 +22,6 @@ invariant-loop-stream l = record {
   each : (left : ℕ) → left + l.stream ≡ l.streams → (outcome : ReconfigResult) (new : Association)
       → ResetsEach l.last_tsn false (numbers_from left l.stream) SuccessPerformed outcome l.self new
       → ResetsEach l.last_tsn false (numbers_from l.streams 0) SuccessPerformed outcome l.initial.self new;
+  part : (left : ℕ) → left + l.stream ≡ l.streams → (new : Association) → ResetsPart l.last_tsn false (numbers_from left l.stream) l.self new
+      → ResetsPart l.last_tsn false (numbers_from l.streams 0) l.initial.self new;
 }

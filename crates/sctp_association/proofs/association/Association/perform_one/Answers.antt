@@ -5,6 +5,7 @@ use Rattle.sctp_association.specs.declared.inbound.Inbound.{Inbound}
 use Rattle.sctp_association.proofs.Arrived.{received_in, received_in_same}
 use Rattle.sctp_association.proofs.Kept.{same_machine}
 use Rattle.sctp_association.proofs.Reconfigs.{stream_in, stream_none}
+use Rattle.sctp_association.proofs.Partly.{unreset_in}
 use Rattle.sctp_association.proofs.association.Association.perform_one.Goals as goal
 
 pub returns-in-Some-clause-received : goal.returns-in-Some-clause-received
@@ -48,3 +49,21 @@ returns-in-Some-clause-one c = stream_in c.args.stream c.args.last_tsn c.args.is
 
 pub returns-in-None-clause-one : goal.returns-in-None-clause-one
 returns-in-None-clause-one c = stream_none c.args.stream c.args.last_tsn c.args.is_named _ _ c.in-None.is (same_machine c.args.self.now _ _ refl)
+
+pub returns-in-Some-clause-cut : goal.returns-in-Some-clause-cut
+returns-in-Some-clause-cut c = unreset_in c.reset.result c.args.self.now _ _ c.reset.new.self c.in-Some.is refl c.reset.ensures.cut (record {
+  config = refl;
+  key = refl;
+  machine = refl;
+  is_over = refl;
+  wants_shutdown = refl;
+  outbound = refl;
+  requests = refl;
+  peer_requests = refl;
+  control = refl;
+  guard = refl;
+  heartbeat = refl;
+  cookie = refl;
+  due = refl;
+  draft = refl;
+})

@@ -17,16 +17,25 @@ use Rattle.sctp_association.proofs.Rows.{settles_enters}
 use Rattle.sctp_association.proofs.Running.{none_sent}
 use Rattle.sctp_association.proofs.Timers.{enters_from, enters_same, enters_then}
 use Rattle.sctp_association.proofs.Others.{alike_same, at_then, beats_same, before_then, none_sent_so, sent_alone, unsent, unsent_alike, unsent_err}
+use Rattle.sctp_association.proofs.Above.{pauses_streams}
+use Rattle.sctp_association.proofs.Lows.{adds_where, where_same, where_then}
+use Rattle.sctp_association.specs.declared.event.Events.{Events}
+use Rattle.sctp_sender.specs.Sender.{Transmission}
 use Rattle.sctp_association.proofs.association.Association.poll_transmit.Goals as goal
 use Rattle.sctp_association.specs.Congested.{PausesWithin}
 use Rattle.sctp_association.specs.Entering.{usable_in}
 use Rattle.sctp_association.specs.Halves.{is_sent, receiver_of, sides_of}
 use Rattle.sctp_association.specs.declared.inbound.Inbound.{Inbound}
-use Rattle.sctp_association.specs.Leaving.{IsSentIn, owed_of}
+use Rattle.sctp_association.specs.Leaving.{IsSentIn, owed_of, replies_of}
 use Rattle.sctp_association.specs.declared.outbound.Outbound.{Outbound}
 use Rattle.sctp_association.specs.Runs.{Sends}
 use Rattle.sctp_association.specs.Skips.{LeavesSkip}
 use Rattle.sctp_handshake.specs.declared.machine.Machine.{Machine}
+use Rattle.std.proofs.lemmas.Bool.{false≢true}
+use Rattle.sctp_association.proofs.Requesting.{not_ok, reset_alone, reset_from, reset_kept, reset_none_so, timed_resets}
+use Rattle.sctp_association.specs.Requesting.{OwesNoReset, Resets}
+use Rattle.sctp_association.proofs.Probing as probe
+use Rattle.sctp_association.proofs.Settled.{settled_leaves}
 
 pub returns-in_err-put_alone-clause-made : goal.returns-in_err-put_alone-clause-made
 returns-in_err-put_alone-clause-made c =
@@ -129,17 +138,20 @@ returns-then-self-clause-tells c = tells_same _ _ refl
 
 pub returns-in_err-abandon-clause-tells : goal.returns-in_err-abandon-clause-tells
 returns-in_err-abandon-clause-tells c = tells_kept _ _ (knows_same _ _ refl)
-    (to_low c.args.self.now.inbound c.args.self.now.events c.args.self.now.is_over c.abandon.new.low c.abandon.ensures.low)
+    (to_low c.args.self.now.inbound c.args.self.now.events c.args.self.now.is_over c.abandon.new.low c.abandon.ensures.low
+    (omega (arith, c.abandon.ensures.room)))
 
 pub returns-in_default-peer-clause-tells : goal.returns-in_default-peer-clause-tells
 returns-in_default-peer-clause-tells c = tells_kept _ _ c.settle.ensures.peer.machine (end_then
-    (to_low c.args.self.now.inbound c.args.self.now.events c.args.self.now.is_over c.abandon.new.low c.abandon.ensures.low) c.settle.ensures.tells)
+    (to_low c.args.self.now.inbound c.args.self.now.events c.args.self.now.is_over c.abandon.new.low c.abandon.ensures.low
+    (omega (arith, c.abandon.ensures.room))) c.settle.ensures.tells)
 
 pub returns-clause-tells : goal.returns-clause-tells
 returns-clause-tells c =
     let put = c.put_packet.ensures in
     tells_then _ c.settle.new.self _ (tells_kept _ _ c.settle.ensures.peer.machine (end_then
-    (to_low c.args.self.now.inbound c.args.self.now.events c.args.self.now.is_over c.abandon.new.low c.abandon.ensures.low) c.settle.ensures.tells))
+    (to_low c.args.self.now.inbound c.args.self.now.events c.args.self.now.is_over c.abandon.new.low c.abandon.ensures.low
+    (omega (arith, c.abandon.ensures.room))) c.settle.ensures.tells))
     (tells_peer _ _ (unmoved_keeps _ _ put.kept) (transmits_end _ _ _ put.made put.kept))
 
 -- a low buffered amount, and nothing else
@@ -154,6 +166,40 @@ returns-in_default-peer-clause-quiet c = low_only c.args.self.now.events _ c.aba
 
 pub returns-clause-quiet : goal.returns-clause-quiet
 returns-clause-quiet c = low_only c.args.self.now.events _ c.abandon.new.low (c.put_packet.ensures.kept.events ∙ c.settle.ensures.events)
+
+-- which amounts fell
+
+pub returns-in_err-put_alone-clause-lows : goal.returns-in_err-put_alone-clause-lows
+returns-in_err-put_alone-clause-lows c = where_same c.args.self.now.outbound.sender c.put_alone.new.self.outbound.sender _ _
+    (ap (λ (t : Transmission). t.streams) c.put_alone.ensures.halves.sender)
+    (ap (λ (e : Events). e.low) c.put_alone.ensures.kept.events)
+
+pub returns-in-Some-clause-lows : goal.returns-in-Some-clause-lows
+returns-in-Some-clause-lows c = where_same c.args.self.now.outbound.sender c.put_alone.new.self.outbound.sender _ _
+    (ap (λ (t : Transmission). t.streams) c.put_alone.ensures.halves.sender)
+    (ap (λ (e : Events). e.low) c.put_alone.ensures.kept.events)
+
+pub returns-then-self-clause-lows : goal.returns-then-self-clause-lows
+returns-then-self-clause-lows c = where_same c.args.self.now.outbound.sender c.args.self.now.outbound.sender _ _ refl refl
+
+pub returns-in_err-abandon-clause-lows : goal.returns-in_err-abandon-clause-lows
+returns-in_err-abandon-clause-lows c =
+    adds_where _ _ _ c.abandon.ensures.low c.abandon.ensures.room c.abandon.ensures.told c.abandon.ensures.only
+
+pub returns-in_default-peer-clause-lows : goal.returns-in_default-peer-clause-lows
+returns-in_default-peer-clause-lows c =
+    where_then c.args.self.now.outbound.sender c.abandon.new.self.sender c.settle.new.self.outbound.sender _ _ _
+    (ap (λ (o : Outbound). o.sender.streams) c.settle.ensures.sending)
+    (ap (λ (e : Events). e.low) c.settle.ensures.events)
+    (adds_where _ _ _ c.abandon.ensures.low c.abandon.ensures.room c.abandon.ensures.told c.abandon.ensures.only)
+
+-- what leaves leaves the streams
+pub returns-clause-lows : goal.returns-clause-lows
+returns-clause-lows c =
+    where_then c.args.self.now.outbound.sender c.abandon.new.self.sender c.put_packet.new.self.outbound.sender _ _ _
+    (pauses_streams _ _ _ _ _ c.put_packet.ensures.within.path ∙ ap (λ (o : Outbound). o.sender.streams) c.settle.ensures.sending)
+    (ap (λ (e : Events). e.low) (c.put_packet.ensures.kept.events ∙ c.settle.ensures.events))
+    (adds_where _ _ _ c.abandon.ensures.low c.abandon.ensures.room c.abandon.ensures.told c.abandon.ensures.only)
 
 -- ## What is left
 
@@ -441,3 +487,126 @@ returns-clause-skips c = record {
       c.settle.new.self.outbound.sender c.settle.new.self.outbound.is_skip_due c.put_packet.new.self.outbound.is_skip_due) c.settle.ensures.stays.limit
       c.put_packet.ensures.skips (ap (λ (o : Outbound). o.is_skip_due) c.settle.ensures.sending ∙ c.abandon.ensures.skip due);
 }
+
+-- ## A RE-CONFIG
+
+pub returns-in_err-put_alone-clause-resets : goal.returns-in_err-put_alone-clause-resets
+returns-in_err-put_alone-clause-resets c =
+    let old = c.args.self.now in
+    record {
+      kept = old.outbound.sender;
+      dropped = none_sent old.outbound.sender;
+      leaves = reset_none_so c.args.now _ old.outbound.sender old c.put_alone.new.self c.from_residual.ensures.0
+          (reset_kept c.args.now old.outbound.sender old c.put_alone.new.self (timed_resets old c.put_alone.new.self c.put_alone.ensures.timed));
+      owes = λ is may. not_ok _ c.from_residual.ensures.0 is;
+    }
+
+pub returns-in-Some-clause-resets : goal.returns-in-Some-clause-resets
+returns-in-Some-clause-resets c =
+    let old = c.args.self.now in
+    record {
+      kept = old.outbound.sender;
+      dropped = none_sent old.outbound.sender;
+      leaves = reset_alone c.args.now old.outbound.sender c.in-Some.alone old _ c.in_ok-put_alone.ensures.reply
+          (timed_resets old c.put_alone.new.self c.put_alone.ensures.timed);
+      owes = λ is may. absurd (cc is);
+    }
+
+pub returns-then-self-clause-resets : goal.returns-then-self-clause-resets
+returns-then-self-clause-resets c =
+    let old = c.args.self.now in
+    record {
+      kept = old.outbound.sender;
+      dropped = none_sent old.outbound.sender;
+      leaves = reset_kept c.args.now old.outbound.sender old old refl;
+      owes = λ is may. absurd (false≢true (sym may.going ∙ c.if-self.true));
+    }
+
+pub returns-in_err-abandon-clause-resets : goal.returns-in_err-abandon-clause-resets
+returns-in_err-abandon-clause-resets c = record {
+  kept = c.abandon.new.self.sender;
+  dropped = c.abandon.ensures.dropped;
+  leaves = reset_none_so c.args.now _ c.abandon.new.self.sender c.args.self.now _ c.from_residual-in_err-abandon.ensures.0
+      (reset_kept c.args.now c.abandon.new.self.sender c.args.self.now _ refl);
+  owes = λ is may. not_ok _ c.from_residual-in_err-abandon.ensures.0 is;
+}
+
+pub returns-in_default-peer-clause-resets : goal.returns-in_default-peer-clause-resets
+returns-in_default-peer-clause-resets c = record {
+  kept = c.abandon.new.self.sender;
+  dropped = c.abandon.ensures.dropped;
+  leaves = reset_kept c.args.now c.abandon.new.self.sender c.args.self.now c.settle.new.self c.settle.ensures.resets;
+  owes = λ is may. absurd (false≢true (sym (ap is_some (sym c.peer.ensures ∙ c.in_default-peer.is)) ∙ may.known));
+}
+
+pub returns-clause-resets : goal.returns-clause-resets
+returns-clause-resets c = record {
+  kept = c.settle.new.self.outbound.sender;
+  dropped = subst (λ (o : Outbound). Sends [] c.args.self.now.outbound.sender o.sender) (sym c.settle.ensures.sending) c.abandon.ensures.dropped;
+  leaves = reset_from c.args.now _ c.settle.new.self.outbound.sender c.args.self.now c.settle.new.self c.put_packet.new.self
+      (ap (λ (o : Outbound). o.rto) (c.settle.ensures.sending ∙ c.abandon.ensures.rest)) c.settle.ensures.resets c.put_packet.ensures.resets;
+  owes = λ is may. subst (λ (r : Resets). OwesNoReset c.args.now c.settle.new.self.outbound.sender r) c.settle.ensures.resets
+      (c.put_packet.ensures.unasked is may.state);
+}
+
+-- ## Which HEARTBEAT
+
+pub returns-in_err-put_alone-clause-beats : goal.returns-in_err-put_alone-clause-beats
+returns-in_err-put_alone-clause-beats c = probe.beat_none_so c.args.now _ c.args.self.now c.put_alone.new.self c.from_residual.ensures.0
+    (probe.beat_kept c.args.now c.args.self.now c.put_alone.new.self c.put_alone.ensures.timed.idle)
+
+pub returns-in-Some-clause-beats : goal.returns-in-Some-clause-beats
+returns-in-Some-clause-beats c = probe.beat_alone c.args.now c.in-Some.alone c.args.self.now _ c.in_ok-put_alone.ensures.reply c.put_alone.ensures.timed.idle
+
+pub returns-then-self-clause-beats : goal.returns-then-self-clause-beats
+returns-then-self-clause-beats c = probe.beat_kept c.args.now c.args.self.now c.args.self.now refl
+
+pub returns-in_err-abandon-clause-beats : goal.returns-in_err-abandon-clause-beats
+returns-in_err-abandon-clause-beats c = probe.beat_none_so c.args.now _ c.args.self.now _ c.from_residual-in_err-abandon.ensures.0
+    (probe.beat_kept c.args.now c.args.self.now _ refl)
+
+pub returns-in_default-peer-clause-beats : goal.returns-in_default-peer-clause-beats
+returns-in_default-peer-clause-beats c = probe.beat_kept c.args.now c.args.self.now c.settle.new.self c.settle.ensures.heartbeat
+
+pub returns-clause-beats : goal.returns-clause-beats
+returns-clause-beats c = probe.beat_from c.args.now _ c.args.self.now c.settle.new.self c.put_packet.new.self c.settle.ensures.heartbeat
+    (at_then _ _ _
+    (rto_asks c.args.now c.args.self.now c.abandon.new.self (ap (λ (o : Outbound). o.rto) c.abandon.ensures.rest)) c.settle.ensures.moments)
+    c.put_packet.ensures.beats
+
+-- ## In their order
+
+pub returns-in_err-put_alone-clause-order : goal.returns-in_err-put_alone-clause-order
+returns-in_err-put_alone-clause-order c = unsent_err _ c.from_residual.ensures.0
+
+pub returns-in-Some-clause-order : goal.returns-in-Some-clause-order
+returns-in-Some-clause-order c _ none = absurd (none-some c.in-Some.alone (sym none ∙ c.in-Some.is))
+
+pub returns-in_err-abandon-clause-order : goal.returns-in_err-abandon-clause-order
+returns-in_err-abandon-clause-order c = unsent_err _ c.from_residual-in_err-abandon.ensures.0
+
+pub returns-clause-order : goal.returns-clause-order
+returns-clause-order c sent _ = c.put_packet.ensures.order sent
+
+-- ## As a shutdown goes on
+
+pub returns-in-Some-clause-enters : goal.returns-in-Some-clause-enters
+returns-in-Some-clause-enters c none = absurd (none-some c.in-Some.alone (sym none ∙ c.in-Some.is))
+
+pub returns-in_default-peer-clause-enters : goal.returns-in_default-peer-clause-enters
+returns-in_default-peer-clause-enters c none going =
+    let new = c.settle.new.self in
+    record {
+      kept = c.abandon.new.self.sender;
+      dropped = c.abandon.ensures.dropped;
+      leaves = settled_leaves c.args.self.now new _ c.settle.ensures.settles.due c.settle.ensures.stays.cookie c.settle.ensures.inbound
+          c.settle.ensures.stays.limit false new.draft.bytes (replies_of new) (leaves_same _ _ (replies_of new) (replies_of new) refl);
+    }
+
+pub returns-clause-enters : goal.returns-clause-enters
+returns-clause-enters c none going = on_ok c.put_packet.result (record {
+  kept = c.abandon.new.self.sender;
+  dropped = c.abandon.ensures.dropped;
+  leaves = settled_leaves c.args.self.now c.settle.new.self _ c.settle.ensures.settles.due c.settle.ensures.stays.cookie c.settle.ensures.inbound
+      c.settle.ensures.stays.limit _ _ (replies_of c.put_packet.new.self) c.put_packet.ensures.leaves;
+})

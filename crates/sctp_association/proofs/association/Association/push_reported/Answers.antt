@@ -1,4 +1,5 @@
-use Rattle.std.proofs.Common.{◌≡◌, ◌+◌, ◌-◌, ◌*◌, ◌/◌, ◌≤◌, ◌<◌, ℕ, None, Some, [], ◌∷◌, ◌++◌, List, Option, length, refl, ap, sym, subst, arith, map, append_assoc, ◌∙◌}
+use Rattle.std.proofs.Common.{◌≡◌, ◌+◌, ◌-◌, ◌*◌, ◌/◌, ◌≤◌, ◌<◌, ℕ, None, Some, [], ◌∷◌, ◌++◌, List, Option, length, refl, ap, sym, subst, arith, map}
+use Rattle.std.proofs.Common.{append_assoc, ◌∙◌}
 use Rattle.std.proofs.Common.{inl, inr}
 use Rattle.std.proofs.lemmas.Bool.{cases_Bool}
 use Rattle.std.proofs.lemmas.List.{append-nil}

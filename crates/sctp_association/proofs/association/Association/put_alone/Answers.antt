@@ -91,7 +91,8 @@ returns-clause-replies c = with_limit (replies_of c.put_reply.new.self) _ c.seal
     ∙ with_limit (replies_of c.args.self.now) _ c.begin.ensures.limit
 
 pub returns-in_err-put_reply-clause-timed : goal.returns-in_err-put_reply-clause-timed
-returns-in_err-put_reply-clause-timed c = let t = c.put_reply.ensures.timed in record { heartbeat = t.heartbeat; requests = t.requests; peer = t.peer }
+returns-in_err-put_reply-clause-timed c = let t = c.put_reply.ensures.timed in
+    record { heartbeat = t.heartbeat; idle = t.idle; requests = t.requests; peer = t.peer }
 
 pub returns-clause-timed : goal.returns-clause-timed
-returns-clause-timed c = let t = c.put_reply.ensures.timed in record { heartbeat = t.heartbeat; requests = t.requests; peer = t.peer }
+returns-clause-timed c = let t = c.put_reply.ensures.timed in record { heartbeat = t.heartbeat; idle = t.idle; requests = t.requests; peer = t.peer }

@@ -1,13 +1,17 @@
 use Rattle.sctp_association.specs.Congested.{Path}
 use Rattle.sctp_association.proofs.Leaving.{into_kept, into_then}
 use Rattle.std.proofs.Common.{[], ap, arith, ◌∙◌}
-use Rattle.sctp_association.proofs.Idle.{added_longer, no_shutdown, none_or, on_ok}
+use Rattle.sctp_association.proofs.Idle.{added_longer, no_shutdown, none_or, on_ok, on_ok_so}
 use Rattle.sctp_association.proofs.Congested.{full_of, full_others, full_then}
 use Rattle.sctp_association.proofs.Known.{still_none, unmoved_then}
 use Rattle.sctp_association.proofs.Others.{beats_same, beats_then, due_others, due_then, once_puts, others_then, skip_kept, timed_then}
 use Rattle.sctp_association.proofs.Putting.{adds_then}
 use Rattle.sctp_association.proofs.association.Association.put_control.Goals as goal
 use Rattle.sctp_association.specs.Idle.{sack_delay}
+use Rattle.sctp_association.proofs.Requesting.{asks_none, keeps_then, once_keep, others_keep, puts_later, puts_none}
+use Rattle.sctp_association.proofs.Probing as probe
+use Rattle.sctp_association.proofs.Ordered as ordered
+use Rattle.std.proofs.Common.{◌∷◌}
 
 pub returns-in_err-put_heartbeats-clause-made : goal.returns-in_err-put_heartbeats-clause-made
 returns-in_err-put_heartbeats-clause-made c = due_then c.args.now c.args.self.now c.put_shutdown.new.self c.put_heartbeats.new.self
@@ -211,3 +215,111 @@ pub returns-clause-skip : goal.returns-clause-skip
 returns-clause-skip c = ap (λ (p : Path). p.skip) c.put_resets.ensures.halves.path ∙ ap (λ (p : Path). p.skip) c.put_report.ensures.others.halves.path
     ∙ ap (λ (p : Path). p.skip) c.put_unknown_stream.ensures.others.halves.path ∙ ap (λ (p : Path). p.skip) c.put_heartbeats.ensures.halves.path
     ∙ c.put_shutdown.ensures.skip
+
+-- ## A RE-CONFIG
+
+pub returns-in_err-put_heartbeats-clause-resets : goal.returns-in_err-put_heartbeats-clause-resets
+returns-in_err-put_heartbeats-clause-resets c p draft = puts_none c.args.now c.args.self.now c.put_heartbeats.new.self (
+    keeps_then c.args.self.now c.put_shutdown.new.self c.put_heartbeats.new.self
+    (once_keep c.args.self.now c.put_shutdown.new.self c.put_shutdown.ensures.made c.put_shutdown.ensures.timed) c.put_heartbeats.ensures.resets
+    )
+
+pub returns-in_err-put_unknown_stream-clause-resets : goal.returns-in_err-put_unknown_stream-clause-resets
+returns-in_err-put_unknown_stream-clause-resets c p draft =
+    let beaten = keeps_then c.args.self.now c.put_shutdown.new.self c.put_heartbeats.new.self
+    (once_keep c.args.self.now c.put_shutdown.new.self c.put_shutdown.ensures.made c.put_shutdown.ensures.timed) c.put_heartbeats.ensures.resets in
+    puts_none c.args.now c.args.self.now c.put_unknown_stream.new.self (
+    keeps_then c.args.self.now c.put_heartbeats.new.self c.put_unknown_stream.new.self beaten
+    (others_keep c.put_heartbeats.new.self c.put_unknown_stream.new.self c.put_unknown_stream.ensures.others)
+    )
+
+pub returns-in_err-put_report-clause-resets : goal.returns-in_err-put_report-clause-resets
+returns-in_err-put_report-clause-resets c p draft =
+    let beaten = keeps_then c.args.self.now c.put_shutdown.new.self c.put_heartbeats.new.self
+    (once_keep c.args.self.now c.put_shutdown.new.self c.put_shutdown.ensures.made c.put_shutdown.ensures.timed) c.put_heartbeats.ensures.resets in
+    puts_none c.args.now c.args.self.now c.put_report.new.self (
+    keeps_then c.args.self.now c.put_heartbeats.new.self c.put_report.new.self beaten
+    (others_keep c.put_heartbeats.new.self c.put_report.new.self
+    (others_then _ c.put_unknown_stream.new.self _ c.put_unknown_stream.ensures.others c.put_report.ensures.others))
+    )
+
+pub returns-clause-resets : goal.returns-clause-resets
+returns-clause-resets c p draft =
+    let near = others_then _ c.put_unknown_stream.new.self _ c.put_unknown_stream.ensures.others c.put_report.ensures.others in
+    let beaten = keeps_then c.args.self.now c.put_shutdown.new.self c.put_heartbeats.new.self
+    (once_keep c.args.self.now c.put_shutdown.new.self c.put_shutdown.ensures.made c.put_shutdown.ensures.timed) c.put_heartbeats.ensures.resets in
+    let told = keeps_then c.args.self.now c.put_heartbeats.new.self c.put_report.new.self beaten
+    (others_keep c.put_heartbeats.new.self c.put_report.new.self near) in
+    let longer = added_longer _ _ _ _ told.added draft in
+    puts_later c.args.now c.args.self.now c.put_report.new.self c.put_resets.new.self told
+    (ap (λ (p : Path). p.sender) (near.halves.path ∙ c.put_heartbeats.ensures.halves.path ∙ c.put_shutdown.ensures.full.path))
+    (near.kept.rto ∙ c.put_heartbeats.ensures.kept.rto ∙ c.put_shutdown.ensures.full.rto) (c.put_resets.ensures.resets (omega (arith, longer)))
+
+pub returns-clause-unasked : goal.returns-clause-unasked
+returns-clause-unasked c = on_ok_so c.put_resets.result (λ none p draft short.
+    let near = others_then _ c.put_unknown_stream.new.self _ c.put_unknown_stream.ensures.others c.put_report.ensures.others in
+    let beaten = keeps_then c.args.self.now c.put_shutdown.new.self c.put_heartbeats.new.self
+    (once_keep c.args.self.now c.put_shutdown.new.self c.put_shutdown.ensures.made c.put_shutdown.ensures.timed) c.put_heartbeats.ensures.resets in
+    let told = keeps_then c.args.self.now c.put_heartbeats.new.self c.put_report.new.self beaten
+    (others_keep c.put_heartbeats.new.self c.put_report.new.self near) in
+    let longer = added_longer _ _ _ _ told.added draft in
+    asks_none c.args.now c.args.self.now c.put_report.new.self told.same
+    (ap (λ (p : Path). p.sender) (near.halves.path ∙ c.put_heartbeats.ensures.halves.path ∙ c.put_shutdown.ensures.full.path))
+    (none (omega (arith, longer)) short)) c.put_resets.ensures.none
+
+-- ## Which HEARTBEAT
+
+pub returns-in_err-put_heartbeats-clause-beats : goal.returns-in_err-put_heartbeats-clause-beats
+returns-in_err-put_heartbeats-clause-beats c = probe.puts_later c.args.now c.args.self.now c.put_shutdown.new.self c.put_heartbeats.new.self
+    (probe.once_keep c.args.self.now c.put_shutdown.new.self c.put_shutdown.ensures.made c.put_shutdown.ensures.timed)
+    (beats_same c.args.now _ _ c.put_shutdown.ensures.timed) c.put_heartbeats.ensures.beats
+
+pub returns-in_err-put_unknown_stream-clause-beats : goal.returns-in_err-put_unknown_stream-clause-beats
+returns-in_err-put_unknown_stream-clause-beats c =
+    let beaten = probe.puts_later c.args.now c.args.self.now c.put_shutdown.new.self c.put_heartbeats.new.self
+    (probe.once_keep c.args.self.now c.put_shutdown.new.self c.put_shutdown.ensures.made c.put_shutdown.ensures.timed)
+    (beats_same c.args.now _ _ c.put_shutdown.ensures.timed) c.put_heartbeats.ensures.beats in
+    probe.puts_first c.args.now c.args.self.now c.put_heartbeats.new.self c.put_unknown_stream.new.self beaten
+    (probe.others_keep c.put_heartbeats.new.self c.put_unknown_stream.new.self c.put_unknown_stream.ensures.others)
+
+pub returns-in_err-put_report-clause-beats : goal.returns-in_err-put_report-clause-beats
+returns-in_err-put_report-clause-beats c =
+    let beaten = probe.puts_later c.args.now c.args.self.now c.put_shutdown.new.self c.put_heartbeats.new.self
+    (probe.once_keep c.args.self.now c.put_shutdown.new.self c.put_shutdown.ensures.made c.put_shutdown.ensures.timed)
+    (beats_same c.args.now _ _ c.put_shutdown.ensures.timed) c.put_heartbeats.ensures.beats in
+    probe.puts_first c.args.now c.args.self.now c.put_heartbeats.new.self c.put_report.new.self beaten
+    (probe.others_keep c.put_heartbeats.new.self c.put_report.new.self
+    (others_then _ c.put_unknown_stream.new.self _ c.put_unknown_stream.ensures.others c.put_report.ensures.others))
+
+pub returns-clause-beats : goal.returns-clause-beats
+returns-clause-beats c =
+    let beaten = probe.puts_later c.args.now c.args.self.now c.put_shutdown.new.self c.put_heartbeats.new.self
+    (probe.once_keep c.args.self.now c.put_shutdown.new.self c.put_shutdown.ensures.made c.put_shutdown.ensures.timed)
+    (beats_same c.args.now _ _ c.put_shutdown.ensures.timed) c.put_heartbeats.ensures.beats in
+    let told = probe.others_keep c.put_heartbeats.new.self c.put_report.new.self
+    (others_then _ c.put_unknown_stream.new.self _ c.put_unknown_stream.ensures.others c.put_report.ensures.others) in
+    probe.puts_first c.args.now c.args.self.now c.put_heartbeats.new.self c.put_resets.new.self beaten
+    (probe.keeps_then c.put_heartbeats.new.self c.put_report.new.self c.put_resets.new.self told c.put_resets.ensures.beats)
+
+-- ## In their order
+
+pub returns-in_err-put_heartbeats-clause-order : goal.returns-in_err-put_heartbeats-clause-order
+returns-in_err-put_heartbeats-clause-order c = ordered.order_then (7 ∷ 8 ∷ []) (5 ∷ 4 ∷ 9 ∷ 9 ∷ 130 ∷ []) _ _ _ c.put_shutdown.ensures.order
+    (ordered.order_more (5 ∷ 4 ∷ []) (9 ∷ 9 ∷ 130 ∷ []) _ _ c.put_heartbeats.ensures.order)
+
+pub returns-in_err-put_unknown_stream-clause-order : goal.returns-in_err-put_unknown_stream-clause-order
+returns-in_err-put_unknown_stream-clause-order c = ordered.order_then (7 ∷ 8 ∷ []) (5 ∷ 4 ∷ 9 ∷ 9 ∷ 130 ∷ []) _ _ _ c.put_shutdown.ensures.order
+    (ordered.order_then (5 ∷ 4 ∷ []) (9 ∷ 9 ∷ 130 ∷ []) _ _ _ c.put_heartbeats.ensures.order
+    (ordered.order_more (9 ∷ []) (9 ∷ 130 ∷ []) _ _ c.put_unknown_stream.ensures.order))
+
+pub returns-in_err-put_report-clause-order : goal.returns-in_err-put_report-clause-order
+returns-in_err-put_report-clause-order c = ordered.order_then (7 ∷ 8 ∷ []) (5 ∷ 4 ∷ 9 ∷ 9 ∷ 130 ∷ []) _ _ _ c.put_shutdown.ensures.order
+    (ordered.order_then (5 ∷ 4 ∷ []) (9 ∷ 9 ∷ 130 ∷ []) _ _ _ c.put_heartbeats.ensures.order
+    (ordered.order_then (9 ∷ []) (9 ∷ 130 ∷ []) _ _ _ c.put_unknown_stream.ensures.order
+    (ordered.order_more (9 ∷ []) (130 ∷ []) _ _ c.put_report.ensures.order)))
+
+pub returns-clause-order : goal.returns-clause-order
+returns-clause-order c = ordered.order_then (7 ∷ 8 ∷ []) (5 ∷ 4 ∷ 9 ∷ 9 ∷ 130 ∷ []) _ _ _ c.put_shutdown.ensures.order
+    (ordered.order_then (5 ∷ 4 ∷ []) (9 ∷ 9 ∷ 130 ∷ []) _ _ _ c.put_heartbeats.ensures.order
+    (ordered.order_then (9 ∷ []) (9 ∷ 130 ∷ []) _ _ _ c.put_unknown_stream.ensures.order
+    (ordered.order_then (9 ∷ []) (130 ∷ []) _ _ _ c.put_report.ensures.order c.put_resets.ensures.order)))

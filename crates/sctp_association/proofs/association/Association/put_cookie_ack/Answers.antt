@@ -58,7 +58,7 @@ returns-else-self-clause-others c = elim c.else-self.branch [
         sack = λ e. e;
         unknown = λ s e. e;
       })
-      (record { heartbeat = refl; requests = refl; peer = refl })
+      (record { heartbeat = refl; idle = refl; requests = refl; peer = refl })
       (ap (λ (d : Draft). d.bytes) (w.put.ensures.full w.if-put.false))
       )
   | else-self-via-else-self w ↦ others_same c.args.self.now _ w.self-is

@@ -58,7 +58,7 @@ returns-then-is_put-clause-others c =
       sack = λ e. e;
       unknown = λ s e. e;
     })
-    (record { heartbeat = refl; requests = refl; peer = refl })
+    (record { heartbeat = refl; idle = refl; requests = refl; peer = refl })
 
 pub returns-in_default-clause-others : goal.returns-in_default-clause-others
 returns-in_default-clause-others c = others_none c.args.self.now _
@@ -85,4 +85,4 @@ returns-in_default-clause-others c = others_none c.args.self.now _
       sack = λ e. e;
       unknown = λ s e. e;
     })
-    (record { heartbeat = refl; requests = refl; peer = refl }) refl
+    (record { heartbeat = refl; idle = refl; requests = refl; peer = refl }) refl

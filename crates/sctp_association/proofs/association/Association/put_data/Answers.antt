@@ -11,6 +11,9 @@ use Rattle.sctp_association.proofs.association.Association.put_data.Goals as goa
 use Rattle.sctp_association.specs.Congested.{LeavesWithin}
 use Rattle.sctp_association.specs.declared.association.Association.{Association}
 use Rattle.sctp_association.specs.Halves.{PutsSent, receiver_of, sides_of}
+use Rattle.sctp_association.proofs.Ordered as ordered
+use Rattle.std.proofs.Common.{◌∷◌, [], List, ℕ, ap}
+use Rattle.sctp_association.specs.Ordered.{PutsInOrder}
 
 pub returns-then-not-sends_data-clause-made : goal.returns-then-not-sends_data-clause-made
 returns-then-not-sends_data-clause-made c = nothing (sides_of c.args.self.now)
@@ -60,3 +63,12 @@ returns-in_err-put-clause-skips c head = c.put.ensures.leaves head
 pub returns-clause-skips : goal.returns-clause-skips
 returns-clause-skips c head = subst (λ (a : Association). LeavesSkip (Stands c.args.self.now.draft.bytes a.draft.bytes) c.args.self.now.draft.limit
     c.args.self.now.outbound.sender c.args.self.now.outbound.is_skip_due a.outbound.is_skip_due) (sym c.note_use.ensures.rest) (c.put.ensures.leaves head)
+
+-- ## In their order
+
+pub returns-then-not-sends_data-clause-order : goal.returns-then-not-sends_data-clause-order
+returns-then-not-sends_data-clause-order c = ordered.order_data (192 ∷ []) _ _ (ordered.order_none (192 ∷ []) _ _ refl)
+
+pub returns-clause-order : goal.returns-clause-order
+returns-clause-order c = subst (λ (x : List ℕ). PutsInOrder (192 ∷ []) c.args.self.now.draft.bytes x)
+    (sym (ap (λ (a : Association). a.draft.bytes) c.note_use.ensures.rest)) c.put.ensures.order

@@ -60,4 +60,4 @@ returns-in_err-heartbeat_ack-clause-others c = others_none c.args.self.now _
       sack = λ e. e;
       unknown = λ s e. e;
     })
-    (record { heartbeat = refl; requests = refl; peer = refl }) refl
+    (record { heartbeat = refl; idle = refl; requests = refl; peer = refl }) refl

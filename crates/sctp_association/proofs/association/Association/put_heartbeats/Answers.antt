@@ -6,6 +6,10 @@ use Rattle.sctp_association.proofs.Leaving.{into_kept}
 use Rattle.sctp_association.proofs.Owing.{later_not_due}
 use Rattle.sctp_path.specs.Timers.{is_due}
 use Rattle.sctp_association.proofs.association.Association.put_heartbeats.Goals as goal
+use Rattle.sctp_association.proofs.Requesting.{keeps_then, others_keep}
+use Rattle.sctp_association.proofs.Probing as probe
+use Rattle.sctp_association.proofs.Ordered as ordered
+use Rattle.std.proofs.Common.{◌∷◌}
 
 pub returns-in-Some-clause-leaves : goal.returns-in-Some-clause-leaves
 returns-in-Some-clause-leaves c = into_kept c.args.self.now c.put_heartbeat_ack.new.self c.put_heartbeat.new.self [] _
@@ -63,3 +67,51 @@ returns-in-Some-clause-halves c = alike_then _ _ _ c.put_heartbeat_ack.ensures.o
 
 pub returns-in-Some-clause-kept : goal.returns-in-Some-clause-kept
 returns-in-Some-clause-kept c = unmoved_then _ _ _ c.put_heartbeat_ack.ensures.others.kept c.put_heartbeat.ensures.kept
+
+-- ## No RE-CONFIG
+
+pub returns-in_err-put_heartbeat_ack-clause-resets : goal.returns-in_err-put_heartbeat_ack-clause-resets
+returns-in_err-put_heartbeat_ack-clause-resets c = others_keep c.args.self.now c.put_heartbeat_ack.new.self c.put_heartbeat_ack.ensures.others
+
+pub returns-in_default-clause-resets : goal.returns-in_default-clause-resets
+returns-in_default-clause-resets c = others_keep c.args.self.now c.put_heartbeat_ack.new.self c.put_heartbeat_ack.ensures.others
+
+pub returns-in_default-2-clause-resets : goal.returns-in_default-2-clause-resets
+returns-in_default-2-clause-resets c = others_keep c.args.self.now c.put_heartbeat_ack.new.self c.put_heartbeat_ack.ensures.others
+
+pub returns-in-Some-clause-resets : goal.returns-in-Some-clause-resets
+returns-in-Some-clause-resets c = keeps_then c.args.self.now c.put_heartbeat_ack.new.self c.put_heartbeat.new.self
+    (others_keep c.args.self.now c.put_heartbeat_ack.new.self c.put_heartbeat_ack.ensures.others) c.put_heartbeat.ensures.resets
+
+-- ## Which HEARTBEAT
+
+pub returns-in_err-put_heartbeat_ack-clause-beats : goal.returns-in_err-put_heartbeat_ack-clause-beats
+returns-in_err-put_heartbeat_ack-clause-beats c = probe.puts_none c.args.now c.args.self.now c.put_heartbeat_ack.new.self
+    (probe.others_keep c.args.self.now c.put_heartbeat_ack.new.self c.put_heartbeat_ack.ensures.others)
+
+pub returns-in_default-clause-beats : goal.returns-in_default-clause-beats
+returns-in_default-clause-beats c = probe.puts_none c.args.now c.args.self.now c.put_heartbeat_ack.new.self
+    (probe.others_keep c.args.self.now c.put_heartbeat_ack.new.self c.put_heartbeat_ack.ensures.others)
+
+pub returns-in_default-2-clause-beats : goal.returns-in_default-2-clause-beats
+returns-in_default-2-clause-beats c = probe.puts_none c.args.now c.args.self.now c.put_heartbeat_ack.new.self
+    (probe.others_keep c.args.self.now c.put_heartbeat_ack.new.self c.put_heartbeat_ack.ensures.others)
+
+pub returns-in-Some-clause-beats : goal.returns-in-Some-clause-beats
+returns-in-Some-clause-beats c = probe.puts_later c.args.now c.args.self.now c.put_heartbeat_ack.new.self c.put_heartbeat.new.self
+    (probe.others_keep c.args.self.now c.put_heartbeat_ack.new.self c.put_heartbeat_ack.ensures.others)
+    (beats_same c.args.now _ _ c.put_heartbeat_ack.ensures.others.timed) c.put_heartbeat.ensures.beats
+
+-- ## In their order
+
+pub returns-in_err-put_heartbeat_ack-clause-order : goal.returns-in_err-put_heartbeat_ack-clause-order
+returns-in_err-put_heartbeat_ack-clause-order c = ordered.order_more (5 ∷ []) (4 ∷ []) _ _ c.put_heartbeat_ack.ensures.order
+
+pub returns-in_default-clause-order : goal.returns-in_default-clause-order
+returns-in_default-clause-order c = ordered.order_more (5 ∷ []) (4 ∷ []) _ _ c.put_heartbeat_ack.ensures.order
+
+pub returns-in_default-2-clause-order : goal.returns-in_default-2-clause-order
+returns-in_default-2-clause-order c = ordered.order_more (5 ∷ []) (4 ∷ []) _ _ c.put_heartbeat_ack.ensures.order
+
+pub returns-in-Some-clause-order : goal.returns-in-Some-clause-order
+returns-in-Some-clause-order c = ordered.order_then (5 ∷ []) (4 ∷ []) _ _ _ c.put_heartbeat_ack.ensures.order c.put_heartbeat.ensures.order

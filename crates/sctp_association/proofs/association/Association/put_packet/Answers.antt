@@ -15,6 +15,9 @@ use Rattle.sctp_association.specs.declared.outbound.Outbound.{Outbound}
 use Rattle.sctp_association.specs.Idle.{WaitsForSacks, in_flight}
 use Rattle.sctp_association.specs.Sending.{IsTimed}
 use Rattle.sctp_packets.specs.Draft.{headed}
+use Rattle.sctp_association.proofs.Requesting.{reset_kept, reset_none_so, reset_sealed, reset_unsent}
+use Rattle.sctp_association.proofs.Probing as probe
+use Rattle.sctp_association.proofs.Ordered as ordered
 
 pub returns-in_err-begin-clause-made : goal.returns-in_err-begin-clause-made
 returns-in_err-begin-clause-made c = none_sent_so _ _ _ c.from_residual.ensures.0 (unsent_alike c.args.self.now c.args.self.now (alike_same c.args.self.now) _)
@@ -168,3 +171,78 @@ returns-clause-skips c =
     (subst (λ (n : ℕ). LeavesSkip (Stands c.begin.new.self.bytes c.fill-filled.new.self.draft.bytes) n old.outbound.sender old.outbound.is_skip_due
     c.fill-filled.new.self.outbound.is_skip_due) c.begin.ensures.limit
     (c.fill-filled.ensures.skips (headed c.args.header) c.in_ok-begin.ensures.begun)) refl c.args.is_zero c.seal.ensures.sealed
+
+-- ## A RE-CONFIG
+
+pub returns-in_err-begin-clause-resets : goal.returns-in_err-begin-clause-resets
+returns-in_err-begin-clause-resets c = reset_none_so c.args.now _ c.args.self.now.outbound.sender c.args.self.now _ c.from_residual.ensures.0
+    (reset_kept c.args.now c.args.self.now.outbound.sender c.args.self.now _ refl)
+
+pub returns-in_err-filled-clause-resets : goal.returns-in_err-filled-clause-resets
+returns-in_err-filled-clause-resets c =
+    let short = leb-true _ 12 (sym c.is_empty.ensures ∙ c.if-is_empty.true) in
+    let put = c.fill-filled.ensures.resets (headed c.args.header) c.in_ok-begin.ensures.begun in
+    reset_none_so c.args.now _ c.args.self.now.outbound.sender c.args.self.now _ c.from_residual-in_err-filled.ensures.0 (
+    reset_unsent c.args.now c.args.self.now c.fill-filled.new.self c.args.header _ _ c.in_ok-begin.ensures.begun c.args.self.now.outbound.sender
+    c.fill-filled.new.self put.chunks put.reconfig put.added short put.each put.leaves
+    )
+
+pub returns-then-is_empty-clause-resets : goal.returns-then-is_empty-clause-resets
+returns-then-is_empty-clause-resets c =
+    let short = leb-true _ 12 (sym c.is_empty.ensures ∙ c.if-is_empty.true) in
+    let put = c.fill-filled.ensures.resets (headed c.args.header) c.in_ok-begin.ensures.begun in
+    reset_unsent c.args.now c.args.self.now c.fill-filled.new.self c.args.header _ _ c.in_ok-begin.ensures.begun c.args.self.now.outbound.sender
+    _ put.chunks put.reconfig put.added short put.each put.leaves
+
+pub returns-clause-resets : goal.returns-clause-resets
+returns-clause-resets c =
+    let put = c.fill-filled.ensures.resets (headed c.args.header) c.in_ok-begin.ensures.begun in
+    reset_sealed c.args.now c.args.self.now c.fill-filled.new.self c.args.header _ _ c.in_ok-begin.ensures.begun c.args.self.now.outbound.sender
+    _ c.args.is_zero put.chunks put.reconfig put.added put.each put.leaves c.seal.ensures.sealed
+
+pub returns-then-is_empty-clause-unasked : goal.returns-then-is_empty-clause-unasked
+returns-then-is_empty-clause-unasked c _ state =
+    let short = leb-true _ 12 (sym c.is_empty.ensures ∙ c.if-is_empty.true) in
+    c.in_ok-filled.ensures.unasked state (headed c.args.header) c.in_ok-begin.ensures.begun short
+
+-- ## Which HEARTBEAT
+
+pub returns-in_err-begin-clause-beats : goal.returns-in_err-begin-clause-beats
+returns-in_err-begin-clause-beats c = probe.beat_none_so c.args.now _ c.args.self.now _ c.from_residual.ensures.0
+    (probe.beat_kept c.args.now c.args.self.now _ refl)
+
+pub returns-in_err-filled-clause-beats : goal.returns-in_err-filled-clause-beats
+returns-in_err-filled-clause-beats c =
+    let short = leb-true _ 12 (sym c.is_empty.ensures ∙ c.if-is_empty.true) in
+    let put = c.fill-filled.ensures.beats in
+    probe.beat_none_so c.args.now _ c.args.self.now _ c.from_residual-in_err-filled.ensures.0 (
+    probe.beat_unsent c.args.now c.args.self.now _ c.args.header _ _ c.in_ok-begin.ensures.begun put.chunks put.asks put.added put.each
+    (probe.probes_paused c.args.now _ _ c.args.self.now c.fill-filled.new.self put.asks put.probes refl refl refl refl) short
+    )
+
+pub returns-then-is_empty-clause-beats : goal.returns-then-is_empty-clause-beats
+returns-then-is_empty-clause-beats c =
+    let short = leb-true _ 12 (sym c.is_empty.ensures ∙ c.if-is_empty.true) in
+    let put = c.fill-filled.ensures.beats in
+    probe.beat_unsent c.args.now c.args.self.now _ c.args.header _ _ c.in_ok-begin.ensures.begun put.chunks put.asks put.added put.each
+    (probe.probes_paused c.args.now _ c.fill-filled.new.self c.args.self.now _ put.asks put.probes refl refl
+    (ap (λ (o : Outbound). o.used) c.pause.ensures) refl) short
+
+pub returns-clause-beats : goal.returns-clause-beats
+returns-clause-beats c =
+    let put = c.fill-filled.ensures.beats in
+    probe.beat_sealed c.args.now c.args.self.now _ c.args.header _ _ c.in_ok-begin.ensures.begun put.chunks put.asks put.added put.each
+    (probe.probes_paused c.args.now _ c.fill-filled.new.self c.args.self.now _ put.asks put.probes refl refl refl refl) c.args.is_zero
+    c.seal.ensures.sealed
+
+-- ## In their order
+
+pub returns-in_err-begin-clause-order : goal.returns-in_err-begin-clause-order
+returns-in_err-begin-clause-order c = unsent_err _ c.from_residual.ensures.0
+
+pub returns-in_err-filled-clause-order : goal.returns-in_err-filled-clause-order
+returns-in_err-filled-clause-order c = unsent_err _ c.from_residual-in_err-filled.ensures.0
+
+pub returns-clause-order : goal.returns-clause-order
+returns-clause-order c _ =
+    ordered.order_sealed c.args.header _ _ _ c.args.is_zero c.in_ok-begin.ensures.begun c.fill-filled.ensures.order c.seal.ensures.sealed

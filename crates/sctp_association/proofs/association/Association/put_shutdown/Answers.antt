@@ -5,6 +5,8 @@ use Rattle.std.proofs.Common.{ap, arith, ◌∙◌}
 use Rattle.sctp_association.proofs.Idle.{added_longer, no_shutdown}
 use Rattle.sctp_association.proofs.Others.{once_others, timed_then}
 use Rattle.sctp_association.proofs.association.Association.put_shutdown.Goals as goal
+use Rattle.sctp_association.proofs.Ordered as ordered
+use Rattle.std.proofs.Common.{◌∷◌, []}
 
 pub returns-clause-made : goal.returns-clause-made
 returns-clause-made c = once_others c.args.self.now c.put_shutdown_asked.new.self c.put_shutdown_ack.new.self c.put_shutdown_asked.ensures.made
@@ -33,3 +35,6 @@ returns-clause-full c =
 
 pub returns-clause-skip : goal.returns-clause-skip
 returns-clause-skip c = ap (λ (p : Path). p.skip) c.put_shutdown_ack.ensures.others.halves.path ∙ c.put_shutdown_asked.ensures.skip
+
+pub returns-clause-order : goal.returns-clause-order
+returns-clause-order c = ordered.order_then (7 ∷ []) (8 ∷ []) _ _ _ c.put_shutdown_asked.ensures.order c.put_shutdown_ack.ensures.order

@@ -65,7 +65,7 @@ returns-then-put-clause-others c =
       sack = λ e. e;
       unknown = λ s e. e;
     })
-    (record { heartbeat = refl; requests = refl; peer = refl })
+    (record { heartbeat = refl; idle = refl; requests = refl; peer = refl })
 
 pub returns-else-self-clause-others : goal.returns-else-self-clause-others
 returns-else-self-clause-others c = elim c.else-self.branch [
@@ -93,7 +93,7 @@ returns-else-self-clause-others c = elim c.else-self.branch [
         sack = λ e. e;
         unknown = λ s e. e;
       })
-      (record { heartbeat = refl; requests = refl; peer = refl })
+      (record { heartbeat = refl; idle = refl; requests = refl; peer = refl })
       (ap (λ (d : Draft). d.bytes) (w.put.ensures.full w.if-put.false))
       )
   | else-self-via-else-self w ↦ others_same c.args.self.now _ w.self-is

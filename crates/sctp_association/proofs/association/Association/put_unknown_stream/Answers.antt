@@ -72,7 +72,7 @@ returns-clause-others c =
             sack = λ e. e;
             unknown = λ s e. e;
           })
-          (record { heartbeat = refl; requests = refl; peer = refl })
+          (record { heartbeat = refl; idle = refl; requests = refl; peer = refl })
           (ap (λ (d : Draft). d.bytes) (c.put-is_told.ensures.full w.if-is_told.false))
           )
     ]

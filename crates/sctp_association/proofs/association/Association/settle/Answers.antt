@@ -14,6 +14,7 @@ use Rattle.sctp_association.specs.Leaving.{AsksNoMore}
 use Rattle.sctp_association.specs.Still.{heartbeat_time}
 use Rattle.sctp_association.proofs.association.Association.settle.Goals as goal
 use Rattle.sctp_association.proofs.association.Association.settle.Goals.{else-self, else-self-via-else-self, else-self-via-then-self+else-eq, then-self+then-eq}
+use Rattle.sctp_association.specs.Requesting.{resets_of}
 
 pub returns-clause-peer : goal.returns-clause-peer
 returns-clause-peer c =
@@ -48,6 +49,7 @@ returns-clause-moments c =
           (ap (λ (x : Association). x.peer_requests) w.self-is) w.shutdown_asked-answer.ensures
       | else-self w ↦ beats_same c.args.now c.args.self.now c.if-self.self (record {
         heartbeat = ap heartbeat_time w.self-is;
+        idle = ap (λ (x : Association). x.heartbeat) w.self-is;
         requests = ap (λ (x : Association). x.requests) w.self-is;
         peer = ap (λ (x : Association). x.peer_requests) w.self-is;
       })
@@ -93,3 +95,9 @@ returns-clause-settles c =
       ])
     ] in
     settles_by c.args.now old c.if-self.self c.note_drained.new.self asked noted.waits noted.drained noted.due noted.over noted.sending noted.wants noted.timers
+
+pub returns-clause-resets : goal.returns-clause-resets
+returns-clause-resets c = c.note_drained.ensures.resets ∙ elim c.if-self.branch [
+  | then-self+then-eq w ↦ ap resets_of w.self-is
+  | else-self w ↦ ap resets_of w.self-is
+]

@@ -332,3 +332,13 @@ returns-in-3-clause-still c going = c.take_sack.ensures.still
 
 pub returns-in-192-clause-still : goal.returns-in-192-clause-still
 returns-in-192-clause-still c going = c.take_skip.ensures.still
+
+-- ## Where memory is wanting
+
+pub returns-in-130-clause-cut_resets : goal.returns-in-130-clause-cut_resets
+returns-in-130-clause-cut_resets c typ is = record {
+  part = c.take_reconfig.ensures.part (search rules);
+  calls = c.take_reconfig.ensures.came;
+  machine = c.take_reconfig.ensures.kept.machine;
+  rest = c.take_reconfig.ensures.rest;
+}

@@ -1,8 +1,9 @@
-use Rattle.sctp_association.proofs.Walks.{first_at, walks_at}
+use Rattle.sctp_association.proofs.Walks.{first_at, walks_at, part_at}
 use Rattle.sctp_association.specs.Walks.{FirstOn}
 use Rattle.sctp_association.proofs.Ends.{ended_first, ended_next, ended_same, ended_still, ended_stop, ended_then}
 use Rattle.sctp_association.specs.Ends.{EndsOn}
 use Rattle.sctp_association.proofs.Telling.{tells_peer, tells_same, tells_then}
+use Rattle.std.proofs.Common.{false}
 use Rattle.std.proofs.Common.{Ok, ap, arith, inl, inr, length, refl, rules, subst, sym, ◌≡◌, ◌<◌, ◌∙◌, ◌∷◌, List}
 use Rattle.std.proofs.lemmas.Bool.{false≢true}
 use Rattle.sctp_association.proofs.Arrived.{arrives_of, alike_halves}
@@ -365,5 +366,38 @@ returns-clause-walks c is =
           (search rules) c.take_first.ensures.walks);
       last = c.take_others-is_whole.new.self;
       others = c.take_others-is_whole.ensures.walks c.if-not-is_whole.false;
+      ends = record { settles = ended.settles; events = ended.events; receiver = ended.halves.receiver; heartbeat = ended.heartbeat; acks = ended.acks };
+    }))
+
+-- ## Where memory is wanting
+
+pub returns-in-Cut-clause-in_part : goal.returns-in-Cut-clause-in_part
+returns-in-Cut-clause-in_part c is =
+    let ended = c.end_datagram.ensures in
+    part_at c.in-Some.first c.next.new.self.left _ c.args.datagram.now c.args.now c.args.self.now c.end_datagram.new.self c.in-Some.ensures.place
+    (inl (record {
+      last = c.take_first.new.self;
+      cut = first_at c.in-Some.first _ _ _ _ c.args.datagram.now c.args.now step.Cut c.args.self.now c.take_first.new.self
+          (c.header-tag.ensures.verification_tag ∙ ap (λ l. u32_at l 4) c.requires.whole) (c.left-count.ensures ∙ ap length c.in-Some.ensures.place)
+          (if_ok (λ s. FirstOn c.in-Some.first c.header-tag.result.verification_tag c.left-count.result c.args.datagram.now c.args.now s c.args.self.now
+          c.take_first.new.self) c.take_first.result step.Cut
+          (search rules) c.take_first.ensures.walks);
+      ends = record { settles = ended.settles; events = ended.events; receiver = ended.halves.receiver; heartbeat = ended.heartbeat; acks = ended.acks };
+    }))
+
+pub returns-then-not-is_whole-clause-in_part : goal.returns-then-not-is_whole-clause-in_part
+returns-then-not-is_whole-clause-in_part c is =
+    let ended = c.end_datagram-2.ensures in
+    let short : c.take_others-is_whole.result ≡ false = search rules in
+    part_at c.in-Some.first c.next.new.self.left _ c.args.datagram.now c.args.now c.args.self.now c.end_datagram-2.new.self c.in-Some.ensures.place
+    (inr (record {
+      behind = c.take_first.new.self;
+      first = first_at c.in-Some.first _ _ _ _ c.args.datagram.now c.args.now step.Next c.args.self.now c.take_first.new.self
+          (c.header-tag.ensures.verification_tag ∙ ap (λ l. u32_at l 4) c.requires.whole) (c.left-count.ensures ∙ ap length c.in-Some.ensures.place)
+          (if_ok (λ s. FirstOn c.in-Some.first c.header-tag.result.verification_tag c.left-count.result c.args.datagram.now c.args.now s c.args.self.now
+          c.take_first.new.self) c.take_first.result step.Next
+          (search rules) c.take_first.ensures.walks);
+      last = c.take_others-is_whole.new.self;
+      others = c.take_others-is_whole.ensures.in_part short;
       ends = record { settles = ended.settles; events = ended.events; receiver = ended.halves.receiver; heartbeat = ended.heartbeat; acks = ended.acks };
     }))

@@ -37,6 +37,11 @@ use Rattle.sctp_handshake.specs.States.{takes_data}
 use Rattle.sctp_association.proofs.Brought.{brings_data, brings_none}
 use Rattle.sctp_association.specs.Telling.{whole_of}
 use Rattle.sctp_association.specs.declared.event.Events.{Events}
+use Rattle.sctp_association.proofs.TooLong.{tells_long}
+use Rattle.sctp_association.specs.StreamSet.{is_in}
+use Rattle.sctp_association.specs.Telling.{HasPlaces}
+use Rattle.sctp_association.specs.declared.association.arrivals.Step.TheVariants.{Next}
+use Rattle.sctp_association.proofs.Partly.{opens_only}
 use Rattle.sctp_association.proofs.association.Association.take_data.Goals as goal
 
 pub returns-then-not-takes_data-clause-came : goal.returns-then-not-takes_data-clause-came
@@ -268,3 +273,45 @@ returns-clause-events c =
     let end = c.end_by.ensures.events ∙ ap (λ (e : Events). record e { closed = c.end_by.new.self.events.closed }) (c.follow.ensures.events quiet) in
     brings_data _ _ _ _ _ c.take_data.new.self _ c.in-Some.is there end c.requires.typ c.in_ok-data.data c.in_ok-data.ensures.found
     c.take_data.ensures.notes
+
+-- ## A message that is too long
+
+pub returns-clause-long : goal.returns-clause-long
+returns-clause-long c next places =
+    let old = c.args.self.now in
+    let quiet = arrived_told old.machine _ _ c.packet_arrived-answer.ensures in
+    let is : c.end_by.result ≡ Next = search rules in
+    let done : c.take_data.result ≡ Ok Done =
+    c.in_ok-followed.was ∙ ap Ok (done_unless _ _ (c.end_by.ensures.next is) c.in_default-followed.not-Wanting (λ e. e)) in
+    let behind : c.end_by.new.self.events.too_long ≡ c.take_data.new.events.too_long =
+    ap (λ (a : Association). a.events.too_long) (c.end_by.ensures.on is) ∙ ap (λ (e : Events). e.too_long) (c.follow.ensures.events quiet) in
+    tells_long c.args.chunk c.args.datagram.now old.inbound _ c.end_by.new.self c.in-Some.is (record {
+      chunk = c.in_ok-data.data;
+      reads = c.in_ok-data.ensures.found;
+      told = λ large. ap (is_in c.in_ok-data.data.stream_identifier) behind
+          ∙ c.take_data.ensures.told (subst (λ (o : Option Inbound). HasPlaces o old.events) c.in-Some.is places) done large;
+    })
+
+-- ## Where memory is wanting
+
+pub returns-in-Wanting-clause-cut : goal.returns-in-Wanting-clause-cut
+returns-in-Wanting-clause-cut c is = record {
+  chunk = c.in_ok-data.data;
+  reads = c.in_ok-data.ensures.found;
+  opens = opens_only _ c.args.self.now _ _ c.take_data.new.self c.in-Some.is refl (c.take_data.ensures.cut (search rules)) (record {
+    config = refl;
+    key = refl;
+    machine = refl;
+    is_over = refl;
+    wants_shutdown = refl;
+    outbound = refl;
+    requests = refl;
+    peer_requests = refl;
+    control = refl;
+    guard = refl;
+    heartbeat = refl;
+    cookie = refl;
+    due = refl;
+    draft = refl;
+  });
+}

@@ -10,6 +10,14 @@ use Rattle.std.specs.Prelude.{◌≡◌, Some}
 use Rattle.sctp_association.proofs.Brought.{whole_passed}
 use Rattle.sctp_association.specs.Events.{whole_from}
 use Rattle.sctp_association.specs.declared.event.Events.{Events}
+use Rattle.sctp_association.proofs.Rows.{follows_error, follows_from, follows_still, follows_step}
+use Rattle.sctp_association.specs.Causes.{cause_in}
+use Rattle.sctp_association.specs.Fresh.{fresh_tag}
+use Rattle.sctp_association.specs.Rows.{FollowsStep, error_row}
+use Rattle.sctp_handshake.specs.Cookies.{on_stale_cookie}
+use Rattle.sctp_handshake.specs.Machines.{dropped}
+use Rattle.std.proofs.Common.{Bool, false, refl, true}
+use Rattle.std.specs.Prelude.{◌==◌, if◌then◌else◌}
 use Rattle.sctp_association.proofs.association.Association.take_error.Goals as goal
 use Rattle.sctp_association.proofs.association.Association.take_error.Goals.{else-code-eq3, then-code-eq3}
 
@@ -64,3 +72,32 @@ returns-clause-events c =
           e ∙ sym (ap (whole_from old) e)
     ] in
     ap (λ (e : Events). record e { peer_error = Some c.in-Some.code }) first
+
+-- ## The row of an ERROR
+
+pub returns-clause-row : goal.returns-clause-row
+returns-clause-row c =
+    let old = c.args.self.now in
+    let cause : cause_in c.args.datagram.now c.args.chunk ≡ Some c.in-Some.code = search rules in
+    let fresh = fresh_tag old.key c.args.now old.machine.own in
+    let first : FollowsStep (error_row (Some c.in-Some.code) fresh old.machine) 0 c.args.now old c.if-code-eq3.self = elim c.if-code-eq3.branch [
+      | then-code-eq3 w ↦
+          let stale : (c.in-Some.code == 3) ≡ true = search rules in
+          let takes = w.stale_cookie-answer.ensures.takes in
+          let tag : w.fresh_tag-tag.result ≡ fresh = search rules in
+          let follows = follows_step _ 0 c.args.now old w.follow.new.self _ _ takes.machine takes.answer w.follow.ensures.kept.machine (
+          follows_from _ 0 old.machine.state _ c.args.now old _ w.follow.new.self w.follow.ensures.answer w.state-before.ensures refl refl refl refl refl refl
+          ) in
+          subst (λ (b : Bool). FollowsStep (if b then on_stale_cookie fresh old.machine else dropped old.machine) 0 c.args.now old c.if-code-eq3.self)
+          (sym stale)
+          (subst (λ n. FollowsStep (on_stale_cookie n old.machine) 0 c.args.now old c.if-code-eq3.self) tag
+          (subst (λ (x : Association). FollowsStep (on_stale_cookie w.fresh_tag-tag.result old.machine) 0 c.args.now old x) (sym w.self-is) follows))
+      | else-code-eq3 w ↦
+          let other : (c.in-Some.code == 3) ≡ false = search rules in
+          subst (λ (b : Bool). FollowsStep (if b then on_stale_cookie fresh old.machine else dropped old.machine) 0 c.args.now old c.if-code-eq3.self)
+          (sym other)
+          (subst (λ (x : Association). FollowsStep (dropped old.machine) 0 c.args.now old x) (sym w.self-is)
+          (follows_still 0 c.args.now old old refl refl refl refl refl refl refl))
+    ] in
+    follows_error _ 0 c.args.now old c.if-code-eq3.self (Some c.in-Some.code) _
+    (subst (λ o. FollowsStep (error_row o fresh old.machine) 0 c.args.now old c.if-code-eq3.self) (sym cause) first)

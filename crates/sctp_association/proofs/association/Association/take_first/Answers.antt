@@ -1,4 +1,4 @@
-use Rattle.sctp_association.proofs.Walks.{first_on, passes}
+use Rattle.sctp_association.proofs.Walks.{first_on, passes, tells_by}
 use Rattle.sctp_association.specs.Single.{AloneOn}
 use Rattle.std.proofs.Common.{inr}
 use Rattle.sctp_association.proofs.Ends.{if_then}
@@ -46,7 +46,8 @@ returns-in-Refused-Unexpected-clause-walks c =
     let is : c.take_chunk-2.result ≡ Ok (Refused Unexpected) = search rules in
     inr (record {
       passes = passes c.args.chunk c.args.tag c.args.count c.args.datagram.now c.args.now c.args.self.now c.take_chunk-2.new.self c.take_chunk-2.result
-          c.take_chunk-2.ensures.foreign c.take_chunk-2.ensures.expected c.take_chunk-2.ensures.due is (c.take_chunk-2.ensures.refused Unexpected is);
+          c.take_chunk-2.ensures.foreign c.take_chunk-2.ensures.expected c.take_chunk-2.ensures.due c.take_chunk-2.ensures.unexpected is
+          (c.take_chunk-2.ensures.refused Unexpected is);
       others = search rules;
       begun = search rules;
       init = search rules;
@@ -68,9 +69,27 @@ returns-in_default-2-clause-walks c =
     c.take_chunk-2.ensures.foreign c.take_chunk-2.ensures.expected c.in_ok-step.step is
     (if_ok (λ s. AloneOn c.args.chunk c.args.tag c.args.datagram.now c.args.now s c.args.self.now c.take_chunk-2.new.self) _ _ is c.take_chunk-2.ensures.alone)
     c.take_chunk-2.ensures.still
+    (tells_by c.args.chunk c.args.datagram.now c.args.self.now c.take_chunk-2.new.self c.take_chunk-2.result c.take_chunk-2.ensures.by_sack
+    c.take_chunk-2.ensures.by_shutdown
+    c.take_chunk-2.ensures.by_data)
+    (record {
+      part = c.take_chunk-2.ensures.cut;
+      of_data = c.take_chunk-2.ensures.cut_data;
+      of_skip = c.take_chunk-2.ensures.cut_skip;
+      of_reconfig = c.take_chunk-2.ensures.cut_resets;
+    })
 
 pub returns-then-is_alone-clause-walks : goal.returns-then-is_alone-clause-walks
 returns-then-is_alone-clause-walks c =
     if_then c.take_chunk.result (λ s is h. first_on c.args.chunk c.args.tag c.args.count c.args.datagram.now c.args.now c.args.self.now
-    c.take_chunk.new.self c.take_chunk.result c.take_chunk.ensures.foreign c.take_chunk.ensures.expected s is h c.take_chunk.ensures.still)
+    c.take_chunk.new.self c.take_chunk.result c.take_chunk.ensures.foreign c.take_chunk.ensures.expected s is h c.take_chunk.ensures.still
+    (tells_by c.args.chunk c.args.datagram.now c.args.self.now c.take_chunk.new.self c.take_chunk.result c.take_chunk.ensures.by_sack
+    c.take_chunk.ensures.by_shutdown
+    c.take_chunk.ensures.by_data)
+    (record {
+      part = c.take_chunk.ensures.cut;
+      of_data = c.take_chunk.ensures.cut_data;
+      of_skip = c.take_chunk.ensures.cut_skip;
+      of_reconfig = c.take_chunk.ensures.cut_resets;
+    }))
     c.take_chunk.ensures.alone

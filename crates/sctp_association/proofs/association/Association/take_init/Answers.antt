@@ -13,7 +13,13 @@ use Rattle.sctp_association.proofs.Offers.{init_answered}
 use Rattle.sctp_association.proofs.association.Association.take_init.Goals as goal
 use Rattle.sctp_chunks.specs.Framing.{value_at}
 use Rattle.sctp_handshake.specs.Beginnings.{init_reply}
-use Rattle.sctp_handshake.specs.InitValues.{init_in}
+use Rattle.sctp_handshake.specs.InitValues.{host_name_of, init_in}
+use Rattle.sctp_association.specs.Openings.{OffersBy}
+use Rattle.sctp_association.specs.Reports.{host_name_told, to_tag}
+use Rattle.sctp_association.specs.declared.due.AloneKind.TheVariants.{HostName}
+use Rattle.sctp_datagram.specs.declared.params.ParamPlace.{ParamPlace}
+use Rattle.sctp_util.specs.Field.{u32_at}
+use Rattle.std.proofs.Common.{List, None, ℕ}
 
 -- the ticket has the offer of the INIT
 pub returns-in_ok-self-in-Some-2-clause-owes : goal.returns-in_ok-self-in-Some-2-clause-owes
@@ -25,7 +31,8 @@ returns-in_ok-self-in-Some-2-clause-owes c t owed =
 
 -- the reply of the row is due
 pub returns-in_ok-self-in-Some-2-clause-offers : goal.returns-in_ok-self-in-Some-2-clause-offers
-returns-in_ok-self-in-Some-2-clause-offers c none =
+returns-in_ok-self-in-Some-2-clause-offers c =
+    let none : host_name_of (value_at (drop c.args.chunk.at c.args.datagram.now)) ≡ None = search rules in
     let reads : init_in (value_at (drop c.args.chunk.at c.args.datagram.now)) ≡ Ok c.in-Ok-read_init.said = search rules in
     let answer : Some c.in-Some.reply ≡ init_reply c.in-Ok-read_init.said.offer c.fresh_tag-tag.result c.args.self.now.machine = search rules in
     let due : c.owe_answer.new.self.due ≡ record (
@@ -37,14 +44,30 @@ returns-in_ok-self-in-Some-2-clause-offers c none =
     ap (λ (d : Due). d.unknown_params) c.owe_answer.ensures.due
     ∙ told_to_init (Some c.in-Some.reply) c.in-Ok-read_init.said.offer.tag (record c.args.self.now.due { unknown_params = c.in_ok-self-in-Some-2.field-0 })
     ∙ params in
-    record {
+    subst (λ (o : Option ParamPlace). OffersBy o (value_at (drop c.args.chunk.at c.args.datagram.now)) c.args.now c.args.self.now c.owe_answer.new.self)
+    (sym none) (record {
       said = c.in-Ok-read_init.said;
       reads = reads;
       due = due ∙ ap (λ u. record (owed_to_init (Some c.in-Some.reply) c.in-Ok-read_init.said.offer.tag c.args.self.now.due) { unknown_params = u }) told
           ∙ ap (λ (r : Option Reply). record (owed_to_init r c.in-Ok-read_init.said.offer.tag c.args.self.now.due) {
             unknown_params = params_told c.args.self.now.config.mtu (value_at (drop c.args.chunk.at c.args.datagram.now));
           }) (answer ∙ ap (λ n. init_reply c.in-Ok-read_init.said.offer n c.args.self.now.machine) c.fresh_tag-tag.ensures);
-    }
+    })
+
+-- one with a Host Name Address is answered by an ABORT
+pub returns-in-Some-host_name_in-clause-offers : goal.returns-in-Some-host_name_in-clause-offers
+returns-in-Some-host_name_in-clause-offers c =
+    let value = c.in-Ok.ensures.value ∙ ap value_at c.bytes_of.ensures in
+    let found : host_name_of c.in-Ok.value.now ≡ Some c.in-Some-host_name_in.host = search rules in
+    let told : c.in_ok-self-in-Some.field-0 ≡ host_name_told c.in-Ok.value.now c.in-Some-host_name_in.host c.args.self.now.config.mtu =
+    search rules in
+    let due : c.owe_alone.new.self.due ≡ record c.args.self.now.due {
+      alone = Some (to_tag HostName (u32_at c.in-Ok.value.now 0));
+      unknown_params = c.in_ok-self-in-Some.field-0;
+    } = search rules in
+    subst (λ (v : List ℕ). OffersBy (host_name_of v) v c.args.now c.args.self.now c.owe_alone.new.self) value
+    (subst (λ (o : Option ParamPlace). OffersBy o c.in-Ok.value.now c.args.now c.args.self.now c.owe_alone.new.self) (sym found)
+    (due ∙ ap (λ (u : Option (List ℕ)). record c.args.self.now.due { alone = Some (to_tag HostName (u32_at c.in-Ok.value.now 0)); unknown_params = u }) told))
 
 -- ## What is expected is not refused
 

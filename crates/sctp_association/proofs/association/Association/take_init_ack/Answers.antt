@@ -1,18 +1,20 @@
 use Rattle.sctp_association.specs.Rows.{FollowsAnswer}
 use Rattle.sctp_handshake.specs.declared.state.State.{State}
-use Rattle.sctp_association.proofs.Expected.{init_ack_answered, said_of, value_found}
+use Rattle.sctp_association.proofs.Expected.{said_of, value_found, value_long}
+use Rattle.sctp_association.proofs.InitAcks.{asked_host, asked_none, ended_on, ends_long}
+use Rattle.sctp_chunks.specs.Framing.{value_at}
+use Rattle.sctp_handshake.specs.InitValues.{host_name_of}
+use Rattle.sctp_handshake.specs.declared.state.State.TheVariants.{CookieWait}
 use Rattle.sctp_association.proofs.AcksOn.{told_as}
 use Rattle.sctp_association.proofs.Rows.{follows_noted, follows_step}
 use Rattle.sctp_association.specs.AcksDue.{AcksTold, acks_of}
-use Rattle.sctp_association.proofs.Known.{knows_same, within_same, within_then}
-use Rattle.sctp_association.proofs.Telling.{end_same, end_then, tells_init_ack, tells_kept, to_same}
+use Rattle.sctp_association.proofs.Known.{within_same, within_then}
+use Rattle.sctp_association.proofs.Telling.{end_same, end_then, tells_init_ack}
 use Rattle.std.proofs.Common.{None, Some, ap, inr, refl, rules, subst, sym, ◌+◌, ◌≡◌, ◌∙◌}
 use Rattle.std.specs.Prelude.{slice_range}
 use Rattle.sctp_association.specs.Reports.{params_told, report_with, value_in}
 use Rattle.sctp_association.specs.declared.due.Due.{Due}
-use Rattle.sctp_association.proofs.Arrived.{came_same}
-use Rattle.sctp_association.proofs.Kept.{same_machine}
-use Rattle.sctp_association.proofs.Offered.{offered_alike, offered_kept, offered_same}
+use Rattle.sctp_association.proofs.Offered.{offered_alike, offered_same}
 use Rattle.sctp_association.proofs.Offers.{init_ack_offered}
 use Rattle.sctp_association.specs.Beginnings.{AnswersInit, BeginsBy}
 use Rattle.sctp_association.specs.declared.association.Association.{Association}
@@ -20,18 +22,12 @@ use Rattle.sctp_association.specs.Halves.{halves_of}
 use Rattle.sctp_association.proofs.Brought.{whole_passed}
 use Rattle.sctp_association.specs.Events.{whole_from}
 use Rattle.sctp_association.specs.Telling.{whole_of}
+use Rattle.sctp_handshake.specs.InitValues.{cookie_in, init_in}
+use Rattle.sctp_handshake.specs.declared.init_value.InitFault.TheVariants.{MissingCookie}
+use Rattle.sctp_util.specs.Field.{u32_at}
+use Rattle.std.proofs.Common.{inl}
+use Rattle.std.specs.Prelude.{Err, is_some}
 use Rattle.sctp_association.proofs.association.Association.take_init_ack.Goals as goal
-
--- what is not answered changed nothing
-pub returns-then-is_none-2-clause-refused : goal.returns-then-is_none-2-clause-refused
-returns-then-is_none-2-clause-refused c =
-    let same : c.init_ack-answer.new.self ≡ c.args.self.now.machine = search rules in
-    λ _ _. same_machine _ _ _ same
-
-pub returns-then-is_none-2-clause-came : goal.returns-then-is_none-2-clause-came
-returns-then-is_none-2-clause-came c =
-    let same : c.init_ack-answer.new.self ≡ c.args.self.now.machine = search rules in
-    offered_kept _ _ _ (came_same _ _ _ refl) (record { config = refl; key = refl; machine = same; owes = λ t e. e; sending = (λ e. e, λ e. e) })
 
 pub returns-clause-came : goal.returns-clause-came
 returns-clause-came c =
@@ -57,11 +53,6 @@ returns-clause-came c =
           kept.sending;
     })
 
-pub returns-then-is_none-2-clause-tells : goal.returns-then-is_none-2-clause-tells
-returns-then-is_none-2-clause-tells c =
-    let same : c.init_ack-answer.new.self ≡ c.args.self.now.machine = search rules in
-    tells_kept _ _ (knows_same _ _ same) to_same
-
 pub returns-clause-tells : goal.returns-clause-tells
 returns-clause-tells c =
     let rest = c.note_params.ensures.rest in
@@ -76,12 +67,17 @@ returns-clause-row c =
     let old = c.args.self.now in
     let takes = c.init_ack-answer.ensures.takes in
     let rest = c.note_params.ensures.rest in
+    let waits : old.machine.state ≡ CookieWait = search rules in
+    let value = c.in-Ok.ensures.value ∙ ap value_at c.bytes_of.ensures in
+    let plain : host_name_of c.in-Ok.value.now ≡ None = search rules in
     let h = subst (λ (s : State). FollowsAnswer c.init_ack-answer.result c.in-Ok-read_init_ack.read.0.tag s c.args.now c.note_params.new.self c.follow.new.self)
-    c.state-before.ensures c.follow.ensures.answer in
+    (sym waits) c.follow.ensures.answer in
     let noted : c.note_params.new.self.due ≡ record old.due { report = c.note_params.new.self.due.report } = c.note_params.ensures.due
     ∙ ap (λ r. record old.due { report = r }) (sym (ap (λ (d : Due). d.report) c.note_params.ensures.due)) in
     let params : c.in_ok-reported.reported ≡ params_told old.config.mtu (value_in c.args.datagram.now c.args.chunk) = search rules in
     record {
+      waits = waits;
+      plain = sym (ap host_name_of value) ∙ plain;
       offer = c.in-Ok-read_init_ack.read.0;
       place = c.in-Ok-read_init_ack.read.1;
       reads = search rules;
@@ -103,16 +99,14 @@ returns-clause-row c =
 -- ## What is expected is not refused
 
 pub returns-in_default-clause-expected : goal.returns-in_default-clause-expected
-returns-in_default-clause-expected c expected r is =
-    let said = said_of _ _ expected.brings.reads in
-    value_found c.args.datagram.now c.args.chunk c.requires.place (inr expected.typ) said.0 said.1 c.bytes_of.result.now c.bytes_of.ensures _
-    c.in_default.ensures.fault
-
-pub returns-then-is_none-2-clause-expected : goal.returns-then-is_none-2-clause-expected
-returns-then-is_none-2-clause-expected c expected r is =
-    let reply : c.init_ack-answer.result.reply ≡ None = search rules in
-    let told : c.init_ack-answer.result.told ≡ None = search rules in
-    init_ack_answered _ _ c.init_ack-answer.result expected.waits c.init_ack-answer.ensures.takes.answer reply told
+returns-in_default-clause-expected c expected r is = elim expected.brings [
+  | inl brings ↦
+      let said = said_of _ _ brings.reads in
+      value_found c.args.datagram.now c.args.chunk c.requires.place (inr expected.typ) said.0 said.1 c.bytes_of.result.now c.bytes_of.ensures _
+      c.in_default.ensures.fault
+  | inr ends ↦ value_long c.args.datagram.now c.args.chunk c.requires.place (inr expected.typ) (ends_long c.args.chunk c.args.datagram.now ends)
+      c.bytes_of.result.now c.bytes_of.ensures _ c.in_default.ensures.fault
+]
 
 pub returns-in_default-clause-came : goal.returns-in_default-clause-came
 returns-in_default-clause-came c = offered_same _ _ _ refl
@@ -139,17 +133,48 @@ returns-in_err-cookie-clause-came c = offered_same _ _ _ refl
 pub returns-in_err-reported-clause-came : goal.returns-in_err-reported-clause-came
 returns-in_err-reported-clause-came c = offered_same _ _ _ refl
 
--- ## Why it is refused
-
-pub returns-in_default-clause-why : goal.returns-in_default-clause-why
-returns-in_default-clause-why c brings r is =
-    let said = said_of _ _ brings.reads in
-    absurd (value_found c.args.datagram.now c.args.chunk c.requires.place (inr c.requires.typ) said.0 said.1 c.bytes_of.result.now c.bytes_of.ensures _
-    c.in_default.ensures.fault)
-
 -- ## What it brings
 
 pub returns-clause-events : goal.returns-clause-events
 returns-clause-events c =
     whole_passed _ _ _ _ c.follow.ensures.tells
     ∙ ap (λ (x : Association). whole_from x.events c.follow.new.self.events) c.note_params.ensures.rest
+
+-- ## Where what was begun ends
+
+pub returns-in-Some-clause-row : goal.returns-in-Some-clause-row
+returns-in-Some-clause-row c =
+    let old = c.args.self.now in
+    let value = c.in-Ok.ensures.value ∙ ap value_at c.bytes_of.ensures in
+    let found : host_name_of c.in-Ok.value.now ≡ Some c.in-Some.host = search rules in
+    ended_on c.args.chunk c.args.datagram.now c.args.now old c.end_begun.new.self c.end_begun.result c.end_begun.ensures.never c.end_begun.ensures.whole
+    (λ stop. record {
+      waits = search rules;
+      brings = record {
+        why = inl (ap is_some (sym (ap host_name_of value) ∙ found));
+        tagged = λ none. c.end_begun.ensures.tagged stop (ap (λ v. u32_at v 0) value ∙ none);
+      };
+      ends = asked_host c.args.chunk c.args.datagram.now c.in-Ok.value.now old c.end_begun.new.self value c.in-Some.host _ found (search rules)
+          (c.end_begun.ensures.ends stop);
+    })
+
+pub returns-in-Err-MissingCookie-clause-row : goal.returns-in-Err-MissingCookie-clause-row
+returns-in-Err-MissingCookie-clause-row c =
+    let old = c.args.self.now in
+    let value = c.in-Ok.ensures.value ∙ ap value_at c.bytes_of.ensures in
+    let none : host_name_of c.in-Ok.value.now ≡ None = search rules in
+    let missing : cookie_in (init_in c.in-Ok.value.now) ≡ Err MissingCookie = search rules in
+    ended_on c.args.chunk c.args.datagram.now c.args.now old c.end_begun-in-Err-MissingCookie.new.self c.end_begun-in-Err-MissingCookie.result
+    c.end_begun-in-Err-MissingCookie.ensures.never c.end_begun-in-Err-MissingCookie.ensures.whole
+    (λ stop. record {
+      waits = search rules;
+      brings = record {
+        why = inr (sym (ap (λ v. cookie_in (init_in v)) value) ∙ missing);
+        tagged = λ tag. c.end_begun-in-Err-MissingCookie.ensures.tagged stop (ap (λ v. u32_at v 0) value ∙ tag);
+      };
+      ends = asked_none c.args.chunk c.args.datagram.now c.in-Ok.value.now old c.end_begun-in-Err-MissingCookie.new.self value none
+          (c.end_begun-in-Err-MissingCookie.ensures.ends stop);
+    })
+
+pub returns-then-ne-clause-came : goal.returns-then-ne-clause-came
+returns-then-ne-clause-came c = offered_same _ _ _ refl

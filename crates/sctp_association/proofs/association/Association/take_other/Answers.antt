@@ -3,7 +3,7 @@ use Rattle.sctp_association.proofs.Coming.{if_ok}
 use Rattle.sctp_association.proofs.Each.{past_goes, past_never, step_same}
 use Rattle.sctp_association.proofs.Paths.{moves_still}
 use Rattle.sctp_association.proofs.Sacks.{past_hears, past_hears_never}
-use Rattle.sctp_association.proofs.Walks.{other_on, other_past}
+use Rattle.sctp_association.proofs.Walks.{other_on, other_past, tells_by}
 use Rattle.sctp_association.specs.Single.{AloneOn}
 use Rattle.sctp_association.specs.Coming.{GoesOn}
 use Rattle.sctp_association.specs.Sacks.{HearsOn, TakesSacksOf}
@@ -60,7 +60,8 @@ pub returns-in-Refused-clause-walks : goal.returns-in-Refused-clause-walks
 returns-in-Refused-clause-walks c =
     let is : c.take_chunk.result ≡ Ok (Refused c.in-Refused.reason) = search rules in
     other_past c.args.chunk c.args.tag c.args.datagram.now c.args.now c.args.self.now c.take_chunk.new.self c.take_chunk.result
-    c.take_chunk.ensures.foreign c.take_chunk.ensures.expected c.take_chunk.ensures.due c.take_chunk.ensures.why c.requires.counted
+    c.take_chunk.ensures.foreign c.take_chunk.ensures.expected c.take_chunk.ensures.due c.take_chunk.ensures.unexpected c.take_chunk.ensures.waits
+    c.requires.counted
     (c.take_chunk.ensures.refused c.in-Refused.reason is)
     c.in-Refused.reason c.past.result is c.past.ensures.unexpected c.past.ensures.other
 
@@ -71,3 +72,12 @@ returns-in_default-clause-walks c =
     c.take_chunk.ensures.foreign c.take_chunk.ensures.expected refl c.in_ok-taken.taken is (search rules)
     (if_ok (λ s. AloneOn c.args.chunk c.args.tag c.args.datagram.now c.args.now s c.args.self.now c.take_chunk.new.self) _ _ is c.take_chunk.ensures.alone)
     c.take_chunk.ensures.still
+    (tells_by c.args.chunk c.args.datagram.now c.args.self.now c.take_chunk.new.self c.take_chunk.result c.take_chunk.ensures.by_sack
+    c.take_chunk.ensures.by_shutdown
+    c.take_chunk.ensures.by_data)
+    (record {
+      part = c.take_chunk.ensures.cut;
+      of_data = c.take_chunk.ensures.cut_data;
+      of_skip = c.take_chunk.ensures.cut_skip;
+      of_reconfig = c.take_chunk.ensures.cut_resets;
+    })

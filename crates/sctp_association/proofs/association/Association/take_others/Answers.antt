@@ -12,8 +12,9 @@ use Rattle.sctp_util.specs.Field.{u32_at}
 use Rattle.sctp_association.proofs.Offered.{offered_same, offered_then}
 use Rattle.sctp_association.proofs.Telling.{tells_same, tells_then}
 use Rattle.sctp_association.proofs.Carrying.{next_own}
-use Rattle.sctp_association.proofs.Walks.{no_echo, walks_next, walks_none, walks_over, walks_seen, walks_stop, walks_unread}
+use Rattle.sctp_association.proofs.Walks.{no_echo, to_cut, to_next, to_over, to_seen, walks_next, walks_none, walks_over, walks_seen, walks_stop, walks_unread}
 use Rattle.sctp_association.proofs.Coming.{if_ok}
+use Rattle.sctp_association.specs.Parts.{WalksTo}
 use Rattle.sctp_association.specs.Walks.{OtherOn, Walks}
 use Rattle.sctp_association.proofs.Ends.{ended_first, ended_next, ended_same, ended_stop}
 use Rattle.sctp_association.specs.Ends.{EndsOn}
@@ -34,6 +35,7 @@ loop-init c = record {
   idle = λ e. refl;
   over = ended_first c.args.datagram.now c.args.self.now;
   walks = λ last h. walks_seen c.header-tag.result.verification_tag c.args.datagram.now c.args.now _ _ _ _ last c.behind-once.ensures h;
+  in_part = λ last h. to_seen c.header-tag.result.verification_tag c.args.datagram.now c.args.now _ _ _ _ last c.behind-once.ensures h;
 }
 
 pub loop-preserved-then-not-counts : goal.loop-preserved-then-not-counts
@@ -62,6 +64,10 @@ loop-preserved-then-not-counts c = record {
       c.next.new.self.left _
       c.in-Some.ensures.place c.loop.self c.loop.self last (sym c.if-not-counts.ensures.value)
       (walks_seen c.header-tag.result.verification_tag c.args.datagram.now c.args.now _ _ _ _ last c.if-not-counts.ensures.noted h));
+  in_part = λ last h. c.loop.invariant.in_part last (to_over c.header-tag.result.verification_tag c.args.datagram.now c.args.now c.loop.once c.in-Some.chunk
+      c.next.new.self.left _
+      c.in-Some.ensures.place c.loop.self c.loop.self last (sym c.if-not-counts.ensures.value)
+      (to_seen c.header-tag.result.verification_tag c.args.datagram.now c.args.now _ _ _ _ last c.if-not-counts.ensures.noted h));
 }
 
 pub loop-preserved : goal.loop-preserved
@@ -95,6 +101,12 @@ loop-preserved c = record {
       (if_ok (λ s. OtherOn c.in-Some.chunk c.header-tag.result.verification_tag c.args.datagram.now c.args.now s c.loop.self c.take_other.new.self)
       c.take_other.result Next (search rules) c.take_other.ensures.walks)
       (walks_seen c.header-tag.result.verification_tag c.args.datagram.now c.args.now _ _ _ _ last c.if-not-counts.ensures.noted h));
+  in_part = λ last h. c.loop.invariant.in_part last (to_next c.header-tag.result.verification_tag c.args.datagram.now c.args.now c.loop.once c.in-Some.chunk
+      c.next.new.self.left _
+      c.in-Some.ensures.place c.loop.self c.take_other.new.self last (sym c.if-not-counts.ensures.value)
+      (if_ok (λ s. OtherOn c.in-Some.chunk c.header-tag.result.verification_tag c.args.datagram.now c.args.now s c.loop.self c.take_other.new.self)
+      c.take_other.result Next (search rules) c.take_other.ensures.walks)
+      (to_seen c.header-tag.result.verification_tag c.args.datagram.now c.args.now _ _ _ _ last c.if-not-counts.ensures.noted h));
 }
 
 -- no COOKIE-ECHO counts
@@ -115,6 +127,13 @@ returns-in-Ok-Cut c = record {
   over = ended_same _ c.args.self.now c.loop.self c.take_other.new.self c.loop.invariant.over (if_ok
       (λ s. EndsOn c.in-Some.chunk c.args.datagram.now s c.loop.self c.take_other.new.self) c.take_other.result Cut (search rules) c.take_other.ensures.over);
   walks = λ is. absurd (false≢true is);
+  in_part =
+      λ is. subst (λ (n : ℕ). WalksTo n c.args.datagram.now c.args.now (seen c.args.first none_seen) c.args.chunks.left c.args.self.now c.take_other.new.self)
+      (c.header-tag.ensures.verification_tag ∙ ap (λ l. u32_at l 4) c.requires.whole)
+      (c.loop.invariant.in_part c.take_other.new.self (to_cut c.header-tag.result.verification_tag c.args.datagram.now c.args.now c.loop.once
+      c.in-Some.chunk c.next.new.self.left _ c.in-Some.ensures.place c.loop.self c.loop.self c.take_other.new.self (sym c.if-not-counts.ensures.value)
+      (inr (if_ok (λ s. OtherOn c.in-Some.chunk c.header-tag.result.verification_tag c.args.datagram.now c.args.now s c.loop.self
+      c.take_other.new.self) c.take_other.result Cut (search rules) c.take_other.ensures.walks))));
 }
 
 pub returns-in-Ok-Cut-2 : goal.returns-in-Ok-Cut-2
@@ -128,6 +147,12 @@ returns-in-Ok-Cut-2 c = record {
   over = let same : c.take_other.new.self ≡ c.loop.self = search rules in
       ended_same _ c.args.self.now c.loop.self c.take_other.new.self c.loop.invariant.over (ap (λ (a : Association). a.is_over) same);
   walks = λ is. absurd (false≢true is);
+  in_part = λ is. let same : c.take_other.new.self ≡ c.loop.self = search rules in
+      subst (λ (n : ℕ). WalksTo n c.args.datagram.now c.args.now (seen c.args.first none_seen) c.args.chunks.left c.args.self.now c.take_other.new.self)
+      (c.header-tag.ensures.verification_tag ∙ ap (λ l. u32_at l 4) c.requires.whole)
+      (c.loop.invariant.in_part c.take_other.new.self (to_cut c.header-tag.result.verification_tag c.args.datagram.now c.args.now c.loop.once
+      c.in-Some.chunk c.next.new.self.left _ c.in-Some.ensures.place c.loop.self c.loop.self c.take_other.new.self (sym c.if-not-counts.ensures.value)
+      (inl same)));
 }
 
 pub returns-after-loop : goal.returns-after-loop
@@ -150,6 +175,7 @@ returns-after-loop c = record {
       (c.loop.invariant.walks c.loop.self (walks_none c.header-tag.result.verification_tag c.args.datagram.now c.args.now c.loop.once c.loop.chunks.left
       c.loop.self
       (none_left _ _ _ _ c.loop.invariant.count c.left-end.ensures c.loop-test.false)));
+  in_part = λ is. absurd (false≢true (sym is));
 }
 
 pub returns-in_default : goal.returns-in_default
@@ -172,6 +198,7 @@ returns-in_default c = record {
       (c.loop.invariant.walks c.loop.self (walks_none c.header-tag.result.verification_tag c.args.datagram.now c.args.now c.loop.once c.loop.chunks.left
       c.loop.self
       (search rules)));
+  in_part = λ is. absurd (false≢true (sym is));
 }
 
 pub returns-in-Ok-Stop : goal.returns-in-Ok-Stop
@@ -203,6 +230,7 @@ returns-in-Ok-Stop c = record {
       c.in-Some.ensures.place c.loop.self c.take_other.new.self c.take_other.new.self (sym c.if-not-counts.ensures.value)
       (if_ok (λ s. OtherOn c.in-Some.chunk c.header-tag.result.verification_tag c.args.datagram.now c.args.now s c.loop.self c.take_other.new.self)
       c.take_other.result Stop (search rules) c.take_other.ensures.walks)));
+  in_part = λ is. absurd (false≢true (sym is));
 }
 
 pub returns-in-Ok-Refused : goal.returns-in-Ok-Refused
@@ -237,4 +265,5 @@ returns-in-Ok-Refused c = record {
       (if_ok (λ s. OtherOn c.in-Some.chunk c.header-tag.result.verification_tag c.args.datagram.now c.args.now s c.loop.self c.take_other.new.self)
       c.take_other.result (Refused c.in-Ok-Refused.field-0-0)
       (c.in-Ok-Refused.is ∙ ap Ok c.in-Ok-Refused.field-0-is) c.take_other.ensures.walks)));
+  in_part = λ is. absurd (false≢true (sym is));
 }

@@ -11,6 +11,7 @@ use Rattle.sctp_association.specs.Coming.{TakesDataOf}
 use Rattle.sctp_association.specs.Halves.{halves_of}
 use Rattle.sctp_association.specs.Paths.{MovesBehind, all_go_on}
 use Rattle.sctp_association.specs.Sacks.{TakesSacksOf}
+use Rattle.sctp_association.specs.Parts.{WalksTo}
 use Rattle.sctp_association.specs.Walks.{Walks}
 use Rattle.sctp_association.specs.declared.association.Association.{Association}
 use Rattle.sctp_datagram.specs.Carried.{IsChunkOf}
@@ -34,4 +35,6 @@ invariant-loop l = record {
   over : EndedSo l.datagram l.initial.self l.self;
   walks : (last : Association) → Walks l.tag l.datagram l.now l.once l.chunks.left l.self last
       → Walks l.tag l.datagram l.now (seen l.first none_seen) l.initial.chunks.left l.initial.self last;
+  in_part : (last : Association) → WalksTo l.tag l.datagram l.now l.once l.chunks.left l.self last
+      → WalksTo l.tag l.datagram l.now (seen l.first none_seen) l.initial.chunks.left l.initial.self last;
 }

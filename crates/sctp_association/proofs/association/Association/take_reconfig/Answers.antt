@@ -10,6 +10,8 @@ use Rattle.sctp_association.proofs.Arrived.{came_same, came_then, param_came}
 use Rattle.sctp_association.proofs.Carrying.{place_within}
 use Rattle.sctp_association.proofs.Cut.{cut_whole}
 use Rattle.sctp_association.proofs.Known.{kept_then, rest_same, rest_then}
+use Rattle.sctp_association.proofs.Partly.{err_of, param_part_next, param_part_stop}
+use Rattle.sctp_association.specs.Partly.{ParamPart}
 use Rattle.sctp_association.proofs.association.Association.take_reconfig.Goals as goal
 use Rattle.sctp_association.proofs.association.Association.take_reconfig.Goals.{else-is_request-via-else-is_request}
 use Rattle.sctp_association.proofs.association.Association.take_reconfig.Goals.{else-is_request-via-then-is_request+else-has_request}
@@ -37,6 +39,7 @@ loop-done-init c = record {
   tells = to_same;
   rest = rest_same _;
   made = λ new h. record { each = h };
+  part = λ new h. h;
 }
 
 pub returns-in_err-raw-clause-came : goal.returns-in_err-raw-clause-came
@@ -76,6 +79,8 @@ loop-done-preserved c =
       rest = rest_then _ _ _ c.loop-done.invariant.rest c.take_param.ensures.rest;
       made = λ new h. c.loop-done.invariant.made new (params_next raw c.loop-done.at has p tells c.args.now 2 c.loop-done._done c.loop-done-test.true goes
           c.loop-done.self c.take_param.new.self followed c.if-has_request-2.has_request later new h);
+      part = λ new h. c.loop-done.invariant.part new (param_part_next raw c.loop-done.at has p tells c.args.now 2 c.loop-done._done c.loop-done-test.true goes
+          c.loop-done.self c.take_param.new.self followed c.if-has_request-2.has_request later new h);
     }
 
 pub returns-in_default-take_param-clause-tells : goal.returns-in_default-take_param-clause-tells
@@ -108,3 +113,23 @@ returns-clause-reconfig c =
       | then-loop-done-test+else-at-len+in-Ok+then-is_request+then-has_request w ↦ ends (end_second raw at has w.in-Ok.place
           (subst (λ l. TellsParam l at w.in-Ok.place) (w.as_slice.ensures ∙ cut) w.in-Ok.ensures.read) (eq-eqb _ _ w.if-is_request.true) w.if-has_request.true)
     ])
+
+-- ## Where memory is wanting
+
+pub returns-in_default-take_param-clause-part : goal.returns-in_default-take_param-clause-part
+returns-in_default-take_param-clause-part c is =
+    let cut = cut_whole _ _ c.requires.place c.in_ok-raw.raw _ c.in_ok-raw.ensures.ok c.saturating_add-end.ensures (omega (arith, c.len.ensures)) in
+    let p = c.in-Ok.place in
+    let has = c.loop-done.has_request in
+    let raw = take c.args.chunk.length (drop c.args.chunk.at c.args.datagram.now) in
+    let tells : TellsParam raw c.loop-done.at p =
+    subst (λ l. TellsParam l c.loop-done.at p) (c.as_slice.ensures ∙ cut) c.in-Ok.ensures.read in
+    let part : ParamPart (drop c.loop-done.at raw) c.loop-done.self c.take_param.new.self =
+    subst (λ l. ParamPart (drop c.loop-done.at l) c.loop-done.self c.take_param.new.self) cut
+    (err_of c.take_param.result c.in_default-take_param.not-Ok c.take_param.ensures.part) in
+    let goes : ((p.typ == 13) && has) ≡ false = elim c.else-is_request.branch [
+      | else-is_request-via-then-is_request+else-has_request w ↦ ap (λ b. (p.typ == 13) && b) w.if-has_request.false ∙ and-none (p.typ == 13)
+      | else-is_request-via-else-is_request w ↦ ap (λ b. b && has) (ne_eqb p.typ 13 w.if-is_request.false)
+    ] in
+    c.loop-done.invariant.part c.take_param.new.self (param_part_stop raw c.loop-done.at has p tells c.args.now 2 c.loop-done._done c.loop-done-test.true goes
+    c.loop-done.self c.take_param.new.self part)

@@ -1,5 +1,6 @@
 use Rattle.sctp_association.specs.Arrivals.{CallsArrive}
-use Rattle.std.specs.Prelude.{◌-◌, drop, take}
+use Rattle.std.specs.Prelude.{◌-◌, drop, false, take}
+use Rattle.sctp_association.specs.Partly.{ParamsPart}
 use Rattle.sctp_association.specs.Kept.{IsKept, RestStays}
 use Rattle.sctp_association.specs.Reconfigs.{FollowsParams, ParamsOn}
 use Rattle.sctp_association.specs.declared.association.Association.{Association}
@@ -17,4 +18,7 @@ invariant-loop-done l = record {
   made : (new : Association)
       → ParamsOn (2 - l._done) (take l.fn.chunk.length (drop l.fn.chunk.at l.datagram)) l.at l.has_request l.now l.self new
       → FollowsParams (take l.fn.chunk.length (drop l.fn.chunk.at l.datagram)) l.now l.initial.self new;
+  part : (new : Association)
+      → ParamsPart (2 - l._done) (take l.fn.chunk.length (drop l.fn.chunk.at l.datagram)) l.at l.has_request l.now l.self new
+      → ParamsPart 2 (take l.fn.chunk.length (drop l.fn.chunk.at l.datagram)) 4 false l.now l.initial.self new;
 }

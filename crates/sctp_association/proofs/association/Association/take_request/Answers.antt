@@ -12,6 +12,9 @@ use Rattle.sctp_reset.specs.declared.peer_requests.Due.TheVariants.{Perform}
 use Rattle.sctp_reset.specs.declared.peer_requests.PeerRequests.{PeerRequests}
 use Rattle.sctp_util.proofs.Cases.{some-same}
 use Rattle.sctp_association.proofs.Arriving.{follows_same}
+use Rattle.sctp_association.proofs.First.{on_err}
+use Rattle.sctp_association.proofs.Partly.{part_request}
+use Rattle.sctp_association.specs.Partly.{ResetsPartListed}
 use Rattle.sctp_association.proofs.association.Association.take_request.Goals as goal
 
 pub returns-in_default-clause-came : goal.returns-in_default-clause-came
@@ -95,3 +98,13 @@ returns-in_default-peer_requests-clause-made c =
     c.in_ok-outcome.ensures.listed in
     absurd (none-some q (sym c.in_default-peer_requests.is
     ∙ still r a c.perform.new.self c.in-Some.peer q c.in_ok-outcome.outcome c.request.ensures.rest (sym c.in-Perform.ensures.due) listed))
+
+-- ## Where memory is wanting
+
+pub returns-in_err-outcome-clause-part : goal.returns-in_err-outcome-clause-part
+returns-in_err-outcome-clause-part c =
+    let r = reset_request_of c.args.request.now in
+    let a = c.args.self.now in
+    let q = c.request.new.self in
+    on_err _ (part_request r _ c.in-Some.peer q a c.perform.new.self c.in-Some.is c.request.ensures.rest (sym c.in-Perform.ensures.due)
+    (subst (λ x. ResetsPartListed r.sender_last_tsn r.stream_identifiers x c.perform.new.self) (same_peer a (Some q) _) c.in_err-outcome.ensures.part))

@@ -1,5 +1,5 @@
 use Rattle.sctp_association.proofs.Telling.{end_then, stays_insert, to_by_us, to_same}
-use Rattle.std.proofs.Common.{ap, refl, ◌≡◌, rules}
+use Rattle.std.proofs.Common.{ap, arith, refl, ◌≡◌, rules}
 use Rattle.sctp_association.specs.declared.event.Events.{Events}
 use Rattle.sctp_association.proofs.Arriving.{acknowledged_restart_by, acknowledged_same, acknowledged_then}
 use Rattle.sctp_association.proofs.Kept.{same_requests, same_told}
@@ -34,7 +34,8 @@ loop-stream-preserved c =
           (acknowledged_restart_by _ _ _ c.reset.result c.reset.ensures.ok c.reset.ensures.accepted c.reset.ensures.err),
       c.loop-stream.invariant.1,
       kept_by c.loop-stream.invariant.2 refl refl refl (λ t e. e) (λ e. e, λ e. e),
-      end_then c.loop-stream.invariant.3 (to_by_us _ _ _ _ (stays_insert _ _ _ c.insert.ensures.value c.insert.ensures.full)),
+      end_then c.loop-stream.invariant.3
+          (to_by_us _ _ _ _ (stays_insert _ _ _ c.insert.ensures.value c.insert.ensures.full) (omega (arith, c.insert.ensures.room))),
       record {
         due = c.loop-stream.invariant.4.due;
         control = c.loop-stream.invariant.4.control;

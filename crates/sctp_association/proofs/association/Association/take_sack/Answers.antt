@@ -87,13 +87,13 @@ returns-clause-peer c =
     }
 
 pub returns-in_err-take_sack-clause-tells : goal.returns-in_err-take_sack-clause-tells
-returns-in_err-take_sack-clause-tells c = to_low _ _ _ _ c.take_sack.ensures.low
+returns-in_err-take_sack-clause-tells c = to_low _ _ _ _ c.take_sack.ensures.low (omega (arith, c.take_sack.ensures.room))
 
 pub returns-in-Taken-clause-tells : goal.returns-in-Taken-clause-tells
-returns-in-Taken-clause-tells c = to_low _ _ _ _ c.take_sack.ensures.low
+returns-in-Taken-clause-tells c = to_low _ _ _ _ c.take_sack.ensures.low (omega (arith, c.take_sack.ensures.room))
 
 pub returns-clause-tells : goal.returns-clause-tells
-returns-clause-tells c = end_then (to_low _ _ _ _ c.take_sack.ensures.low) c.end_with.ensures.tells
+returns-clause-tells c = end_then (to_low _ _ _ _ c.take_sack.ensures.low (omega (arith, c.take_sack.ensures.room))) c.end_with.ensures.tells
 
 pub returns-in-Taken-clause-path : goal.returns-in-Taken-clause-path
 returns-in-Taken-clause-path c = (
@@ -166,3 +166,10 @@ returns-clause-events c =
     (λ s w. low_sack c.args.chunk c.args.datagram.now c.args.self.now _ c.take_sack.new.low
     (sack_there c.args.chunk.at c.args.datagram.now _ c.bytes_of.result.now c.bytes_of.ensures c.in-Ok.ensures.found) c.take_sack.ensures.fell s
     (sym (ap (λ (e : Events). is_in s e.low) is) ∙ w))
+
+pub returns-in-Taken-clause-lows : goal.returns-in-Taken-clause-lows
+returns-in-Taken-clause-lows c next = record {
+  sack = _;
+  reads = sack_there c.args.chunk.at c.args.datagram.now _ c.bytes_of.result.now c.bytes_of.ensures c.in-Ok.ensures.found;
+  told = c.take_sack.ensures.told (search rules);
+}

@@ -1,4 +1,4 @@
-use Rattle.std.proofs.Common.{Ok, ap}
+use Rattle.std.proofs.Common.{Ok, ap, arith}
 use Rattle.sctp_association.proofs.Telling.{end_then, to_low}
 use Rattle.std.proofs.Common.{drop, refl, rules, ◌∙◌}
 use Rattle.sctp_chunks.specs.Wire.{shutdown_chunk}
@@ -17,6 +17,10 @@ use Rattle.sctp_association.proofs.Brought.{low_tsn, whole_passed}
 use Rattle.sctp_association.specs.StreamSet.{is_in}
 use Rattle.sctp_association.specs.Events.{whole_from}
 use Rattle.sctp_association.specs.declared.event.Events.{Events}
+use Rattle.sctp_association.specs.Lows.{PutsAll}
+use Rattle.sctp_association.specs.declared.outbound.Outbound.{Outbound}
+use Rattle.sctp_sender.specs.Thresholds.{fell}
+use Rattle.std.proofs.Common.{Bool, List, subst}
 use Rattle.sctp_association.proofs.association.Association.take_shutdown.Goals as goal
 
 pub returns-in_err-shutdown-clause-came : goal.returns-in_err-shutdown-clause-came
@@ -46,10 +50,10 @@ returns-clause-peer c =
     (λ e. on.sending.0 (c.take_shutdown.ensures.limits.0 ∙ e), λ e. on.sending.1 (c.take_shutdown.ensures.limits.1 ∙ e))
 
 pub returns-clause-tells : goal.returns-clause-tells
-returns-clause-tells c = end_then (to_low _ _ _ _ c.take_shutdown.ensures.low) c.follow.ensures.tells.end
+returns-clause-tells c = end_then (to_low _ _ _ _ c.take_shutdown.ensures.low (omega (arith, c.take_shutdown.ensures.room))) c.follow.ensures.tells.end
 
 pub returns-in_err-_taken-clause-tells : goal.returns-in_err-_taken-clause-tells
-returns-in_err-_taken-clause-tells c = to_low _ _ _ _ c.take_shutdown.ensures.low
+returns-in_err-_taken-clause-tells c = to_low _ _ _ _ c.take_shutdown.ensures.low (omega (arith, c.take_shutdown.ensures.room))
 
 -- what follows leaves the sending half
 pub returns-clause-shuts : goal.returns-clause-shuts
@@ -98,3 +102,15 @@ returns-in_err-_taken-clause-low c =
     let tsn = c.in-Some.shutdown.cumulative_tsn_ack in
     let reads : StartsWith (drop c.args.chunk.at c.args.datagram.now) (shutdown_chunk tsn) = search rules in
     low_tsn c.args.chunk c.args.datagram.now c.args.self.now tsn c.take_shutdown.new.low reads c.take_shutdown.ensures.fell
+
+-- what follows leaves the sending half, and tells of no amount
+pub returns-clause-lows : goal.returns-clause-lows
+returns-clause-lows c next =
+    let old = c.args.self.now in
+    let is = whole_passed _ _ _ c.follow.new.self c.follow.ensures.tells in
+    let same : c.follow.new.self.outbound ≡ c.take_shutdown.new.self =
+    shutdown_still _ _ _ _ c.shutdown-answer.ensures.takes.answer c.follow.ensures.sending c.follow.ensures.shutdown in
+    let told : PutsAll (λ s. fell s old.outbound.sender c.take_shutdown.new.self.sender) old.events.low c.take_shutdown.new.low = search rules in
+    subst (λ (o : Outbound). PutsAll (λ s. fell s old.outbound.sender o.sender) old.events.low c.follow.new.self.events.low) (sym same)
+    (subst (λ (l : List Bool). PutsAll (λ s. fell s old.outbound.sender c.take_shutdown.new.self.sender) old.events.low l)
+    (sym (ap (λ (e : Events). e.low) is)) told)

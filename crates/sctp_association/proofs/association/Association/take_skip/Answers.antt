@@ -34,6 +34,9 @@ use Rattle.sctp_association.specs.declared.inbound.Inbound.{Inbound}
 use Rattle.sctp_handshake.specs.States.{takes_data}
 use Rattle.sctp_association.proofs.Brought.{brings_none, brings_skip}
 use Rattle.sctp_association.specs.Telling.{whole_of}
+use Rattle.sctp_association.proofs.Partly.{opens_only}
+use Rattle.sctp_association.specs.Arrivals.{IsOpeningNamed}
+use Rattle.sctp_association.specs.Partly.{OpensIn}
 use Rattle.sctp_association.proofs.association.Association.take_skip.Goals as goal
 
 pub returns-then-not-takes_data-clause-came : goal.returns-then-not-takes_data-clause-came
@@ -195,3 +198,31 @@ pub returns-clause-events : goal.returns-clause-events
 returns-clause-events c =
     brings_skip _ _ _ _ _ c.take_skip.new.self _ c.in-Some-inbound.is c.end_by.ensures.halves.receiver c.end_by.ensures.events c.requires.typ
     c.take_skip.ensures.notes
+
+-- ## Where memory is wanting
+
+pub returns-in_default-take_skip-clause-cut : goal.returns-in_default-take_skip-clause-cut
+returns-in_default-take_skip-clause-cut c is =
+    let reads : StartsWith (drop c.args.chunk.at c.args.datagram.now) (forward_tsn_chunk (forward_tsn_of c.in-Some.skip)) = search rules in
+    let cut : OpensIn (IsOpeningNamed (forward_tsn_of c.in-Some.skip)) c.in-Some-inbound.inbound c.args.self.now.events c.take_skip.new.self
+    c.take_skip.new.events = search rules in
+    record {
+      skip = forward_tsn_of c.in-Some.skip;
+      reads = reads;
+      opens = opens_only _ c.args.self.now _ _ c.take_skip.new.self c.in-Some-inbound.is refl cut (record {
+        config = refl;
+        key = refl;
+        machine = refl;
+        is_over = refl;
+        wants_shutdown = refl;
+        outbound = refl;
+        requests = refl;
+        peer_requests = refl;
+        control = refl;
+        guard = refl;
+        heartbeat = refl;
+        cookie = refl;
+        due = refl;
+        draft = refl;
+      });
+    }

@@ -54,7 +54,7 @@ returns-clause-others c = elim c.if-is_put.branch [
         sack = λ e. e;
         unknown = λ s e. e;
       })
-      (record { heartbeat = refl; requests = refl; peer = refl })
+      (record { heartbeat = refl; idle = refl; requests = refl; peer = refl })
       )
   | else-is_put+else-is_empty w ↦ subst (PutsOthers c.args.self.now) (sym w.self-is) (
       others_none c.args.self.now _ (record {
@@ -80,7 +80,7 @@ returns-clause-others c = elim c.if-is_put.branch [
         sack = λ e. e;
         unknown = λ s e. e;
       })
-      (record { heartbeat = refl; requests = refl; peer = refl })
+      (record { heartbeat = refl; idle = refl; requests = refl; peer = refl })
       (ap (λ (d : Draft). d.bytes) (c.put-is_put.ensures.full w.if-is_put.false))
       )
 ]

@@ -1,6 +1,6 @@
 use Rattle.sctp_association.proofs.Noting.{apart_of, inbound_kept, stays_put, tells_closed, tells_dropped, tells_in, tells_streams}
 use Rattle.sctp_association.specs.declared.event.Events.{Events}
-use Rattle.std.proofs.Common.{Some, ap, inl, inr, refl, sym, ◌∙◌}
+use Rattle.std.proofs.Common.{Some, ap, arith, inl, inr, refl, sym, ◌∙◌}
 use Rattle.sctp_association.proofs.Coming.{closed_came}
 use Rattle.sctp_association.proofs.Entering.{only_too_large, only_unknown, usable_but}
 use Rattle.sctp_association.specs.Entering.{IsTooLong}
@@ -68,7 +68,8 @@ returns-clause-tells c =
           rw (w.self-is, w.events-is) (tells_closed _ _ _ _ _ _ _ (apart_of i.streams i.receiver i.limited)
           w.in_ok-discard-in-CloseAndDiscard.ensures.ok w.close.ensures
           (inbound_kept e w.remove.new.self w.insert-in-CloseAndDiscard.new.self e.reset_by_peer
-          (stays_put _ _ _ w.insert-in-CloseAndDiscard.ensures.value w.insert-in-CloseAndDiscard.ensures.full) (λ n h. h))
+          (stays_put _ _ _ w.insert-in-CloseAndDiscard.ensures.value w.insert-in-CloseAndDiscard.ensures.full) (λ n h. h)
+          (omega (arith, w.remove.ensures.room)) (omega (arith, w.insert-in-CloseAndDiscard.ensures.room)) (omega arith))
           w.remove.ensures.room w.remove.ensures.value)
     ])
 

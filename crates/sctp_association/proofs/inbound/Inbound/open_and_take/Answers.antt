@@ -4,9 +4,13 @@ use Rattle.sctp_association.proofs.Entering.{handles_opened, to_use, usable_part
 use Rattle.sctp_association.proofs.Noting.{tells_after}
 use Rattle.sctp_data.specs.declared.chunk.chunk_payload_data.ChunkPayloadData.{ChunkPayloadData}
 use Rattle.sctp_association.proofs.Arriving.{opened_asked, received_then}
-use Rattle.std.proofs.Common.{ap, inr}
+use Rattle.std.proofs.Common.{ap}
+use Rattle.sctp_association.proofs.Named.{open_now}
+use Rattle.sctp_association.proofs.TooLong.{entered_opened}
 use Rattle.sctp_association.proofs.Brought.{notes_after, notes_more}
 use Rattle.sctp_receiver.specs.Receiver.{arrival_refusal}
+use Rattle.sctp_association.proofs.First.{on_err}
+use Rattle.sctp_association.proofs.Partly.{opens_err, opens_from}
 use Rattle.sctp_association.proofs.inbound.Inbound.open_and_take.Goals as goal
 
 pub returns-in_err-open_agreed-clause-received : goal.returns-in_err-open_agreed-clause-received
@@ -42,4 +46,27 @@ returns-clause-notes c to =
     let chunk : ChunkPayloadData = c.args.chunk.now in
     let opens = c.in_ok-open_agreed.ensures.opens refl (to_use chunk.stream_identifier c.args.self.now to) in
     notes_after _ _ _ _ _ c.in_ok-open_agreed.ensures.notes
-    (notes_more _ _ _ _ _ _ (λ s p. p) (λ s p. inr (p.0, sym (ap (arrival_refusal chunk) opens) ∙ p.1)) c.take_on.ensures.notes)
+    (notes_more _ _ _ _ _ _ (λ s p. p)
+    (λ s p. (p.0, ap (arrival_refusal chunk) (entered_opened chunk c.args.self.now c.open_agreed.new.self.receiver to opens) ∙ p.1)) c.take_on.ensures.notes)
+
+-- the stream has a place once it is open
+pub returns-clause-told : goal.returns-clause-told
+returns-clause-told c to places is large =
+    let s = c.args.chunk.now.stream_identifier in
+    let opened = c.in_ok-open_agreed.ensures in
+    let opens = opened.opens refl (to_use s c.args.self.now to) in
+    let there = opened.tells.readable.places places s (open_now s _ _ opens) in
+    c.take_on.ensures.told is (ap (arrival_refusal c.args.chunk.now) opens ∙ large) there.too_long
+
+-- ## Where memory is wanting
+
+pub returns-in_err-open_agreed-clause-cut : goal.returns-in_err-open_agreed-clause-cut
+returns-in_err-open_agreed-clause-cut c = on_err _ (
+    let e = c.in_err-open_agreed.ensures in
+    opens_from _ _ _ _ _ e.received e.limits.1 e.same e.acks e.unknown e.tells e.notes)
+
+pub returns-clause-cut : goal.returns-clause-cut
+returns-clause-cut c =
+    let e = c.in_ok-open_agreed.ensures in
+    opens_err _ c.take_on.result c.args.self.now c.open_agreed.new.self _ c.args.events.now c.open_agreed.new.events _ c.take_on.ensures.err
+    (opens_from _ _ _ _ _ e.received e.limits.1 e.same e.acks e.unknown e.tells e.notes)

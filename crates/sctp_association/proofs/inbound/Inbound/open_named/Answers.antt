@@ -23,6 +23,7 @@ loop-named-init c =
       same = λ n. refl;
       place = refl;
       acks = refl;
+      unknown = refl;
       served = All-nil _;
       notes = notes_none _ _ _ _ refl;
     }
@@ -65,6 +66,7 @@ loop-named-preserved c =
       same = λ n. e.same n ∙ i.same n;
       place = e.place ∙ i.place;
       acks = e.acks ∙ i.acks;
+      unknown = e.unknown ∙ i.unknown;
       served = All-more (λ n. IsServed n.identifier c.open.new.self) xs at _ lt
           (All-weaker (λ n. IsServed n.identifier c.loop-named.self) (λ n. IsServed n.identifier c.open.new.self)
           (λ n. served_still c.loop-named.self c.open.new.self e.limits.1 e.same e.still n.identifier) (take at xs) i.served)
@@ -111,3 +113,9 @@ returns-in_err-open-clause-notes c = notes_then _ _ _ _ _ c.loop-named.invariant
 
 pub returns-clause-notes : goal.returns-clause-notes
 returns-clause-notes c = c.loop-named.invariant.notes
+
+pub returns-in_err-open-clause-unknown : goal.returns-in_err-open-clause-unknown
+returns-in_err-open-clause-unknown c = c.in_err-open.ensures.unknown ∙ c.loop-named.invariant.unknown
+
+pub returns-clause-unknown : goal.returns-clause-unknown
+returns-clause-unknown c = c.loop-named.invariant.unknown

@@ -19,6 +19,7 @@ invariant-loop-named l = record {
   same : (n : ℕ) → is_in n l.self.discarded ≡ is_in n l.initial.self.discarded;
   place : l.self.receiver.cumulative_tsn ≡ l.initial.self.receiver.cumulative_tsn;
   acks : acks_in l.self ≡ acks_in l.initial.self;
+  unknown : l.self.unknown_stream ≡ l.initial.self.unknown_stream;
   notes : NotesOnly (λ s. ⊥) (λ s. ⊥) l.initial.events l.events;
   served : All (λ n. IsServed n.identifier l.self) (take l.named-index l.named-items);
 }

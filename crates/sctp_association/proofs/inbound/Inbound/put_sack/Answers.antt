@@ -45,7 +45,7 @@ returns-then-not-put-clause-idle c head short =
     let fit = ok_is (λ (s : ChunkSelectiveAck). 16 + 4 * entries s ≤ max 16 c.room.result) _ c.in_ok-sack.sack c.in_ok-sack.was c.make_sack.ensures.fits in
     let few = ok_is (λ (s : ChunkSelectiveAck). entries s ≤ 16379) _ c.in_ok-sack.sack c.in_ok-sack.was c.make_sack.ensures.fits_chunk in
     let h = sack_fits (sack_of c.in_ok-sack.sack) (length c.args.packet.now.bytes) c.args.packet.now.limit (omega (arith, fit, c.room.ensures.value)) few
-    (omega (arith, short, c.put.ensures.grows)) c.room.ensures.least in
+    (omega (arith, short, c.put.ensures.grows)) (omega (arith, c.room.ensures.least)) in
     absurd (false≢true (sym c.if-not-put.true ∙ c.put.ensures.fits h.0 head h.1))
 
 -- ## What waits

@@ -16,12 +16,13 @@ pub returns-clause-tells : goal.returns-clause-tells
 returns-clause-tells c =
     let e : Events = c.args.events.now in
     let named : IsLater e c.if-is_named.events = elim c.if-is_named.branch [
-      | then-is_named+in_ok-reserve w ↦ rw w.events-is (later_peer e _ (stays_same _ _ w.reserve.ensures.same))
-      | else-is_named w ↦ rw w.events-is (later_peer e _ (λ n h. h))
+      | then-is_named+in_ok-reserve w ↦ rw w.events-is (later_peer e _ (stays_same _ _ w.reserve.ensures.same) w.reserve.ensures.kept)
+      | else-is_named w ↦ rw w.events-is (later_peer e _ (λ n h. h) (omega arith))
     ] in
     let told : IsLater c.if-is_named.events c.if-is_told.events = elim c.if-is_told.branch [
-      | then-is_told w ↦ rw w.events-is (later_peer c.if-is_named.events _ (stays_put _ _ _ w.insert.ensures.value w.insert.ensures.full))
-      | else-is_told w ↦ rw w.events-is (later_peer c.if-is_named.events _ (λ n h. h))
+      | then-is_told w ↦ rw w.events-is (later_peer c.if-is_named.events _ (stays_put _ _ _ w.insert.ensures.value w.insert.ensures.full)
+          (omega (arith, w.insert.ensures.room)))
+      | else-is_told w ↦ rw w.events-is (later_peer c.if-is_named.events _ (λ n h. h) (omega arith))
     ] in
     let n = c.note_unless.ensures in
     let before = later_after e c.if-is_named.events c.if-is_told.events named told in

@@ -5,13 +5,14 @@ use Rattle.std.specs.Prelude.{is_some}
 use Rattle.std.proofs.lemmas.Bool.{false≢true}
 use Rattle.sctp_association.proofs.inbound.Inbound.take_on.Goals.{else-complete-via-then-complete+then-not-contains+else-is_readable}
 use Rattle.sctp_association.proofs.inbound.Inbound.take_on.Goals.{else-complete-via-then-complete+else-not-contains, else-complete-via-else-complete}
-use Rattle.std.proofs.Common.{ap, inl, refl, rules, sym, ◌<◌, ◌^◌, ◌∙◌}
+use Rattle.std.proofs.Common.{ap, arith, inl, refl, rules, sym, ◌<◌, ◌^◌, ◌∙◌}
 use Rattle.sctp_association.proofs.Arriving.{received_data, received_same, received_then}
 use Rattle.std.proofs.Common.{true, ◌≡◌}
 use Rattle.sctp_association.proofs.Brought.{adds_one, notes_more, notes_none, notes_read}
 use Rattle.sctp_association.proofs.inbound.Inbound.take_on.Goals as goal
 use Rattle.std.specs.Prelude.{IsOk}
-use Rattle.sctp_association.proofs.Coming.{refused_for}
+use Rattle.sctp_association.proofs.Coming.{on_ok, refused_for}
+use Rattle.sctp_association.proofs.TooLong.{err_same, same_receiver, same_refusal}
 use Rattle.sctp_association.proofs.Entering.{handled_entered, handled_refused}
 use Rattle.sctp_data.specs.declared.chunk.chunk_payload_data.ChunkPayloadData.{ChunkPayloadData}
 use Rattle.sctp_association.specs.declared.inbound.Inbound.{Inbound}
@@ -106,7 +107,7 @@ returns-then-is_readable-clause-tells c =
     let e : Events = c.args.events.now in
     let put = c.insert.ensures in
     tells_in _ _ _ _ (tells_data c.args.chunk.now _ _ _ e _ _ c.data.ensures (ap (λ (i : Inbound). i.receiver) c.note_data.ensures)
-    (inbound_kept e c.insert.new.self e.too_long e.reset_by_peer (λ n h. h) (λ n h. h)) put.room
+    (inbound_kept e c.insert.new.self e.too_long e.reset_by_peer (λ n h. h) (λ n h. h) (omega (arith, put.room)) (omega arith) (omega arith)) put.room
     (stays_put s e.readable c.insert.new.self put.value put.full)
     (λ is m lt. put_there s e.readable c.insert.new.self put.value lt))
 
@@ -147,3 +148,14 @@ returns-in_default-clause-notes c =
     let same = ap (arrival_refusal chunk) c.in-Err.ensures.err in
     let why = same ∙ refused_for _ _ c.in_default.not-OutOfMemory c.in-Err.ensures.refused in
     notes_more _ _ _ _ _ _ (λ s p. absurd p) (λ s p. (p.0, sym same ∙ p.1)) (c.follow.ensures.notes why)
+
+-- ## A message that is too long
+
+pub returns-in_default-clause-told : goal.returns-in_default-clause-told
+returns-in_default-clause-told c is large lt =
+    let why = ap (arrival_refusal c.args.chunk.now) c.in-Err.ensures.err ∙ refused_for _ _ c.in_default.not-OutOfMemory c.in-Err.ensures.refused in
+    on_ok _ _ is (c.follow.ensures.told (same_refusal _ _ (sym why ∙ ap (arrival_refusal c.args.chunk.now) c.in-Err.ensures.err ∙ large))) lt
+
+pub returns-in_default-clause-err : goal.returns-in_default-clause-err
+returns-in_default-clause-err c =
+    err_same c.follow.result _ c.args.self.now _ _ _ c.follow.ensures.err (same_receiver c.args.self.now c.data.new.self _ c.in-Err.ensures.err)

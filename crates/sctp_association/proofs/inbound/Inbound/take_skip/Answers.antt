@@ -3,6 +3,8 @@ use Rattle.std.proofs.Common.{ap, refl, rules, ◌<◌, ◌^◌}
 use Rattle.sctp_association.specs.AcksDue.{with_due}
 use Rattle.sctp_association.proofs.Arriving.{received_skip, received_then}
 use Rattle.sctp_association.proofs.Brought.{notes_after, notes_more, notes_rest}
+use Rattle.sctp_association.proofs.First.{on_err}
+use Rattle.sctp_association.proofs.Partly.{opens_from, opens_still}
 use Rattle.sctp_association.proofs.inbound.Inbound.take_skip.Goals as goal
 use Rattle.sctp_association.proofs.inbound.Inbound.take_skip.Goals.{in-Err+in_default, in-Ok-Skipped, in-Ok-Stale}
 use Rattle.sctp_association.proofs.Named.{named_asked, skipped_served}
@@ -30,6 +32,7 @@ returns-in-Abort c =
       received = received_then _ _ _ _ (named_asked _ _ _ c.in_ok-open_named.ensures.received) (received_skip _ _ _ _ fits c.forward_tsn.ensures);
       named = λ ahead. skipped_served _ c.open_named.new.self _ _ _ _ c.forward_tsn.ensures refl refl (c.in_ok-open_named.ensures.served refl ahead);
       limits = search rules;
+      cut = tt;
       same = c.in_ok-open_named.ensures.same;
       acks = λ is. cc (is);
       whole = λ is. cc (is);
@@ -105,3 +108,16 @@ returns-clause-notes c = elim c.match-forward_tsn.branch [
   | in-Ok-Stale w ↦ rw (w.self-is, w.events-is) (notes_more _ _ _ _ _ _ (λ s p. absurd p) (λ s p. p) c.in_ok-open_named.ensures.notes)
   | in-Err+in_default w ↦ rw (w.self-is, w.events-is) (notes_more _ _ _ _ _ _ (λ s p. absurd p) (λ s p. p) c.in_ok-open_named.ensures.notes)
 ]
+
+-- ## Where memory is wanting
+
+pub returns-in_err-open_named-clause-cut : goal.returns-in_err-open_named-clause-cut
+returns-in_err-open_named-clause-cut c = on_err _ (
+    let e = c.in_err-open_named.ensures in
+    opens_from _ _ _ _ _ e.received e.limits.1 e.same e.acks e.unknown e.tells e.notes)
+
+pub returns-in-Err-OutOfMemory-clause-cut : goal.returns-in-Err-OutOfMemory-clause-cut
+returns-in-Err-OutOfMemory-clause-cut c =
+    let e = c.in_ok-open_named.ensures in
+    opens_still _ c.args.self.now c.open_named.new.self _ _ _ (opens_from _ _ _ _ _ e.received e.limits.1 e.same e.acks e.unknown e.tells e.notes)
+    c.in-Err-OutOfMemory.ensures.err refl refl refl refl

@@ -1,7 +1,10 @@
-use Rattle.std.proofs.Common.{Bool, Ok, false, true, ◌||◌, ◌≡◌, ℕ, arith, refl, sym, ap, subst, ◌∙◌, inl, inr}
+use Rattle.sctp_association.proofs.Above.{sends_above}
+use Rattle.sctp_association.proofs.Running.{none_sent}
+use Rattle.sctp_association.specs.Brought.{AddsOnly}
+use Rattle.std.proofs.Common.{[], Bool, Ok, false, true, ◌||◌, ◌≡◌, ℕ, arith, refl, sym, ap, subst, ◌∙◌, inl, inr}
 use Rattle.sctp_association.proofs.Fewer.{data_same}
 use Rattle.sctp_association.proofs.Left.{dropped_few, lifetimes_same, owed_few, told_less}
-use Rattle.sctp_association.proofs.Lows.{puts_same, puts_then, told_in}
+use Rattle.sctp_association.proofs.Lows.{only_same, only_then, only_told, puts_same, puts_then, told_in}
 use Rattle.sctp_association.proofs.Making.{dropped_in, dropped_on, none_dropped, started_on}
 use Rattle.sctp_association.proofs.outbound.Outbound.abandon.Goals as goal
 use Rattle.sctp_association.specs.declared.outbound.Outbound.{Outbound}
@@ -30,6 +33,10 @@ loop-preserved c =
     let all = dropped_in c.args.self.now c.loop.self c.note_dropped.new.self c.drop_expired.new.self _ c.loop.invariant.0 c.note_dropped.ensures.rest sent in
     let told = told_in c.args.now c.in_ok-dropped.field-0 c.in-Some.dropped c.in-Some.is c.loop.self.sender c.drop_expired.new.self
     c.in_ok-dropped.ensures.run c.in_ok-dropped.ensures.run_low c.in_ok-dropped.ensures.list_low in
+    let one =
+    dropped_on c.args.now c.in_ok-dropped.field-0 c.loop.self.sender c.loop.self.sender c.drop_expired.new.self (none_sent c.loop.self.sender) drops in
+    let only = only_told c.in_ok-dropped.field-0 c.in-Some.dropped c.in-Some.is c.loop.self.sender c.drop_expired.new.self
+    c.in_ok-dropped.ensures.run_low c.in_ok-dropped.ensures.list_low in
     let before = c.loop.invariant.3 in (
       all.0,
       all.1,
@@ -42,6 +49,11 @@ loop-preserved c =
       subst (λ (o : Outbound). PutsAll (λ s. fell s c.args.self.now.sender o.sender) c.args.low.now c.note_dropped.new.low) (sym c.note_dropped.ensures.rest)
           (puts_then c.args.self.now.sender c.loop.self.sender c.drop_expired.new.self (λ s. tells_drop_low s c.in-Some.dropped) c.args.low.now c.loop.low
           c.note_dropped.new.low told c.loop.invariant.7 c.loop.invariant.6 c.note_dropped.ensures.low c.note_dropped.ensures.told),
+      subst (λ (o : Outbound). AddsOnly (λ s. fell s c.args.self.now.sender o.sender ≡ true) c.args.low.now c.note_dropped.new.low)
+          (sym c.note_dropped.ensures.rest)
+          (only_then c.args.self.now.sender c.loop.self.sender c.drop_expired.new.self (λ s. tells_drop_low s c.in-Some.dropped) c.args.low.now c.loop.low
+          c.note_dropped.new.low (λ s. sends_above s [] c.args.self.now.sender c.loop.self.sender c.loop.invariant.1)
+          (λ s. sends_above s [] c.loop.self.sender c.drop_expired.new.self one) only c.loop.invariant.8 c.note_dropped.ensures.only),
     )
 
 pub returns-in-None-clause-dropped : goal.returns-in-None-clause-dropped
@@ -110,3 +122,17 @@ returns-in_err-dropped-clause-told c = puts_same c.args.self.now.sender c.loop.s
 pub returns-then-not-may_drop-clause-told : goal.returns-then-not-may_drop-clause-told
 returns-then-not-may_drop-clause-told c = puts_same c.args.self.now.sender c.loop.self.sender c.start.new.sender _ _
     (ap (λ (t : Transmission). t.streams) c.start.ensures) c.loop.invariant.7
+
+-- ## No other stream
+
+pub returns-in-None-clause-only : goal.returns-in-None-clause-only
+returns-in-None-clause-only c = only_same c.args.self.now.sender c.loop.self.sender c.drop_expired.new.self _ _
+    (ap (λ (t : Transmission). t.streams) (c.in_ok-dropped.ensures.none c.in-None.is)) c.loop.invariant.8
+
+pub returns-in_err-dropped-clause-only : goal.returns-in_err-dropped-clause-only
+returns-in_err-dropped-clause-only c = only_same c.args.self.now.sender c.loop.self.sender c.drop_expired.new.self _ _
+    (ap (λ (t : Transmission). t.streams) c.in_err-dropped.ensures.err) c.loop.invariant.8
+
+pub returns-then-not-may_drop-clause-only : goal.returns-then-not-may_drop-clause-only
+returns-then-not-may_drop-clause-only c = only_same c.args.self.now.sender c.loop.self.sender c.start.new.sender _ _
+    (ap (λ (t : Transmission). t.streams) c.start.ensures) c.loop.invariant.8

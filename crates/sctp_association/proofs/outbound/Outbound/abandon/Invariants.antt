@@ -1,4 +1,5 @@
 use Rattle.std.proofs.Common.{◌≡◌, ◌≤◌, [], false, length, true}
+use Rattle.sctp_association.specs.Brought.{AddsOnly}
 use Rattle.sctp_association.specs.Lows.{PutsAll}
 use Rattle.sctp_association.specs.Most.{most_data}
 use Rattle.sctp_association.specs.Runs.{Sends}
@@ -17,3 +18,4 @@ invariant-loop l = (l.self ≡ record l.initial.self {
     × (most_data l.self ≤ most_data l.initial.self)
     × (l.initial.self.is_skip_due ≡ true → l.self.is_skip_due ≡ true) × Stays l.initial.low l.low
     × (length l.low ≡ length l.initial.low) × PutsAll (λ s. fell s l.initial.self.sender l.self.sender) l.initial.low l.low
+    × AddsOnly (λ s. fell s l.initial.self.sender l.self.sender ≡ true) l.initial.low l.low

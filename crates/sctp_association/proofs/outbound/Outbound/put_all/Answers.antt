@@ -5,6 +5,8 @@ use Rattle.sctp_association.proofs.Putting.{adds_then, skip_then, still_so}
 use Rattle.sctp_association.proofs.Skips.{skip_first}
 use Rattle.sctp_association.proofs.Fewer.{fewer_then}
 use Rattle.sctp_association.proofs.outbound.Outbound.put_all.Goals as goal
+use Rattle.sctp_association.proofs.Ordered as ordered
+use Rattle.std.proofs.Common.{◌∷◌, []}
 
 pub returns-in_err-put_lost-clause-made : goal.returns-in_err-put_lost-clause-made
 returns-in_err-put_lost-clause-made c = still_so _ _ _ _ _ _ _ (resends_skip c.args.now _ _ _ _ _ c.put_lost.ensures.again)
@@ -71,3 +73,21 @@ returns-clause-leaves c head =
     skip_first c.args.packet.now.limit c.args.self.now.sender c.args.self.now.is_skip_due c.put_skip.new.self.is_skip_due c.put_new.new.self.is_skip_due
     _ _ _ _ (c.put_skip.ensures.leaves head) (adds_then _ _ _ _ _ (lost.made None).added (rest.made None).added)
     (news_skip c.args.now _ _ _ rest.within ∙ resends_skip c.args.now _ _ _ _ _ lost.again)
+
+-- ## In their order
+
+pub returns-in_err-put_skip-clause-order : goal.returns-in_err-put_skip-clause-order
+returns-in_err-put_skip-clause-order c = ordered.order_data (192 ∷ []) _ _ c.put_skip.ensures.order
+
+pub returns-in_err-put_lost-clause-order : goal.returns-in_err-put_lost-clause-order
+returns-in_err-put_lost-clause-order c =
+    let lost = c.put_lost.ensures.made None in
+    ordered.order_behind (192 ∷ []) _ _ _ lost.chunks (ordered.order_data (192 ∷ []) _ _ c.put_skip.ensures.order) lost.added lost.plain
+
+pub returns-clause-order : goal.returns-clause-order
+returns-clause-order c =
+    let lost = c.put_lost.ensures.made None in
+    let rest = c.put_new.ensures.made None in
+    ordered.order_behind (192 ∷ []) _ _ _ rest.chunks
+    (ordered.order_behind (192 ∷ []) _ _ _ lost.chunks (ordered.order_data (192 ∷ []) _ _ c.put_skip.ensures.order) lost.added lost.plain)
+    rest.added rest.plain

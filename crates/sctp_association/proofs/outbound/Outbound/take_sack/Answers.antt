@@ -8,6 +8,7 @@ use Rattle.sctp_association.specs.Paths.{FollowsSack}
 use Rattle.sctp_data.specs.SelectiveAck.{Sack, sack_of}
 use Rattle.sctp_sender.specs.Flight.{is_outdated}
 use Rattle.sctp_association.proofs.Brought.{adds_more, adds_none, sack_fell}
+use Rattle.sctp_association.proofs.Falls.{outdated_falls, sack_falls}
 use Rattle.sctp_association.proofs.outbound.Outbound.take_sack.Goals as goal
 
 pub returns-then-sna32lt-clause-hearing : goal.returns-then-sna32lt-clause-hearing
@@ -19,7 +20,9 @@ returns-in-Err-OutOfMemory-clause-hearing c = acknowledged_sack _ _ c.pass_over_
 pub returns-in-Err : goal.returns-in-Err
 returns-in-Err c = record {
   low = λ s w. w;
+  room = refl;
   fell = adds_none _ _;
+  told = search rules;
   hearing = acknowledged_sack _ _ c.pass_over_blocks.ensures.either _ _ _ c.acked.ensures;
   hears = search rules;
   path = search rules;
@@ -88,3 +91,13 @@ pub returns-clause-fell : goal.returns-clause-fell
 returns-clause-fell c =
     adds_more _ _ _ _ (λ n h. sack_fell n _ c.args.self.now _ c.acked.new.self c.in-Ok.acked _ c.in-Ok.is c.acked.ensures
     c.pass_over_blocks.ensures.taken c.deref.ensures.value h) c.note_low.ensures.only
+
+pub returns-then-sna32lt-clause-told : goal.returns-then-sna32lt-clause-told
+returns-then-sna32lt-clause-told c taken s h lt =
+    let is : is_outdated (sack_of c.args.sack.now) c.args.self.now.sender.flight ≡ true = search rules in
+    absurd (outdated_falls s (sack_of c.args.sack.now) c.args.self.now is h)
+
+pub returns-clause-told : goal.returns-clause-told
+returns-clause-told c taken s h lt =
+    c.note_low.ensures.told s (sack_falls s _ c.args.self.now _ c.acked.new.self c.in-Ok.acked _ c.in-Ok.is c.acked.ensures
+    c.pass_over_blocks.ensures.taken c.deref.ensures.value h) lt
