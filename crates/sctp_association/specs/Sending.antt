@@ -7,7 +7,7 @@ use Rattle.sctp_data.specs.declared.chunk.chunk_payload_data.ChunkPayloadData.{C
 use Rattle.sctp_data.specs.Reliability.{is_past}
 use Rattle.sctp_outbound.specs.Outstanding.{outstanding_of}
 use Rattle.sctp_outbound.specs.pending_queue.PendingQueue.{chunk_count, next_pending}
-use Rattle.sctp_path.specs.Congestion.{Control, after_idling, burst_limit, may_send}
+use Rattle.sctp_path.specs.Congestion.{Control, after_idling, may_burst, may_send}
 use Rattle.sctp_path.specs.Timers.{started}
 use Rattle.sctp_sender.specs.Sender.{Transmission}
 
@@ -20,12 +20,12 @@ flight_of chunks =
     min (o.bytes + 16 * o.chunks) (2 ^ 64 - 1)
 
 -- New DATA of so many bytes may leave: one chunk where nothing is outstanding, which probes a window of 0 (6.1 A). Else the peer's window has
--- room for it beside the user data that is outstanding (A), and the DATA chunks that are outstanding have less than cwnd (B, 7.2.3), and less than
--- a burst from its beginning allows (D)
+-- room for it beside the user data that is outstanding (A), and the DATA chunks that are outstanding have at most cwnd (B, 7.2.3), and less than a
+-- burst allows from its beginning on (D)
 abbrev pub may_send_data : (bytes user_data peer_window flight base : ℕ) → Control → Bool
 may_send_data bytes user_data peer_window flight base c =
     flight == 0 || (nat_le (user_data + bytes) peer_window
-    && (may_send flight c && nat_lt flight (burst_limit base c)))
+    && (may_send flight c && may_burst base flight c))
 
 -- how many chunks in flight are marked to be sent again (6.1 C, 6.3.3 E3, 7.2.4)
 abbrev pub marked_in : Transmission → ℕ

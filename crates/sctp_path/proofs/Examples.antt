@@ -1,7 +1,7 @@
 -- Definitions of specs/ at numbers that a reader can check against RFC 9260.
 use Rattle.std.specs.Prelude.{ℕ, ◌≡◌, ◌-◌, ◌*◌, ◌^◌, true, false, Option, Some, None, [], ◌∷◌, refl}
 use Rattle.sctp_path.specs.Rto.{Timeout, usual, limits_of, first as first_timeout, next_trip, after_trip, after_back_off}
-use Rattle.sctp_path.specs.Congestion.{Control, pmdcs_of, first, after_sack, after_loss, after_resending, after_repeats, after_timeout, after_idling, with_mtu, may_send, burst_limit}
+use Rattle.sctp_path.specs.Congestion.{Control, pmdcs_of, first, after_sack, after_loss, after_resending, after_repeats, after_timeout, after_idling, with_mtu, may_send, may_burst}
 use Rattle.sctp_path.specs.declared.congestion.Acknowledged.{Acknowledged}
 use Rattle.sctp_path.specs.declared.congestion.Undo.{Undo}
 use Rattle.sctp_util.specs.Serial.{at_or_before, comes_before, distance}
@@ -251,23 +251,23 @@ mtu-raised : with_mtu 1500 (at 1188 10000 0 None) ≡ record (at 1488 10000 0 No
 unfolding at
 mtu-raised = refl
 
--- cwnd may be breached by a packet, and is not begun with at cwnd
-send-under : may_send 4403 (at 4404 65535 0 None) ≡ true
-unfolding at
-send-under = refl
-
-send-at : may_send 4404 (at 4404 65535 0 None) ≡ false
+-- cwnd may be breached by one packet, also where exactly cwnd is outstanding
+send-at : may_send 4404 (at 4404 65535 0 None) ≡ true
 unfolding at
 send-at = refl
 
--- four packets at once
-burst : burst_limit 2000 (at 20000 65535 0 None) ≡ 6752
+send-past : may_send 4405 (at 4404 65535 0 None) ≡ false
 unfolding at
-burst = refl
+send-past = refl
 
-burst-in-window : burst_limit 19000 (at 20000 65535 0 None) ≡ 20000
+-- four packets of 1,188 bytes at once, and no fifth one
+burst-fourth : may_burst 2000 5564 (at 20000 65535 0 None) ≡ true
 unfolding at
-burst-in-window = refl
+burst-fourth = refl
+
+burst-fifth : may_burst 2000 6752 (at 20000 65535 0 None) ≡ false
+unfolding at
+burst-fifth = refl
 
 -- ## Timers
 

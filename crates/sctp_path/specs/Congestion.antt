@@ -184,11 +184,11 @@ with_mtu mtu c = record c { pmdcs = pmdcs_of mtu; window = max c.window (pmdcs_o
 
 -- ## What may be sent
 
--- another packet may be sent while less than cwnd is outstanding, and may breach it (RFC 9260 6.1 B); after T3-rtx expired, no packet beside
--- another until something is acknowledged (RFC 9260 7.2.3)
+-- another packet may be sent while at most cwnd is outstanding: so one packet at most breaches cwnd, and none leaves once cwnd + (PMDCS - 1) is
+-- outstanding (RFC 9260 6.1 B); after T3-rtx expired, no packet beside another until something is acknowledged (RFC 9260 7.2.3)
 abbrev pub may_send : ℕ → Control → Bool
-may_send flight c = if c.single then flight == 0 else nat_lt flight c.window
+may_send flight c = if c.single then flight == 0 else nat_le flight c.window
 
--- what may be outstanding after one burst: Max.Burst is four packets, within cwnd (RFC 9260 6.1 D)
-abbrev pub burst_limit : ℕ → Control → ℕ
-burst_limit flight c = min c.window (flight + 4 * c.pmdcs)
+-- another packet belongs to a burst that began with so much outstanding: Max.Burst is four packets (RFC 9260 6.1 D)
+abbrev pub may_burst : (base flight : ℕ) → Control → Bool
+may_burst base flight c = nat_lt (flight - base) (4 * c.pmdcs)

@@ -1,7 +1,7 @@
 //! The congestion window (RFC 9260 7.2): how many bytes may be outstanding. All amounts are in bytes.
 
 ghost use Rattle.std.specs.Prelude.{◌≡◌, ◌+◌, ◌<◌, ◌≤◌, IsTrue, is_some};
-ghost use Rattle.sctp_path.specs.Congestion.{pmdcs_of, first, after_sack, after_slow_start, slow_step, after_avoidance, halved, after_loss, after_timeout, after_idling, with_mtu, may_send, burst_limit, after_resending, after_repeat, after_repeats};
+ghost use Rattle.sctp_path.specs.Congestion.{pmdcs_of, first, after_sack, after_slow_start, slow_step, after_avoidance, halved, after_loss, after_timeout, after_idling, with_mtu, may_send, may_burst, after_resending, after_repeat, after_repeats};
 
 use sctp_util::util::{sna32lt, sna32lte};
 use std::marker::Model;
@@ -295,7 +295,7 @@ impl Congestion {
         self.exit.is_some()
     }
 
-    /// Whether another packet may be sent while so many bytes are outstanding. It may breach cwnd (RFC 9260 6.1 B).
+    /// Whether another packet may be sent while so many bytes are outstanding: at most cwnd. One packet may breach cwnd (RFC 9260 6.1 B).
     pub fn may_send(&self, flight: usize) -> bool
         ensures value { result ≡ may_send flight self.now }
         ensures one { flight ≡ 0 → IsTrue result }
@@ -303,16 +303,17 @@ impl Congestion {
         if self.single {
             flight == 0
         } else {
-            flight < self.window
+            flight <= self.window
         }
     }
 
-    /// How many bytes may be outstanding after one burst that begins while so many are: Max.Burst is four packets.
-    pub fn burst_limit(&self, flight: usize) -> usize
-        ensures value { result ≡ burst_limit flight self.now }
-        ensures room { flight < self.now.window → flight < result }
+    /// Whether another packet may be sent in a burst that began while `base` bytes were outstanding, as `flight` are: Max.Burst is four packets
+    /// (RFC 9260 6.1 D).
+    pub fn may_burst(&self, base: usize, flight: usize) -> bool
+        ensures value { result ≡ may_burst base flight self.now }
+        ensures first { flight ≤ base → IsTrue result }
     {
-        self.window.min(flight.saturating_add(4 * self.pmdcs))
+        flight.saturating_sub(base) < 4 * self.pmdcs
     }
 }
 

@@ -425,7 +425,7 @@ impl Outbound {
             Some(base) => base,
             None => flight,
         };
-        flight < self.congestion.burst_limit(base)
+        self.congestion.may_burst(base, flight)
     }
 
     // The same of a chunk behind others, unless its message is past its lifetime: that is abandoned before the next packet (RFC 9260 11.1.5).
