@@ -82,7 +82,7 @@ pub record LeavesAgain (now : ℕ) (old new : Path) : Type 0 where
     fast = false;
   }
 
--- DATA may leave again, of a packet that begins as so many bytes are outstanding: so does fast retransmission, or less than cwnd is outstanding
+-- DATA may leave again, of a packet that begins as so many bytes are outstanding: so does fast retransmission, or at most cwnd is outstanding
 -- (6.3.3 E3)
 abbrev pub may_again : (now : ℕ) → Timeout → (fast : Bool) → (flight : ℕ) → Path → Bool
 may_again now rto fast flight p = may_send_again fast (is_early flight now p.timed_out

@@ -63,7 +63,7 @@ is_early flight now expired (Some trip) None = false
 is_early flight now expired (Some trip) (Some sent) =
     nat_lt 0 flight && (nat_lt sent expired && nat_lt (now - sent) trip)
 
--- DATA may be sent again: one packet of it whatever is outstanding, where fast retransmission begins (7.2.4); else a packet, while less than
+-- DATA may be sent again: one packet of it whatever is outstanding, where fast retransmission begins (7.2.4); else a packet, while at most
 -- cwnd was outstanding when it began, and the first chunk does not wait (6.3.3 E3)
 abbrev pub may_send_again : (is_fast early : Bool) → ℕ → Control → Bool
 may_send_again is_fast early flight c = is_fast || (may_send flight c && not early)

@@ -118,7 +118,7 @@ impl Association {
         // Where there is no datagram though DATA may leave: what waits or is to be sent again waits for a SACK, or for T3-rtx.
         ensures idle { result ≡ Ok false → MaySend self.new → IsIdle now self.new }
         // A FORWARD-TSN leaves first, then DATA again, where it may (RFC 9260 6.3.3 E3, 7.2.4), then new DATA: each chunk while nothing is
-        // outstanding; or less than cwnd is, the burst lasts, and the peer's window has room (6.1 A, B, D). For each idle RTO cwnd falls once
+        // outstanding; or at most cwnd is, the burst lasts, and the peer's window has room (6.1 A, B, D). For each idle RTO cwnd falls once
         // (7.2.1). A burst lasts until no datagram is due.
         ensures within { SendsWithin now (pauses result self.new) self.old.outbound
             self.new.outbound }
