@@ -248,9 +248,8 @@ def is_refused(functions, refused, crate):
         module = path.removeprefix("src/").removesuffix(".rt").removesuffix("/mod").replace("/", "::")
         module = "" if module in ("lib", "main") else f"{module}::"
         owner = f"{owner[:1].upper()}{owner[1:]}"
-        # a method is told under the module of its type, which may stand above the file of its impl
-        above = "".join(rf"(?:{part}::" for part in module.split("::")[:-1]) + ")?" * module.count("::")
-        own = re.compile(rf"{crate}::{above}{owner}\w*::{name}" if owner else rf"{crate}::{module}{name}")
+        # a method is told under the module of its type, which may stand in another file than its impl
+        own = re.compile(rf"{crate}::(?:[a-z]\w*::)*{owner}\w*::{name}" if owner else rf"{crate}::{module}{name}")
         if any(own.fullmatch(it) for it in refused):
             return True
     return False

@@ -38,7 +38,11 @@ def main():
     assert refused == {"low::Queue::push"}, refused
     assert is_refused({("src/lib.rt", "Queue", "push", 1)}, refused, "low")
     assert not is_refused({("src/lib.rt", "Queue", "drain", 9)}, refused, "low")
-    print(f"{len(CASES) + 3} passed")
+    # a method whose impl stands in another file than its type, and a function of another file
+    told = {"low::queue::Queue::push", "low::queue::count"}
+    assert is_refused({("src/pushing.rt", "Queue", "push", 1)}, told, "low")
+    assert not is_refused({("src/pushing.rt", "", "count", 1)}, told, "low")
+    print(f"{len(CASES) + 5} passed")
 
 
 if __name__ == "__main__":
