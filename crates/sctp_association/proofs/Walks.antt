@@ -12,6 +12,7 @@ use Rattle.sctp_association.specs.Once.{has_seen, seen}
 use Rattle.sctp_association.specs.Partly.{CutsChunk, CutsData, CutsReconfig, CutsSkip}
 use Rattle.sctp_association.specs.Parts.{CutsAt, PartOf, WalksTo}
 use Rattle.sctp_association.specs.Rows.{has_row}
+use Rattle.sctp_association.specs.Paths.{MovesOn}
 use Rattle.sctp_association.specs.Single.{AloneOn}
 use Rattle.sctp_association.specs.Steps.{is_taken}
 use Rattle.sctp_association.specs.Tags.{has_tag, is_admitted, is_all_or_nothing, is_reflected}
@@ -74,8 +75,10 @@ module _ (c : ChunkPlace) (tag count : ℕ) (d : List ℕ) (now : ℕ) (a b : As
   ]
 
   takes : (s : Step) → r ≡ Ok s → is_taken s ≡ true → AloneOn c tag d now s a b → (goes_on c.typ ≡ true → IfOk r (λ s. StillOn c d s a b))
-      → (r ≡ Ok Next → TellsBy c d a b) → TakesChunk c tag count d now s a b
-  takes s is took by still tells = record {
+      → (goes_on c.typ ≡ true → IfOk r (λ s. MovesOn c d now s a.outbound b.outbound)) → (r ≡ Ok Next → TellsBy c d a b)
+      → TakesChunk c tag count d now s a b
+  takes s is took by still moves tells = record {
+    path = λ goes. if_ok (λ s. MovesOn c d now s a.outbound b.outbound) r s is (moves goes);
     admitted = may;
     tells = λ next. tells (is ∙ ap Ok next);
     expected = λ row. taken_where (is_expected c.typ a) r (expected may row) s is took;
@@ -106,19 +109,21 @@ module _ (c : ChunkPlace) (tag count : ℕ) (d : List ℕ) (now : ℕ) (a b : As
 
   -- what is taken, or refused
   pub first_on : (s : Step) → r ≡ Ok s → AloneOn c tag d now s a b → (goes_on c.typ ≡ true → IfOk r (λ s. StillOn c d s a b))
-      → (r ≡ Ok Next → TellsBy c d a b) → CutsBy c d now a b r → FirstOn c tag count d now s a b
-  first_on Next is by still tells cuts = inl (takes Next is refl by still tells)
-  first_on Stop is by still tells cuts = takes Stop is refl by still tells
-  first_on Cut is by still tells cuts = cut is cuts
-  first_on (Refused k) is by still tells cuts = tt
+      → (goes_on c.typ ≡ true → IfOk r (λ s. MovesOn c d now s a.outbound b.outbound)) → (r ≡ Ok Next → TellsBy c d a b) → CutsBy c d now a b r
+      → FirstOn c tag count d now s a b
+  first_on Next is by still moves tells cuts = inl (takes Next is refl by still moves tells)
+  first_on Stop is by still moves tells cuts = takes Stop is refl by still moves tells
+  first_on Cut is by still moves tells cuts = cut is cuts
+  first_on (Refused k) is by still moves tells cuts = tt
 
   pub other_on : count ≡ 2 → (s : Step) → r ≡ Ok s → ((k : Reason) → s ≡ Refused k → ⊥) → AloneOn c tag d now s a b
-      → (goes_on c.typ ≡ true → IfOk r (λ s. StillOn c d s a b)) → (r ≡ Ok Next → TellsBy c d a b) → CutsBy c d now a b r
+      → (goes_on c.typ ≡ true → IfOk r (λ s. StillOn c d s a b))
+      → (goes_on c.typ ≡ true → IfOk r (λ s. MovesOn c d now s a.outbound b.outbound)) → (r ≡ Ok Next → TellsBy c d a b) → CutsBy c d now a b r
       → OtherOn c tag d now s a b
-  other_on two Next is taken by still tells cuts = inl (subst (λ (n : ℕ). TakesChunk c tag n d now Next a b) two (takes Next is refl by still tells))
-  other_on two Stop is taken by still tells cuts = subst (λ (n : ℕ). TakesChunk c tag n d now Stop a b) two (takes Stop is refl by still tells)
-  other_on two Cut is taken by still tells cuts = subst (λ (n : ℕ). CutsChunk c tag n d now a b) two (cut is cuts)
-  other_on two (Refused k) is taken by still tells cuts = absurd (taken k refl)
+  other_on two Next is taken by still moves tells cuts = inl (subst (λ (n : ℕ). TakesChunk c tag n d now Next a b) two (takes Next is refl by still moves tells))
+  other_on two Stop is taken by still moves tells cuts = subst (λ (n : ℕ). TakesChunk c tag n d now Stop a b) two (takes Stop is refl by still moves tells)
+  other_on two Cut is taken by still moves tells cuts = subst (λ (n : ℕ). CutsChunk c tag n d now a b) two (cut is cuts)
+  other_on two (Refused k) is taken by still moves tells cuts = absurd (taken k refl)
 
   -- what is refused since it is not expected
   pub passes : (is_admitted c tag count a.machine ≡ true → IsExpected c tag d now a → (k : Reason) → r ≡ Ok (Refused k) → ⊥)

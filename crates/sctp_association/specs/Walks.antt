@@ -8,6 +8,7 @@ use Rattle.sctp_association.specs.Halves.{receiver_of}
 use Rattle.sctp_association.specs.Openings.{BringsEnd}
 use Rattle.sctp_association.specs.Once.{has_seen, none_seen, seen}
 use Rattle.sctp_association.specs.Partly.{CutsChunk}
+use Rattle.sctp_association.specs.Paths.{MovesOn}
 use Rattle.sctp_association.specs.Rows.{Settles, has_row}
 use Rattle.sctp_association.specs.Single.{AloneOn}
 use Rattle.sctp_association.specs.Tags.{is_admitted}
@@ -23,7 +24,8 @@ use Rattle.sctp_util.specs.Field.{u32_at}
 -- ## A chunk
 
 -- A chunk is taken: it may stand in a packet with this tag, of so many chunks. The state expects it, and what is said of its type is so. What it
--- brings waits to be told. DATA, a SACK and a FORWARD-TSN leave the HEARTBEAT-ACK and the ERROR that are due.
+-- brings waits to be told. DATA, a SACK and a FORWARD-TSN leave the HEARTBEAT-ACK and the ERROR that are due. Of the sending half a SACK makes what 6.2.1,
+-- 6.3 and 7.2 say; DATA and a FORWARD-TSN leave it.
 pub record TakesChunk (c : ChunkPlace) (tag count : ℕ) (datagram : List ℕ) (now : ℕ) (s : Step)
     (old new : Association) : Type 0 where
   pub admitted : is_admitted c tag count old.machine ≡ true
@@ -32,6 +34,7 @@ pub record TakesChunk (c : ChunkPlace) (tag count : ℕ) (datagram : List ℕ) (
   pub tells : s ≡ Next → TellsBy c datagram old new
   pub beside : goes_on c.typ ≡ true → s ≡ Next
       → (new.due.heartbeat ≡ old.due.heartbeat) × (new.due.report ≡ old.due.report)
+  pub path : goes_on c.typ ≡ true → MovesOn c datagram now s old.outbound new.outbound
 
 -- A chunk is passed over: it may stand there, but the state does not expect it. So is an INIT ACK that this side does not wait for (5.2.3). Nothing
 -- changes.

@@ -577,7 +577,7 @@ impl Association {
             → IfOk result (λ s. GoesOn chunk tag datagram.now s self.old self.new) }
         ensures sacks { TakesSacksOf tag self.old → goes_on chunk.typ ≡ true
             → IfOk result (λ s. HearsOn chunk tag datagram.now s self.old self.new) }
-        ensures path { TakesSacksOf tag self.old → goes_on chunk.typ ≡ true → IfOk result
+        ensures path { goes_on chunk.typ ≡ true → IfOk result
             (λ s. MovesOn chunk datagram.now now s self.old.outbound self.new.outbound) }
         ensures over { IfOk result (λ s. EndsOn chunk datagram.now s self.old self.new) }
         ensures still { goes_on chunk.typ ≡ true

@@ -63,12 +63,12 @@ pub returns-in-192-clause-tells : goal.returns-in-192-clause-tells
 returns-in-192-clause-tells c = tells_peer _ _ c.take_skip.ensures.peer c.take_skip.ensures.tells
 
 pub returns-in-0-clause-path : goal.returns-in-0-clause-path
-returns-in-0-clause-path c takes going =
+returns-in-0-clause-path c going =
     moves_none c.args.chunk c.args.datagram.now c.args.now c.take_data.result c.args.self.now.outbound c.take_data.new.self.outbound
     (λ is. absurd (omega (arith, is))) c.take_data.ensures.sending
 
 pub returns-in-192-clause-path : goal.returns-in-192-clause-path
-returns-in-192-clause-path c takes going =
+returns-in-192-clause-path c going =
     moves_none c.args.chunk c.args.datagram.now c.args.now c.take_skip.result c.args.self.now.outbound c.take_skip.new.self.outbound
     (λ is. absurd (omega (arith, is))) c.take_skip.ensures.sending
 

@@ -68,7 +68,7 @@ returns-in_default-2-clause-walks c =
     first_on c.args.chunk c.args.tag c.args.count c.args.datagram.now c.args.now c.args.self.now c.take_chunk-2.new.self c.take_chunk-2.result
     c.take_chunk-2.ensures.foreign c.take_chunk-2.ensures.expected c.in_ok-step.step is
     (if_ok (λ s. AloneOn c.args.chunk c.args.tag c.args.datagram.now c.args.now s c.args.self.now c.take_chunk-2.new.self) _ _ is c.take_chunk-2.ensures.alone)
-    c.take_chunk-2.ensures.still
+    c.take_chunk-2.ensures.still c.take_chunk-2.ensures.path
     (tells_by c.args.chunk c.args.datagram.now c.args.self.now c.take_chunk-2.new.self c.take_chunk-2.result c.take_chunk-2.ensures.by_sack
     c.take_chunk-2.ensures.by_shutdown
     c.take_chunk-2.ensures.by_data)
@@ -83,6 +83,7 @@ pub returns-then-is_alone-clause-walks : goal.returns-then-is_alone-clause-walks
 returns-then-is_alone-clause-walks c =
     if_then c.take_chunk.result (λ s is h. first_on c.args.chunk c.args.tag c.args.count c.args.datagram.now c.args.now c.args.self.now
     c.take_chunk.new.self c.take_chunk.result c.take_chunk.ensures.foreign c.take_chunk.ensures.expected s is h c.take_chunk.ensures.still
+    c.take_chunk.ensures.path
     (tells_by c.args.chunk c.args.datagram.now c.args.self.now c.take_chunk.new.self c.take_chunk.result c.take_chunk.ensures.by_sack
     c.take_chunk.ensures.by_shutdown
     c.take_chunk.ensures.by_data)

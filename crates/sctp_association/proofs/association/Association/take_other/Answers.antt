@@ -71,7 +71,7 @@ returns-in_default-clause-walks c =
     other_on c.args.chunk c.args.tag 2 c.args.datagram.now c.args.now c.args.self.now c.take_chunk.new.self c.take_chunk.result
     c.take_chunk.ensures.foreign c.take_chunk.ensures.expected refl c.in_ok-taken.taken is (search rules)
     (if_ok (λ s. AloneOn c.args.chunk c.args.tag c.args.datagram.now c.args.now s c.args.self.now c.take_chunk.new.self) _ _ is c.take_chunk.ensures.alone)
-    c.take_chunk.ensures.still
+    c.take_chunk.ensures.still c.take_chunk.ensures.path
     (tells_by c.args.chunk c.args.datagram.now c.args.self.now c.take_chunk.new.self c.take_chunk.result c.take_chunk.ensures.by_sack
     c.take_chunk.ensures.by_shutdown
     c.take_chunk.ensures.by_data)
