@@ -1,5 +1,5 @@
 -- What calls of the association leave of it.
-use Rattle.std.proofs.Common.{◌≡◌, ℕ, Bool, Option, ap, sym, ◌∙◌}
+use Rattle.std.proofs.Common.{◌≡◌, ℕ, Bool, Option, ap, arith, sym, ◌∙◌}
 use Rattle.sctp_association.specs.Events.{BringsNone}
 use Rattle.sctp_association.specs.Telling.{KeepsEvents, TellsIn}
 use Rattle.sctp_association.specs.Waiting.{opened}
@@ -23,6 +23,14 @@ kept_more a b c x y = record {
   reset_refused = λ s h. y.reset_refused s (x.reset_refused s h);
   reset_by_peer = λ s h. y.reset_by_peer s (x.reset_by_peer s h);
   too_long = λ s h. y.too_long s (x.too_long s h);
+  rooms = record {
+    readable = omega (arith, x.rooms.readable, y.rooms.readable);
+    low = omega (arith, x.rooms.low, y.rooms.low);
+    reset_by_us = omega (arith, x.rooms.reset_by_us, y.rooms.reset_by_us);
+    reset_refused = omega (arith, x.rooms.reset_refused, y.rooms.reset_refused);
+    reset_by_peer = omega (arith, x.rooms.reset_by_peer, y.rooms.reset_by_peer);
+    too_long = omega (arith, x.rooms.too_long, y.rooms.too_long);
+  };
 }
 
 -- and of a receiving half, where a message can be read of a stream
